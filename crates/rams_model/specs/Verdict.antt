@@ -1,0 +1,27 @@
+-- The answer to a RAMS-R without TLVs (RFC 6285, 6.2 and 7.2).
+use Rattle.std.specs.Prelude.{ℕ, ◌+◌, ◌-◌, ◌/◌, min, List, ◌∷◌, Option, Some, None}
+use Rattle.rams_model.specs.declared.channel.Channel.{Channel}
+use Rattle.rams_model.specs.declared.note.Note.TheVariants.{Accept}
+use Rattle.rams_model.specs.Settings.{Settings}
+use Rattle.rams_model.specs.Hold.{Start, newest_start}
+use Rattle.rams_model.specs.History.{noted, History, hold}
+
+-- a divided by b, rounded up
+abbrev pub ceiling : ℕ → ℕ → ℕ
+ceiling a b = (a + (b - 1)) / b
+
+-- the most of a tick's bytes that a burst may leave unused, because the next packet, of at most 1,500 bytes, doesn't fit
+abbrev pub waste : Channel → ℕ
+waste c = 1499 - min c.depth 1499
+
+-- after how many ticks a burst at this rate has caught up with the source, from so many bytes behind it
+abbrev pub join_ticks : Channel → ℕ → ℕ → ℕ
+join_ticks c behind rate = ceiling behind (rate - waste c - c.declared)
+
+-- the burst begins at the newest eligible access point
+abbrev pub accepts : Channel → ℕ → Option Start → History → History
+accepts c client None history = history
+accepts c client (Some start) history = noted (Accept client start.n c.burst (join_ticks c start.behind c.burst)) None ∷ history
+
+abbrev pub after_request : Settings → ℕ → History → History
+after_request s client history = accepts s.channel client (newest_start s.channel (hold s.channel.ring history)) history

@@ -1,0 +1,15 @@
+//! How a command ends.
+
+/// How a command ends; the program ends with its number.
+#[derive(Clone, Copy, Debug, PartialEq, Eq)]
+pub enum Status {
+    Done,
+    NoMemory,
+    Words,
+    ReadFault,
+    WriteFault,
+    BadTrace,
+    WireFault,
+    TooLong,
+    NotBuilt,
+}
