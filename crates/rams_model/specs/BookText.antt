@@ -2,7 +2,6 @@
 use Rattle.std.specs.Prelude.{ℕ, List, [], ◌∷◌, ◌++◌, take, drop, codes, decimal}
 use Rattle.std.specs.List.{flat_map}
 use Rattle.rams_model.specs.declared.answer.Order.{Order}
-use Rattle.rams_model.specs.declared.note.LiveNote.{LiveNote}
 use Rattle.rams_model.specs.declared.note.LiveNote.TheVariants.{Took}
 use Rattle.rams_model.specs.declared.note.Note.{Note}
 use Rattle.rams_model.specs.declared.note.Note.TheVariants.{Live, Accept, Burst}

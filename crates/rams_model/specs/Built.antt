@@ -1,5 +1,5 @@
 -- What of the whole server is built so far. The rest is answered by the line `not-built`.
-use Rattle.std.specs.Prelude.{ℕ, ◌+◌, ◌%◌, Bool, true, ◌&&◌, ◌==◌, not, nat_le, nat_lt, List, [], ◌∷◌, length, take, drop, slice_index, is_some, bytes_eq}
+use Rattle.std.specs.Prelude.{ℕ, ◌+◌, ◌%◌, Bool, true, ◌&&◌, ◌==◌, not, nat_le, nat_lt, List, [], ◌∷◌, length, take, drop, is_some, bytes_eq}
 use Rattle.rams_model.specs.declared.channel.Access.{Access}
 use Rattle.rams_model.specs.declared.channel.Access.TheVariants.{Marker, Ts}
 use Rattle.rams_model.specs.declared.channel.Channel.{Channel}

@@ -16,8 +16,15 @@ use Rattle.rams_model.specs.TraceText.{ended, trace_text}
 -- a packet of type 33 and SSRC 11223344, with so many zero bytes
 abbrev pub packet : ℕ → ℕ → Bool → ℕ → Packet
 packet sequence timestamp marker size = record {
-  marker = marker; payload_type = 33; sequence = sequence; timestamp = timestamp; ssrc = 0x11223344;
-  csrc = []; extension = []; payload = replicate size 0; padding = []
+  marker = marker;
+  payload_type = 33;
+  sequence = sequence;
+  timestamp = timestamp;
+  ssrc = 0x11223344;
+  csrc = [];
+  extension = [];
+  payload = replicate size 0;
+  padding = [];
 }
 
 abbrev pub head_text : List ℕ
@@ -27,16 +34,33 @@ head_text = codes "rams-trace 1 tick 10 link 100000\n"
 abbrev pub NoEvent : Type 0
 NoEvent =
     trace_text (head_text
-      ++ codes "channel 7 ssrc 11223344 pt 33 rtx 99 server aabbccdd seq0 500 ring 64 window 0 access marker share 10000 "
-      ++ codes "reserve 1500 burst 4000 declared 100 minwire 42 limit 100 idle 100 clients 4\n"
-      ++ codes "end\n")
+    ++ codes "channel 7 ssrc 11223344 pt 33 rtx 99 server aabbccdd seq0 500 ring 64 window 0 access marker share 10000 "
+    ++ codes "reserve 1500 burst 4000 declared 100 minwire 42 limit 100 idle 100 clients 4\n"
+    ++ codes "end\n")
     ≡ ended Done (codes "rams-book 1\ndone 0\n")
 
 -- the settings of the example's channel
 abbrev pub one_packet_channel : Channel
 one_packet_channel = record {
-  id = 7; ssrc = 0x11223344; pt = 33; rtx = 99; server = 0xaabbccdd; seq0 = 500; ring = 64; window = 0; access = Marker;
-  share = 10000; reserve = 1500; burst = 1500; declared = 0; minwire = 1500; limit = 100; idle = 100; clients = 4; depth = 0; swell = 0
+  id = 7;
+  ssrc = 0x11223344;
+  pt = 33;
+  rtx = 99;
+  server = 0xaabbccdd;
+  seq0 = 500;
+  ring = 64;
+  window = 0;
+  access = Marker;
+  share = 10000;
+  reserve = 1500;
+  burst = 1500;
+  declared = 0;
+  minwire = 1500;
+  limit = 100;
+  idle = 100;
+  clients = 4;
+  depth = 0;
+  swell = 0;
 }
 
 -- the three live packets
@@ -57,11 +81,11 @@ request = Feedback 5 (bytes_in (codes "86cd00030000c0011122334401000000"))
 abbrev pub OnePacketPerTick : Type 0
 OnePacketPerTick =
     replies (settings one_packet_channel 10)
-      (Tick ∷ Tick ∷ request ∷ Live (spelling third_packet) ∷ Live (spelling second_packet) ∷ Live (spelling first_packet) ∷ [])
+    (Tick ∷ Tick ∷ request ∷ Live (spelling third_packet) ∷ Live (spelling second_packet) ∷ Live (spelling first_packet) ∷ [])
     ≡ reply (Burst 5 65548 501 ∷ []) ((bytes_in (codes "806301f50000070811223344000c") ++ replicate 1458 0) ∷ [])
     ∷ reply (Burst 5 65547 500 ∷ []) ((bytes_in (codes "80e301f40000038411223344000b") ++ replicate 1458 0) ∷ [])
     ∷ reply (Accept 5 65547 1500 3000 ∷ [])
-        (bytes_in (codes "86cd000caabbccdd11223344020000c82000000201f40000210000040000753022000004000003e8230000080000000000124f80") ∷ [])
+    (bytes_in (codes "86cd000caabbccdd11223344020000c82000000201f40000210000040000753022000004000003e8230000080000000000124f80") ∷ [])
     ∷ reply (LiveNoted (Took 65548) ∷ []) []
     ∷ reply (LiveNoted (Took 65547) ∷ []) []
     ∷ reply (LiveNoted (Took 65546) ∷ []) []

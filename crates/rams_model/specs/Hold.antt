@@ -2,7 +2,7 @@
 use Rattle.std.specs.Prelude.{ℕ, ◌+◌, ◌-◌, ◌*◌, Bool, ◌&&◌, nat_le, if◌then◌else◌, List, [], ◌∷◌, length, drop, filter, sum_by, Option, Some, None}
 use Rattle.rams_model.specs.declared.channel.Channel.{Channel}
 use Rattle.rams_model.specs.declared.held.Held.{Held}
-use Rattle.rams_model.specs.Packet.{Packet, packet_of, stripped, wire_size}
+use Rattle.rams_model.specs.Packet.{Packet, stripped, wire_size}
 
 -- a packet under its number; an access point is one with the marker
 abbrev pub held_as : ℕ → Packet → Held

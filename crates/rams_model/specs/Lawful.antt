@@ -1,5 +1,5 @@
 -- The one lawful book of a channel: what it notes of each event, on what came before.
-use Rattle.std.specs.Prelude.{ℕ, List, [], ◌∷◌, Option, Some, None}
+use Rattle.std.specs.Prelude.{List, [], ◌∷◌, Option, Some, None}
 use Rattle.rams_model.specs.declared.event.Event.{Event}
 use Rattle.rams_model.specs.declared.event.Event.TheVariants.{Live, Feedback, Tick}
 use Rattle.rams_model.specs.declared.held.Held.{Held}

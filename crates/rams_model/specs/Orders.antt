@@ -23,7 +23,7 @@ accept_info s first rate join = record {
   first = Some first;
   join_ms = Some (min (join * s.tick) (2 ^ 32 - 1));
   length_ms = Some (s.channel.limit * s.tick);
-  bps = Some (rate * 8000 / s.tick)
+  bps = Some (rate * 8000 / s.tick);
 }
 
 -- what a note asks to send, by what stands in front of it

@@ -62,5 +62,5 @@ packet_of bytes = record {
   csrc = [];
   extension = [];
   payload = drop 12 bytes;
-  padding = []
+  padding = [];
 }

@@ -1,5 +1,5 @@
 -- The lines of a trace.
-use Rattle.std.specs.Prelude.{ℕ, zero, suc, ◌^◌, Bool, ◌&&◌, nat_lt, if◌then◌else◌, List, [], ◌∷◌, length, Option, Some, None, Result, Ok, Err, option_and_then, option_map, codes, bytes_eq}
+use Rattle.std.specs.Prelude.{ℕ, ◌^◌, Bool, ◌&&◌, nat_lt, if◌then◌else◌, List, [], ◌∷◌, length, Option, Some, None, Result, Ok, Err, option_and_then, option_map, codes, bytes_eq}
 use Rattle.std.specs.Int.{is_in_range}
 use Rattle.rams_model.specs.declared.channel.Access.{Access}
 use Rattle.rams_model.specs.declared.channel.Access.TheVariants.{Marker, Ts}
@@ -78,9 +78,26 @@ channel_in words = do
   idle ← field (codes "idle") number_in limit.1
   clients ← field (codes "clients") number_in idle.1
   whole (channel_line (record {
-    id = id.0; ssrc = ssrc.0; pt = pt.0; rtx = rtx.0; server = server.0; seq0 = seq0.0; ring = ring.0; window = window.0; access = access.0;
-    share = share.0; reserve = reserve.0; burst = burst.0; declared = declared.0; minwire = minwire.0; limit = limit.0; idle = idle.0;
-    clients = clients.0; depth = 0; swell = 0 })) clients.1
+    id = id.0;
+    ssrc = ssrc.0;
+    pt = pt.0;
+    rtx = rtx.0;
+    server = server.0;
+    seq0 = seq0.0;
+    ring = ring.0;
+    window = window.0;
+    access = access.0;
+    share = share.0;
+    reserve = reserve.0;
+    burst = burst.0;
+    declared = declared.0;
+    minwire = minwire.0;
+    limit = limit.0;
+    idle = idle.0;
+    clients = clients.0;
+    depth = 0;
+    swell = 0;
+  })) clients.1
 
 unfoldable pub live_in : Words → Option TraceLine
 live_in words = do

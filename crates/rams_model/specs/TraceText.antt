@@ -1,6 +1,5 @@
 -- The text that `run` writes for a trace.
-use Rattle.std.specs.Prelude.{ℕ, ◌+◌, Bool, ◌&&◌, ◌==◌, nat_lt, if◌then◌else◌, List, [], ◌∷◌, ◌++◌, Option, Some, None, Result, Ok, Err, codes, decimal}
-use Rattle.rams_model.specs.declared.channel.Channel.{Channel}
+use Rattle.std.specs.Prelude.{ℕ, ◌+◌, Bool, ◌&&◌, ◌==◌, nat_lt, if◌then◌else◌, List, [], ◌∷◌, ◌++◌, Option, Some, None, Result, Ok, Err, codes}
 use Rattle.rams_model.specs.declared.event.Event.{Event}
 use Rattle.rams_model.specs.declared.event.Event.TheVariants.{Live, Feedback, Tick}
 use Rattle.rams_model.specs.declared.fault.ConfigFault.{ConfigFault}
@@ -59,8 +58,8 @@ most_events = 1000000
 abbrev pub after_event : Stage → Reached → ℕ → Settings → History → Event → Turn
 after_event stage reached number s history event =
     if nat_lt stage.events most_events && is_built s history event then
-      goes_on (record { reached = reached; channel = Some (s, after s event history); events = stage.events + 1 })
-        (answer_text s (stage.events + 1) (answer s history event))
+    goes_on (record { reached = reached; channel = Some (s, after s event history); events = stage.events + 1 })
+    (answer_text s (stage.events + 1) (answer s history event))
     else ends (not_built number)
 
 -- an event of the channel with this number

@@ -1,5 +1,5 @@
 -- The answer to a RAMS-R without TLVs (RFC 6285, 6.2 and 7.2).
-use Rattle.std.specs.Prelude.{ℕ, ◌+◌, ◌-◌, ◌/◌, min, List, ◌∷◌, Option, Some, None}
+use Rattle.std.specs.Prelude.{ℕ, ◌+◌, ◌-◌, ◌/◌, min, ◌∷◌, Option, Some, None}
 use Rattle.rams_model.specs.declared.channel.Channel.{Channel}
 use Rattle.rams_model.specs.declared.note.Note.TheVariants.{Accept}
 use Rattle.rams_model.specs.Settings.{Settings}

@@ -34,7 +34,10 @@ pub enum Order {
         packet: Bytes,
     },
     /// A RAMS-I message.
-    Info { client: u64, info: Info },
+    Info {
+        client: u64,
+        info: Info,
+    },
 }
 
 /// The notes of an event, in order, and the datagrams that they ask for, in the notes' order.

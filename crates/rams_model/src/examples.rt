@@ -4,11 +4,9 @@ ghost use Rattle.rams_model.specs.Examples.{NoEvent, OnePacketPerTick};
 /// A trace without events.
 pub fn no_event()
     ensures { NoEvent }
-{
-}
+{}
 
 /// A burst that sends one packet in each tick.
 pub fn one_packet_per_tick()
     ensures { OnePacketPerTick }
-{
-}
+{}

@@ -20,5 +20,9 @@ pub enum Note {
         join: u64,
     },
     /// Packet `n` is sent to the client under this retransmission sequence number.
-    Burst { client: u64, n: u64, seq: u16 },
+    Burst {
+        client: u64,
+        n: u64,
+        seq: u16,
+    },
 }
