@@ -9,7 +9,7 @@ abbrev pub held_as : ℕ → Packet → Held
 held_as n p = record { n = n; ts = p.timestamp; wire = wire_size (stripped p); access = p.marker; packet = stripped p }
 
 -- the interval of the numbers: the first, and one above the last; both 0 where nothing is held
-unfoldable pub lo : List Held → ℕ
+abbrev pub lo : List Held → ℕ
 lo [] = 0
 lo (h ∷ hs) = h.n
 

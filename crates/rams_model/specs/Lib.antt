@@ -16,3 +16,4 @@ pub mod TraceOrder
 pub mod BookText
 pub mod TraceText
 pub mod Examples
+pub mod PlainPackets

@@ -4,7 +4,7 @@ use Rattle.hex.specs.Hex.{encode_with, decode_pairs}
 use Rattle.rams_model.specs.Settings.{checked}
 use Rattle.rams_model.specs.Packet.{header, spelling, packet_of}
 use Rattle.rams_model.specs.RamsInfo.{rams_info}
-use Rattle.rams_model.specs.Hold.{lo, hi, newest_start}
+use Rattle.rams_model.specs.Hold.{hi, newest_start}
 use Rattle.rams_model.specs.History.{source}
 use Rattle.rams_model.specs.Standing.{burst, sendings, was_asked, ticks}
 use Rattle.rams_model.specs.Run.{run, send}
@@ -19,5 +19,5 @@ use Rattle.std.specs.Fmt.{digits}
 use Rattle.rams_model.proofs.examples.one_packet_per_tick.Goals as goal
 
 pub returns : goal.returns
-unfolding encode_with decode_pairs checked header spelling packet_of rams_info lo hi newest_start source burst sendings was_asked ticks run send after book newest_notes newest_orders datagram lines_of words_of head_in channel_in live_in feedback_in line_at accepted note_line send_line notes_text turn text_from trace_text digits replies
+unfolding encode_with decode_pairs checked header spelling packet_of rams_info hi newest_start source burst sendings was_asked ticks run send after book newest_notes newest_orders datagram lines_of words_of head_in channel_in live_in feedback_in line_at accepted note_line send_line notes_text turn text_from trace_text digits replies
 returns c = refl

@@ -1,0 +1,4 @@
+pub mod LineFeeds
+pub mod Windows
+pub mod NextLines
+pub mod Passing

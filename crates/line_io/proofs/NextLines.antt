@@ -1,0 +1,71 @@
+-- The next line of what is kept and what the source has left.
+use Rattle.std.proofs.Common.{◌≡◌, ℕ, ◌+◌, ◌<◌, ◌≤◌, List, [], ◌∷◌, ◌++◌, length, take, drop, Option, Some, None, refl, sym, ap, ◌∙◌, arith, append_assoc, append-nil, length-take}
+use Rattle.std.specs.Io.KnownBytes.{Keeps, Consumes, IsAtEnd, prepend_known}
+use Rattle.rams_model.specs.Words.{lines_of}
+use Rattle.line_io.specs.declared.reader.Next.TheVariants.{Line, Long, End}
+use Rattle.line_io.specs.Feeds.{HasNoFeed, IsCutAt}
+use Rattle.line_io.specs.Lines.{TakesNext}
+use Rattle.line_io.proofs.LineFeeds.{lines_of-cut, lines_of-all, lines_of-begins}
+
+first_line : (kept : List ℕ) (at : ℕ) (xs ys : List ℕ) → IsCutAt kept at → kept ++ ys ≡ xs → lines_of xs ≡ take at kept ∷ lines_of (drop (at + 1) kept ++ ys)
+first_line kept at xs ys cut all =
+    let front = take at kept in
+    let behind = drop (at + 1) kept in
+    ap lines_of (sym all ∙ ap (λ (t : List ℕ). t ++ ys) cut.whole ∙ append_assoc front (10 ∷ behind) ys) ∙ lines_of-cut front (behind ++ ys) cut.front
+
+-- a line that its feed ends
+pub TakesNext-cut : (kept now line : List ℕ) (at : ℕ) → IsCutAt kept at → at ≤ 4096 → line ≡ take at kept → now ≡ drop (at + 1) kept
+    → (a b : Option (List ℕ)) → Keeps a (prepend_known kept b) → TakesNext a (prepend_known now b) line Line
+TakesNext-cut kept now line at cut small is rest None b same = tt
+TakesNext-cut kept now line at cut small is rest (Some xs) None same = absurd same
+TakesNext-cut kept now line at cut small is rest (Some xs) (Some ys) same =
+    rw (is, rest) (first_line kept at xs ys cut same, omega (arith, length-take at kept))
+
+-- a line that its feed ends too late
+pub TakesNext-cut_late : (kept now line : List ℕ) (at : ℕ) → IsCutAt kept at → 4096 < at
+    → (a b : Option (List ℕ)) → Keeps a (prepend_known kept b) → TakesNext a (prepend_known now b) line Long
+TakesNext-cut_late kept now line at cut large None b same = tt
+TakesNext-cut_late kept now line at cut large (Some xs) None same = absurd same
+TakesNext-cut_late kept now line at cut large (Some xs) (Some ys) same =
+    (take at kept, lines_of (drop (at + 1) kept ++ ys), first_line kept at xs ys cut same, omega (arith, length-take at kept, cut.inside))
+
+-- a line with no feed so far that is too long
+pub TakesNext-long : (kept line : List ℕ) → HasNoFeed kept → 4096 < length kept
+    → (a b : Option (List ℕ)) → Keeps a (prepend_known kept b) → TakesNext a (prepend_known kept b) line Long
+TakesNext-long kept line clean large None b same = tt
+TakesNext-long kept line clean large (Some xs) None same = absurd same
+TakesNext-long kept line clean large (Some xs) (Some ys) same =
+    let begins = lines_of-begins kept ys clean (omega arith) in
+    (begins.first, begins.rest, ap lines_of (sym same) ∙ begins.whole, omega (arith, begins.long))
+
+-- the last line lacks its feed
+pub TakesNext-last : (kept now line : List ℕ) → HasNoFeed kept → 0 < length kept → length kept ≤ 4096 → line ≡ kept → now ≡ []
+    → (a b : Option (List ℕ)) → Keeps a (prepend_known kept b) → IsAtEnd b → TakesNext a (prepend_known now b) line Line
+unfolding lines_of
+TakesNext-last kept now line clean some small is none None b same end = tt
+TakesNext-last kept now line clean some small is none (Some xs) None same end = absurd same
+TakesNext-last kept now line clean some small is none (Some xs) (Some ys) same end =
+    let whole : xs ≡ kept = sym same ∙ ap (λ (t : List ℕ). kept ++ t) end ∙ append-nil kept in
+    rw (is, none, end, whole) (lines_of-all kept clean some, small)
+
+-- nothing is left
+pub TakesNext-end : (kept line : List ℕ) → kept ≡ []
+    → (a b : Option (List ℕ)) → Keeps a (prepend_known kept b) → IsAtEnd b → TakesNext a (prepend_known kept b) line End
+unfolding lines_of
+TakesNext-end kept line none None b same end = tt
+TakesNext-end kept line none (Some xs) None same end = absurd same
+TakesNext-end kept line none (Some xs) (Some ys) same end =
+    ap lines_of (sym same ∙ ap (λ (t : List ℕ). t ++ ys) none ∙ end)
+
+-- what is kept and what is left together stay, where what is kept grows by what was taken
+pub Keeps-taken : (kept now more : List ℕ) (a b : Option (List ℕ)) → now ≡ kept ++ more → Consumes a b more → Keeps (prepend_known kept a) (prepend_known now b)
+Keeps-taken kept now more None b grown taken = tt
+Keeps-taken kept now more (Some xs) None grown taken = absurd taken
+Keeps-taken kept now more (Some xs) (Some ys) grown taken =
+    ap (λ (t : List ℕ). t ++ ys) grown ∙ append_assoc kept more ys ∙ ap (λ (t : List ℕ). kept ++ t) (sym taken)
+
+-- the same, where nothing was taken
+pub Keeps-kept : (kept now : List ℕ) (a b : Option (List ℕ)) → now ≡ kept → Keeps a b → Keeps (prepend_known kept a) (prepend_known now b)
+Keeps-kept kept now None b is same = tt
+Keeps-kept kept now (Some xs) None is same = absurd same
+Keeps-kept kept now (Some xs) (Some ys) is same = rw (is, same) refl

@@ -1,0 +1,11 @@
+use Rattle.std.proofs.Common.{◌-◌, sym, ap, ◌∙◌, arith}
+use Rattle.rams_model.specs.Run.{run}
+use Rattle.session_core.proofs.HoldLemmas.{from_number_of_rise}
+use Rattle.session_core.proofs.run.run_of.Goals as goal
+
+pub returns-clause-run : goal.returns-clause-run
+returns-clause-run c =
+    let next = c.args.next in
+    let lo = c.args.lo in
+    c.split_at-2.ensures.front ∙ c.run_length.ensures.run
+    ∙ ap (run next c.args.rate) (c.split_at.ensures.back ∙ sym (from_number_of_rise next lo c.args.held.now (next - lo) c.requires.rise (omega arith)))

@@ -1,0 +1,68 @@
+-- What contracts see of a core, and the history that it stands for.
+use Rattle.std.specs.Prelude.{◌≡◌, ℕ, zero, ◌+◌, ◌≤◌, ◌<◌, Bool, ◌&&◌, not, nat_lt, List, [], ◌∷◌, length, Option, None, Some, is_some}
+use Rattle.rams_model.specs.declared.event.Event.{Event}
+use Rattle.rams_model.specs.declared.event.Event.TheVariants.{Live, Feedback, Tick}
+use Rattle.rams_model.specs.declared.held.Held.{Held}
+use Rattle.rams_model.specs.Settings.{Settings}
+use Rattle.rams_model.specs.Hold.{lo, newest_start}
+use Rattle.rams_model.specs.History.{History, source}
+use Rattle.rams_model.specs.Standing.{Burst, next, burst, sendings, was_asked, ticks}
+use Rattle.rams_model.specs.Answered.{Answered}
+use Rattle.rams_model.specs.Lawful.{after}
+use Rattle.rams_model.specs.Orders.{answer}
+use Rattle.rams_model.specs.Built.{is_built_live, is_plain_request}
+
+pub record Seen : Type 0 where
+  pub settings : Settings
+  -- oldest first
+  pub held : List Held
+  pub burst : Option Burst
+  pub ticks : ℕ
+
+abbrev pub new_core : Settings → Seen
+new_core s = record { settings = s; held = []; burst = None; ticks = 0 }
+
+-- whether the event is built for this core
+abbrev pub serves : Seen → Event → Bool
+serves v (Live bytes) = is_built_live v.settings.channel v.held bytes
+serves v (Feedback client bytes) = is_plain_request bytes && not (is_some v.burst) && is_some (newest_start v.settings.channel v.held)
+serves v Tick = nat_lt (v.ticks + 1) v.settings.channel.limit
+
+-- how many packets the burst was sent
+abbrev pub sent_of : Option Burst → ℕ
+sent_of None = 0
+sent_of (Some b) = b.sent
+
+-- The core has what the history says.
+pub record StandsFor (v : Seen) (history : History) : Type 0 where
+  pub held : v.held ≡ source history
+  pub room : length (source history) ≤ v.settings.channel.ring
+  pub burst : v.burst ≡ burst history
+  pub sent : sendings history ≡ sent_of v.burst
+  pub asked : was_asked history ≡ is_some v.burst
+  pub ticks : v.ticks ≡ ticks history
+
+-- the numbers rise by one from n on, and no packet takes more than 1,500 bytes on the wire
+abbrev pub RiseFrom : ℕ → List Held → Type 0
+RiseFrom n [] = Unit {0}
+RiseFrom n (h ∷ hs) = (h.n ≡ n) × (h.wire ≤ 1500) × RiseFrom (n + 1) hs
+
+-- a burst lies within what is held
+abbrev pub LiesWithin : List Held → Option Burst → Type 0
+LiesWithin held None = Unit {0}
+LiesWithin held (Some b) = (0 < length held) × (lo held ≤ b.first) × (next b ≤ lo held + length held)
+
+-- what every core keeps
+pub record IsCore (v : Seen) : Type 0 where
+  pub rise : RiseFrom (lo v.held) v.held
+  pub low : lo v.held < 131072
+  pub room : length v.held ≤ v.settings.channel.ring
+  pub ring : v.settings.channel.ring ≤ 32768
+  pub within : LiesWithin v.held v.burst
+  pub few : v.ticks ≤ v.settings.channel.limit
+
+-- What the core then has, and its answer, are what the event gives after every history that the core stood for.
+pub record Answers (old new : Seen) (event : Event) (a : Answered) : Type 0 where
+  pub settings : new.settings ≡ old.settings
+  pub lawful : (history : History) → StandsFor old history → a ≡ answer old.settings history event
+  pub stands : (history : History) → StandsFor old history → StandsFor new (after old.settings event history)

@@ -1,0 +1,12 @@
+-- A core's fields as contracts see them.
+use Rattle.std.specs.Prelude.{Option, Some, None, option_map}
+use Rattle.rams_model.specs.Standing as standing
+use Rattle.session_core.specs.declared.session.Burst.{Burst}
+use Rattle.session_core.specs.declared.session.Core.TheInside.{Inside}
+use Rattle.session_core.specs.Seen.{Seen}
+
+abbrev pub shown_burst : Burst → standing.Burst
+shown_burst b = record { client = b.client; first = b.first; rate = b.rate; sent = b.sent }
+
+abbrev pub shown_core : Inside → Seen
+shown_core c = record { settings = c.config; held = c.held.items; burst = option_map shown_burst c.burst; ticks = c.ticks }
