@@ -1,5 +1,5 @@
 -- What is read of a packet's bytes.
-use Rattle.std.proofs.Common.{◌≡◌, ℕ, ◌+◌, ◌*◌, ◌/◌, ◌<◌, true, List, [], ◌∷◌, ◌++◌, append-nil, length, get_or, drop, refl, sym, ap, ◌∙◌, arith}
+use Rattle.std.proofs.Common.{◌≡◌, ℕ, ◌+◌, ◌*◌, ◌/◌, ◌<◌, true, List, [], ◌∷◌, ◌++◌, append-nil, append_assoc, length, get_or, drop, refl, sym, ap, ◌∙◌, arith}
 use Rattle.std.specs.Prelude.{if◌then◌else◌, ◌==◌}
 use Rattle.std.specs.Int.{w16, w32, from_be_bytes, to_be_bytes}
 use Rattle.std.proofs.lemmas.Bool.Decides.{nat_tests}
@@ -30,11 +30,11 @@ held_as_read n ts bytes packet small plain at same =
 pub retransmission_text : (p : List ℕ) (rtx seq marker original timestamp ssrc : ℕ) → marker ≡ (if get_or p 1 0 / 128 == 1 then 128 else 0)
     → timestamp ≡ from_be_bytes w32 (drop 4 p) → ssrc ≡ from_be_bytes w32 (drop 8 p) → original ≡ from_be_bytes w16 (drop 2 p)
     → (128 ∷ (marker + rtx) ∷ (to_be_bytes w16 seq ++ to_be_bytes w32 timestamp ++ to_be_bytes w32 ssrc ++ to_be_bytes w16 original)) ++ drop 12 p
-      ≡ retransmission (packet_of p) rtx seq
+    ≡ retransmission (packet_of p) rtx seq
 unfolding header spelling packet_of
 retransmission_text p rtx seq marker original timestamp ssrc em et es eo = rw (em, et, es, eo) (simp append-nil)
 
--- a vector that was empty, after two pieces
-pub two_pieces : (both one none first second f g : List ℕ) → both ≡ one ++ second → one ≡ none ++ first → none ≡ [] → first ≡ f → second ≡ g → both ≡ f ++ g
-two_pieces both one none first second f g e2 e1 e0 ef eg =
-    e2 ∙ ap (λ (l : List ℕ). l ++ second) (e1 ∙ ap (λ (l : List ℕ). l ++ first) e0 ∙ ef) ∙ ap (λ (l : List ℕ). f ++ l) eg
+-- a vector behind which two pieces were put
+pub two_pieces : (both one old first second f g : List ℕ) → both ≡ one ++ second → one ≡ old ++ first → first ≡ f → second ≡ g → both ≡ old ++ (f ++ g)
+two_pieces both one old first second f g e2 e1 ef eg =
+    e2 ∙ ap (λ (l : List ℕ). l ++ second) (e1 ∙ ap (λ (l : List ℕ). old ++ l) ef) ∙ ap (λ (l : List ℕ). (old ++ f) ++ l) eg ∙ append_assoc old f g

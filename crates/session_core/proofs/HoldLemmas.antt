@@ -5,7 +5,7 @@ use Rattle.std.specs.List.{slice_get}
 use Rattle.std.proofs.lemmas.Option.{slice_get_within, slice_get-get_or}
 use Rattle.rams_model.specs.declared.held.Held.{Held}
 use Rattle.rams_model.specs.Hold.{lo, hi, last_of, from_number}
-use Rattle.session_core.specs.Seen.{RiseFrom}
+use Rattle.session_core.specs.Seen.{RiseFrom, IsWhole}
 
 -- hi is one above the number of the last packet
 pub hi_of_last : (hs : List Held) (i : ℕ) (h : Held) → i + 1 ≡ length hs → slice_get hs i ≡ Some h → h.n + 1 ≡ hi hs
@@ -19,22 +19,21 @@ hi_of_last (x ∷ y ∷ ys) (suc i) h e is = hi_of_last (y ∷ ys) i h (omega ar
 -- the packet at a place
 pub record IsAt (n i : ℕ) (hs : List Held) (h : Held) : Type 0 where
   pub number : h.n ≡ n + i
-  pub short : h.wire ≤ 1500
   pub below : i < length hs
 
 pub numbered : (n : ℕ) (hs : List Held) (i : ℕ) (h : Held) → RiseFrom n hs → slice_get hs i ≡ Some h → IsAt n i hs h
 numbered n [] i h r is = cc
 numbered n (x ∷ hs) zero h r is =
     let same : x ≡ h = cc in
-    record { number = ap (λ (y : Held). y.n) (sym same) ∙ r.0 ∙ omega arith; short = subst (λ (y : Held). y.wire ≤ 1500) same r.1; below = omega arith }
+    record { number = ap (λ (y : Held). y.n) (sym same) ∙ r.0 ∙ omega arith; below = omega arith }
 numbered n (x ∷ hs) (suc i) h r is =
     let rest = numbered (n + 1) hs i h r.2 is in
     let number = rest.number in
     let below = rest.below in
-    record { number = omega arith; short = rest.short; below = omega arith }
+    record { number = omega arith; below = omega arith }
 
 -- one more packet
-pub RiseFrom-push : (n : ℕ) (hs : List Held) (h : Held) → RiseFrom n hs → h.n ≡ n + length hs → h.wire ≤ 1500 → RiseFrom n (hs ++ h ∷ [])
+pub RiseFrom-push : (n : ℕ) (hs : List Held) (h : Held) → RiseFrom n hs → h.n ≡ n + length hs → IsWhole h → RiseFrom n (hs ++ h ∷ [])
 RiseFrom-push n [] h r e w = (omega arith, w, tt)
 RiseFrom-push n (x ∷ hs) h r e w = (r.0, r.1, RiseFrom-push (n + 1) hs h r.2 (omega arith) w)
 
@@ -51,7 +50,7 @@ filter_all m n (h ∷ hs) r le =
     let at_least : m ≤ h.n = omega arith in
     let rest = filter_all m (n + 1) hs r.2 (omega arith) in
     let step : (b : Bool) → nat_le m h.n ≡ b → cond b (h ∷ from_number m hs) (from_number m hs) ≡ h ∷ hs =
-      elim [ true ↦ λ e. ap (λ (l : List Held). h ∷ l) rest | false ↦ λ e. absurd (omega (arith, leb-false m h.n e)) ] in
+    elim [ true ↦ λ e. ap (λ (l : List Held). h ∷ l) rest | false ↦ λ e. absurd (omega (arith, leb-false m h.n e)) ] in
     step (nat_le m h.n) refl
 
 -- the packets numbered m and above are those behind the first m - n
@@ -63,7 +62,7 @@ from_number_of_rise m n (h ∷ hs) (suc k) r e =
     let number = r.0 in
     let rest = from_number_of_rise m (n + 1) hs k r.2 (omega arith) in
     let step : (b : Bool) → nat_le m h.n ≡ b → cond b (h ∷ from_number m hs) (from_number m hs) ≡ drop k hs =
-      elim [ true ↦ λ t. absurd (omega (arith, leb-true m h.n t)) | false ↦ λ t. rest ] in
+    elim [ true ↦ λ t. absurd (omega (arith, leb-true m h.n t)) | false ↦ λ t. rest ] in
     step (nat_le m h.n) refl
 
 -- where the ring has room for all, all are held

@@ -7,11 +7,11 @@ use Rattle.rams_model.specs.Hold.{Start, start_at, is_eligible, or_start, newest
 use Rattle.std.specs.Prelude.{if◌then◌else◌, Bool, true, false, cond}
 use Rattle.rams_model.specs.History.{next_number}
 use Rattle.rams_model.specs.Standing.{Burst, next}
-use Rattle.session_core.specs.Seen.{Seen, IsCore, RiseFrom, LiesWithin}
+use Rattle.session_core.specs.Seen.{Seen, IsCore, IsWhole, RiseFrom, LiesWithin}
 use Rattle.session_core.proofs.HoldLemmas.{RiseFrom-push, hi_of_rise}
 
 -- a packet behind others
-rise_more : (held : List Held) (h : Held) (p : Packet) → RiseFrom (lo held) held → h.wire ≤ 1500 → h.n ≡ next_number held p
+rise_more : (held : List Held) (h : Held) (p : Packet) → RiseFrom (lo held) held → IsWhole h → h.n ≡ next_number held p
     → RiseFrom (lo (held ++ h ∷ [])) (held ++ h ∷ [])
 rise_more [] h p r short number = (refl, short, tt)
 rise_more (x ∷ hs) h p r short number = RiseFrom-push x.n (x ∷ hs) h r (number ∙ hi_of_rise x.n x hs r) short
@@ -30,7 +30,7 @@ within_more (x ∷ hs) h (Some b) w =
 
 -- one packet more is held
 pub live_keeps : (v : Seen) (h : Held) (items : List Held) (p : Packet) → IsCore v → items ≡ v.held ++ h ∷ [] → length v.held < v.settings.channel.ring
-    → h.wire ≤ 1500 → h.n ≡ next_number v.held p → (length v.held ≡ 0 → h.n < 131072) → IsCore (record v { held = items })
+    → IsWhole h → h.n ≡ next_number v.held p → (length v.held ≡ 0 → h.n < 131072) → IsCore (record v { held = items })
 live_keeps v h items p core e room short number first =
     let long = length-append v.held (h ∷ []) in
     let kept : IsCore (record v { held = v.held ++ h ∷ [] }) = record {
@@ -39,7 +39,7 @@ live_keeps v h items p core e room short number first =
       room = omega (arith, long);
       ring = core.ring;
       within = within_more v.held h v.burst core.within;
-      few = core.few
+      few = core.few;
     } in
     subst (λ (l : List Held). IsCore (record v { held = l })) (sym e) kept
 

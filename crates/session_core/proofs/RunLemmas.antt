@@ -1,5 +1,5 @@
 -- The steps of the loops over a run.
-use Rattle.std.proofs.Common.{◌≡◌, ℕ, ◌+◌, ◌-◌, ◌<◌, ◌≤◌, ◌==◌, ◌&&◌, Bool, true, false, cond, nat_le, List, [], ◌∷◌, ◌++◌, length, get_or, take, drop, refl, sym, ap, ◌∙◌, subst, append_assoc, append-nil, arith}
+use Rattle.std.proofs.Common.{◌≡◌, ℕ, zero, suc, ◌+◌, ◌-◌, ◌<◌, ◌≤◌, ◌==◌, ◌&&◌, Bool, true, false, cond, nat_le, List, [], ◌∷◌, ◌++◌, length, get_or, take, drop, refl, sym, ap, ◌∙◌, subst, append_assoc, append-nil, arith}
 use Rattle.std.proofs.lemmas.List.{take_more, drop_more, drop_all}
 use Rattle.rams_model.specs.declared.answer.Order.{Order}
 use Rattle.rams_model.specs.declared.answer.Order.TheVariants.{Rtx}
@@ -7,6 +7,8 @@ use Rattle.rams_model.specs.declared.held.Held.{Held}
 use Rattle.rams_model.specs.declared.note.Note.{Note}
 use Rattle.rams_model.specs.declared.note.Note.TheVariants.{Burst}
 use Rattle.rams_model.specs.Run.{run}
+use Rattle.session_core.specs.Render.{AllRender}
+use Rattle.session_core.specs.Seen.{RiseFrom, AllWhole}
 use Rattle.session_core.specs.Runs.{sequence_at, burst_notes, burst_orders}
 
 -- the run of a list that begins with a packet that is sent
@@ -25,7 +27,7 @@ run_goes_on held whole i first left h below is goes so_far =
     let split : drop i held ≡ h ∷ rest = drop_more held i h below ∙ ap (λ (x : Held). x ∷ rest) (sym is) in
     let next : (first + i) + 1 ≡ first + (i + 1) = omega arith in
     let step : run (first + i) left (drop i held) ≡ h ∷ run (first + (i + 1)) (left - h.wire) rest =
-      ap (run (first + i) left) split ∙ run-taken (first + i) left h rest goes ∙ ap (λ k. h ∷ run k (left - h.wire) rest) next in
+    ap (run (first + i) left) split ∙ run-taken (first + i) left h rest goes ∙ ap (λ k. h ∷ run k (left - h.wire) rest) next in
     let front : take (i + 1) held ≡ take i held ++ h ∷ [] = take_more held i h below ∙ ap (λ (x : Held). take i held ++ x ∷ []) (sym is) in
     ap (λ (l : List Held). l ++ run (first + (i + 1)) (left - h.wire) rest) front
     ∙ append_assoc (take i held) (h ∷ []) (run (first + (i + 1)) (left - h.wire) rest)
@@ -50,7 +52,7 @@ notes_go_on held made whole seq0 client sent i h below is so_far =
     let split : drop i held ≡ h ∷ rest = drop_more held i h below ∙ ap (λ (x : Held). x ∷ rest) (sym is) in
     let next : (sent + i) + 1 ≡ sent + (i + 1) = omega arith in
     let step : burst_notes seq0 client (sent + i) (drop i held) ≡ note ∷ burst_notes seq0 client (sent + (i + 1)) rest =
-      ap (burst_notes seq0 client (sent + i)) split ∙ ap (λ k. note ∷ burst_notes seq0 client k rest) next in
+    ap (burst_notes seq0 client (sent + i)) split ∙ ap (λ k. note ∷ burst_notes seq0 client k rest) next in
     append_assoc made (note ∷ []) (burst_notes seq0 client (sent + (i + 1)) rest) ∙ ap (λ (l : List Note). made ++ l) (sym step) ∙ so_far
 
 -- an order for each packet
@@ -64,9 +66,9 @@ orders_go_on held made whole seq0 client sent i h packet below is same so_far =
     let split : drop i held ≡ h ∷ rest = drop_more held i h below ∙ ap (λ (x : Held). x ∷ rest) (sym is) in
     let next : (sent + i) + 1 ≡ sent + (i + 1) = omega arith in
     let step : burst_orders seq0 client (sent + i) (drop i held) ≡ order ∷ burst_orders seq0 client (sent + (i + 1)) rest =
-      ap (burst_orders seq0 client (sent + i)) split
-      ∙ ap (λ (p : List ℕ). Rtx client h.n (sequence_at seq0 (sent + i)) p ∷ burst_orders seq0 client ((sent + i) + 1) rest) (sym same)
-      ∙ ap (λ k. order ∷ burst_orders seq0 client k rest) next in
+    ap (burst_orders seq0 client (sent + i)) split
+    ∙ ap (λ (p : List ℕ). Rtx client h.n (sequence_at seq0 (sent + i)) p ∷ burst_orders seq0 client ((sent + i) + 1) rest) (sym same)
+    ∙ ap (λ k. order ∷ burst_orders seq0 client k rest) next in
     append_assoc made (order ∷ []) (burst_orders seq0 client (sent + (i + 1)) rest) ∙ ap (λ (l : List Order). made ++ l) (sym step) ∙ so_far
 
 -- the loops' ends
@@ -84,3 +86,27 @@ pub orders_end : (held : List Held) (made whole : List Order) (seq0 client sent 
 unfolding burst_orders
 orders_end held made whole seq0 client sent i end so_far =
     sym (append-nil made) ∙ ap (λ (l : List Held). made ++ burst_orders seq0 client (sent + i) l) (sym (drop_all i held end)) ∙ so_far
+
+-- ---- whole packets
+
+pub AllWhole-rise : (n : ℕ) (hs : List Held) → RiseFrom n hs → AllWhole hs
+AllWhole-rise n [] r = tt
+AllWhole-rise n (h ∷ hs) r = (r.1, AllWhole-rise (n + 1) hs r.2)
+
+pub AllWhole-drop : (k : ℕ) (hs : List Held) → AllWhole hs → AllWhole (drop k hs)
+AllWhole-drop zero hs w = w
+AllWhole-drop (suc k) [] w = w
+AllWhole-drop (suc k) (h ∷ hs) w = AllWhole-drop k hs w.1
+
+pub AllWhole-take : (k : ℕ) (hs : List Held) → AllWhole hs → AllWhole (take k hs)
+AllWhole-take zero hs w = tt
+AllWhole-take (suc k) [] w = tt
+AllWhole-take (suc k) (h ∷ hs) w = (w.0, AllWhole-take k hs w.1)
+
+pub AllRender-burst_orders : (seq0 client sent : ℕ) (hs : List Held) → AllWhole hs → AllRender (burst_orders seq0 client sent hs)
+unfolding burst_orders
+AllRender-burst_orders seq0 client sent [] w = tt
+AllRender-burst_orders seq0 client sent (h ∷ hs) w =
+    let least = w.0.least in
+    let most = w.0.most in
+    ((least, omega arith), AllRender-burst_orders seq0 client (sent + 1) hs w.1)

@@ -81,20 +81,23 @@ unfolding after source burst sendings was_asked ticks newest_notes newest_orders
 live_answers v bytes n items number e room =
     let p = packet_of bytes in
     let lawful : (history : History) → StandsFor v history → answered (notes.Live (Took n) ∷ []) [] ≡ answer v.settings history (Live bytes) =
-      λ history s. ap (λ k. answered (notes.Live (Took k) ∷ []) []) (number ∙ ap (λ (l : List Held). next_number l p) s.held) in
+    λ history s. ap (λ k. answered (notes.Live (Took k) ∷ []) []) (number ∙ ap (λ (l : List Held). next_number l p) s.held) in
     let grown : (history : History) → StandsFor v history → items ≡ source history ++ held_as (next_number (source history) p) p ∷ [] =
-      λ history s. e ∙ ap (λ (l : List Held). l ++ held_as n p ∷ []) s.held
-      ∙ ap (λ k. source history ++ held_as k p ∷ []) (number ∙ ap (λ (l : List Held). next_number l p) s.held) in
+    λ history s. e ∙ ap (λ (l : List Held). l ++ held_as n p ∷ []) s.held
+    ∙ ap (λ k. source history ++ held_as k p ∷ []) (number ∙ ap (λ (l : List Held). next_number l p) s.held) in
     record {
       settings = refl;
       lawful = lawful;
       stands = λ history s.
-        let same : length v.held ≡ length (source history) = ap length s.held in
-        record {
-          held = grown history s;
-          room = omega (arith, length-append (source history) (held_as (next_number (source history) p) p ∷ []));
-          burst = s.burst; sent = s.sent; asked = s.asked; ticks = s.ticks
-        }
+          let same : length v.held ≡ length (source history) = ap length s.held in
+          record {
+            held = grown history s;
+            room = omega (arith, length-append (source history) (held_as (next_number (source history) p) p ∷ []));
+            burst = s.burst;
+            sent = s.sent;
+            asked = s.asked;
+            ticks = s.ticks;
+          };
     }
 
 -- ---- a request
@@ -105,24 +108,24 @@ hold_is v history s = last_of_all v.settings.channel.ring (source history) s.roo
 
 pub feedback_answers : (v : Seen) (client : ℕ) (bytes : List ℕ) (start : Start) → newest_start v.settings.channel v.held ≡ Some start → v.burst ≡ None
     → let c = v.settings.channel in let join = join_ticks c start.behind c.burst in
-      Answers v (record v { burst = Some (begun client start.n c.burst) }) (Feedback client bytes)
-        (answered (notes.Accept client start.n c.burst join ∷ []) (orders.Info client (accept_info v.settings (sequence_at c.seq0 0) c.burst join) ∷ []))
+    Answers v (record v { burst = Some (begun client start.n c.burst) }) (Feedback client bytes)
+    (answered (notes.Accept client start.n c.burst join ∷ []) (orders.Info client (accept_info v.settings (sequence_at c.seq0 0) c.burst join) ∷ []))
 unfolding after source burst sendings was_asked ticks newest_notes newest_orders
 feedback_answers v client bytes start found none =
     let c = v.settings.channel in
     let join = join_ticks c start.behind c.burst in
     let begins : (history : History) → StandsFor v history → after v.settings (Feedback client bytes) history ≡ noted (notes.Accept client start.n c.burst join) None ∷ began (Feedback client bytes) ∷ history =
-      λ history s. ap (λ (o : Option Start). accepts c client o (began (Feedback client bytes) ∷ history)) (ap (newest_start c) (hold_is v history s) ∙ found) in
+    λ history s. ap (λ (o : Option Start). accepts c client o (began (Feedback client bytes) ∷ history)) (ap (newest_start c) (hold_is v history s) ∙ found) in
     let first : (history : History) → StandsFor v history → sequence_at c.seq0 0 ≡ sequence v.settings (began (Feedback client bytes) ∷ history) =
-      λ history s. ap (λ k. k % 65536) (let zero_sent : sendings history ≡ 0 = s.sent ∙ ap sent_of none in omega arith) in
+    λ history s. ap (λ k. k % 65536) (let zero_sent : sendings history ≡ 0 = s.sent ∙ ap sent_of none in omega arith) in
     record {
       settings = refl;
       lawful = λ history s.
-        ap (λ k. answered (notes.Accept client start.n c.burst join ∷ []) (orders.Info client (accept_info v.settings k c.burst join) ∷ [])) (first history s)
-        ∙ ap (newest_answer v.settings) (sym (begins history s));
+          ap (λ k. answered (notes.Accept client start.n c.burst join ∷ []) (orders.Info client (accept_info v.settings k c.burst join) ∷ [])) (first history s)
+          ∙ ap (newest_answer v.settings) (sym (begins history s));
       stands = λ history s.
-        subst (λ (h : History). StandsFor (record v { burst = Some (begun client start.n c.burst) }) h) (sym (begins history s))
-          (record { held = s.held; room = s.room; burst = refl; sent = s.sent ∙ ap sent_of none; asked = refl; ticks = s.ticks })
+          subst (λ (h : History). StandsFor (record v { burst = Some (begun client start.n c.burst) }) h) (sym (begins history s))
+          (record { held = s.held; room = s.room; burst = refl; sent = s.sent ∙ ap sent_of none; asked = refl; ticks = s.ticks });
     }
 
 -- ---- a tick
@@ -131,13 +134,13 @@ pub idle_answers : (v : Seen) → v.burst ≡ None → Answers v (record v { tic
 unfolding after source burst sendings was_asked ticks newest_notes newest_orders
 idle_answers v none =
     let passes : (history : History) → StandsFor v history → after v.settings Tick history ≡ began Tick ∷ history =
-      λ history s. ap (λ (o : Option Burst). served v.settings o (hold v.settings.channel.ring history) (began Tick ∷ history)) (sym s.burst ∙ none) in
+    λ history s. ap (λ (o : Option Burst). served v.settings o (hold v.settings.channel.ring history) (began Tick ∷ history)) (sym s.burst ∙ none) in
     record {
       settings = refl;
       lawful = λ history s. ap (newest_answer v.settings) (sym (passes history s));
       stands = λ history s.
-        subst (λ (h : History). StandsFor (record v { ticks = v.ticks + 1 }) h) (sym (passes history s))
-          (record { held = s.held; room = s.room; burst = s.burst; sent = s.sent; asked = s.asked; ticks = ap (λ k. k + 1) s.ticks })
+          subst (λ (h : History). StandsFor (record v { ticks = v.ticks + 1 }) h) (sym (passes history s))
+          (record { held = s.held; room = s.room; burst = s.burst; sent = s.sent; asked = s.asked; ticks = ap (λ k. k + 1) s.ticks });
     }
 
 -- the core stands for the history in which these packets were sent
@@ -154,38 +157,38 @@ sent_stands v b sent history is t =
       burst = sym (burst-send s b.client sent story b (sym t.burst ∙ is));
       sent = sendings-send s b.client sent story ∙ ap (λ k. k + length sent) (t.sent ∙ ap sent_of is);
       asked = was_asked-send s b.client sent story ∙ t.asked ∙ ap is_some is;
-      ticks = ap (λ k. k + 1) t.ticks ∙ sym (ticks-send s b.client sent story)
+      ticks = ap (λ k. k + 1) t.ticks ∙ sym (ticks-send s b.client sent story);
     }
 
 pub tick_answers : (v : Seen) (b : Burst) (sent : List Held) → v.burst ≡ Some b → sent ≡ run (next b) b.rate (from_number (next b) v.held)
     → Answers v (record v { burst = Some (record b { sent = b.sent + length sent }); ticks = v.ticks + 1 }) Tick
-        (answered (burst_notes v.settings.channel.seq0 b.client b.sent sent) (burst_orders v.settings.channel.seq0 b.client b.sent sent))
+    (answered (burst_notes v.settings.channel.seq0 b.client b.sent sent) (burst_orders v.settings.channel.seq0 b.client b.sent sent))
 unfolding after newest_notes newest_orders burst_notes burst_orders sendings
 tick_answers v b sent is runs =
     let s = v.settings in
     let seq0 = s.channel.seq0 in
     let later : History → History = λ (history : History). send s b.client sent (began Tick ∷ history) in
     let sends : (history : History) → StandsFor v history → after s Tick history ≡ later history =
-      λ history t.
-        ap (λ (o : Option Burst). served s o (hold s.channel.ring history) (began Tick ∷ history)) (sym t.burst ∙ is)
-        ∙ ap (λ (l : List Held). send s b.client (run (next b) b.rate (from_number (next b) l)) (began Tick ∷ history)) (hold_is v history t)
-        ∙ ap (λ (l : List Held). send s b.client l (began Tick ∷ history)) (sym runs) in
+    λ history t.
+    ap (λ (o : Option Burst). served s o (hold s.channel.ring history) (began Tick ∷ history)) (sym t.burst ∙ is)
+    ∙ ap (λ (l : List Held). send s b.client (run (next b) b.rate (from_number (next b) l)) (began Tick ∷ history)) (hold_is v history t)
+    ∙ ap (λ (l : List Held). send s b.client l (began Tick ∷ history)) (sym runs) in
     let total : (history : History) → StandsFor v history → sendings history ≡ b.sent = λ history t. t.sent ∙ ap sent_of is in
     let notes_are : (history : History) → StandsFor v history → newest_notes (later history) [] ≡ burst_notes seq0 b.client b.sent sent =
-      λ history t. newest_notes-send s b.client sent (began Tick ∷ history) [] ∙ append-nil (burst_notes seq0 b.client (sendings history) sent)
-      ∙ ap (λ k. burst_notes seq0 b.client k sent) (total history t) in
+    λ history t. newest_notes-send s b.client sent (began Tick ∷ history) [] ∙ append-nil (burst_notes seq0 b.client (sendings history) sent)
+    ∙ ap (λ k. burst_notes seq0 b.client k sent) (total history t) in
     let orders_are : (history : History) → StandsFor v history → newest_orders s (later history) [] ≡ burst_orders seq0 b.client b.sent sent =
-      λ history t. newest_orders-send s b.client sent (began Tick ∷ history) [] ∙ append-nil (burst_orders seq0 b.client (sendings history) sent)
-      ∙ ap (λ k. burst_orders seq0 b.client k sent) (total history t) in
+    λ history t. newest_orders-send s b.client sent (began Tick ∷ history) [] ∙ append-nil (burst_orders seq0 b.client (sendings history) sent)
+    ∙ ap (λ k. burst_orders seq0 b.client k sent) (total history t) in
     record {
       settings = refl;
       lawful = λ history t.
-        ap (λ (l : List Note). answered l (burst_orders seq0 b.client b.sent sent)) (sym (notes_are history t))
-        ∙ ap (λ (l : List Order). answered (newest_notes (later history) []) l) (sym (orders_are history t))
-        ∙ ap (newest_answer s) (sym (sends history t));
+          ap (λ (l : List Note). answered l (burst_orders seq0 b.client b.sent sent)) (sym (notes_are history t))
+          ∙ ap (λ (l : List Order). answered (newest_notes (later history) []) l) (sym (orders_are history t))
+          ∙ ap (newest_answer s) (sym (sends history t));
       stands = λ history t.
-        subst (λ (h : History). StandsFor (record v { burst = Some (record b { sent = b.sent + length sent }); ticks = v.ticks + 1 }) h) (sym (sends history t))
-          (sent_stands v b sent history is t)
+          subst (λ (h : History). StandsFor (record v { burst = Some (record b { sent = b.sent + length sent }); ticks = v.ticks + 1 }) h) (sym (sends history t))
+          (sent_stands v b sent history is t);
     }
 
 -- the same with an answer that has these notes and orders

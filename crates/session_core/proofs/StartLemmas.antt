@@ -58,9 +58,9 @@ looked_at_one c held newer behind wire room h b below is looked w r test =
     let sum = wires-one held k h behind inside is rest in
     let wide : behind + wire ≡ wires (h ∷ drop (k + 1) held) = ap (λ n. behind + n) w ∙ sum ∙ ap wires (drop_more held k h inside ∙ ap (λ (x : Held). x ∷ drop (k + 1) held) (sym is)) in
     let eligible : is_eligible c h (drop (k + 1) held) ≡ b =
-      ap (λ n. h.access && nat_le (n + c.declared) (c.ring * c.minwire)) (sym wide) ∙ ap (λ n. h.access && nat_le ((behind + wire) + c.declared) n) (sym r) ∙ test in
+    ap (λ n. h.access && nat_le (n + c.declared) (c.ring * c.minwire)) (sym wide) ∙ ap (λ n. h.access && nat_le ((behind + wire) + c.declared) n) (sym r) ∙ test in
     let step = newest_start-one c held k h b inside is none eligible in
     record {
       start = ap (λ i. newest_start c (drop i held)) next ∙ step ∙ ap (λ n. cond b (Some (record { n = h.n; behind = n })) None) (sym wide);
-      sum = ap (λ n. behind + n) w ∙ sum ∙ ap (λ i. wires (drop i held)) (sym next)
+      sum = ap (λ n. behind + n) w ∙ sum ∙ ap (λ i. wires (drop i held)) (sym next);
     }

@@ -1,5 +1,5 @@
 -- Which orders can be rendered.
-use Rattle.std.specs.Prelude.{◌≤◌, ◌<◌, ◌^◌, length}
+use Rattle.std.specs.Prelude.{List, [], ◌∷◌, ◌≤◌, ◌<◌, ◌^◌, length}
 use Rattle.rams_model.specs.declared.answer.Order.{Order}
 use Rattle.rams_model.specs.declared.answer.Order.TheVariants.{Rtx, Info}
 
@@ -7,3 +7,7 @@ use Rattle.rams_model.specs.declared.answer.Order.TheVariants.{Rtx, Info}
 abbrev pub CanRender : Order → Type 0
 CanRender (Rtx client n sequence packet) = (12 ≤ length packet) × (length packet < 2 ^ 32)
 CanRender (Info client info) = Unit {0}
+
+abbrev pub AllRender : List Order → Type 0
+AllRender [] = Unit {0}
+AllRender (order ∷ orders) = CanRender order × AllRender orders

@@ -42,10 +42,20 @@ pub record StandsFor (v : Seen) (history : History) : Type 0 where
   pub asked : was_asked history ≡ is_some v.burst
   pub ticks : v.ticks ≡ ticks history
 
--- the numbers rise by one from n on, and no packet takes more than 1,500 bytes on the wire
+-- a packet that has its fixed header, at most 1,470 bytes, and at most 1,500 on the wire
+pub record IsWhole (h : Held) : Type 0 where
+  pub least : 12 ≤ length h.packet
+  pub most : length h.packet ≤ 1470
+  pub wire : h.wire ≤ 1500
+
+abbrev pub AllWhole : List Held → Type 0
+AllWhole [] = Unit {0}
+AllWhole (h ∷ hs) = IsWhole h × AllWhole hs
+
+-- whole packets whose numbers rise by one from n on
 abbrev pub RiseFrom : ℕ → List Held → Type 0
 RiseFrom n [] = Unit {0}
-RiseFrom n (h ∷ hs) = (h.n ≡ n) × (h.wire ≤ 1500) × RiseFrom (n + 1) hs
+RiseFrom n (h ∷ hs) = (h.n ≡ n) × IsWhole h × RiseFrom (n + 1) hs
 
 -- a burst lies within what is held
 abbrev pub LiesWithin : List Held → Option Burst → Type 0

@@ -12,31 +12,51 @@ use ram_io::NoMemory;
 use rams_model::{Info, Order};
 use std::alloc::Global;
 
-/// The datagram of an order. A packet that it sends again has the fixed header alone, as each has
-/// that a core gives.
-#[tactic(auto, unfolding(rams_model::specs::Orders::datagram))]
+/// The datagram of an order. A packet that it sends again has at least the fixed header, as each
+/// has that a core gives.
 pub fn render_order(alloc: Global, config: &Config, order: &Order) -> Result<Vec<u8>, NoMemory>
     requires { CanRender order.now }
     ensures { IfOk result (λ bytes. bytes.items ≡ datagram config.now order.now) }
 {
+    let mut out = Vec::new(alloc);
+    append_order(alloc, &mut out, config, order)?;
+    Ok(out)
+}
+
+/// `render_order`, behind what is there; an error may leave a part of the datagram.
+#[tactic(auto, unfolding(rams_model::specs::Orders::datagram))]
+pub fn append_order(
+    alloc: Global,
+    out: &mut Vec<u8>,
+    config: &Config,
+    order: &Order,
+) -> Result<(), NoMemory>
+    requires { CanRender order.now }
+    ensures { OnOk result (out.new.items ≡ out.old.items ++ datagram config.now order.now) }
+{
     let channel = config.channel();
     match order {
-        Order::Rtx { seq, packet, .. } => retransmission(alloc, packet, channel.rtx, *seq),
-        Order::Info { info, .. } => rams_info(alloc, channel.server, channel.ssrc, info),
+        Order::Rtx { seq, packet, .. } => append_retransmission(out, packet, channel.rtx, *seq),
+        Order::Info { info, .. } => {
+            append_rams_info(alloc, out, channel.server, channel.ssrc, info)
+        }
     }
 }
 
 /// The same packet under another type and number, its own number in front of its payload (RFC 4588,
 /// 4).
-fn retransmission(alloc: Global, packet: &[u8], rtx: u8, seq: u16) -> Result<Vec<u8>, NoMemory>
+fn append_retransmission(
+    out: &mut Vec<u8>,
+    packet: &[u8],
+    rtx: u8,
+    seq: u16,
+) -> Result<(), NoMemory>
     requires long { 12 ≤ length packet.now }
-    requires short { length packet.now < 2 ^ 32 }
     requires kind { rtx < 128 }
-    ensures { IfOk result (λ bytes. bytes.items ≡ retransmission (packet_of packet.now) rtx seq) }
+    ensures { OnOk result (out.new.items ≡ out.old.items ++ retransmission (packet_of packet.now) rtx seq) }
 {
     let (_, payload) = packet.split_at(12);
     let marker = packet[1] / 128 * 128;
-    let mut out = Vec::with_capacity(alloc, packet.len() + 2)?;
     out.extend_from_slice(&header(
         marker + rtx,
         seq,
@@ -45,7 +65,7 @@ fn retransmission(alloc: Global, packet: &[u8], rtx: u8, seq: u16) -> Result<Vec
         short_at(packet, 2),
     ))?;
     out.extend_from_slice(payload)?;
-    Ok(out)
+    Ok(())
 }
 
 /// The fixed header of a retransmission, and the original number.
@@ -64,18 +84,32 @@ fn header(second: u8, seq: u16, timestamp: u32, ssrc: u32, original: u16) -> [u8
 
 /// A whole RAMS-I from this server about this media source (RFC 6285, 7.3).
 #[tactic(auto, unfolding(rams_model::specs::RamsInfo::rams_info))]
-fn rams_info(alloc: Global, server: u32, media: u32, info: &Info) -> Result<Vec<u8>, NoMemory>
-    ensures { IfOk result (λ bytes. bytes.items ≡ rams_info server media info.now) }
+fn append_rams_info(
+    alloc: Global,
+    out: &mut Vec<u8>,
+    server: u32,
+    media: u32,
+    info: &Info,
+) -> Result<(), NoMemory>
+    ensures { OnOk result (out.new.items ≡ out.old.items ++ rams_info server media info.now) }
 {
     let fci = info_fci(alloc, info)?;
     let words = 2 + (fci.len() / 4) as u16;
-    let mut out = Vec::with_capacity(alloc, fci.len() + 12)?;
-    out.extend_from_slice(&[134, 205])?;
-    out.extend_from_slice(&words.to_be_bytes())?;
-    out.extend_from_slice(&server.to_be_bytes())?;
-    out.extend_from_slice(&media.to_be_bytes())?;
+    out.extend_from_slice(&info_header(words, server, media))?;
     out.extend_from_slice(&fci)?;
-    Ok(out)
+    Ok(())
+}
+
+/// The header of a RAMS message of so many words behind the first (RFC 4585, 6.1).
+fn info_header(words: u16, server: u32, media: u32) -> [u8; 12]
+    ensures { result ≡ 134 ∷ 205 ∷ (to_be_bytes w16 words ++ to_be_bytes w32 server ++ to_be_bytes w32 media) }
+{
+    let w = words.to_be_bytes();
+    let s = server.to_be_bytes();
+    let m = media.to_be_bytes();
+    [
+        134, 205, w[0], w[1], s[0], s[1], s[2], s[3], m[0], m[1], m[2], m[3],
+    ]
 }
 
 /// The feedback control information of a RAMS-I.

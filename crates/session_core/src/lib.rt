@@ -11,7 +11,7 @@ mod run;
 mod session;
 
 pub use channel_config::Config;
-pub use datagram::render_order;
+pub use datagram::{append_order, render_order};
 pub use ram_io::NoMemory;
 pub use rams_model::{Answer, Event, Held, Info, LiveNote, Note, Octets, Order};
 pub use session::Core;

@@ -4,6 +4,7 @@ ghost use Rattle.std.specs.Int.{w16, w32, from_be_bytes};
 ghost use Rattle.rams_model.specs.Packet.{is_plain, packet_of};
 ghost use Rattle.rams_model.specs.Hold.{held_as};
 ghost use Rattle.session_core.specs.Plain.{is_of};
+ghost use Rattle.session_core.specs.Seen.{IsWhole};
 
 use byteorder::{BigEndian, ByteOrder};
 use bytes::Bytes;
@@ -59,7 +60,7 @@ pub fn hold_packet(alloc: Global, n: u64, bytes: &[u8]) -> Result<Held, NoMemory
     requires plain { IsTrue (is_plain bytes.now) }
     requires short { length bytes.now ≤ 1470 }
     ensures value { IfOk result (λ h. h ≡ held_as n (packet_of bytes.now)) }
-    ensures short { IfOk result (λ h. h.wire ≤ 1500) }
+    ensures whole { IfOk result IsWhole }
 {
     let packet = Bytes::from_vec(Vec::from_slice(alloc, bytes)?)?;
     Ok(Held {

@@ -2,7 +2,7 @@
 ghost use Rattle.std.specs.Prelude.{◌≡◌, ◌≤◌, ◌<◌, ◌+◌, ◌^◌, ◌==◌, ◌&&◌, nat_le, IfOk, length, take};
 ghost use Rattle.rams_model.specs.Hold.{from_number};
 ghost use Rattle.rams_model.specs.Run.{run};
-ghost use Rattle.session_core.specs.Seen.{RiseFrom};
+ghost use Rattle.session_core.specs.Seen.{RiseFrom, AllWhole};
 ghost use Rattle.session_core.specs.Runs.{sequence_at, burst_notes, burst_orders};
 
 use ram_io::NoMemory;
@@ -50,6 +50,7 @@ pub fn run_of(held: &[Held], lo: u64, next: u64, rate: u64) -> &[Held]
     requires high { next ≤ lo + length held.now }
     ensures run { result.now ≡ run next rate (from_number next held.now) }
     ensures within { next + length result.now ≤ lo + length held.now }
+    ensures whole { AllWhole result.now }
 {
     let (_, later) = held.split_at((next - lo) as usize);
     let (run, _) = later.split_at(run_length(later, next, rate));

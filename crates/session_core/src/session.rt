@@ -45,6 +45,7 @@ impl Core {
     ghost use Rattle.rams_model.specs.History.{History, next_number};
     ghost use Rattle.rams_model.specs.Packet.{packet_of};
     ghost use Rattle.rams_model.specs.Built.{is_built, follows};
+    ghost use Rattle.session_core.specs.Render.{AllRender};
     ghost use Rattle.session_core.specs.Seen.{StandsFor, Answers, new_core, serves};
 
     /// A core that has seen nothing; it takes the room of its ring. The channel has access points by marker, no window, and keeps
@@ -105,7 +106,9 @@ impl Core {
         ensures stands { (history : History) → StandsFor self.now history → result ≡ is_built self.now.settings history (events.Live bytes.now) }
     {
         let channel = self.config.channel();
-        is_of_channel(channel, bytes) && self.follows(bytes) && self.held.len() < channel.ring as usize
+        is_of_channel(channel, bytes)
+            && self.follows(bytes)
+            && self.held.len() < channel.ring as usize
     }
 
     /// `built` of a feedback datagram, from whichever client.
@@ -113,7 +116,9 @@ impl Core {
         ensures value { (client : ℕ) → result ≡ serves self.now (events.Feedback client bytes.now) }
         ensures stands { (client : ℕ) (history : History) → StandsFor self.now history → result ≡ is_built self.now.settings history (events.Feedback client bytes.now) }
     {
-        is_plain_request(bytes) && self.burst.is_none() && newest_start(&self.config, &self.held).is_some()
+        is_plain_request(bytes)
+            && self.burst.is_none()
+            && newest_start(&self.config, &self.held).is_some()
     }
 
     fn follows(&self, bytes: &[u8]) -> bool
@@ -136,6 +141,7 @@ impl Core {
     pub fn live(&mut self, alloc: Global, bytes: &[u8]) -> Result<Answer, NoMemory>
         requires { IsTrue (serves self.old (events.Live bytes.now)) }
         ensures stands { IfOk result (λ a. Answers self.old self.new (events.Live bytes.now) a) }
+        ensures renders { IfOk result (λ a. AllRender a.orders) }
         ensures same { OnErr result (self.new ≡ self.old) }
     {
         let n = self.next_number(bytes);
@@ -159,14 +165,10 @@ impl Core {
     }
 
     /// A RAMS-R is accepted: its burst begins at the newest eligible access point.
-    pub fn feedback(
-        &mut self,
-        alloc: Global,
-        client: u64,
-        bytes: &[u8],
-    ) -> Result<Answer, NoMemory>
+    pub fn feedback(&mut self, alloc: Global, client: u64, bytes: &[u8]) -> Result<Answer, NoMemory>
         requires { IsTrue (serves self.old (events.Feedback client bytes.now)) }
         ensures stands { IfOk result (λ a. Answers self.old self.new (events.Feedback client bytes.now) a) }
+        ensures renders { IfOk result (λ a. AllRender a.orders) }
         ensures same { OnErr result (self.new ≡ self.old) }
     {
         let Some(start) = newest_start(&self.config, &self.held) else {
@@ -198,6 +200,7 @@ impl Core {
     pub fn tick(&mut self, alloc: Global) -> Result<Answer, NoMemory>
         requires { IsTrue (serves self.old events.Tick) }
         ensures stands { IfOk result (λ a. Answers self.old self.new events.Tick a) }
+        ensures renders { IfOk result (λ a. AllRender a.orders) }
         ensures same { OnErr result (self.new ≡ self.old) }
     {
         let Some(burst) = self.burst else {

@@ -15,7 +15,7 @@ returns-then-is_eligible-clause-value c =
     let inv = c.loop-newer.invariant in
     let channel = c.channel-channel.result.now in
     let turn = looked_at_one channel held c.loop-newer.newer c.loop-newer.behind c.from-behind.result _ c.index-held-held.result _
-      c.loop-newer-test.true c.index-held-held.is inv.0 c.from-behind.ensures (ap (λ n. n * c.channel-channel.result.now.minwire) c.from.ensures) (sym c.is_eligible.ensures ∙ c.if-is_eligible.true) in
+    c.loop-newer-test.true c.index-held-held.is inv.0 c.from-behind.ensures (ap (λ n. n * c.channel-channel.result.now.minwire) c.from.ensures) (sym c.is_eligible.ensures ∙ c.if-is_eligible.true) in
     sym (ap (λ (k : Channel). newest_start k held) (sym c.channel-channel.ensures.value) ∙ start_in_front channel held _ _ turn.start)
 
 pub loop-newer-preserved : goal.loop-newer-preserved
@@ -23,6 +23,8 @@ loop-newer-preserved c =
     let held = c.args.held.now in
     let inv = c.loop-newer.invariant in
     let bound = inv.1 in
-    let fits = c.from-behind.ensures in
-    (looked_at_one c.channel-channel.result.now held c.loop-newer.newer c.loop-newer.behind c.from-behind.result _ c.index-held-held.result _
-      c.loop-newer-test.true c.index-held-held.is inv.0 c.from-behind.ensures (ap (λ n. n * c.channel-channel.result.now.minwire) c.from.ensures) (sym c.is_eligible.ensures ∙ c.if-is_eligible.false), omega arith)
+    let fits = c.from-behind.ensures in (
+      looked_at_one c.channel-channel.result.now held c.loop-newer.newer c.loop-newer.behind c.from-behind.result _ c.index-held-held.result _
+          c.loop-newer-test.true c.index-held-held.is inv.0 c.from-behind.ensures (ap (λ n. n * c.channel-channel.result.now.minwire) c.from.ensures) (sym c.is_eligible.ensures ∙ c.if-is_eligible.false),
+      omega arith,
+    )

@@ -1,5 +1,7 @@
-use Rattle.std.proofs.Common.{◌-◌, sym, ap, ◌∙◌, arith}
+use Rattle.std.proofs.Common.{◌-◌, sym, ap, ◌∙◌, subst, arith}
 use Rattle.rams_model.specs.Run.{run}
+use Rattle.session_core.specs.Seen.{AllWhole}
+use Rattle.session_core.proofs.RunLemmas.{AllWhole-rise, AllWhole-drop, AllWhole-take}
 use Rattle.session_core.proofs.HoldLemmas.{from_number_of_rise}
 use Rattle.session_core.proofs.run.run_of.Goals as goal
 
@@ -9,3 +11,11 @@ returns-clause-run c =
     let lo = c.args.lo in
     c.split_at-2.ensures.front ∙ c.run_length.ensures.run
     ∙ ap (run next c.args.rate) (c.split_at.ensures.back ∙ sym (from_number_of_rise next lo c.args.held.now (next - lo) c.requires.rise (omega arith)))
+
+pub returns-clause-whole : goal.returns-clause-whole
+returns-clause-whole c =
+    let held = c.args.held.now in
+    let later = c.split_at.result.1.now in
+    let rest : AllWhole later =
+      subst AllWhole (sym c.split_at.ensures.back) (AllWhole-drop (c.args.next - c.args.lo) held (AllWhole-rise c.args.lo held c.requires.rise)) in
+    subst AllWhole (sym c.split_at-2.ensures.front) (AllWhole-take c.run_length.result later rest)

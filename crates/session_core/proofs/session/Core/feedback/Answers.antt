@@ -23,7 +23,7 @@ pub invariant_of-self : goal.invariant_of-self
 invariant_of-self c =
     let core = shown_core c.self.inside in
     feedback_keeps core (begun c.args.client c.in-Some.start.n c.channel.result.now.burst) (shown_start c.in-Some.start) c.self.invariant
-      (sym (c.in-Some.ensures.value ∙ ap (newest_start core.settings.channel) c.deref.ensures.value)) refl refl
+    (sym (c.in-Some.ensures.value ∙ ap (newest_start core.settings.channel) c.deref.ensures.value)) refl refl
 
 pub returns-clause-stands : goal.returns-clause-stands
 returns-clause-stands c =
@@ -38,14 +38,14 @@ returns-clause-stands c =
     let answer = answered (notes.Accept client start.n channel.burst join ∷ []) (orders.Info client info ∷ []) in
     let none : core.burst ≡ None = subst (λ (v : Seen). v.burst ≡ None) (sym c.self.view_is) (request_finds_no_burst c.args.self.now client bytes c.requires) in
     let stood : Answers core (record core { burst = Some (begun client start.n channel.burst) }) (Feedback client bytes) answer =
-      feedback_answers core client bytes start (sym (c.in-Some.ensures.value ∙ ap (newest_start channel) c.deref.ensures.value)) none in
+    feedback_answers core client bytes start (sym (c.in-Some.ensures.value ∙ ap (newest_start channel) c.deref.ensures.value)) none in
     let seen : Answers c.args.self.now (record core { burst = Some (begun client start.n c.channel.result.now.burst) }) (Feedback client bytes) answer =
-      subst (λ (v : Seen). Answers v (record core { burst = Some (begun client start.n c.channel.result.now.burst) }) (Feedback client bytes) answer) c.self.view_is
-        (subst (λ r. Answers core (record core { burst = Some (begun client start.n r) }) (Feedback client bytes) answer) (sym rate) stood) in
+    subst (λ (v : Seen). Answers v (record core { burst = Some (begun client start.n c.channel.result.now.burst) }) (Feedback client bytes) answer) c.self.view_is
+    (subst (λ r. Answers core (record core { burst = Some (begun client start.n r) }) (Feedback client bytes) answer) (sym rate) stood) in
     let joined : c.join_ticks-join.result ≡ join = c.join_ticks-join.ensures in
     answered_so _ _ _ c.new.result _ _ _ _ c.new.ensures
-      (c.in_ok-push.ensures.items ∙ ap (λ (l : List Note). l ++ notes.Accept client start.n c.channel.result.now.burst c.join_ticks-join.result ∷ []) c.in_ok-notes.ensures.items
-        ∙ ap (λ r. notes.Accept client start.n r c.join_ticks-join.result ∷ []) rate ∙ ap (λ j. notes.Accept client start.n channel.burst j ∷ []) joined)
-      (c.in_ok-push-2.ensures.items ∙ ap (λ (l : List Order). l ++ orders.Info client c.accept_info-info.result ∷ []) c.in_ok-orders.ensures.items
-        ∙ ap (λ (i : Info). orders.Info client i ∷ []) (c.accept_info-info.ensures ∙ ap (accept_info core.settings (sequence_at channel.seq0 0) channel.burst) joined))
-      seen
+    (c.in_ok-push.ensures.items ∙ ap (λ (l : List Note). l ++ notes.Accept client start.n c.channel.result.now.burst c.join_ticks-join.result ∷ []) c.in_ok-notes.ensures.items
+    ∙ ap (λ r. notes.Accept client start.n r c.join_ticks-join.result ∷ []) rate ∙ ap (λ j. notes.Accept client start.n channel.burst j ∷ []) joined)
+    (c.in_ok-push-2.ensures.items ∙ ap (λ (l : List Order). l ++ orders.Info client c.accept_info-info.result ∷ []) c.in_ok-orders.ensures.items
+    ∙ ap (λ (i : Info). orders.Info client i ∷ []) (c.accept_info-info.ensures ∙ ap (accept_info core.settings (sequence_at channel.seq0 0) channel.burst) joined))
+    seen

@@ -20,10 +20,10 @@ invariant_of-self-2 c =
     let back = sym c.self.view_is in
     let named = ap (λ (x : Held). x.n) c.in_ok-packet.ensures.value in
     live_keeps (shown_core c.self.inside) h c.push-2.new.self.items p c.self.invariant c.in_ok-push-2.ensures.items
-      (subst (λ (v : Seen). length v.held < v.settings.channel.ring) back (live_has_room c.args.self.now c.args.bytes.now c.requires))
-      c.in_ok-packet.ensures.short
-      (subst (λ (v : Seen). h.n ≡ next_number v.held p) back (named ∙ c.next_number-n.ensures.value))
-      (subst (λ (v : Seen). length v.held ≡ 0 → h.n < 131072) back (λ e. subst (λ n. n < 131072) (sym named) (c.next_number-n.ensures.first e)))
+    (subst (λ (v : Seen). length v.held < v.settings.channel.ring) back (live_has_room c.args.self.now c.args.bytes.now c.requires))
+    c.in_ok-packet.ensures.whole
+    (subst (λ (v : Seen). h.n ≡ next_number v.held p) back (named ∙ c.next_number-n.ensures.value))
+    (subst (λ (v : Seen). length v.held ≡ 0 → h.n < 131072) back (λ e. subst (λ n. n < 131072) (sym named) (c.next_number-n.ensures.first e)))
 
 pub returns-clause-stands : goal.returns-clause-stands
 returns-clause-stands c =
@@ -35,9 +35,9 @@ returns-clause-stands c =
     let items = c.push-2.new.self.items in
     let answer = answered (notes.Live (Took n) ∷ []) [] in
     let stood : Answers core (record core { held = items }) (Live bytes) answer =
-      live_answers core bytes n items (subst (λ (v : Seen). n ≡ next_number v.held p) back c.next_number-n.ensures.value)
-        (c.in_ok-push-2.ensures.items ∙ ap (λ (x : Held). core.held ++ x ∷ []) c.in_ok-packet.ensures.value)
-        (subst (λ (v : Seen). length v.held < v.settings.channel.ring) back (live_has_room c.args.self.now bytes c.requires)) in
+    live_answers core bytes n items (subst (λ (v : Seen). n ≡ next_number v.held p) back c.next_number-n.ensures.value)
+    (c.in_ok-push-2.ensures.items ∙ ap (λ (x : Held). core.held ++ x ∷ []) c.in_ok-packet.ensures.value)
+    (subst (λ (v : Seen). length v.held < v.settings.channel.ring) back (live_has_room c.args.self.now bytes c.requires)) in
     answered_so _ _ _ c.new-2.result _ _ _ _ c.new-2.ensures
-      (c.in_ok-push.ensures.items ∙ ap (λ (l : List Note). l ++ notes.Live (Took n) ∷ []) c.in_ok-notes.ensures.items) c.new.ensures.items
-      (subst (λ (v : Seen). Answers v (record core { held = items }) (Live bytes) answer) c.self.view_is stood)
+    (c.in_ok-push.ensures.items ∙ ap (λ (l : List Note). l ++ notes.Live (Took n) ∷ []) c.in_ok-notes.ensures.items) c.new.ensures.items
+    (subst (λ (v : Seen). Answers v (record core { held = items }) (Live bytes) answer) c.self.view_is stood)
