@@ -1,0 +1,12 @@
+//! The lines of a book, each appended to a given text.
+//!
+//! A call appends its whole line; where memory runs out, a part of the line may stand behind the
+//! text.
+#![tactic(auto)]
+
+mod line;
+mod note;
+mod words;
+
+pub use line::{append_count, append_send};
+pub use note::append_note;
