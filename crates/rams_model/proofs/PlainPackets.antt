@@ -17,7 +17,7 @@ marker_and_type : (b : ℕ) → b < 256 → (if b / 128 == 1 then 128 else 0) + 
 marker_and_type b h = grind (arith, nat_tests)
 
 -- the bytes that stand in front of others
-pair_below : (a b : ℕ) → a < 256 → b < 256 → (i : ℕ) → get_or (a ∷ b ∷ []) i 0 < 256
+pub pair_below : (a b : ℕ) → a < 256 → b < 256 → (i : ℕ) → get_or (a ∷ b ∷ []) i 0 < 256
 pair_below a b ha hb zero = ha
 pair_below a b ha hb (suc zero) = hb
 pair_below a b ha hb (suc (suc i)) = lit< tt
@@ -25,7 +25,7 @@ pair_below a b ha hb (suc (suc i)) = lit< tt
 two_again : (a b : ℕ) (rest : List ℕ) → a < 256 → b < 256 → to_be_bytes w16 (from_be_bytes w16 (a ∷ b ∷ rest)) ≡ a ∷ b ∷ []
 two_again a b rest ha hb = be_bytes_2 (a ∷ b ∷ []) (from_be_bytes w16 (a ∷ b ∷ rest)) refl (pair_below a b ha hb) refl
 
-four_below : (a b c d : ℕ) → a < 256 → b < 256 → c < 256 → d < 256 → (i : ℕ) → get_or (a ∷ b ∷ c ∷ d ∷ []) i 0 < 256
+pub four_below : (a b c d : ℕ) → a < 256 → b < 256 → c < 256 → d < 256 → (i : ℕ) → get_or (a ∷ b ∷ c ∷ d ∷ []) i 0 < 256
 four_below a b c d ha hb hc hd zero = ha
 four_below a b c d ha hb hc hd (suc zero) = hb
 four_below a b c d ha hb hc hd (suc (suc i)) = pair_below c d hc hd i

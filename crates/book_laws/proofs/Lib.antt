@@ -1,0 +1,15 @@
+pub mod Runs
+pub mod Legal
+pub mod Sources
+pub mod Following
+pub mod Unasked
+pub mod Starts
+pub mod Budgets
+pub mod Stripped
+pub mod Origins
+pub mod Growth
+pub mod Longest
+pub mod Rising
+pub mod OneAccept
+pub mod Counts
+pub mod TickRuns

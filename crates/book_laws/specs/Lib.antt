@@ -1,0 +1,7 @@
+pub mod Sent
+pub mod Moments
+pub mod Bursts
+pub mod Ticks
+pub mod Retransmitted
+pub mod OneBook
+pub mod Worked

@@ -1,0 +1,20 @@
+-- Why a call stops, and what it needs so that it doesn't.
+use Rattle.std.specs.Prelude.{◌≡◌, ℕ, ◌≤◌, Result, Ok, Err, MatchResult, IfErr}
+use Rattle.ram_io.specs.Faults.{Rose}
+use Rattle.rams_replay.specs.declared.stop.Stop.{Stop}
+use Rattle.rams_replay.specs.declared.stop.Stop.TheVariants.{Memory, Read, Write}
+
+-- the sink's faults rose where the stop is said to be the sink's
+abbrev pub IsWriteStop : ℕ → ℕ → Stop → Type 0
+IsWriteStop before now Memory = Unit {0}
+IsWriteStop before now Read = ⊥
+IsWriteStop before now Write = Rose before now
+
+-- The sink's count of faults didn't fall, and it rose where the sink is said to have stopped the call. The source isn't.
+pub record IsStoppedByWrite {T : Type 0} (before now : ℕ) (result : Result T Stop) : Type 0 where
+  pub later : before ≤ now
+  pub cause : IfErr result (IsWriteStop before now)
+
+-- only want of memory stops the call, and P holds where nothing does
+abbrev pub OnlyMemoryStops : {T : Type 0} → Result T Stop → Type 0 → Type 0
+OnlyMemoryStops result P = MatchResult result (λ _. P) (λ stop. stop ≡ Memory)

@@ -1,0 +1,8 @@
+//! The commands of the program, over whatever they read from and write to.
+#![tactic(auto)]
+
+mod stop;
+mod writer;
+
+pub use ram_io::{NoMemory, Octets, Sink, Source};
+pub use rams_model::Status;
