@@ -1,6 +1,7 @@
 //! The commands of the program, over whatever they read from and write to.
 #![tactic(auto)]
 
+mod entry;
 mod stop;
 mod writer;
 

@@ -1,93 +1,135 @@
 //! The text of a book on its way to the sink.
 ghost use Rattle.std.specs.Prelude.{◌≡◌, ℕ, ◌+◌, ◌++◌, IfOk, OnOk, List, [], codes, length};
 ghost use Rattle.line_io.specs.Passes.{Passes};
-ghost use Rattle.rams_model.specs.BookText.{spaced, note_line, order_line, answer_text};
-ghost use Rattle.session_core.specs.Render.{CanRender, AllRender};
+ghost use Rattle.rams_model.specs.BookText.{spaced, answer_text};
+ghost use Rattle.session_core.specs.Render.{AllRender};
+ghost use Rattle.rams_replay.specs.Entries.{entry_text};
 ghost use Rattle.rams_replay.specs.Stops.{IsStoppedByWrite, OnlyMemoryStops};
 
+use crate::entry::{after, append_entry};
 use crate::stop::Stop;
-use book_text::{append_count, append_note, append_send};
+use book_text::append_count;
 use line_io::Gather;
 use ram_io::{NoMemory, Sink};
 use rams_model::{Answer, Note, Order};
-use session_core::{Config, append_order};
+use session_core::Config;
 use std::alloc::Global;
-use std::marker::Model;
 
-/// The text that waits for the sink, and room for a line and a datagram.
+/// The text that waits for the sink, and room for some lines and a datagram.
 #[derive(Drop)]
 pub struct Writer {
-    gather: Gather,
-    line: Vec<u8>,
+    pub gather: Gather,
+    lines: Vec<u8>,
     datagram: Vec<u8>,
 }
 
-impl Model for Writer {
-    ghost use Rattle.std.specs.Prelude.{List, ℕ};
-
-    ghost Value = { List ℕ };
-
-    ghost view = { λ w. w.gather };
+/// A writer with which nothing waits.
+pub fn new_writer(alloc: Global) -> Result<Writer, NoMemory>
+    ensures { IfOk result (λ writer. writer.gather ≡ []) }
+{
+    Ok(Writer {
+        gather: Gather::new(alloc)?,
+        lines: Vec::new(alloc),
+        datagram: Vec::new(alloc),
+    })
 }
 
-impl Writer {
-    /// A writer with which nothing waits.
-    pub fn new(alloc: Global) -> Result<Writer, NoMemory>
-        ensures { IfOk result (λ writer. writer ≡ []) }
-    {
-        Ok(Writer {
-            gather: Gather::new(alloc)?,
-            line: Vec::new(alloc),
-            datagram: Vec::new(alloc),
-        })
+/// Adds a text.
+pub fn put<K: Sink>(gather: &mut Gather, sink: &mut K, text: &[u8]) -> Result<(), Stop>
+    ensures all { OnOk result (Passes (K.held sink.old) (K.held sink.new) (gather.old ++ text.now) gather.new) }
+    ensures prefix { (rest : List ℕ) × Passes (K.held sink.old) (K.held sink.new) (gather.old ++ text.now) rest }
+    ensures cause { IsStoppedByWrite (K.faults sink.old) (K.faults sink.new) result }
+    ensures steady { (room : ℕ) → K.is_steady sink.old (length gather.old + length text.now + room)
+        → OnlyMemoryStops result (K.is_steady sink.new (length gather.new + room)) }
+{
+    match gather.put(sink, text) {
+        Ok(()) => Ok(()),
+        Err(_) => Err(Stop::Write),
     }
+}
 
-    /// Adds a text.
-    pub fn put<K: Sink>(&mut self, sink: &mut K, text: &[u8]) -> Result<(), Stop>
-        ensures all { OnOk result (Passes (K.held sink.old) (K.held sink.new) (self.old ++ text.now) self.new) }
-        ensures prefix { (rest : List ℕ) × Passes (K.held sink.old) (K.held sink.new) (self.old ++ text.now) rest }
-        ensures cause { IsStoppedByWrite (K.faults sink.old) (K.faults sink.new) result }
-        ensures steady { (room : ℕ) → K.is_steady sink.old (length self.old + length text.now + room)
-            → OnlyMemoryStops result (K.is_steady sink.new (length self.new + room)) }
-    {
-        match self.gather.put(sink, text) {
-            Ok(()) => Ok(()),
-            Err(_) => Err(Stop::Write),
-        }
+/// Puts all that waits to the sink.
+pub fn flush<K: Sink>(gather: &mut Gather, sink: &mut K) -> Result<(), Stop>
+    ensures all { OnOk result (Passes (K.held sink.old) (K.held sink.new) gather.old []) }
+    ensures prefix { (rest : List ℕ) × Passes (K.held sink.old) (K.held sink.new) gather.old rest }
+    ensures cause { IsStoppedByWrite (K.faults sink.old) (K.faults sink.new) result }
+    ensures steady { (room : ℕ) → K.is_steady sink.old (length gather.old + room)
+        → OnlyMemoryStops result (K.is_steady sink.new room) }
+{
+    match gather.flush(sink) {
+        Ok(()) => Ok(()),
+        Err(_) => Err(Stop::Write),
     }
+}
 
-    /// Puts all that waits to the sink.
-    pub fn flush<K: Sink>(&mut self, sink: &mut K) -> Result<(), Stop>
-        ensures all { OnOk result (Passes (K.held sink.old) (K.held sink.new) self.old []) }
-        ensures empty { OnOk result (self.new ≡ []) }
-        ensures prefix { (rest : List ℕ) × Passes (K.held sink.old) (K.held sink.new) self.old rest }
-        ensures cause { IsStoppedByWrite (K.faults sink.old) (K.faults sink.new) result }
-        ensures steady { (room : ℕ) → K.is_steady sink.old (length self.old + room)
-            → OnlyMemoryStops result (K.is_steady sink.new room) }
-    {
-        match self.gather.flush(sink) {
-            Ok(()) => Ok(()),
-            Err(_) => Err(Stop::Write),
-        }
-    }
+/// Adds the line of a word and a number.
+pub fn write_count<K: Sink>(
+    writer: &mut Writer,
+    sink: &mut K,
+    word: &[u8],
+    n: u64,
+) -> Result<(), Stop>
+    ensures all { OnOk result (Passes (K.held sink.old) (K.held sink.new) (writer.old.gather ++ (word.now ++ spaced n ++ codes "\n")) writer.new.gather) }
+    ensures prefix { (rest : List ℕ) × Passes (K.held sink.old) (K.held sink.new) (writer.old.gather ++ (word.now ++ spaced n ++ codes "\n")) rest }
+    ensures cause { IsStoppedByWrite (K.faults sink.old) (K.faults sink.new) result }
+    ensures steady { (room : ℕ) → K.is_steady sink.old (length writer.old.gather + length (word.now ++ spaced n ++ codes "\n") + room)
+        → OnlyMemoryStops result (K.is_steady sink.new (length writer.new.gather + room)) }
+{
+    writer.lines.clear();
+    append_count(&mut writer.lines, word, n)?;
+    put(&mut writer.gather, sink, &writer.lines)
+}
 
-    /// Adds the line of a word and a number.
-    pub fn count<K: Sink>(&mut self, sink: &mut K, word: &[u8], n: u64) -> Result<(), Stop>
-        ensures all { OnOk result (Passes (K.held sink.old) (K.held sink.new) (self.old ++ (word.now ++ spaced n ++ codes "\n")) self.new) }
-        ensures prefix { (rest : List ℕ) × Passes (K.held sink.old) (K.held sink.new) (self.old ++ (word.now ++ spaced n ++ codes "\n")) rest }
-        ensures cause { IsStoppedByWrite (K.faults sink.old) (K.faults sink.new) result }
-        ensures steady { (room : ℕ) → K.is_steady sink.old (length self.old + length (word.now ++ spaced n ++ codes "\n") + room)
-            → OnlyMemoryStops result (K.is_steady sink.new (length self.new + room)) }
-    {
-        self.line.clear();
-        append_count(&mut self.line, word, n)?;
-        self.put_line(sink)
+/// Adds the lines of an answer: each note, followed at once by the datagram that it asks for.
+pub fn write_answer<K: Sink>(
+    alloc: Global,
+    writer: &mut Writer,
+    sink: &mut K,
+    config: &Config,
+    event: u64,
+    answer: &Answer,
+) -> Result<(), Stop>
+    requires { AllRender answer.now.orders }
+    ensures all { OnOk result (Passes (K.held sink.old) (K.held sink.new) (writer.old.gather ++ answer_text config.now event answer.now) writer.new.gather) }
+    ensures prefix { (rest : List ℕ) × Passes (K.held sink.old) (K.held sink.new) (writer.old.gather ++ answer_text config.now event answer.now) rest }
+    ensures cause { IsStoppedByWrite (K.faults sink.old) (K.faults sink.new) result }
+    ensures steady { (room : ℕ) → K.is_steady sink.old (length writer.old.gather + length (answer_text config.now event answer.now) + room)
+        → OnlyMemoryStops result (K.is_steady sink.new (length writer.new.gather + room)) }
+{
+    let mut orders = answer.orders.as_slice();
+    for note in answer.notes.iter() {
+        write_entry(alloc, writer, sink, config, event, note, orders)?;
+        orders = after(note, orders);
     }
+    Ok(())
+}
 
-    fn put_line<K: Sink>(&mut self, sink: &mut K) -> Result<(), Stop> {
-        match self.gather.put(sink, &self.line) {
-            Ok(()) => Ok(()),
-            Err(_) => Err(Stop::Write),
-        }
-    }
+/// Adds the lines of one note; `orders` are those of this note and of the notes after it.
+fn write_entry<K: Sink>(
+    alloc: Global,
+    writer: &mut Writer,
+    sink: &mut K,
+    config: &Config,
+    event: u64,
+    note: &Note,
+    orders: &[Order],
+) -> Result<(), Stop>
+    requires { AllRender orders.now }
+    ensures all { OnOk result (Passes (K.held sink.old) (K.held sink.new) (writer.old.gather ++ entry_text config.now event note.now orders.now) writer.new.gather) }
+    ensures prefix { (rest : List ℕ) × Passes (K.held sink.old) (K.held sink.new) (writer.old.gather ++ entry_text config.now event note.now orders.now) rest }
+    ensures cause { IsStoppedByWrite (K.faults sink.old) (K.faults sink.new) result }
+    ensures steady { (room : ℕ) → K.is_steady sink.old (length writer.old.gather + length (entry_text config.now event note.now orders.now) + room)
+        → OnlyMemoryStops result (K.is_steady sink.new (length writer.new.gather + room)) }
+{
+    writer.lines.clear();
+    append_entry(
+        alloc,
+        &mut writer.lines,
+        &mut writer.datagram,
+        config,
+        event,
+        note,
+        orders,
+    )?;
+    put(&mut writer.gather, sink, &writer.lines)
 }

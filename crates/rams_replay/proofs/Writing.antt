@@ -1,0 +1,97 @@
+-- The steps of writing an answer.
+use Rattle.std.proofs.Common.{◌≡◌, ℕ, ◌+◌, ◌<◌, ◌≤◌, List, [], ◌∷◌, ◌++◌, length, get_or, take, drop, Option, refl, sym, ap, ◌∙◌, subst, append_assoc, append-nil, length-append, arith}
+use Rattle.std.proofs.lemmas.List.{drop_more, drop_all}
+use Rattle.std.specs.Io.KnownBytes.{Appends}
+use Rattle.line_io.specs.Passes.{Passes}
+use Rattle.line_io.proofs.Passing.{Passes-none, Passes-put, Passes-longer}
+use Rattle.rams_model.specs.declared.answer.Order.{Order}
+use Rattle.rams_model.specs.declared.note.Note.{Note}
+use Rattle.rams_model.specs.Settings.{Settings}
+use Rattle.rams_model.specs.BookText.{notes_text, order_count, order_line, note_line}
+use Rattle.rams_replay.specs.Entries.{entry_text}
+
+-- nothing of a text went to the sink
+pub nothing_passed : (a : Option (List ℕ)) (text : List ℕ) → (rest : List ℕ) × Passes a a text rest
+nothing_passed a text = (text, Passes-none a text)
+
+-- While a text is written: what the sink held and holds, how often it had failed and has, what waits, and what is still to be written; the sink takes the rest where it took all.
+pub record IsWriting (a b : Option (List ℕ)) (before now : ℕ) (steady_then steady : ℕ → Type 0) (whole waiting later : List ℕ) : Type 0 where
+  pub written : List ℕ
+  pub passes : Passes a b written waiting
+  pub joins : whole ≡ written ++ later
+  pub faults : before ≤ now
+  pub steadily : (room : ℕ) → steady_then (length whole + room) → steady (length waiting + length later + room)
+
+module _ (a b : Option (List ℕ)) (before now : ℕ) (steady_then steady : ℕ → Type 0) where
+  pub writing_begins : (waiting text : List ℕ) → a ≡ b → before ≡ now → ((n : ℕ) → steady_then n → steady n) → IsWriting a b before now steady_then steady (waiting ++ text) waiting text
+  writing_begins waiting text same never goes = record {
+    written = waiting;
+    passes = subst (λ (o : Option (List ℕ)). Passes a o waiting waiting) same (Passes-none a waiting);
+    joins = refl;
+    faults = omega arith;
+    steadily = λ room s. subst steady (ap (λ n. n + room) (length-append waiting text)) (goes (length (waiting ++ text) + room) s)
+  }
+
+  -- there is room for the next piece
+  pub writing_has_room : (whole waiting later piece rest : List ℕ) → IsWriting a b before now steady_then steady whole waiting later → later ≡ piece ++ rest
+      → (room : ℕ) → steady_then (length whole + room) → steady (length waiting + length piece + (length rest + room))
+  writing_has_room whole waiting later piece rest w e room s =
+      let lengths : length later ≡ length piece + length rest = ap length e ∙ length-append piece rest in
+      let order : length waiting + length later + room ≡ length waiting + length piece + (length rest + room) = omega arith in
+      subst steady order (w.steadily room s)
+
+  -- one piece more
+  pub writing_goes_on : (c : Option (List ℕ)) (later_now : ℕ) (steady_now : ℕ → Type 0) (whole waiting later piece rest waits : List ℕ)
+      → IsWriting a b before now steady_then steady whole waiting later → later ≡ piece ++ rest → Passes b c (waiting ++ piece) waits → now ≤ later_now
+      → ((room : ℕ) → steady (length waiting + length piece + room) → steady_now (length waits + room)) → IsWriting a c before later_now steady_then steady_now whole waits rest
+  writing_goes_on c later_now steady_now whole waiting later piece rest waits w e p faults goes =
+      let f = w.faults in
+      record {
+        written = w.written ++ piece;
+        passes = Passes-put a b c w.written waiting piece waits w.passes p;
+        joins = w.joins ∙ ap (λ (l : List ℕ). w.written ++ l) e ∙ sym (append_assoc w.written piece rest);
+        faults = omega arith;
+        steadily = λ room s.
+          let after : length waits + (length rest + room) ≡ length waits + length rest + room = omega arith in
+          subst steady_now after (goes (length rest + room) (writing_has_room whole waiting later piece rest w e room s))
+      }
+
+  -- a part of one piece more
+  pub writing_stops : (c : Option (List ℕ)) (whole waiting later piece rest : List ℕ) → IsWriting a b before now steady_then steady whole waiting later → later ≡ piece ++ rest
+      → ((waits : List ℕ) × Passes b c (waiting ++ piece) waits) → (waits : List ℕ) × Passes a c whole waits
+  writing_stops c whole waiting later piece rest w e p =
+      let put = Passes-put a b c w.written waiting piece p.0 w.passes p.1 in
+      let longer = Passes-longer a c (w.written ++ piece) rest (p.0, put) in
+      let same : (w.written ++ piece) ++ rest ≡ whole = append_assoc w.written piece rest ∙ ap (λ (l : List ℕ). w.written ++ l) (sym e) ∙ sym w.joins in
+      subst (λ (l : List ℕ). (waits : List ℕ) × Passes a c l waits) same longer
+
+  -- nothing more is written
+  pub writing_breaks : (whole waiting later : List ℕ) → IsWriting a b before now steady_then steady whole waiting later → (waits : List ℕ) × Passes a b whole waits
+  writing_breaks whole waiting later w =
+      subst (λ (l : List ℕ). (waits : List ℕ) × Passes a b l waits) (sym w.joins) (Passes-longer a b w.written later (waiting, w.passes))
+
+  -- nothing is left to be written
+  pub writing_ends : (whole waiting later : List ℕ) → IsWriting a b before now steady_then steady whole waiting later → later ≡ [] → Passes a b whole waiting
+  writing_ends whole waiting later w e =
+      subst (λ (l : List ℕ). Passes a b l waiting) (sym (w.joins ∙ ap (λ (l : List ℕ). w.written ++ l) e ∙ append-nil w.written)) w.passes
+
+  pub writing_ends_steadily : (whole waiting later : List ℕ) → IsWriting a b before now steady_then steady whole waiting later → later ≡ [] → (room : ℕ) → steady_then (length whole + room) → steady (length waiting + room)
+  writing_ends_steadily whole waiting later w e room s =
+      let none : length later ≡ 0 = ap length e in
+      let same : length waiting + length later + room ≡ length waiting + room = omega arith in
+      subst steady same (w.steadily room s)
+
+-- the text of the notes from one on
+pub notes_text-more : (s : Settings) (event : ℕ) (notes : List Note) (orders : List Order) (i : ℕ) (d : Note) → i < length notes
+    → notes_text s event (drop i notes) orders ≡ entry_text s event (get_or notes i d) orders ++ notes_text s event (drop (i + 1) notes) (drop (order_count (get_or notes i d)) orders)
+unfolding notes_text
+notes_text-more s event notes orders i d below = ap (λ (l : List Note). notes_text s event l orders) (drop_more notes i d below)
+
+pub notes_text-step : (s : Settings) (event : ℕ) (notes : List Note) (orders rest : List Order) (i : ℕ) (d : Note) → i < length notes → rest ≡ drop (order_count (get_or notes i d)) orders
+    → notes_text s event (drop i notes) orders ≡ entry_text s event (get_or notes i d) orders ++ notes_text s event (drop (i + 1) notes) rest
+notes_text-step s event notes orders rest i d below e =
+    notes_text-more s event notes orders i d below ∙ ap (λ (l : List Order). entry_text s event (get_or notes i d) orders ++ notes_text s event (drop (i + 1) notes) l) (sym e)
+
+pub notes_text-past : (s : Settings) (event : ℕ) (notes : List Note) (orders : List Order) (i : ℕ) → length notes ≤ i → notes_text s event (drop i notes) orders ≡ []
+unfolding notes_text
+notes_text-past s event notes orders i end = ap (λ (l : List Note). notes_text s event l orders) (drop_all i notes end)

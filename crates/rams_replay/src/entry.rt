@@ -1,0 +1,82 @@
+//! The lines of one note: its own, and that of the datagram that it asks for.
+ghost use Rattle.std.specs.Prelude.{◌≡◌, ◌∷◌, ◌++◌, [], MatchOption, OnOk, drop, take};
+ghost use Rattle.std.specs.List.{flat_map};
+ghost use Rattle.rams_model.specs.BookText.{order_count, order_line};
+ghost use Rattle.rams_model.specs.Orders.{client_of};
+ghost use Rattle.session_core.specs.Render.{CanRender, AllRender};
+ghost use Rattle.rams_replay.specs.Entries.{entry_text};
+
+use book_text::{append_note, append_send};
+use ram_io::NoMemory;
+use rams_model::{Note, Order};
+use session_core::{Config, append_order};
+use std::alloc::Global;
+
+/// Appends the lines of a note; `orders` are those of this note and of the notes after it. The
+/// datagram is made in `room`.
+pub fn append_entry(
+    alloc: Global,
+    text: &mut Vec<u8>,
+    room: &mut Vec<u8>,
+    config: &Config,
+    event: u64,
+    note: &Note,
+    orders: &[Order],
+) -> Result<(), NoMemory>
+    requires { AllRender orders.now }
+    ensures { OnOk result (text.new.items ≡ text.old.items ++ entry_text config.now event note.now orders.now) }
+{
+    append_note(text, event, config.channel().id, note)?;
+    if let Some(order) = asked(note, orders) {
+        append_datagram(alloc, text, room, config, event, order)?;
+    }
+    Ok(())
+}
+
+/// The order that a note asks for.
+fn asked<'a>(note: &Note, orders: &'a [Order]) -> Option<&'a Order>
+    requires { AllRender orders.now }
+    ensures asked { MatchOption result (take (order_count note.now) orders.now ≡ [])
+        (λ order. (take (order_count note.now) orders.now ≡ order.now ∷ []) × CanRender order.now) }
+{
+    match (note, orders) {
+        (Note::Live(_), _) | (_, []) => None,
+        (_, [order, ..]) => Some(order),
+    }
+}
+
+/// The orders of the notes behind this one.
+pub fn after<'a>(note: &Note, orders: &'a [Order]) -> &'a [Order]
+    ensures after { result.now ≡ drop (order_count note.now) orders.now }
+    ensures render { AllRender orders.now → AllRender result.now }
+{
+    match (note, orders) {
+        (Note::Live(_), _) | (_, []) => orders,
+        (_, [_, rest @ ..]) => rest,
+    }
+}
+
+/// Appends the line of an order's datagram, which is made in `room`.
+fn append_datagram(
+    alloc: Global,
+    text: &mut Vec<u8>,
+    room: &mut Vec<u8>,
+    config: &Config,
+    event: u64,
+    order: &Order,
+) -> Result<(), NoMemory>
+    requires { CanRender order.now }
+    ensures { OnOk result (text.new.items ≡ text.old.items ++ order_line config.now event order.now) }
+{
+    room.clear();
+    append_order(alloc, room, config, order)?;
+    append_send(text, event, config.channel().id, client_of(order), room)
+}
+
+fn client_of(order: &Order) -> u64
+    ensures { result ≡ client_of order.now }
+{
+    match order {
+        Order::Rtx { client, .. } | Order::Info { client, .. } => *client,
+    }
+}

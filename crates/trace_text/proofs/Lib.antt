@@ -1,0 +1,4 @@
+pub mod Checks
+pub mod Cuts
+pub mod Digits
+pub mod Hexes

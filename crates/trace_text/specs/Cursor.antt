@@ -1,0 +1,35 @@
+-- The words of a line that are left to read, and what was read of them.
+use Rattle.std.specs.Prelude.{◌≡◌, ℕ, Bool, true, false, List, [], ◌∷◌, Option, Some, None, bytes_eq}
+use Rattle.std.specs.Borrow.{Bor}
+use Rattle.rams_model.specs.TraceLine.{Words}
+use Rattle.rams_model.specs.Words.{words_of}
+
+-- the words of the bytes that are left, of which there may be none
+abbrev pub words_left : Option (Bor (List ℕ)) → Words
+words_left None = []
+words_left (Some rest) = words_of rest.now
+
+-- whether no word is left
+abbrev pub is_end : Words → Bool
+is_end [] = true
+is_end (word ∷ rest) = false
+
+-- whether this name and a value stand in front
+abbrev pub is_named : List ℕ → Words → Bool
+is_named name (word ∷ value ∷ rest) = bytes_eq word name
+is_named name _ = false
+
+-- the value that was read and the words after it are what a definition reads
+abbrev pub Reads : {A : Type 0} → Option A → Words → Option (A × Words) → Type 0
+Reads (Some value) left read = read ≡ Some (value, left)
+Reads None left read = read ≡ None
+
+-- the same of a value that is a word
+abbrev pub ReadsWord : Option (Bor (List ℕ)) → Words → Option (List ℕ × Words) → Type 0
+ReadsWord (Some word) left read = read ≡ Some (word.now, left)
+ReadsWord None left read = read ≡ None
+
+-- the word that was read, where a definition reads one
+abbrev pub IsWord : Option (Bor (List ℕ)) → Option (List ℕ) → Type 0
+IsWord (Some word) read = read ≡ Some word.now
+IsWord None read = read ≡ None

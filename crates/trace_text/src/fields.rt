@@ -1,0 +1,71 @@
+//! The fields of a line, read from its words one after another.
+ghost use Rattle.std.specs.Prelude.{◌≡◌, ◌∷◌, false, true, IfSome, MatchOption};
+ghost use Rattle.rams_model.specs.Words.{number_in, word32_in, is_hex};
+ghost use Rattle.rams_model.specs.TraceLine.{field, one, access_in, version_in, hex_in};
+ghost use Rattle.trace_text.specs.Cursor.{is_end, is_named, Reads, ReadsWord};
+
+use crate::values::{access, hex_word, number, word32};
+use crate::words::Words;
+use rams_model::Access;
+
+/// The next word as a number.
+pub fn next_number(words: &mut Words<'_>) -> Option<u64>
+    ensures { Reads result words.new (one number_in words.old) }
+{
+    number(words.next()?)
+}
+
+/// The next word as hexadecimal digits.
+pub fn next_hex<'a>(words: &mut Words<'a>) -> Option<&'a [u8]>
+    ensures word { ReadsWord result words.new (one hex_in words.old) }
+    ensures digits { IfSome result (λ word. is_hex word.now ≡ true) }
+{
+    hex_word(words.next()?)
+}
+
+/// The next word as the version of the text, which is 1.
+pub fn next_version(words: &mut Words<'_>) -> Option<u8>
+    ensures { Reads result words.new (one version_in words.old) }
+{
+    (words.next()? == b"1".as_slice()).then_some(1)
+}
+
+/// Whether no word is left.
+pub fn ends(words: &mut Words<'_>) -> bool
+    ensures { result ≡ is_end words.old }
+{
+    words.next().is_none()
+}
+
+/// The number behind this name.
+pub fn number_field(words: &mut Words<'_>, name: &[u8]) -> Option<u64>
+    ensures { Reads result words.new (field name.now number_in words.old) }
+{
+    number(named(words, name)?)
+}
+
+/// The eight hexadecimal digits behind this name.
+pub fn word32_field(words: &mut Words<'_>, name: &[u8]) -> Option<u32>
+    ensures { Reads result words.new (field name.now word32_in words.old) }
+{
+    word32(named(words, name)?)
+}
+
+/// What an access point is, behind this name.
+pub fn access_field(words: &mut Words<'_>, name: &[u8]) -> Option<Access>
+    ensures { Reads result words.new (field name.now access_in words.old) }
+{
+    access(named(words, name)?)
+}
+
+// The word behind this name.
+fn named<'a>(words: &mut Words<'a>, name: &[u8]) -> Option<&'a [u8]>
+    ensures { MatchOption result
+        (is_named name.now words.old ≡ false)
+        (λ value. words.old ≡ name.now ∷ value.now ∷ words.new) }
+{
+    if words.next()? != name {
+        return None;
+    }
+    words.next()
+}

@@ -1,0 +1,77 @@
+//! Reads a line of a trace.
+ghost use Rattle.std.specs.Prelude.{◌≡◌, ◌∷◌, true, IfOk};
+ghost use Rattle.rams_model.specs.TraceLine.{line_at, line_in, line_in_range, ranged, whole};
+ghost use Rattle.trace_text.specs.Shown.{Gives, HasDigits, shown};
+
+use crate::channel_line::channel;
+use crate::fields::ends;
+use crate::kinds::{feedback, head, live};
+use crate::line::Line;
+use crate::words::Words;
+use rams_model::LineFault;
+
+/// Most bytes of a line.
+const MOST_BYTES: usize = 4096;
+
+/// The line that the bytes are, without their line feed. `Form` where they are no line of a trace,
+/// else `Range` where a number is out of its range.
+#[tactic(auto, unfolding(rams_model::specs::TraceLine::line_at))]
+pub fn read_line(line: &[u8]) -> Result<Line<'_>, LineFault>
+    ensures line { Gives result (line_at line.now) }
+    ensures digits { IfOk result HasDigits }
+{
+    if line.len() > MOST_BYTES {
+        return Err(LineFault::Form);
+    }
+    read_words(Words::of(line))
+}
+
+fn read_words<'a>(mut words: Words<'a>) -> Result<Line<'a>, LineFault>
+    ensures line { Gives result (ranged (line_in words.entry)) }
+    ensures digits { IfOk result HasDigits }
+{
+    let Some(kind) = words.next() else {
+        return Err(LineFault::Form);
+    };
+    read_kind(kind, &mut words)
+}
+
+// The kinds that come most often are tried first.
+fn read_kind<'a>(kind: &[u8], words: &mut Words<'a>) -> Result<Line<'a>, LineFault>
+    ensures line { Gives result (ranged (line_in (kind.now ∷ words.old))) }
+    ensures digits { IfOk result HasDigits }
+{
+    if kind == b"live".as_slice() {
+        return live(words);
+    }
+    if kind == b"fb".as_slice() {
+        return feedback(words);
+    }
+    if kind == b"tick".as_slice() {
+        return alone(Line::Tick, words);
+    }
+    if kind == b"end".as_slice() {
+        return alone(Line::End, words);
+    }
+    if kind == b"channel".as_slice() {
+        return channel(words);
+    }
+    if kind == b"rams-trace".as_slice() {
+        return head(words);
+    }
+    Err(LineFault::Form)
+}
+
+// A line of one word.
+fn alone<'a>(line: Line<'a>, words: &mut Words<'a>) -> Result<Line<'a>, LineFault>
+    requires range { line_in_range (shown line) ≡ true }
+    requires digits { HasDigits line }
+    ensures line { Gives result (ranged (whole (shown line.entry) words.old)) }
+    ensures digits { IfOk result HasDigits }
+{
+    if ends(words) {
+        Ok(line)
+    } else {
+        Err(LineFault::Form)
+    }
+}

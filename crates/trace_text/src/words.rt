@@ -1,0 +1,57 @@
+//! The words of a line.
+ghost use Rattle.std.specs.Prelude.{◌≡◌, ◌∷◌};
+ghost use Rattle.std.specs.Iterator.{YieldsFirstRef, item_count};
+ghost use Rattle.rams_model.specs.Words.{words_of};
+ghost use Rattle.trace_text.specs.Cursor.{words_left};
+
+use memchr::memchr;
+use std::marker::Model;
+
+/// The words that are left of a line: the pieces between single spaces.
+#[derive(Drop)]
+pub struct Words<'a> {
+    rest: Option<&'a [u8]>,
+}
+
+impl<'a> Model for Words<'a> {
+    ghost use Rattle.std.specs.Prelude.{ℕ, List};
+    ghost use Rattle.trace_text.specs.Cursor.{words_left};
+
+    ghost Value = { List (List ℕ) };
+
+    ghost view = { λ w. words_left w.rest };
+}
+
+impl<'a> Words<'a> {
+    /// All words of a line; there is at least one.
+    pub fn of(line: &'a [u8]) -> Words<'a>
+        ensures { result ≡ words_of line.now }
+    {
+        Words { rest: Some(line) }
+    }
+}
+
+impl<'a> Iterator for Words<'a> {
+    type Item = &'a [u8];
+
+    ghost next_gives = { YieldsFirstRef (λ words. words) };
+
+    ghost remaining = { item_count (λ words. words) };
+
+    fn next(&mut self) -> Option<&'a [u8]> {
+        let (word, rest) = cut(self.rest?);
+        self.rest = rest;
+        Some(word)
+    }
+}
+
+#[tactic(auto, using(crate::proofs::Cuts::words_at, crate::proofs::Cuts::words_whole))]
+// The first word, and what stands after its space.
+fn cut(bytes: &[u8]) -> (&[u8], Option<&[u8]>)
+    ensures { words_of bytes.now ≡ result.0.now ∷ words_left result.1 }
+{
+    match memchr(b' ', bytes) {
+        Some(at) => (bytes.split_at(at).0, Some(bytes.split_at(at + 1).1)),
+        None => (bytes, None),
+    }
+}
