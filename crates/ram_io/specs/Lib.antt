@@ -1,1 +1,5 @@
+pub mod Calls
 pub mod Faults
+pub mod Memory
+pub mod Moments
+pub mod Wire

@@ -5,11 +5,31 @@
 //! the real ones: the clauses on content hold where it is told.
 #![tactic(auto)]
 
+mod calls;
+mod clock;
+mod copy;
 mod failed;
+mod gate;
+mod mem_clock;
+mod mem_sink;
+mod mem_source;
+mod mem_wire;
 mod sink;
 mod source;
+mod std_edge;
+#[cfg(test)]
+mod tests;
+mod wire;
 
+pub use clock::Clock;
 pub use failed::{Failed, NoMemory};
+pub use gate::{Gate, Open};
+pub use mem_clock::MemClock;
+pub use mem_sink::MemSink;
+pub use mem_source::MemSource;
+pub use mem_wire::{MemWire, Sent};
 pub use rams_model::Octets;
 pub use sink::Sink;
 pub use source::Source;
+pub use std_edge::{StdSink, StdSource};
+pub use wire::{Arrival, Incoming, Wire};

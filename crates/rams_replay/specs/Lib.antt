@@ -1,2 +1,3 @@
 pub mod Stops
 pub mod Entries
+pub mod Turns

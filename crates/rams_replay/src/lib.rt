@@ -2,6 +2,8 @@
 #![tactic(auto)]
 
 mod entry;
+mod heard;
+mod replay;
 mod stop;
 mod writer;
 
