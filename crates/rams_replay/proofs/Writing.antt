@@ -1,13 +1,12 @@
 -- The steps of writing an answer.
-use Rattle.std.proofs.Common.{◌≡◌, ℕ, ◌+◌, ◌<◌, ◌≤◌, List, [], ◌∷◌, ◌++◌, length, get_or, take, drop, Option, refl, sym, ap, ◌∙◌, subst, append_assoc, append-nil, length-append, arith}
+use Rattle.std.proofs.Common.{◌≡◌, ℕ, ◌+◌, ◌<◌, ◌≤◌, List, [], ◌++◌, length, get_or, drop, Option, refl, sym, ap, ◌∙◌, subst, append_assoc, append-nil, length-append, arith}
 use Rattle.std.proofs.lemmas.List.{drop_more, drop_all}
-use Rattle.std.specs.Io.KnownBytes.{Appends}
 use Rattle.line_io.specs.Passes.{Passes}
 use Rattle.line_io.proofs.Passing.{Passes-none, Passes-put, Passes-longer}
 use Rattle.rams_model.specs.declared.answer.Order.{Order}
 use Rattle.rams_model.specs.declared.note.Note.{Note}
 use Rattle.rams_model.specs.Settings.{Settings}
-use Rattle.rams_model.specs.BookText.{notes_text, order_count, order_line, note_line}
+use Rattle.rams_model.specs.BookText.{notes_text, order_count}
 use Rattle.rams_replay.specs.Entries.{entry_text}
 
 -- nothing of a text went to the sink
@@ -29,7 +28,7 @@ module _ (a b : Option (List ℕ)) (before now : ℕ) (steady_then steady : ℕ 
     passes = subst (λ (o : Option (List ℕ)). Passes a o waiting waiting) same (Passes-none a waiting);
     joins = refl;
     faults = omega arith;
-    steadily = λ room s. subst steady (ap (λ n. n + room) (length-append waiting text)) (goes (length (waiting ++ text) + room) s)
+    steadily = λ room s. subst steady (ap (λ n. n + room) (length-append waiting text)) (goes (length (waiting ++ text) + room) s);
   }
 
   -- there is room for the next piece
@@ -52,8 +51,8 @@ module _ (a b : Option (List ℕ)) (before now : ℕ) (steady_then steady : ℕ 
         joins = w.joins ∙ ap (λ (l : List ℕ). w.written ++ l) e ∙ sym (append_assoc w.written piece rest);
         faults = omega arith;
         steadily = λ room s.
-          let after : length waits + (length rest + room) ≡ length waits + length rest + room = omega arith in
-          subst steady_now after (goes (length rest + room) (writing_has_room whole waiting later piece rest w e room s))
+            let after : length waits + (length rest + room) ≡ length waits + length rest + room = omega arith in
+            subst steady_now after (goes (length rest + room) (writing_has_room whole waiting later piece rest w e room s));
       }
 
   -- a part of one piece more

@@ -1,3 +1,5 @@
 pub mod Stops
 pub mod Entries
 pub mod Turns
+pub mod CommandWords
+pub mod Told

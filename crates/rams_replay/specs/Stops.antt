@@ -1,5 +1,5 @@
 -- Why a call stops, and what it needs so that it doesn't.
-use Rattle.std.specs.Prelude.{◌≡◌, ℕ, ◌≤◌, Result, Ok, Err, MatchResult, IfErr}
+use Rattle.std.specs.Prelude.{◌≡◌, ℕ, ◌≤◌, Result, MatchResult, IfErr}
 use Rattle.ram_io.specs.Faults.{Rose}
 use Rattle.rams_replay.specs.declared.stop.Stop.{Stop}
 use Rattle.rams_replay.specs.declared.stop.Stop.TheVariants.{Memory, Read, Write}
@@ -18,3 +18,25 @@ pub record IsStoppedByWrite {T : Type 0} (before now : ℕ) (result : Result T S
 -- only want of memory stops the call, and P holds where nothing does
 abbrev pub OnlyMemoryStops : {T : Type 0} → Result T Stop → Type 0 → Type 0
 OnlyMemoryStops result P = MatchResult result (λ _. P) (λ stop. stop ≡ Memory)
+
+-- the source's faults rose where the stop is said to be the source's
+abbrev pub IsReadStop : ℕ → ℕ → Stop → Type 0
+IsReadStop before now Memory = Unit {0}
+IsReadStop before now Read = Rose before now
+IsReadStop before now Write = ⊥
+
+-- The source's count of faults didn't fall, and it rose where the source is said to have stopped the call. The sink isn't.
+pub record IsStoppedByRead {T : Type 0} (before now : ℕ) (result : Result T Stop) : Type 0 where
+  pub later : before ≤ now
+  pub cause : IfErr result (IsReadStop before now)
+
+-- either of the two
+abbrev pub IsStop : ℕ → ℕ → ℕ → ℕ → Stop → Type 0
+IsStop read reads write writes Memory = Unit {0}
+IsStop read reads write writes Read = Rose read reads
+IsStop read reads write writes Write = Rose write writes
+
+pub record IsStopped {T : Type 0} (read reads write writes : ℕ) (result : Result T Stop) : Type 0 where
+  pub read_later : read ≤ reads
+  pub write_later : write ≤ writes
+  pub cause : IfErr result (IsStop read reads write writes)

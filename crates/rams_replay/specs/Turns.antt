@@ -1,5 +1,5 @@
 -- What a line of a trace does, as code has it.
-use Rattle.std.specs.Prelude.{◌≡◌, ℕ, Bool, true, false, ◌&&◌, ◌==◌, List, [], ◌++◌, Option, Some, None, codes}
+use Rattle.std.specs.Prelude.{◌≡◌, ℕ, Bool, true, false, ◌==◌, List, [], Option, Some, None}
 use Rattle.rams_model.specs.declared.event.Event.{Event}
 use Rattle.rams_model.specs.declared.event.Event.TheVariants as events
 use Rattle.rams_model.specs.declared.status.Status.{Status}
@@ -39,8 +39,8 @@ ServesChannel (Some v) (Some channel) = (v.settings ≡ channel.0) × StandsFor 
 -- What stands before a line: a core for the channel's history, so many events, and these lines.
 pub record Stands (core : Option Seen) (events : ℕ) (reached : Reached) (stage : Stage) : Type 0 where
   pub channel : ServesChannel core stage.channel
-  pub events : events ≡ stage.events
-  pub reached : reached ≡ stage.reached
+  pub counted : events ≡ stage.events
+  pub lines : reached ≡ stage.reached
 
 -- whether the event is this channel's: a tick is every channel's
 abbrev pub is_its : Option ℕ → Settings → Bool

@@ -1,10 +1,12 @@
 //! The commands of the program, over whatever they read from and write to.
 #![tactic(auto)]
 
+mod book;
 mod entry;
 mod heard;
 mod replay;
 mod stop;
+mod words;
 mod writer;
 
 pub use ram_io::{NoMemory, Octets, Sink, Source};

@@ -115,7 +115,10 @@ fn open(
     let Ok(config) = Config::check(channel, tick_ms) else {
         return Ok(Turn::NotBuilt);
     };
-    if core.is_some() || !is_built_channel(&channel) {
+    if core.is_some() {
+        return Ok(Turn::NotBuilt);
+    }
+    if !is_built_channel(config.channel()) {
         return Ok(Turn::NotBuilt);
     }
     *core = Some(Core::new(alloc, &config)?);

@@ -4,9 +4,11 @@ ghost use Rattle.line_io.specs.Passes.{Passes};
 ghost use Rattle.rams_model.specs.BookText.{spaced, answer_text};
 ghost use Rattle.session_core.specs.Render.{AllRender};
 ghost use Rattle.rams_replay.specs.Entries.{entry_text};
+ghost use Rattle.rams_replay.specs.Turns.{written, CanWrite};
 ghost use Rattle.rams_replay.specs.Stops.{IsStoppedByWrite, OnlyMemoryStops};
 
 use crate::entry::{after, append_entry};
+use crate::replay::{Replay, Turn};
 use crate::stop::Stop;
 use book_text::append_count;
 use line_io::Gather;
@@ -132,4 +134,31 @@ fn write_entry<K: Sink>(
         orders,
     )?;
     put(&mut writer.gather, sink, &writer.lines)
+}
+
+/// Adds what is written for a turn at the line of this number.
+pub fn write_turn<K: Sink>(
+    alloc: Global,
+    writer: &mut Writer,
+    sink: &mut K,
+    replay: &Replay,
+    number: u64,
+    turn: &Turn,
+) -> Result<(), Stop>
+    requires { CanWrite turn.now }
+    ensures all { OnOk result (Passes (K.held sink.old) (K.held sink.new) (writer.old.gather ++ written replay.now.core replay.now.events number turn.now) writer.new.gather) }
+    ensures prefix { (rest : List ℕ) × Passes (K.held sink.old) (K.held sink.new) (writer.old.gather ++ written replay.now.core replay.now.events number turn.now) rest }
+    ensures cause { IsStoppedByWrite (K.faults sink.old) (K.faults sink.new) result }
+    ensures steady { (room : ℕ) → K.is_steady sink.old (length writer.old.gather + length (written replay.now.core replay.now.events number turn.now) + room)
+        → OnlyMemoryStops result (K.is_steady sink.new (length writer.new.gather + room)) }
+{
+    match turn {
+        Turn::GoesOn => Ok(()),
+        Turn::Answered(answer) => match &replay.core {
+            Some(core) => write_answer(alloc, writer, sink, core.config(), replay.events, answer),
+            None => Ok(()),
+        },
+        Turn::NotBuilt => write_count(writer, sink, b"not-built", number),
+        Turn::Done => write_count(writer, sink, b"done", replay.events),
+    }
 }

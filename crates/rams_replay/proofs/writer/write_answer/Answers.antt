@@ -1,12 +1,9 @@
-use Rattle.std.proofs.Common.{List, ℕ, ◌≡◌, ◌+◌, ◌++◌, length, drop, Result, sym, ap, ◌∙◌, subst, arith, length-append}
+use Rattle.std.proofs.Common.{◌+◌, length, Result, sym, ap, ◌∙◌, subst, length-append}
 use Rattle.std.proofs.lemmas.Result.{err_from_is_err_and}
-use Rattle.rams_model.specs.declared.answer.Order.{Order}
-use Rattle.rams_model.specs.BookText.{answer_text, notes_text}
-use Rattle.session_core.specs.Render.{AllRender}
+use Rattle.rams_model.specs.BookText.{answer_text}
 use Rattle.rams_replay.specs.declared.stop.Stop.{Stop}
-use Rattle.rams_replay.specs.declared.stop.Stop.TheVariants.{Memory}
 use Rattle.rams_replay.specs.Stops.{OnlyMemoryStops}
-use Rattle.rams_replay.proofs.Writing.{IsWriting, writing_has_room, writing_goes_on, writing_stops, writing_breaks, writing_ends, writing_ends_steadily, notes_text-more, notes_text-step, notes_text-past}
+use Rattle.rams_replay.proofs.Writing.{writing_has_room, writing_goes_on, writing_stops, writing_breaks, writing_ends, writing_ends_steadily, notes_text-more, notes_text-step, notes_text-past}
 use Rattle.rams_replay.proofs.writer.write_answer.Goals as goal
 
 pub returns-in_err-write_entry-clause-prefix : goal.returns-in_err-write_entry-clause-prefix
@@ -18,7 +15,7 @@ pub returns-in_err-write_entry-clause-steady : goal.returns-in_err-write_entry-c
 returns-in_err-write_entry-clause-steady g c = λ room s.
     let e = notes_text-more c.args.config.now c.args.event c.deref-note-items.result.now c.loop-note.orders.now c.loop-note.note-index _ c.loop-note-test.true in
     let all = subst (g.K.Sink.is_steady c.args.sink.now)
-      (ap (λ n. n + room) (sym (length-append c.args.writer.now.gather (answer_text c.args.config.now c.args.event c.args.answer.now)))) s in
+    (ap (λ n. n + room) (sym (length-append c.args.writer.now.gather (answer_text c.args.config.now c.args.event c.args.answer.now)))) s in
     let p = err_from_is_err_and c.from_residual.result c.from_residual.ensures.1 in
     let stop = c.in_err-write_entry.ensures.steady _ (writing_has_room _ _ _ _ _ _ _ _ _ _ _ c.loop-note.invariant.1 e room all) in
     subst (λ (r : Result (Unit {0}) Stop). OnlyMemoryStops r (g.K.Sink.is_steady c.write_entry.new.sink (length c.write_entry.new.writer.gather + room))) (sym p.1) (p.2 ∙ stop)
@@ -27,10 +24,11 @@ pub loop-note-preserved : goal.loop-note-preserved
 loop-note-preserved g c =
     let notes = c.deref-note-items.result.now in
     let i = c.loop-note.note-index in
-    let e = notes_text-step c.args.config.now c.args.event notes c.loop-note.orders.now c.after-orders.result.now i _ c.loop-note-test.true c.after-orders.ensures.after in
-    (c.after-orders.ensures.render c.loop-note.invariant.0,
+    let e = notes_text-step c.args.config.now c.args.event notes c.loop-note.orders.now c.after-orders.result.now i _ c.loop-note-test.true c.after-orders.ensures.after in (
+      c.after-orders.ensures.render c.loop-note.invariant.0,
       writing_goes_on _ _ _ _ _ _ (g.K.Sink.held c.write_entry.new.sink) (g.K.Sink.faults c.write_entry.new.sink) (g.K.Sink.is_steady c.write_entry.new.sink) _ _ _ _ _ _
-        c.loop-note.invariant.1 e c.in_ok-write_entry.ensures.all c.write_entry.ensures.cause.later c.in_ok-write_entry.ensures.steady)
+          c.loop-note.invariant.1 e c.in_ok-write_entry.ensures.all c.write_entry.ensures.cause.later c.in_ok-write_entry.ensures.steady,
+    )
 
 pub returns-clause-all : goal.returns-clause-all
 returns-clause-all g c = writing_ends _ _ _ _ _ _ _ _ _ c.loop-note.invariant.1 (notes_text-past _ _ _ _ _ c.loop-note-test.false)
@@ -41,5 +39,5 @@ returns-clause-prefix g c = writing_breaks _ _ _ _ _ _ _ _ _ c.loop-note.invaria
 pub returns-clause-steady : goal.returns-clause-steady
 returns-clause-steady g c = λ room s.
     writing_ends_steadily _ _ _ _ _ _ _ _ _ c.loop-note.invariant.1 (notes_text-past _ _ _ _ _ c.loop-note-test.false) room
-      (subst (g.K.Sink.is_steady c.args.sink.now)
-        (ap (λ n. n + room) (sym (length-append c.args.writer.now.gather (answer_text c.args.config.now c.args.event c.args.answer.now)))) s)
+    (subst (g.K.Sink.is_steady c.args.sink.now)
+    (ap (λ n. n + room) (sym (length-append c.args.writer.now.gather (answer_text c.args.config.now c.args.event c.args.answer.now)))) s)

@@ -8,4 +8,4 @@ abbrev pub invariant-loop-note : goal.invariant-loop-note
 invariant-loop-note g l =
     AllRender l.orders
     × IsWriting (g.K.Sink.held l.fn.sink) (g.K.Sink.held l.sink) (g.K.Sink.faults l.fn.sink) (g.K.Sink.faults l.sink) (g.K.Sink.is_steady l.fn.sink) (g.K.Sink.is_steady l.sink)
-      (l.fn.writer.gather ++ answer_text l.config l.event l.answer) l.writer.gather (notes_text l.config l.event (drop l.note-index l.note-items) l.orders)
+    (l.fn.writer.gather ++ answer_text l.config l.event l.answer) l.writer.gather (notes_text l.config l.event (drop l.note-index l.note-items) l.orders)

@@ -1,0 +1,61 @@
+-- The turns of lines.
+use Rattle.std.proofs.Common.{◌≡◌, ℕ, Bool, true, false, cond, [], Option, None, Some, Ok, is_some, refl, subst, arith}
+use Rattle.rams_model.specs.declared.event.Event.{Event}
+use Rattle.rams_model.specs.Settings.{Settings}
+use Rattle.rams_model.specs.Built.{is_built_channel}
+use Rattle.rams_model.specs.History.{History, source}
+use Rattle.rams_model.specs.Standing.{burst, sendings, was_asked, ticks}
+use Rattle.rams_model.specs.TraceOrder.{Reached}
+use Rattle.rams_model.specs.TraceText.{Stage, goes_on, ends, not_built, opened, on_channel}
+use Rattle.session_core.specs.Seen.{Seen, StandsFor, new_core}
+use Rattle.rams_replay.specs.declared.replay.Turn.{Turn}
+use Rattle.rams_replay.specs.declared.replay.Turn.TheVariants.{GoesOn, NotBuilt}
+use Rattle.rams_replay.specs.Turns.{ServesChannel, Took}
+
+-- an event of a channel that has a core
+pub at_channel : (core : Option Seen) (v new : Seen) (counted counts : ℕ) (is_its : Settings → Bool) (event : Event) (t : Turn) → core ≡ Some v
+    → ((stage : Stage) (reached : Reached) (number : ℕ) (channel : Settings × History) → v.settings ≡ channel.0 → StandsFor v channel.1 → counted ≡ stage.events
+    → Took (on_channel stage reached number is_its event (Some channel)) (Some new) counts reached number t)
+    → (stage : Stage) (reached : Reached) (number : ℕ) (o : Option (Settings × History)) → ServesChannel core o → counted ≡ stage.events
+    → Took (on_channel stage reached number is_its event o) (Some new) counts reached number t
+at_channel None v new counted counts is_its event t e took stage reached number o serves same = cc
+at_channel (Some w) v new counted counts is_its event t e took stage reached number None serves same = absurd serves
+at_channel (Some w) v new counted counts is_its event t e took stage reached number (Some channel) serves same =
+    let is : w ≡ v = cc in
+    let stands = subst (λ (x : Seen). (x.settings ≡ channel.0) × StandsFor x channel.1) is serves in
+    took stage reached number channel stands.0 stands.1 same
+
+-- a channel that comes second
+pub not_opened_twice : (stage : Stage) (reached : Reached) (number : ℕ) (s : Settings) (core : Option Seen) (o : Option (Settings × History)) → is_some core ≡ true
+    → ServesChannel core o → Took (opened stage reached number (Ok s) o) core stage.events reached number NotBuilt
+not_opened_twice stage reached number s core (Some channel) e serves = (refl, refl)
+not_opened_twice stage reached number s (Some v) None e serves = absurd serves
+not_opened_twice stage reached number s None None e serves = cc
+
+-- a channel that isn't built
+refused_by : (stage later : Stage) (reached : Reached) (number : ℕ) (core : Option Seen) (built : Bool) → built ≡ false
+    → Took (cond built (goes_on later []) (ends (not_built number))) core stage.events reached number NotBuilt
+refused_by stage later reached number core true e = cc
+refused_by stage later reached number core false e = (refl, refl)
+
+pub not_opened : (stage : Stage) (reached : Reached) (number : ℕ) (s : Settings) (core : Option Seen) (o : Option (Settings × History)) → is_built_channel s.channel ≡ false
+    → ServesChannel core o → Took (opened stage reached number (Ok s) o) core stage.events reached number NotBuilt
+not_opened stage reached number s core (Some channel) e serves = (refl, refl)
+not_opened stage reached number s core None e serves = refused_by stage _ reached number core (is_built_channel s.channel) e
+
+-- a core that has seen nothing stands for the history in which nothing came
+new_core_stands : (s : Settings) → StandsFor (new_core s) []
+unfolding source burst sendings was_asked ticks
+new_core_stands s = record { held = refl; room = omega arith; burst = refl; sent = refl; asked = refl; ticks = refl }
+
+opened_by : (stage : Stage) (reached : Reached) (number : ℕ) (s : Settings) (built : Bool) → built ≡ true
+    → Took (cond built (goes_on (record { reached = reached; channel = Some (s, []); events = stage.events }) []) (ends (not_built number))) (Some (new_core s)) stage.events reached number GoesOn
+opened_by stage reached number s true e = (record { channel = (refl, new_core_stands s); counted = refl; lines = refl }, refl, refl)
+opened_by stage reached number s false e = cc
+
+-- the first channel that is built
+pub is_opened : (stage : Stage) (reached : Reached) (number : ℕ) (s : Settings) (core : Option Seen) (o : Option (Settings × History)) → is_some core ≡ false → is_built_channel s.channel ≡ true
+    → ServesChannel core o → Took (opened stage reached number (Ok s) o) (Some (new_core s)) stage.events reached number GoesOn
+is_opened stage reached number s (Some v) o none built serves = cc
+is_opened stage reached number s None (Some channel) none built serves = absurd serves
+is_opened stage reached number s None None none built serves = opened_by stage reached number s (is_built_channel s.channel) built

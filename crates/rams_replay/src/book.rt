@@ -1,0 +1,49 @@
+//! The book of a trace, from the source's bytes to the sink's.
+ghost use Rattle.std.specs.Prelude.{◌≡◌, ℕ, ◌+◌, ◌++◌, IfOk, OnOk, length, [], Some};
+ghost use Rattle.std.specs.Io.KnownBytes.{prepend_known};
+ghost use Rattle.rams_model.specs.Words.{lines_of};
+ghost use Rattle.rams_model.specs.TraceText.{Stage, opening, text_from, trace_text};
+ghost use Rattle.rams_replay.specs.Stops.{IsStopped, IsStoppedByRead, OnlyMemoryStops};
+ghost use Rattle.rams_replay.specs.Told.{IfTold, IfBothTold, IsFirstTurn, Ends, HasFront};
+ghost use Rattle.rams_replay.specs.Turns.{Stands, CanWrite, ending};
+
+use crate::replay::{Replay, Turn, new_replay, take_line};
+use crate::stop::Stop;
+use crate::writer::{Writer, write_turn};
+use line_io::{LineReader, Next};
+use ram_io::{Sink, Source};
+use rams_model::Status;
+use std::alloc::Global;
+
+/// What the next line does: nothing is built of a line that is too long, nor of one that is missing.
+fn next_turn<S: Source>(
+    alloc: Global,
+    reader: &mut LineReader,
+    replay: &mut Replay,
+    source: &mut S,
+) -> Result<Turn, Stop>
+    ensures turn { IfOk result (λ t. (stage : Stage) (number : ℕ) → Stands replay.old.core replay.old.events replay.old.state stage
+        → IfBothTold (prepend_known reader.old.kept (S.left source.old)) (prepend_known reader.new.kept (S.left source.new))
+        (λ xs ys. IsFirstTurn (text_from stage number (lines_of xs)) replay.new.core replay.new.events replay.new.state number t ys)) }
+    ensures write { IfOk result CanWrite }
+    ensures cause { IsStoppedByRead (S.faults source.old) (S.faults source.new) result }
+    ensures steady { S.is_steady source.old → OnlyMemoryStops result (S.is_steady source.new) }
+{
+    match reader.advance(source) {
+        Err(_) => Err(Stop::Read),
+        Ok(Next::Line) => Ok(take_line(alloc, replay, reader.line())?),
+        Ok(Next::Long) => Ok(Turn::NotBuilt),
+        Ok(Next::End) => Ok(Turn::NotBuilt),
+    }
+}
+
+/// How a turn ends the run, if it does.
+fn ending(turn: &Turn) -> Option<Status>
+    ensures { result ≡ ending turn.now }
+{
+    match turn {
+        Turn::GoesOn | Turn::Answered(_) => None,
+        Turn::NotBuilt => Some(Status::NotBuilt),
+        Turn::Done => Some(Status::Done),
+    }
+}
