@@ -1,3 +1,4 @@
 pub mod Writing
 pub mod Turning
 pub mod FirstTurn
+pub mod Running

@@ -47,3 +47,31 @@ fn ending(turn: &Turn) -> Option<Status>
         Turn::Done => Some(Status::Done),
     }
 }
+
+/// Writes what the lines of a trace are answered with.
+fn write_lines<S: Source, K: Sink>(
+    alloc: Global,
+    source: &mut S,
+    sink: &mut K,
+    writer: &mut Writer,
+) -> Result<Status, Stop>
+    ensures text { IfOk result (λ status. IfTold (S.left source.old)
+        (λ xs. Ends (K.held sink.old) (K.held sink.new) writer.old.gather writer.new.gather (text_from opening 1 (lines_of xs)) status)) }
+    ensures front { IfTold (S.left source.old)
+        (λ xs. HasFront (K.held sink.old) (K.held sink.new) writer.old.gather (text_from opening 1 (lines_of xs))) }
+    ensures cause { IsStopped (S.faults source.old) (S.faults source.new) (K.faults sink.old) (K.faults sink.new) result }
+    ensures steady { S.is_steady source.old → IfTold (S.left source.old)
+        (λ xs. (room : ℕ) → K.is_steady sink.old (length (writer.old.gather ++ (text_from opening 1 (lines_of xs)).text) + room)
+        → OnlyMemoryStops result (K.is_steady sink.new (length writer.new.gather + room))) }
+{
+    let mut reader = LineReader::new(alloc)?;
+    let mut replay = new_replay(alloc);
+    for number in 1..u64::MAX {
+        let turn = next_turn(alloc, &mut reader, &mut replay, source)?;
+        write_turn(alloc, writer, sink, &replay, number, &turn)?;
+        if let Some(status) = ending(&turn) {
+            return Ok(status);
+        }
+    }
+    Err(Stop::Memory)
+}
