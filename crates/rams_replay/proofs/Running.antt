@@ -8,9 +8,11 @@ use Rattle.rams_model.specs.TraceText.{Stage, Outcome, opening, after_text, text
 use Rattle.rams_model.specs.Words.{lines_of}
 use Rattle.session_core.specs.Seen.{Seen}
 use Rattle.rams_replay.specs.declared.replay.Turn.{Turn}
-use Rattle.rams_replay.specs.Told.{IfTold, IfBothTold, IsFirstTurn, Ends, HasFront}
+use Rattle.rams_replay.specs.declared.stop.Stop.{Stop}
+use Rattle.rams_replay.specs.Stops.{StopsIn}
+use Rattle.rams_replay.specs.Told.{IfTold, IfBothTold, IsFirstTurn, Ends}
 use Rattle.rams_replay.specs.Turns.{Stands, ending, written}
-use Rattle.rams_replay.proofs.Writing.{IsWriting, nothing_passed, writing_begins, writing_has_room, writing_goes_on, writing_stops, writing_breaks, writing_ends, writing_ends_steadily}
+use Rattle.rams_replay.proofs.Writing.{IsWriting, unwritten, writing_begins, writing_has_room, writing_goes_on, writing_stops, writing_breaks, writing_ends, writing_ends_steadily}
 
 -- nothing is kept at first
 keeps_nothing : (kept : List ℕ) (o : Option (List ℕ)) → kept ≡ [] → prepend_known kept o ≡ o
@@ -64,9 +66,9 @@ told_gives None P Q gives p = tt
 told_gives (Some xs) P Q gives p = gives xs p
 
 -- nothing is written
-pub unstarted_has_front : (a : Option (List ℕ)) (begun : List ℕ) (left : Option (List ℕ)) → IfTold left (λ xs. HasFront a a begun (outcome xs))
-unstarted_has_front a begun None = tt
-unstarted_has_front a begun (Some xs) = nothing_passed a (begun ++ (outcome xs).text)
+pub unstarted : (a : Option (List ℕ)) (begun : List ℕ) (left : Option (List ℕ)) (stop : Stop) → IfTold left (λ xs. StopsIn a a (begun ++ (outcome xs).text) begun stop)
+unstarted a begun None stop = tt
+unstarted a begun (Some xs) stop = unwritten a begun (outcome xs).text stop
 
 -- the next turn, for whatever stage the core stands
 abbrev pub TakesTurn : Option Seen → ℕ → Reached → Option Seen → ℕ → Reached → ℕ → Turn → Option (List ℕ) → Option (List ℕ) → Type 0
@@ -93,11 +95,11 @@ module _ (a b : Option (List ℕ)) (before now : ℕ) (steady_then steady : ℕ 
       (record { stage = opening; stands = stands; writing = w; status = refl })
 
   -- the source or want of memory stops the run
-  pub running_breaks : (left leaves : Option (List ℕ)) (number : ℕ) → IfBothTold left leaves (IsRunning a b before now steady_then steady begun waiting core events reached number)
-      → IfTold left (λ xs. HasFront a b begun (outcome xs))
-  running_breaks None leaves number r = tt
-  running_breaks (Some xs) None number r = absurd r
-  running_breaks (Some xs) (Some ys) number r = writing_breaks a b before now steady_then steady (begun ++ (outcome xs).text) waiting _ r.writing
+  pub running_breaks : (left leaves : Option (List ℕ)) (number : ℕ) (stop : Stop) → IfBothTold left leaves (IsRunning a b before now steady_then steady begun waiting core events reached number)
+      → IfTold left (λ xs. StopsIn a b (begun ++ (outcome xs).text) waiting stop)
+  running_breaks None leaves number stop r = tt
+  running_breaks (Some xs) None number stop r = absurd r
+  running_breaks (Some xs) (Some ys) number stop r = writing_breaks a b before now steady_then steady (begun ++ (outcome xs).text) waiting _ stop r.writing
 
   module _ (new_core : Option Seen) (new_events : ℕ) (new_reached : Reached) (number : ℕ) (t : Turn) where
     -- there is room for what the next turn writes
@@ -114,15 +116,15 @@ module _ (a b : Option (List ℕ)) (before now : ℕ) (steady_then steady : ℕ 
 
     module _ (c : Option (List ℕ)) where
       -- a part of what the turn writes
-      pub running_stops : (left leaves later : Option (List ℕ)) → IfBothTold left leaves (IsRunning a b before now steady_then steady begun waiting core events reached number)
+      pub running_stops : (left leaves later : Option (List ℕ)) (waits : List ℕ) (stop : Stop) → IfBothTold left leaves (IsRunning a b before now steady_then steady begun waiting core events reached number)
           → TakesTurn core events reached new_core new_events new_reached number t leaves later
-          → ((rest : List ℕ) × Passes b c (waiting ++ written new_core new_events number t) rest) → IfTold left (λ xs. HasFront a c begun (outcome xs))
-      running_stops None leaves later r turn p = tt
-      running_stops (Some xs) None later r turn p = absurd r
-      running_stops (Some xs) (Some ys) later r turn p =
+          → StopsIn b c (waiting ++ written new_core new_events number t) waits stop → IfTold left (λ xs. StopsIn a c (begun ++ (outcome xs).text) waits stop)
+      running_stops None leaves later waits stop r turn p = tt
+      running_stops (Some xs) None later waits stop r turn p = absurd r
+      running_stops (Some xs) (Some ys) later waits stop r turn p =
           let f = told_by core events reached new_core new_events new_reached number t ys later r.stage turn r.stands in
           let front = first_turn_has_front _ new_core new_events new_reached number t f.0 f.2 in
-          writing_stops a b before now steady_then steady c (begun ++ (outcome xs).text) waiting _ (written new_core new_events number t) front.0 r.writing front.1 p
+          writing_stops a b before now steady_then steady c (begun ++ (outcome xs).text) waiting _ (written new_core new_events number t) front.0 waits stop r.writing front.1 p
 
       module _ (later_now : ℕ) (steady_now : ℕ → Type 0) (waits : List ℕ) where
         -- the turn is written, and the next line comes

@@ -2,16 +2,25 @@
 use Rattle.std.proofs.Common.{◌≡◌, ℕ, ◌+◌, ◌<◌, ◌≤◌, List, [], ◌++◌, length, get_or, drop, Option, refl, sym, ap, ◌∙◌, subst, append_assoc, append-nil, length-append, arith}
 use Rattle.std.proofs.lemmas.List.{drop_more, drop_all}
 use Rattle.line_io.specs.Passes.{Passes}
-use Rattle.line_io.proofs.Passing.{Passes-none, Passes-put, Passes-longer}
+use Rattle.line_io.proofs.Passing.{Passes-none, Passes-put, Passes-more}
 use Rattle.rams_model.specs.declared.answer.Order.{Order}
 use Rattle.rams_model.specs.declared.note.Note.{Note}
 use Rattle.rams_model.specs.Settings.{Settings}
 use Rattle.rams_model.specs.BookText.{notes_text, order_count}
+use Rattle.rams_replay.specs.declared.stop.Stop.{Stop}
+use Rattle.rams_replay.specs.declared.stop.Stop.TheVariants.{Memory, Read, Write}
+use Rattle.rams_replay.specs.Stops.{StopsIn}
 use Rattle.rams_replay.specs.Entries.{entry_text}
 
--- nothing of a text went to the sink
-pub nothing_passed : (a : Option (List ℕ)) (text : List ℕ) → (rest : List ℕ) × Passes a a text rest
-nothing_passed a text = (text, Passes-none a text)
+-- the call stops where the rest waits, or would
+pub stops_before : (a b : Option (List ℕ)) (text waits more : List ℕ) (stop : Stop) → Passes a b text (waits ++ more) → StopsIn a b text waits stop
+stops_before a b text waits more Memory p = (more, p)
+stops_before a b text waits more Read p = (more, p)
+stops_before a b text waits more Write p = (waits ++ more, p)
+
+-- nothing is written yet
+pub unwritten : (a : Option (List ℕ)) (waits text : List ℕ) (stop : Stop) → StopsIn a a (waits ++ text) waits stop
+unwritten a waits text stop = stops_before a a (waits ++ text) waits text stop (Passes-none a (waits ++ text))
 
 -- While a text is written: what the sink held and holds, how often it had failed and has, what waits, and what is still to be written; the sink takes the rest where it took all.
 pub record IsWriting (a b : Option (List ℕ)) (before now : ℕ) (steady_then steady : ℕ → Type 0) (whole waiting later : List ℕ) : Type 0 where
@@ -56,18 +65,21 @@ module _ (a b : Option (List ℕ)) (before now : ℕ) (steady_then steady : ℕ 
       }
 
   -- a part of one piece more
-  pub writing_stops : (c : Option (List ℕ)) (whole waiting later piece rest : List ℕ) → IsWriting a b before now steady_then steady whole waiting later → later ≡ piece ++ rest
-      → ((waits : List ℕ) × Passes b c (waiting ++ piece) waits) → (waits : List ℕ) × Passes a c whole waits
-  writing_stops c whole waiting later piece rest w e p =
-      let put = Passes-put a b c w.written waiting piece p.0 w.passes p.1 in
-      let longer = Passes-longer a c (w.written ++ piece) rest (p.0, put) in
+  pub writing_stops : (c : Option (List ℕ)) (whole waiting later piece rest waits : List ℕ) (stop : Stop) → IsWriting a b before now steady_then steady whole waiting later → later ≡ piece ++ rest
+      → StopsIn b c (waiting ++ piece) waits stop → StopsIn a c whole waits stop
+  writing_stops c whole waiting later piece rest waits stop w e p =
       let same : (w.written ++ piece) ++ rest ≡ whole = append_assoc w.written piece rest ∙ ap (λ (l : List ℕ). w.written ++ l) (sym e) ∙ sym w.joins in
-      subst (λ (l : List ℕ). (waits : List ℕ) × Passes a c l waits) same longer
+      let put = λ (left : List ℕ) (q : Passes b c (waiting ++ piece) left). Passes-more a c (w.written ++ piece) left rest (Passes-put a b c w.written waiting piece left w.passes q) in
+      subst (λ (l : List ℕ). StopsIn a c l waits stop) same (by_stop stop p put)
+    where
+      by_stop : {text : List ℕ} (s : Stop) → StopsIn b c (waiting ++ piece) waits s → ((left : List ℕ) → Passes b c (waiting ++ piece) left → Passes a c text (left ++ rest)) → StopsIn a c text waits s
+      by_stop {text} Memory p put = (p.0 ++ rest, subst (λ (l : List ℕ). Passes a c text l) (append_assoc waits p.0 rest) (put (waits ++ p.0) p.1))
+      by_stop {text} Read p put = (p.0 ++ rest, subst (λ (l : List ℕ). Passes a c text l) (append_assoc waits p.0 rest) (put (waits ++ p.0) p.1))
+      by_stop {text} Write p put = (p.0 ++ rest, put p.0 p.1)
 
   -- nothing more is written
-  pub writing_breaks : (whole waiting later : List ℕ) → IsWriting a b before now steady_then steady whole waiting later → (waits : List ℕ) × Passes a b whole waits
-  writing_breaks whole waiting later w =
-      subst (λ (l : List ℕ). (waits : List ℕ) × Passes a b l waits) (sym w.joins) (Passes-longer a b w.written later (waiting, w.passes))
+  pub writing_breaks : (whole waiting later : List ℕ) (stop : Stop) → IsWriting a b before now steady_then steady whole waiting later → StopsIn a b whole waiting stop
+  writing_breaks whole waiting later stop w = stops_before a b whole waiting later stop (subst (λ (l : List ℕ). Passes a b l (waiting ++ later)) (sym w.joins) (Passes-more a b w.written waiting later w.passes))
 
   -- nothing is left to be written
   pub writing_ends : (whole waiting later : List ℕ) → IsWriting a b before now steady_then steady whole waiting later → later ≡ [] → Passes a b whole waiting

@@ -1,5 +1,7 @@
 -- Why a call stops, and what it needs so that it doesn't.
-use Rattle.std.specs.Prelude.{◌≡◌, ℕ, ◌≤◌, Result, MatchResult, IfErr}
+use Rattle.std.specs.Prelude.{◌≡◌, ℕ, ◌≤◌, List, ◌++◌, Option, Result, Ok, Err, MatchResult, IfErr}
+use Rattle.line_io.specs.Passes.{Passes}
+use Rattle.rams_model.specs.declared.status.Status.{Status}
 use Rattle.ram_io.specs.Faults.{Rose}
 use Rattle.rams_replay.specs.declared.stop.Stop.{Stop}
 use Rattle.rams_replay.specs.declared.stop.Stop.TheVariants.{Memory, Read, Write}
@@ -40,3 +42,14 @@ pub record IsStopped {T : Type 0} (read reads write writes : ℕ) (result : Resu
   pub read_later : read ≤ reads
   pub write_later : write ≤ writes
   pub cause : IfErr result (IsStop read reads write writes)
+
+-- A front of the text went to the sink. Where the sink didn't stop the call, what waits goes on from there.
+abbrev pub StopsIn : Option (List ℕ) → Option (List ℕ) → List ℕ → List ℕ → Stop → Type 0
+StopsIn held holds text waits Memory = (more : List ℕ) × Passes held holds text (waits ++ more)
+StopsIn held holds text waits Read = (more : List ℕ) × Passes held holds text (waits ++ more)
+StopsIn held holds text waits Write = (rest : List ℕ) × Passes held holds text rest
+
+-- a run that ended so ends so still, or is stopped by the sink
+abbrev pub EndsAs : ℕ → ℕ → Result Status Stop → Result Status Stop → Type 0
+EndsAs before now (Ok status) result = MatchResult result (λ s. s ≡ status) (IsWriteStop before now)
+EndsAs before now (Err stop) result = result ≡ Err stop

@@ -30,7 +30,3 @@ IsFirstTurn o core events reached number t rest =
 -- the whole text of the outcome is written, and the run ends so
 abbrev pub Ends : Option (List ℕ) → Option (List ℕ) → List ℕ → List ℕ → Outcome → Status → Type 0
 Ends held holds waited waits o status = (status ≡ o.status) × Passes held holds (waited ++ o.text) waits
-
--- a front of the text of the outcome is written
-abbrev pub HasFront : Option (List ℕ) → Option (List ℕ) → List ℕ → Outcome → Type 0
-HasFront held holds waited o = (rest : List ℕ) × Passes held holds (waited ++ o.text) rest

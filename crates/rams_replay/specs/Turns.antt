@@ -54,6 +54,12 @@ ending (AnsweredTurn a) = None
 ending NotBuilt = Some statuses.NotBuilt
 ending Done = Some statuses.Done
 
+-- a status with which a trace ends
+abbrev pub IsEnd : Status → Type 0
+IsEnd statuses.Done = Unit {0}
+IsEnd statuses.NotBuilt = Unit {0}
+IsEnd _ = ⊥
+
 abbrev pub answered_text : Option Seen → ℕ → Answered → List ℕ
 answered_text None event a = []
 answered_text (Some v) event a = answer_text v.settings event a

@@ -1,11 +1,11 @@
 //! The book of a trace, from the source's bytes to the sink's.
-ghost use Rattle.std.specs.Prelude.{◌≡◌, ℕ, ◌+◌, ◌++◌, IfOk, OnOk, length, [], Some};
+ghost use Rattle.std.specs.Prelude.{◌≡◌, ℕ, ◌+◌, ◌++◌, IfOk, IfErr, IfSome, OnOk, length, [], Some};
 ghost use Rattle.std.specs.Io.KnownBytes.{prepend_known};
 ghost use Rattle.rams_model.specs.Words.{lines_of};
 ghost use Rattle.rams_model.specs.TraceText.{Stage, opening, text_from, trace_text};
-ghost use Rattle.rams_replay.specs.Stops.{IsStopped, IsStoppedByRead, OnlyMemoryStops};
-ghost use Rattle.rams_replay.specs.Told.{IfTold, IfBothTold, IsFirstTurn, Ends, HasFront};
-ghost use Rattle.rams_replay.specs.Turns.{Stands, CanWrite, ending};
+ghost use Rattle.rams_replay.specs.Stops.{IsStopped, IsStoppedByRead, OnlyMemoryStops, StopsIn, EndsAs};
+ghost use Rattle.rams_replay.specs.Told.{IfTold, IfBothTold, IsFirstTurn, Ends};
+ghost use Rattle.rams_replay.specs.Turns.{Stands, CanWrite, IsEnd, ending};
 
 use crate::replay::{Replay, Turn, new_replay, take_line};
 use crate::stop::Stop;
@@ -39,7 +39,8 @@ fn next_turn<S: Source>(
 
 /// How a turn ends the run, if it does.
 fn ending(turn: &Turn) -> Option<Status>
-    ensures { result ≡ ending turn.now }
+    ensures value { result ≡ ending turn.now }
+    ensures end { IfSome result IsEnd }
 {
     match turn {
         Turn::GoesOn | Turn::Answered(_) => None,
@@ -55,10 +56,11 @@ fn write_lines<S: Source, K: Sink>(
     sink: &mut K,
     writer: &mut Writer,
 ) -> Result<Status, Stop>
+    ensures status { IfOk result IsEnd }
     ensures text { IfOk result (λ status. IfTold (S.left source.old)
         (λ xs. Ends (K.held sink.old) (K.held sink.new) writer.old.gather writer.new.gather (text_from opening 1 (lines_of xs)) status)) }
-    ensures front { IfTold (S.left source.old)
-        (λ xs. HasFront (K.held sink.old) (K.held sink.new) writer.old.gather (text_from opening 1 (lines_of xs))) }
+    ensures front { IfErr result (λ stop. IfTold (S.left source.old)
+        (λ xs. StopsIn (K.held sink.old) (K.held sink.new) (writer.old.gather ++ (text_from opening 1 (lines_of xs)).text) writer.new.gather stop)) }
     ensures cause { IsStopped (S.faults source.old) (S.faults source.new) (K.faults sink.old) (K.faults sink.new) result }
     ensures steady { S.is_steady source.old → IfTold (S.left source.old)
         (λ xs. (room : ℕ) → K.is_steady sink.old (length (writer.old.gather ++ (text_from opening 1 (lines_of xs)).text) + room)

@@ -1,11 +1,11 @@
 //! The text of a book on its way to the sink.
-ghost use Rattle.std.specs.Prelude.{◌≡◌, ℕ, ◌+◌, ◌++◌, IfOk, OnOk, List, [], codes, length};
+ghost use Rattle.std.specs.Prelude.{◌≡◌, ℕ, ◌+◌, ◌++◌, IfOk, IfErr, OnOk, List, [], codes, length};
 ghost use Rattle.line_io.specs.Passes.{Passes};
 ghost use Rattle.rams_model.specs.BookText.{spaced, answer_text};
 ghost use Rattle.session_core.specs.Render.{AllRender};
 ghost use Rattle.rams_replay.specs.Entries.{entry_text};
 ghost use Rattle.rams_replay.specs.Turns.{written, CanWrite};
-ghost use Rattle.rams_replay.specs.Stops.{IsStoppedByWrite, OnlyMemoryStops};
+ghost use Rattle.rams_replay.specs.Stops.{IsStoppedByWrite, OnlyMemoryStops, StopsIn};
 
 use crate::entry::{after, append_entry};
 use crate::replay::{Replay, Turn};
@@ -39,7 +39,7 @@ pub fn new_writer(alloc: Global) -> Result<Writer, NoMemory>
 /// Adds a text.
 pub fn put<K: Sink>(gather: &mut Gather, sink: &mut K, text: &[u8]) -> Result<(), Stop>
     ensures all { OnOk result (Passes (K.held sink.old) (K.held sink.new) (gather.old ++ text.now) gather.new) }
-    ensures prefix { (rest : List ℕ) × Passes (K.held sink.old) (K.held sink.new) (gather.old ++ text.now) rest }
+    ensures front { IfErr result (StopsIn (K.held sink.old) (K.held sink.new) (gather.old ++ text.now) gather.new) }
     ensures cause { IsStoppedByWrite (K.faults sink.old) (K.faults sink.new) result }
     ensures steady { (room : ℕ) → K.is_steady sink.old (length gather.old + length text.now + room)
         → OnlyMemoryStops result (K.is_steady sink.new (length gather.new + room)) }
@@ -53,6 +53,7 @@ pub fn put<K: Sink>(gather: &mut Gather, sink: &mut K, text: &[u8]) -> Result<()
 /// Puts all that waits to the sink.
 pub fn flush<K: Sink>(gather: &mut Gather, sink: &mut K) -> Result<(), Stop>
     ensures all { OnOk result (Passes (K.held sink.old) (K.held sink.new) gather.old []) }
+    ensures empty { OnOk result (gather.new ≡ []) }
     ensures prefix { (rest : List ℕ) × Passes (K.held sink.old) (K.held sink.new) gather.old rest }
     ensures cause { IsStoppedByWrite (K.faults sink.old) (K.faults sink.new) result }
     ensures steady { (room : ℕ) → K.is_steady sink.old (length gather.old + room)
@@ -72,7 +73,7 @@ pub fn write_count<K: Sink>(
     n: u64,
 ) -> Result<(), Stop>
     ensures all { OnOk result (Passes (K.held sink.old) (K.held sink.new) (writer.old.gather ++ (word.now ++ spaced n ++ codes "\n")) writer.new.gather) }
-    ensures prefix { (rest : List ℕ) × Passes (K.held sink.old) (K.held sink.new) (writer.old.gather ++ (word.now ++ spaced n ++ codes "\n")) rest }
+    ensures front { IfErr result (StopsIn (K.held sink.old) (K.held sink.new) (writer.old.gather ++ (word.now ++ spaced n ++ codes "\n")) writer.new.gather) }
     ensures cause { IsStoppedByWrite (K.faults sink.old) (K.faults sink.new) result }
     ensures steady { (room : ℕ) → K.is_steady sink.old (length writer.old.gather + length (word.now ++ spaced n ++ codes "\n") + room)
         → OnlyMemoryStops result (K.is_steady sink.new (length writer.new.gather + room)) }
@@ -93,7 +94,7 @@ pub fn write_answer<K: Sink>(
 ) -> Result<(), Stop>
     requires { AllRender answer.now.orders }
     ensures all { OnOk result (Passes (K.held sink.old) (K.held sink.new) (writer.old.gather ++ answer_text config.now event answer.now) writer.new.gather) }
-    ensures prefix { (rest : List ℕ) × Passes (K.held sink.old) (K.held sink.new) (writer.old.gather ++ answer_text config.now event answer.now) rest }
+    ensures front { IfErr result (StopsIn (K.held sink.old) (K.held sink.new) (writer.old.gather ++ answer_text config.now event answer.now) writer.new.gather) }
     ensures cause { IsStoppedByWrite (K.faults sink.old) (K.faults sink.new) result }
     ensures steady { (room : ℕ) → K.is_steady sink.old (length writer.old.gather + length (answer_text config.now event answer.now) + room)
         → OnlyMemoryStops result (K.is_steady sink.new (length writer.new.gather + room)) }
@@ -118,7 +119,7 @@ fn write_entry<K: Sink>(
 ) -> Result<(), Stop>
     requires { AllRender orders.now }
     ensures all { OnOk result (Passes (K.held sink.old) (K.held sink.new) (writer.old.gather ++ entry_text config.now event note.now orders.now) writer.new.gather) }
-    ensures prefix { (rest : List ℕ) × Passes (K.held sink.old) (K.held sink.new) (writer.old.gather ++ entry_text config.now event note.now orders.now) rest }
+    ensures front { IfErr result (StopsIn (K.held sink.old) (K.held sink.new) (writer.old.gather ++ entry_text config.now event note.now orders.now) writer.new.gather) }
     ensures cause { IsStoppedByWrite (K.faults sink.old) (K.faults sink.new) result }
     ensures steady { (room : ℕ) → K.is_steady sink.old (length writer.old.gather + length (entry_text config.now event note.now orders.now) + room)
         → OnlyMemoryStops result (K.is_steady sink.new (length writer.new.gather + room)) }
@@ -147,7 +148,7 @@ pub fn write_turn<K: Sink>(
 ) -> Result<(), Stop>
     requires { CanWrite turn.now }
     ensures all { OnOk result (Passes (K.held sink.old) (K.held sink.new) (writer.old.gather ++ written replay.now.core replay.now.events number turn.now) writer.new.gather) }
-    ensures prefix { (rest : List ℕ) × Passes (K.held sink.old) (K.held sink.new) (writer.old.gather ++ written replay.now.core replay.now.events number turn.now) rest }
+    ensures front { IfErr result (StopsIn (K.held sink.old) (K.held sink.new) (writer.old.gather ++ written replay.now.core replay.now.events number turn.now) writer.new.gather) }
     ensures cause { IsStoppedByWrite (K.faults sink.old) (K.faults sink.new) result }
     ensures steady { (room : ℕ) → K.is_steady sink.old (length writer.old.gather + length (written replay.now.core replay.now.events number turn.now) + room)
         → OnlyMemoryStops result (K.is_steady sink.new (length writer.new.gather + room)) }

@@ -1,14 +1,20 @@
-use Rattle.std.proofs.Common.{◌≡◌, List, ℕ, ◌+◌, ◌++◌, length, Result, Option, refl, sym, ap, ◌∙◌, subst, arith}
+use Rattle.std.proofs.Common.{IfErr, ◌++◌, List, ◌≡◌, List, ℕ, ◌+◌, ◌++◌, length, Result, Option, refl, sym, ap, ◌∙◌, subst, arith}
 use Rattle.std.proofs.lemmas.Result.{err_from_is_err_and}
 use Rattle.std.specs.Io.KnownBytes.{prepend_known}
 use Rattle.rams_model.specs.declared.status.Status.{Status}
 use Rattle.rams_replay.specs.declared.stop.Stop.{Stop}
-use Rattle.rams_replay.specs.Stops.{OnlyMemoryStops}
-use Rattle.rams_replay.proofs.Running.{unstarted_has_front, told_gives, running_begins, running_breaks, running_stops, running_has_room, running_goes_on, running_ends, running_ends_steadily}
+use Rattle.rams_replay.specs.Stops.{OnlyMemoryStops, StopsIn}
+use Rattle.rams_replay.specs.Told.{IfTold}
+use Rattle.rams_replay.specs.declared.stop.Stop.TheVariants.{Memory}
+use Rattle.rams_replay.proofs.Running.{outcome, unstarted, told_gives, running_begins, running_breaks, running_stops, running_has_room, running_goes_on, running_ends, running_ends_steadily}
 use Rattle.rams_replay.proofs.book.write_lines.Goals as goal
 
 pub returns-in_err-reader-clause-front : goal.returns-in_err-reader-clause-front
-returns-in_err-reader-clause-front g c = unstarted_has_front (g.K.Sink.held c.args.sink.now) c.args.writer.now.gather (g.S.Source.left c.args.source.now)
+returns-in_err-reader-clause-front g c =
+    let p = err_from_is_err_and c.from_residual.result c.from_residual.ensures.1 in
+    let stops = unstarted (g.K.Sink.held c.args.sink.now) c.args.writer.now.gather (g.S.Source.left c.args.source.now) p.0 in
+    subst (λ (r : Result Status Stop). IfErr r (λ stop. IfTold (g.S.Source.left c.args.source.now)
+    (λ xs. StopsIn (g.K.Sink.held c.args.sink.now) (g.K.Sink.held c.args.sink.now) (c.args.writer.now.gather ++ (outcome xs).text) c.args.writer.now.gather stop))) (sym p.1) stops
 
 pub loop-number-init : goal.loop-number-init
 loop-number-init g c =
@@ -19,14 +25,22 @@ loop-number-init g c =
 
 pub returns-in_err-turn-clause-front : goal.returns-in_err-turn-clause-front
 returns-in_err-turn-clause-front g c =
-    running_breaks _ _ _ _ _ _ _ _ _ _ _ (g.S.Source.left c.args.source.now) (prepend_known c.loop-number.reader.kept (g.S.Source.left c.loop-number.source)) c.loop-number.number c.loop-number.invariant.0
+    let leaves = prepend_known c.loop-number.reader.kept (g.S.Source.left c.loop-number.source) in
+    let p = err_from_is_err_and c.from_residual-in_err-turn.result c.from_residual-in_err-turn.ensures.1 in
+    let stops = running_breaks _ _ _ _ _ _ _ _ _ _ _ (g.S.Source.left c.args.source.now) leaves c.loop-number.number p.0 c.loop-number.invariant.0 in
+    subst (λ (r : Result Status Stop). IfErr r (λ stop. IfTold (g.S.Source.left c.args.source.now)
+    (λ xs. StopsIn (g.K.Sink.held c.args.sink.now) (g.K.Sink.held c.loop-number.sink) (c.args.writer.now.gather ++ (outcome xs).text) c.loop-number.writer.gather stop))) (sym p.1) stops
 
 pub returns-in_err-write_turn-clause-front : goal.returns-in_err-write_turn-clause-front
 returns-in_err-write_turn-clause-front g c =
     let left = g.S.Source.left c.args.source.now in
     let leaves = prepend_known c.loop-number.reader.kept (g.S.Source.left c.loop-number.source) in
     let later = prepend_known c.next_turn.new.reader.kept (g.S.Source.left c.next_turn.new.source) in
-    running_stops _ _ _ _ _ _ _ _ _ _ _ _ _ _ _ _ _ left leaves later c.loop-number.invariant.0 c.in_ok-turn.ensures.turn c.write_turn.ensures.prefix
+    let p = err_from_is_err_and c.from_residual-in_err-write_turn.result c.from_residual-in_err-write_turn.ensures.1 in
+    let stops = running_stops _ _ _ _ _ _ _ _ _ _ _ _ _ _ _ _ _ left leaves later c.write_turn.new.writer.gather c.in_err-write_turn.field-0.0 c.loop-number.invariant.0 c.in_ok-turn.ensures.turn c.in_err-write_turn.ensures.front in
+    let is = subst (λ (stop : Stop). IfTold left (λ xs. StopsIn (g.K.Sink.held c.args.sink.now) (g.K.Sink.held c.write_turn.new.sink) (c.args.writer.now.gather ++ (outcome xs).text) c.write_turn.new.writer.gather stop)) (sym p.2) stops in
+    subst (λ (r : Result Status Stop). IfErr r (λ stop. IfTold left
+    (λ xs. StopsIn (g.K.Sink.held c.args.sink.now) (g.K.Sink.held c.write_turn.new.sink) (c.args.writer.now.gather ++ (outcome xs).text) c.write_turn.new.writer.gather stop))) (sym p.1) is
 
 pub returns-in_err-write_turn-clause-steady : goal.returns-in_err-write_turn-clause-steady
 returns-in_err-write_turn-clause-steady g c = λ calm.
@@ -48,21 +62,14 @@ returns-in-Some-clause-text g c =
     let left = g.S.Source.left c.args.source.now in
     let leaves = prepend_known c.loop-number.reader.kept (g.S.Source.left c.loop-number.source) in
     let later = prepend_known c.next_turn.new.reader.kept (g.S.Source.left c.next_turn.new.source) in
-    running_ends _ _ _ _ _ _ _ _ _ _ _ _ _ _ _ _ _ 0 (λ n. Unit {0}) _ left leaves later c.in-Some.status c.loop-number.invariant.0 c.in_ok-turn.ensures.turn (sym c.ending.ensures ∙ c.in-Some.is) c.in_ok-write_turn.ensures.all
-
-pub returns-in-Some-clause-front : goal.returns-in-Some-clause-front
-returns-in-Some-clause-front g c =
-    let left = g.S.Source.left c.args.source.now in
-    let leaves = prepend_known c.loop-number.reader.kept (g.S.Source.left c.loop-number.source) in
-    let later = prepend_known c.next_turn.new.reader.kept (g.S.Source.left c.next_turn.new.source) in
-    running_stops _ _ _ _ _ _ _ _ _ _ _ _ _ _ _ _ _ left leaves later c.loop-number.invariant.0 c.in_ok-turn.ensures.turn c.write_turn.ensures.prefix
+    running_ends _ _ _ _ _ _ _ _ _ _ _ _ _ _ _ _ _ 0 (λ n. Unit {0}) _ left leaves later c.in-Some.status c.loop-number.invariant.0 c.in_ok-turn.ensures.turn (sym c.ending.ensures.value ∙ c.in-Some.is) c.in_ok-write_turn.ensures.all
 
 pub returns-in-Some-clause-steady : goal.returns-in-Some-clause-steady
 returns-in-Some-clause-steady g c = λ calm.
     let left = g.S.Source.left c.args.source.now in
     let leaves = prepend_known c.loop-number.reader.kept (g.S.Source.left c.loop-number.source) in
     let later = prepend_known c.next_turn.new.reader.kept (g.S.Source.left c.next_turn.new.source) in
-    running_ends_steadily _ _ _ _ _ _ _ _ _ _ _ _ _ _ _ _ (g.K.Sink.held c.write_turn.new.sink) (g.K.Sink.faults c.write_turn.new.sink) (g.K.Sink.is_steady c.write_turn.new.sink) c.write_turn.new.writer.gather left leaves later c.in-Some.status c.loop-number.invariant.0 c.in_ok-turn.ensures.turn (sym c.ending.ensures ∙ c.in-Some.is) c.in_ok-write_turn.ensures.steady
+    running_ends_steadily _ _ _ _ _ _ _ _ _ _ _ _ _ _ _ _ (g.K.Sink.held c.write_turn.new.sink) (g.K.Sink.faults c.write_turn.new.sink) (g.K.Sink.is_steady c.write_turn.new.sink) c.write_turn.new.writer.gather left leaves later c.in-Some.status c.loop-number.invariant.0 c.in_ok-turn.ensures.turn (sym c.ending.ensures.value ∙ c.in-Some.is) c.in_ok-write_turn.ensures.steady
 
 pub loop-number-preserved : goal.loop-number-preserved
 loop-number-preserved g c =
@@ -73,10 +80,11 @@ loop-number-preserved g c =
     let writes = c.loop-number.invariant.2 in
     let more_reads = c.next_turn.ensures.cause.later in
     let more_writes = c.write_turn.ensures.cause.later in
-    let goes_on = running_goes_on _ _ _ _ _ _ _ _ _ _ _ _ _ _ _ _ _ _ _ _ left leaves later c.loop-number.invariant.0 c.in_ok-turn.ensures.turn (sym c.ending.ensures ∙ c.in_default.is) c.in_ok-write_turn.ensures.all
+    let goes_on = running_goes_on _ _ _ _ _ _ _ _ _ _ _ _ _ _ _ _ _ _ _ _ left leaves later c.loop-number.invariant.0 c.in_ok-turn.ensures.turn (sym c.ending.ensures.value ∙ c.in_default.is) c.in_ok-write_turn.ensures.all
     more_writes c.in_ok-write_turn.ensures.steady in
     (goes_on, omega arith, omega arith, λ s. c.in_ok-turn.ensures.steady (c.loop-number.invariant.3 s))
 
 pub returns-clause-front : goal.returns-clause-front
 returns-clause-front g c =
-    running_breaks _ _ _ _ _ _ _ _ _ _ _ (g.S.Source.left c.args.source.now) (prepend_known c.loop-number.reader.kept (g.S.Source.left c.loop-number.source)) c.loop-number.number c.loop-number.invariant.0
+    let leaves = prepend_known c.loop-number.reader.kept (g.S.Source.left c.loop-number.source) in
+    running_breaks _ _ _ _ _ _ _ _ _ _ _ (g.S.Source.left c.args.source.now) leaves c.loop-number.number Memory c.loop-number.invariant.0

@@ -1,15 +1,19 @@
-use Rattle.std.proofs.Common.{◌+◌, length, Result, sym, ap, ◌∙◌, subst, length-append}
+use Rattle.std.proofs.Common.{List, ℕ, Option, ◌≡◌, ◌+◌, ◌++◌, drop, ap, arith, length, Result, sym, IfErr, ◌∙◌, subst, length-append}
 use Rattle.std.proofs.lemmas.Result.{err_from_is_err_and}
 use Rattle.rams_model.specs.BookText.{answer_text}
 use Rattle.rams_replay.specs.declared.stop.Stop.{Stop}
-use Rattle.rams_replay.specs.Stops.{OnlyMemoryStops}
+use Rattle.rams_replay.specs.Stops.{OnlyMemoryStops, StopsIn}
 use Rattle.rams_replay.proofs.Writing.{writing_has_room, writing_goes_on, writing_stops, writing_breaks, writing_ends, writing_ends_steadily, notes_text-more, notes_text-step, notes_text-past}
 use Rattle.rams_replay.proofs.writer.write_answer.Goals as goal
 
-pub returns-in_err-write_entry-clause-prefix : goal.returns-in_err-write_entry-clause-prefix
-returns-in_err-write_entry-clause-prefix g c =
+pub returns-in_err-write_entry-clause-front : goal.returns-in_err-write_entry-clause-front
+returns-in_err-write_entry-clause-front g c =
     let e = notes_text-more c.args.config.now c.args.event c.deref-note-items.result.now c.loop-note.orders.now c.loop-note.note-index _ c.loop-note-test.true in
-    writing_stops _ _ _ _ _ _ _ _ _ _ _ _ c.loop-note.invariant.1 e c.write_entry.ensures.prefix
+    let p = err_from_is_err_and c.from_residual.result c.from_residual.ensures.1 in
+    let whole = c.args.writer.now.gather ++ answer_text c.args.config.now c.args.event c.args.answer.now in
+    let stops = writing_stops _ _ _ _ _ _ (g.K.Sink.held c.write_entry.new.sink) whole _ _ _ _ c.write_entry.new.writer.gather c.in_err-write_entry.field-0.0 c.loop-note.invariant.1 e c.in_err-write_entry.ensures.front in
+    subst (λ (r : Result (Unit {0}) Stop). IfErr r (StopsIn (g.K.Sink.held c.args.sink.now) (g.K.Sink.held c.write_entry.new.sink) whole c.write_entry.new.writer.gather)) (sym p.1)
+    (subst (StopsIn (g.K.Sink.held c.args.sink.now) (g.K.Sink.held c.write_entry.new.sink) whole c.write_entry.new.writer.gather) (sym p.2) stops)
 
 pub returns-in_err-write_entry-clause-steady : goal.returns-in_err-write_entry-clause-steady
 returns-in_err-write_entry-clause-steady g c = λ room s.
@@ -32,9 +36,6 @@ loop-note-preserved g c =
 
 pub returns-clause-all : goal.returns-clause-all
 returns-clause-all g c = writing_ends _ _ _ _ _ _ _ _ _ c.loop-note.invariant.1 (notes_text-past _ _ _ _ _ c.loop-note-test.false)
-
-pub returns-clause-prefix : goal.returns-clause-prefix
-returns-clause-prefix g c = writing_breaks _ _ _ _ _ _ _ _ _ c.loop-note.invariant.1
 
 pub returns-clause-steady : goal.returns-clause-steady
 returns-clause-steady g c = λ room s.
