@@ -1,5 +1,5 @@
 -- The steps of a run: a line is taken, and what it is answered with is written.
-use Rattle.std.proofs.Common.{◌≡◌, ℕ, ◌+◌, ◌≤◌, List, [], ◌++◌, length, Option, None, Some, MatchOption, refl, sym, ap, ◌∙◌, subst, append_assoc, append-nil, length-append, arith}
+use Rattle.std.proofs.Common.{◌≡◌, ℕ, ◌+◌, ◌≤◌, List, [], ◌++◌, length, Option, None, Some, MatchOption, refl, sym, ap, ◌∙◌, subst, append-nil, arith}
 use Rattle.std.specs.Io.KnownBytes.{prepend_known}
 use Rattle.line_io.specs.Passes.{Passes}
 use Rattle.rams_model.specs.declared.status.Status.{Status}
@@ -12,7 +12,7 @@ use Rattle.rams_replay.specs.declared.stop.Stop.{Stop}
 use Rattle.rams_replay.specs.Stops.{StopsIn}
 use Rattle.rams_replay.specs.Told.{IfTold, IfBothTold, IsFirstTurn, Ends}
 use Rattle.rams_replay.specs.Turns.{Stands, ending, written}
-use Rattle.rams_replay.proofs.Writing.{IsWriting, unwritten, writing_begins, writing_has_room, writing_goes_on, writing_stops, writing_breaks, writing_ends, writing_ends_steadily}
+use Rattle.rams_replay.proofs.Writing.{IsWriting, unwritten, writing_begins, writing_has_room, writing_goes_on, writing_stops, writing_breaks, writing_ends}
 
 -- nothing is kept at first
 keeps_nothing : (kept : List ℕ) (o : Option (List ℕ)) → kept ≡ [] → prepend_known kept o ≡ o

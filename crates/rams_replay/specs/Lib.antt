@@ -3,3 +3,4 @@ pub mod Entries
 pub mod Turns
 pub mod CommandWords
 pub mod Told
+pub mod Statuses

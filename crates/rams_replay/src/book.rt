@@ -1,6 +1,8 @@
 //! The book of a trace, from the source's bytes to the sink's.
-ghost use Rattle.std.specs.Prelude.{◌≡◌, ℕ, ◌+◌, ◌++◌, IfOk, IfErr, IfSome, OnOk, length, [], Some};
-ghost use Rattle.std.specs.Io.KnownBytes.{prepend_known};
+ghost use Rattle.std.specs.Prelude.{◌≡◌, ◌≤◌, Err, List, ℕ, ◌+◌, ◌++◌, IfOk, IfErr, IfSome, OnOk, length, [], Some};
+ghost use Rattle.std.specs.Io.KnownBytes.{Appends, prepend_known};
+ghost use Rattle.line_io.specs.Passes.{Passes};
+ghost use Rattle.rams_replay.specs.declared.stop.Stop.TheVariants.{Write};
 ghost use Rattle.rams_model.specs.Words.{lines_of};
 ghost use Rattle.rams_model.specs.TraceText.{Stage, opening, text_from, trace_text};
 ghost use Rattle.rams_replay.specs.Stops.{IsStopped, IsStoppedByRead, OnlyMemoryStops, StopsIn, EndsAs};
@@ -9,8 +11,8 @@ ghost use Rattle.rams_replay.specs.Turns.{Stands, CanWrite, IsEnd, ending};
 
 use crate::replay::{Replay, Turn, new_replay, take_line};
 use crate::stop::Stop;
-use crate::writer::{Writer, write_turn};
-use line_io::{LineReader, Next};
+use crate::writer::{Writer, flush, new_writer, put, write_turn};
+use line_io::{Gather, LineReader, Next};
 use ram_io::{Sink, Source};
 use rams_model::Status;
 use std::alloc::Global;
@@ -76,4 +78,54 @@ fn write_lines<S: Source, K: Sink>(
         }
     }
     Err(Stop::Memory)
+}
+
+/// Puts what waits when a run ends, whatever ended it but the sink's own failure.
+fn close<K: Sink>(
+    gather: &mut Gather,
+    sink: &mut K,
+    ended: Result<Status, Stop>,
+) -> Result<Status, Stop>
+    ensures ends { EndsAs (K.faults sink.old) (K.faults sink.new) ended result }
+    ensures later { K.faults sink.old ≤ K.faults sink.new }
+    ensures all { OnOk result (Passes (K.held sink.old) (K.held sink.new) gather.old []) }
+    ensures untouched { ended ≡ Err Write → sink.new ≡ sink.old }
+    ensures prefix { (rest : List ℕ) × Passes (K.held sink.old) (K.held sink.new) gather.old rest }
+    ensures steady { (room : ℕ) → OnlyMemoryStops ended (K.is_steady sink.old (length gather.old + room)) → OnlyMemoryStops result (Unit {0}) }
+{
+    match ended {
+        Ok(status) => {
+            flush(gather, sink)?;
+            Ok(status)
+        }
+        Err(Stop::Write) => Err(Stop::Write),
+        Err(stop) => {
+            let _ = flush(gather, sink);
+            Err(stop)
+        }
+    }
+}
+
+/// Writes the book of the trace that the source has left.
+///
+/// Its first line goes to the sink before the first byte is taken.
+pub fn write_book<S: Source, K: Sink>(
+    alloc: Global,
+    source: &mut S,
+    sink: &mut K,
+) -> Result<Status, Stop>
+    ensures status { IfOk result IsEnd }
+    ensures text { IfOk result (λ status. IfTold (S.left source.old)
+        (λ xs. (status ≡ (trace_text xs).status) × Appends (K.held sink.old) (K.held sink.new) (trace_text xs).text)) }
+    ensures front { IfTold (S.left source.old)
+        (λ xs. (rest : List ℕ) × Passes (K.held sink.old) (K.held sink.new) (trace_text xs).text rest) }
+    ensures cause { IsStopped (S.faults source.old) (S.faults source.new) (K.faults sink.old) (K.faults sink.new) result }
+    ensures steady { S.is_steady source.old → IfTold (S.left source.old)
+        (λ xs. K.is_steady sink.old (length (trace_text xs).text) → OnlyMemoryStops result (Unit {0})) }
+{
+    let mut writer = new_writer(alloc)?;
+    put(&mut writer.gather, sink, b"rams-book 1\n")?;
+    flush(&mut writer.gather, sink)?;
+    let ended = write_lines(alloc, source, sink, &mut writer);
+    close(&mut writer.gather, sink, ended)
 }

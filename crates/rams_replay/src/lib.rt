@@ -2,6 +2,7 @@
 #![tactic(auto)]
 
 mod book;
+mod commands;
 mod entry;
 mod heard;
 mod replay;
@@ -9,5 +10,6 @@ mod stop;
 mod words;
 mod writer;
 
+pub use commands::{plain, run};
 pub use ram_io::{NoMemory, Octets, Sink, Source};
 pub use rams_model::Status;

@@ -1,4 +1,4 @@
-use Rattle.std.proofs.Common.{IfErr, ◌++◌, List, ◌≡◌, List, ℕ, ◌+◌, ◌++◌, length, Result, Option, refl, sym, ap, ◌∙◌, subst, arith}
+use Rattle.std.proofs.Common.{IfErr, ◌++◌, ◌+◌, ◌++◌, length, Result, refl, sym, ◌∙◌, subst, arith}
 use Rattle.std.proofs.lemmas.Result.{err_from_is_err_and}
 use Rattle.std.specs.Io.KnownBytes.{prepend_known}
 use Rattle.rams_model.specs.declared.status.Status.{Status}

@@ -1,4 +1,4 @@
-use Rattle.std.proofs.Common.{◌≤◌, ◌++◌}
+use Rattle.std.proofs.Common.{◌≤◌}
 use Rattle.std.specs.Io.KnownBytes.{prepend_known}
 use Rattle.rams_replay.specs.Told.{IfBothTold}
 use Rattle.rams_replay.proofs.Running.{IsRunning}

@@ -1,0 +1,78 @@
+use Rattle.std.proofs.Common.{◌≡◌, ◌++◌, [], length, Result, sym, ap, ◌∙◌, subst, length-append, arith}
+use Rattle.std.proofs.lemmas.Result.{err_from_is_err_and}
+use Rattle.rams_model.specs.declared.status.Status.{Status}
+use Rattle.rams_model.specs.TraceText.{first_line}
+use Rattle.rams_replay.specs.declared.stop.Stop.{Stop}
+use Rattle.rams_replay.specs.Stops.{OnlyMemoryStops}
+use Rattle.rams_replay.proofs.Running.{outcome, told_gives}
+use Rattle.rams_replay.proofs.Booking.{told_all, none_of, stops_in_front, part_of_first, part_of_front, first_goes, book_has_text, book_has_front, room_of}
+use Rattle.rams_replay.proofs.book.write_book.Goals as goal
+
+pub returns-in_err-writer-clause-front : goal.returns-in_err-writer-clause-front
+returns-in_err-writer-clause-front g c = none_of (g.K.Sink.held c.args.sink.now) (g.S.Source.left c.args.source.now)
+
+pub returns-in_err-put-clause-front : goal.returns-in_err-put-clause-front
+returns-in_err-put-clause-front g c =
+    let held = g.K.Sink.held c.args.sink.now in
+    let holds = g.K.Sink.held c.put.new.sink in
+    let waiting = c.in_ok-writer.writer.gather in
+    part_of_first held holds waiting (g.S.Source.left c.args.source.now) c.in_ok-writer.ensures (stops_in_front held holds (waiting ++ first_line) c.put.new.gather c.in_err-put.field-0.0 c.in_err-put.ensures.front)
+
+pub returns-in_err-put-clause-steady : goal.returns-in_err-put-clause-steady
+returns-in_err-put-clause-steady g c = λ calm.
+    let p = err_from_is_err_and c.from_residual-in_err-put.result c.from_residual-in_err-put.ensures.1 in
+    told_all (g.S.Source.left c.args.source.now) _ (λ xs. λ roomy.
+    let lengths = room_of xs in
+    let none : length c.in_ok-writer.writer.gather ≡ 0 = ap length c.in_ok-writer.ensures in
+    let room = length (outcome xs).text in
+    let stop = c.in_err-put.ensures.steady room (subst (g.K.Sink.is_steady c.args.sink.now) (omega arith) roomy) in
+    subst (λ (r : Result Status Stop). OnlyMemoryStops r (Unit {0})) (sym p.1) (p.2 ∙ stop))
+
+pub returns-in_err-flush-clause-front : goal.returns-in_err-flush-clause-front
+returns-in_err-flush-clause-front g c =
+    let a = g.K.Sink.held c.args.sink.now in
+    let b = g.K.Sink.held c.put.new.sink in
+    let holds = g.K.Sink.held c.flush.new.sink in
+    let p = c.flush.ensures.prefix in
+    part_of_front a holds (g.S.Source.left c.args.source.now) (p.0, first_goes a b holds c.in_ok-writer.writer.gather c.put.new.gather p.0 c.in_ok-writer.ensures c.in_ok-put.ensures.all p.1)
+
+pub returns-in_err-flush-clause-steady : goal.returns-in_err-flush-clause-steady
+returns-in_err-flush-clause-steady g c = λ calm.
+    let p = err_from_is_err_and c.from_residual-in_err-flush.result c.from_residual-in_err-flush.ensures.1 in
+    told_all (g.S.Source.left c.args.source.now) _ (λ xs. λ roomy.
+    let lengths = room_of xs in
+    let none : length c.in_ok-writer.writer.gather ≡ 0 = ap length c.in_ok-writer.ensures in
+    let room = length (outcome xs).text in
+    let put = c.in_ok-put.ensures.steady room (subst (g.K.Sink.is_steady c.args.sink.now) (omega arith) roomy) in
+    let stop = c.in_err-flush.ensures.steady room put in
+    subst (λ (r : Result Status Stop). OnlyMemoryStops r (Unit {0})) (sym p.1) (p.2 ∙ stop))
+
+pub returns-clause-text : goal.returns-clause-text
+returns-clause-text g c =
+    let a = g.K.Sink.held c.args.sink.now in
+    let b = g.K.Sink.held c.flush.new.sink in
+    let first = first_goes a (g.K.Sink.held c.put.new.sink) b c.in_ok-writer.writer.gather c.put.new.gather [] c.in_ok-writer.ensures c.in_ok-put.ensures.all c.in_ok-flush.ensures.all in
+    book_has_text a b (g.K.Sink.held c.write_lines-ended.new.sink) (g.K.Sink.held c.close.new.sink) (g.S.Source.left c.args.source.now) c.flush.new.gather c.write_lines-ended.new.writer.gather c.write_lines-ended.result
+    c.in_ok-flush.ensures.empty first c.write_lines-ended.ensures.text c.close.result _ _ c.close.ensures.ends c.close.ensures.all
+
+pub returns-clause-front : goal.returns-clause-front
+returns-clause-front g c =
+    let a = g.K.Sink.held c.args.sink.now in
+    let b = g.K.Sink.held c.flush.new.sink in
+    let first = first_goes a (g.K.Sink.held c.put.new.sink) b c.in_ok-writer.writer.gather c.put.new.gather [] c.in_ok-writer.ensures c.in_ok-put.ensures.all c.in_ok-flush.ensures.all in
+    book_has_front a b (g.K.Sink.held c.write_lines-ended.new.sink) (g.K.Sink.held c.close.new.sink) (g.S.Source.left c.args.source.now) c.flush.new.gather c.write_lines-ended.new.writer.gather c.write_lines-ended.result
+    c.in_ok-flush.ensures.empty first c.write_lines-ended.ensures.text c.write_lines-ended.ensures.front (λ e. ap g.K.Sink.held (c.close.ensures.untouched e)) c.close.ensures.prefix
+
+pub returns-clause-steady : goal.returns-clause-steady
+returns-clause-steady g c = λ calm.
+    told_gives (g.S.Source.left c.args.source.now) _ _ (λ xs lines. λ roomy.
+    let lengths = room_of xs in
+    let none : length c.in_ok-writer.writer.gather ≡ 0 = ap length c.in_ok-writer.ensures in
+    let empty : length c.flush.new.gather ≡ 0 = ap length c.in_ok-flush.ensures.empty in
+    let room = length (outcome xs).text in
+    let put = c.in_ok-put.ensures.steady room (subst (g.K.Sink.is_steady c.args.sink.now) (omega arith) roomy) in
+    let flushed = c.in_ok-flush.ensures.steady room put in
+    let joined = length-append c.flush.new.gather (outcome xs).text in
+    let ended = lines 0 (subst (g.K.Sink.is_steady c.flush.new.sink) (omega arith) flushed) in
+    c.close.ensures.steady 0 ended)
+    (c.write_lines-ended.ensures.steady calm)

@@ -1,0 +1,47 @@
+-- What the status of a command says.
+use Rattle.std.specs.Prelude.{◌≡◌, ℕ, ◌≤◌, Bool, true, false, List, Option, Result, Ok, Err}
+use Rattle.std.specs.Io.KnownBytes.{Appends}
+use Rattle.ram_io.specs.Faults.{Rose}
+use Rattle.rams_model.specs.declared.status.Status.{Status}
+use Rattle.rams_model.specs.declared.status.Status.TheVariants.{Done, NoMemory, Words, ReadFault, WriteFault, BadTrace, WireFault, TooLong, NotBuilt}
+use Rattle.rams_model.specs.TraceText.{Outcome}
+use Rattle.rams_replay.specs.declared.stop.Stop.{Stop}
+use Rattle.rams_replay.specs.declared.stop.Stop.TheVariants.{Memory, Read, Write}
+
+-- the status of a run
+abbrev pub status_of : Result Status Stop → Status
+status_of (Ok status) = status
+status_of (Err Memory) = NoMemory
+status_of (Err Read) = ReadFault
+status_of (Err Write) = WriteFault
+
+-- the words are refused
+abbrev pub is_words : Status → Bool
+is_words Words = true
+is_words _ = false
+
+-- the run came to an end of its own, and the sink got exactly the text
+abbrev pub HasText : Option (List ℕ) → Option (List ℕ) → Outcome → Status → Type 0
+HasText held holds o Done = (o.status ≡ Done) × Appends held holds o.text
+HasText held holds o NotBuilt = (o.status ≡ NotBuilt) × Appends held holds o.text
+HasText held holds o _ = Unit {0}
+
+-- the object's faults rose where the status names it; a run has none of the last three statuses
+abbrev pub HasFault : ℕ → ℕ → ℕ → ℕ → Status → Type 0
+HasFault read reads write writes ReadFault = Rose read reads
+HasFault read reads write writes WriteFault = Rose write writes
+HasFault read reads write writes BadTrace = ⊥
+HasFault read reads write writes WireFault = ⊥
+HasFault read reads write writes TooLong = ⊥
+HasFault read reads write writes _ = Unit {0}
+
+-- No count of faults fell, and a status that names an object has its cause.
+pub record IsCaused (read reads write writes : ℕ) (status : Status) : Type 0 where
+  pub read_later : read ≤ reads
+  pub write_later : write ≤ writes
+  pub cause : HasFault read reads write writes status
+
+-- the status, or want of memory
+abbrev pub IsOrLacksMemory : Status → Status → Type 0
+IsOrLacksMemory status NoMemory = Unit {0}
+IsOrLacksMemory status other = other ≡ status

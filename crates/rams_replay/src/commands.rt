@@ -1,0 +1,93 @@
+//! The commands.
+ghost use Rattle.std.specs.Prelude.{◌≡◌, false, true, not, ℕ, List, length};
+ghost use Rattle.line_io.specs.Passes.{Passes};
+ghost use Rattle.rams_model.specs.TraceText.{trace_text};
+ghost use Rattle.rams_replay.specs.CommandWords.{is_run, begins_with_run};
+ghost use Rattle.rams_replay.specs.Statuses.{status_of, is_words, HasText, IsCaused, IsOrLacksMemory};
+ghost use Rattle.rams_replay.specs.Told.{IfTold};
+
+use crate::book::write_book;
+use crate::stop::Stop;
+use crate::words::is_run;
+use ram_io::{Clock, Gate, Octets, Sink, Source, Wire};
+use rams_model::Status;
+use std::alloc::Global;
+use std::sync::Wait;
+use std::thread::Threads;
+
+/// Runs a command over whatever it reads from, writes to, sends through and tells the time by.
+///
+/// `words` are those of the command line behind the program's name. `run` reads a trace and writes
+/// its book. Any other words are refused, and nothing is read or written.
+pub fn run<R: Threads + Wait + Sync, S: Source, K: Sink, W: Wire, C: Clock, G: Gate + Sync>(
+    _rt: &R,
+    alloc: Global,
+    words: &[Octets],
+    source: &mut S,
+    sink: &mut K,
+    wire: &mut W,
+    clock: &mut C,
+    _gate: &G,
+) -> Status
+    ensures words { is_words result ≡ not (is_run words.now) }
+    ensures refused { is_run words.now ≡ false → (source.new ≡ source.old) × (sink.new ≡ sink.old) }
+    ensures text { is_run words.now ≡ true → IfTold (S.left source.old) (λ xs. HasText (K.held sink.old) (K.held sink.new) (trace_text xs) result) }
+    ensures front { IfTold (S.left source.old) (λ xs. (rest : List ℕ) × Passes (K.held sink.old) (K.held sink.new) (trace_text xs).text rest) }
+    ensures cause { IsCaused (S.faults source.old) (S.faults source.new) (K.faults sink.old) (K.faults sink.new) result }
+    ensures whole { is_run words.now ≡ true → S.is_steady source.old → IfTold (S.left source.old)
+        (λ xs. K.is_steady sink.old (length (trace_text xs).text) → IsOrLacksMemory (trace_text xs).status result) }
+    ensures wire { wire.new ≡ wire.old }
+    ensures clock { clock.new ≡ clock.old }
+{
+    if is_run(words) {
+        write_status(alloc, source, sink)
+    } else {
+        Status::Words
+    }
+}
+
+/// Runs a command that waits for nobody: the first word is `run`.
+pub fn plain<S: Source, K: Sink>(
+    alloc: Global,
+    words: &[Octets],
+    source: &mut S,
+    sink: &mut K,
+) -> Status
+    requires { begins_with_run words.now ≡ true }
+    ensures words { is_words result ≡ not (is_run words.now) }
+    ensures refused { is_run words.now ≡ false → (source.new ≡ source.old) × (sink.new ≡ sink.old) }
+    ensures text { is_run words.now ≡ true → IfTold (S.left source.old) (λ xs. HasText (K.held sink.old) (K.held sink.new) (trace_text xs) result) }
+    ensures front { IfTold (S.left source.old) (λ xs. (rest : List ℕ) × Passes (K.held sink.old) (K.held sink.new) (trace_text xs).text rest) }
+    ensures cause { IsCaused (S.faults source.old) (S.faults source.new) (K.faults sink.old) (K.faults sink.new) result }
+    ensures whole { is_run words.now ≡ true → S.is_steady source.old → IfTold (S.left source.old)
+        (λ xs. K.is_steady sink.old (length (trace_text xs).text) → IsOrLacksMemory (trace_text xs).status result) }
+{
+    if is_run(words) {
+        write_status(alloc, source, sink)
+    } else {
+        Status::Words
+    }
+}
+
+/// Writes the book of the trace that the source has left, and says how that ended.
+fn write_status<S: Source, K: Sink>(alloc: Global, source: &mut S, sink: &mut K) -> Status
+    ensures words { is_words result ≡ false }
+    ensures text { IfTold (S.left source.old) (λ xs. HasText (K.held sink.old) (K.held sink.new) (trace_text xs) result) }
+    ensures front { IfTold (S.left source.old) (λ xs. (rest : List ℕ) × Passes (K.held sink.old) (K.held sink.new) (trace_text xs).text rest) }
+    ensures cause { IsCaused (S.faults source.old) (S.faults source.new) (K.faults sink.old) (K.faults sink.new) result }
+    ensures whole { S.is_steady source.old → IfTold (S.left source.old)
+        (λ xs. K.is_steady sink.old (length (trace_text xs).text) → IsOrLacksMemory (trace_text xs).status result) }
+{
+    status_of(write_book(alloc, source, sink))
+}
+
+fn status_of(ended: Result<Status, Stop>) -> Status
+    ensures { result ≡ status_of ended }
+{
+    match ended {
+        Ok(status) => status,
+        Err(Stop::Memory) => Status::NoMemory,
+        Err(Stop::Read) => Status::ReadFault,
+        Err(Stop::Write) => Status::WriteFault,
+    }
+}
