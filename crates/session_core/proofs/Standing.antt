@@ -25,7 +25,7 @@ use Rattle.rams_model.specs.Verdict.{join_ticks, accepts, after_request}
 use Rattle.rams_model.specs.Lawful.{after, served}
 use Rattle.rams_model.specs.Orders.{answer, newest_answer, accept_info}
 use Rattle.std.proofs.lemmas.Bool.{ltb-true, and_parts}
-use Rattle.session_core.specs.Seen.{Answers, serves}
+use Rattle.session_core.specs.Seen.{Answers, serves, new_core}
 use Rattle.session_core.specs.Runs.{sequence_at}
 use Rattle.session_core.proofs.HoldLemmas.{last_of_all}
 
@@ -72,6 +72,12 @@ unfolding send burst
 burst-send s client [] history b e = e ∙ ap (λ k. Some (record b { sent = k })) (omega arith)
 burst-send s client (h ∷ hs) history b e =
     burst-send s client hs _ (sent_more 1 b) (ap (option_map _) e) ∙ ap (λ k. Some (record b { sent = k })) (omega arith)
+
+-- ---- a new core
+
+pub new_core_stands : (s : Settings) → StandsFor (new_core s) []
+unfolding source burst sendings was_asked ticks
+new_core_stands s = record { held = refl; room = omega arith; burst = refl; sent = refl; asked = refl; ticks = refl }
 
 -- ---- a live packet
 
