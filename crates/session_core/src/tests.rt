@@ -60,9 +60,15 @@ fn live(
     Ok(core.live(alloc, &bytes)?)
 }
 
-fn request(rt: &impl Abort, alloc: Global, core: &mut Core) -> Result<Answer, Fail> {
-    assert!(rt; core.built_feedback(&REQUEST));
-    Ok(core.feedback(alloc, 5, &REQUEST)?)
+/// Client 5 sends this datagram.
+fn feedback(
+    rt: &impl Abort,
+    alloc: Global,
+    core: &mut Core,
+    bytes: &[u8],
+) -> Result<Answer, Fail> {
+    assert!(rt; core.built_feedback(bytes));
+    Ok(core.feedback(alloc, 5, bytes)?)
 }
 
 fn tick(rt: &impl Abort, alloc: Global, core: &mut Core) -> Result<Answer, Fail> {
@@ -97,7 +103,9 @@ fn asks_for(
     assert_eq!(rt; bytes.as_slice(), datagram);
     let mut text = b"ab".to_vec(alloc)?;
     append_order(alloc, &mut text, config, order)?;
-    assert_eq!(rt; text.split_at(2), (b"ab".as_slice(), datagram));
+    let mut whole = b"ab".to_vec(alloc)?;
+    whole.extend_from_slice(datagram)?;
+    assert_eq!(rt; text.as_slice(), whole.as_slice());
     Ok(())
 }
 
@@ -141,7 +149,7 @@ fn one_packet_in_each_tick(rt: HostRuntime) -> Result<(), Fail> {
         0x86cd_000c, 0xaabb_ccdd, 0x1122_3344, 0x0200_00c8, 0x2000_0002, 0x01f4_0000, 0x2100_0004,
         0x0000_7530, 0x2200_0004, 0x0000_03e8, 0x2300_0008, 0x0000_0000, 0x0012_4f80,
     ];
-    let answer = request(&rt, alloc, &mut core)?;
+    let answer = feedback(&rt, alloc, &mut core, &REQUEST)?;
     asks_for(&rt, alloc, &config, &answer, accept, &bytes_of(alloc, &info, 0)?)?;
     let sent = [
         (65547, 500, [0x80e3_01f4, 0x0000_0384, 0x1122_3344, 0x000b_0000]),
@@ -203,7 +211,7 @@ fn keeps(rt: &impl Abort, alloc: Global, book: &Book<'_>) -> Result<(), Fail> {
         rate: book.channel.burst,
         join,
     };
-    let answer = request(rt, alloc, &mut core)?;
+    let answer = feedback(rt, alloc, &mut core, &REQUEST)?;
     assert_eq!(rt; answer.notes.as_slice(), [accept].as_slice(), "{name}");
     let mut sent = Vec::new(alloc);
     for number in 1..4 {
@@ -354,7 +362,7 @@ fn plain_requests_are_built(rt: HostRuntime) -> Result<(), Fail> {
     bytes.push(0)?;
     assert!(rt; !core.built_feedback(&bytes), "17 bytes");
     assert!(rt; !core.built_feedback(&REQUEST[..15]), "15 bytes");
-    request(&rt, alloc, &mut core)?;
+    feedback(&rt, alloc, &mut core, &REQUEST)?;
     assert!(rt; !core.built_feedback(&REQUEST), "a second request");
     Ok(())
 }
@@ -405,7 +413,7 @@ fn join_times_fit_into_32_bits(rt: HostRuntime) -> Result<(), Fail> {
             let front = if sequence == 0 { 0x80a1_0000 } else { 0x8021_0000 };
             live(&rt, alloc, &mut core, &[front + sequence, 0, 0x1122_3344], 1458)?;
         }
-        let answer = request(&rt, alloc, &mut core)?;
+        let answer = feedback(&rt, alloc, &mut core, &REQUEST)?;
         assert_eq!(rt; answer.orders.len(), 1);
         match &answer.orders[0] {
             Order::Info { info, .. } => assert_eq!(rt; info.join_ms, Some(join_ms)),
