@@ -1,5 +1,5 @@
 -- Packets whose numbers rise by one.
-use Rattle.std.proofs.Common.{◌≡◌, ℕ, zero, suc, ◌+◌, ◌-◌, ◌<◌, ◌≤◌, Bool, true, false, cond, nat_le, List, [], ◌∷◌, ◌++◌, length, drop, filter, Option, Some, None, refl, sym, ap, ◌∙◌, subst, arith}
+use Rattle.std.proofs.Common.{◌≡◌, ℕ, zero, suc, ◌+◌, ◌-◌, ◌<◌, ◌≤◌, Bool, true, false, cond, nat_le, List, [], ◌∷◌, ◌++◌, length, drop, Some, None, refl, sym, ap, ◌∙◌, subst, arith}
 use Rattle.std.proofs.lemmas.Bool.{leb-true, leb-false}
 use Rattle.std.specs.List.{slice_get}
 use Rattle.std.proofs.lemmas.Option.{slice_get_within, slice_get-get_or}
@@ -8,7 +8,7 @@ use Rattle.rams_model.specs.Hold.{lo, hi, last_of, from_number}
 use Rattle.session_core.specs.Seen.{RiseFrom}
 
 -- hi is one above the number of the last packet
-pub hi_of_last : (hs : List Held) (i : ℕ) (h : Held) → i + 1 ≡ length hs → slice_get hs i ≡ Some h → h.n + 1 ≡ hi hs
+hi_of_last : (hs : List Held) (i : ℕ) (h : Held) → i + 1 ≡ length hs → slice_get hs i ≡ Some h → h.n + 1 ≡ hi hs
 unfolding hi
 hi_of_last [] i h e is = cc
 hi_of_last (x ∷ []) zero h e is = let same : x ≡ h = cc in ap (λ (y : Held). y.n + 1) (sym same)
@@ -17,11 +17,11 @@ hi_of_last (x ∷ y ∷ ys) zero h e is = absurd (omega arith)
 hi_of_last (x ∷ y ∷ ys) (suc i) h e is = hi_of_last (y ∷ ys) i h (omega arith) is
 
 -- the packet at a place
-pub record IsAt (n i : ℕ) (hs : List Held) (h : Held) : Type 0 where
-  pub number : h.n ≡ n + i
-  pub below : i < length hs
+record IsAt (n i : ℕ) (hs : List Held) (h : Held) : Type 0 where
+  number : h.n ≡ n + i
+  below : i < length hs
 
-pub numbered : (n : ℕ) (hs : List Held) (i : ℕ) (h : Held) → RiseFrom n hs → slice_get hs i ≡ Some h → IsAt n i hs h
+numbered : (n : ℕ) (hs : List Held) (i : ℕ) (h : Held) → RiseFrom n hs → slice_get hs i ≡ Some h → IsAt n i hs h
 numbered n [] i h r is = cc
 numbered n (x ∷ hs) zero h r is =
     let same : x ≡ h = cc in

@@ -1,10 +1,10 @@
 -- What every core keeps, after each event.
-use Rattle.std.proofs.Common.{◌≡◌, ℕ, zero, suc, ◌+◌, ◌-◌, ◌<◌, ◌≤◌, List, [], ◌∷◌, ◌++◌, length, Option, Some, None, refl, sym, ap, ◌∙◌, subst, arith, length-append}
+use Rattle.std.proofs.Common.{◌≡◌, ℕ, ◌+◌, ◌<◌, ◌≤◌, List, [], ◌∷◌, ◌++◌, length, Option, Some, None, refl, sym, ap, ◌∙◌, subst, arith, length-append}
 use Rattle.rams_model.specs.declared.channel.Channel.{Channel}
 use Rattle.rams_model.specs.declared.held.Held.{Held}
 use Rattle.rams_model.specs.Packet.{Packet}
-use Rattle.rams_model.specs.Hold.{Start, start_at, is_eligible, or_start, newest_start, lo, hi}
-use Rattle.std.specs.Prelude.{if◌then◌else◌, Bool, true, false, cond}
+use Rattle.rams_model.specs.Hold.{Start, start_at, is_eligible, or_start, newest_start, lo}
+use Rattle.std.specs.Prelude.{Bool, true, false, cond}
 use Rattle.rams_model.specs.History.{next_number}
 use Rattle.rams_model.specs.Standing.{Burst, next}
 use Rattle.std.proofs.lemmas.List.Elements.{All-push}
@@ -46,9 +46,9 @@ live_keeps v h items p core e room header number first =
     subst (λ (l : List Held). IsCore (record v { held = l })) (sym e) kept
 
 -- the start of a burst is held
-pub record IsHeldStart (n : ℕ) (held : List Held) (s : Start) : Type 0 where
-  pub low : n ≤ s.n
-  pub high : s.n < n + length held
+record IsHeldStart (n : ℕ) (held : List Held) (s : Start) : Type 0 where
+  low : n ≤ s.n
+  high : s.n < n + length held
 
 start_here : (n : ℕ) (h : Held) (hs : List Held) (b : Bool) (s : Start) → h.n ≡ n → cond b (Some (start_at h hs)) None ≡ Some s → IsHeldStart n (h ∷ hs) s
 start_here n h hs true s number e =
@@ -68,7 +68,7 @@ start_either n h hs b s (Some t) number e later =
     let place : t.n ≡ s.n = ap (λ (u : Start). u.n) same in
     record { low = omega arith; high = omega arith }
 
-pub start_is_held : (c : Channel) (n : ℕ) (held : List Held) (s : Start) → RiseFrom n held → newest_start c held ≡ Some s → IsHeldStart n held s
+start_is_held : (c : Channel) (n : ℕ) (held : List Held) (s : Start) → RiseFrom n held → newest_start c held ≡ Some s → IsHeldStart n held s
 unfolding newest_start
 start_is_held c n [] s r e = cc
 start_is_held c n (h ∷ hs) s r e =

@@ -2,7 +2,9 @@
 ghost use Rattle.std.specs.Prelude.{IsTrue};
 ghost use Rattle.session_core.specs.Render.{CanRender};
 
-use crate::{Answer, Config, Core, Event, LiveNote, Note, Octets, Order, append_order, render_order};
+use crate::{
+    Answer, Config, Core, Event, LiveNote, Note, Octets, Order, append_order, render_order,
+};
 use channel_config::{Access, Channel};
 use std::alloc::{AllocError, Global};
 use std::process::Abort;
@@ -61,12 +63,7 @@ fn live(
 }
 
 /// Client 5 sends this datagram.
-fn feedback(
-    rt: &impl Abort,
-    alloc: Global,
-    core: &mut Core,
-    bytes: &[u8],
-) -> Result<Answer, Fail> {
+fn feedback(rt: &impl Abort, alloc: Global, core: &mut Core, bytes: &[u8]) -> Result<Answer, Fail> {
     assert!(rt; core.built_feedback(bytes));
     Ok(core.feedback(alloc, 5, bytes)?)
 }
@@ -146,19 +143,52 @@ fn one_packet_in_each_tick(rt: HostRuntime) -> Result<(), Fail> {
         join: 3000,
     };
     let info = [
-        0x86cd_000c, 0xaabb_ccdd, 0x1122_3344, 0x0200_00c8, 0x2000_0002, 0x01f4_0000, 0x2100_0004,
-        0x0000_7530, 0x2200_0004, 0x0000_03e8, 0x2300_0008, 0x0000_0000, 0x0012_4f80,
+        0x86cd_000c,
+        0xaabb_ccdd,
+        0x1122_3344,
+        0x0200_00c8,
+        0x2000_0002,
+        0x01f4_0000,
+        0x2100_0004,
+        0x0000_7530,
+        0x2200_0004,
+        0x0000_03e8,
+        0x2300_0008,
+        0x0000_0000,
+        0x0012_4f80,
     ];
     let answer = feedback(&rt, alloc, &mut core, &REQUEST)?;
-    asks_for(&rt, alloc, &config, &answer, accept, &bytes_of(alloc, &info, 0)?)?;
+    asks_for(
+        &rt,
+        alloc,
+        &config,
+        &answer,
+        accept,
+        &bytes_of(alloc, &info, 0)?,
+    )?;
     let sent = [
-        (65547, 500, [0x80e3_01f4, 0x0000_0384, 0x1122_3344, 0x000b_0000]),
-        (65548, 501, [0x8063_01f5, 0x0000_0708, 0x1122_3344, 0x000c_0000]),
+        (
+            65547,
+            500,
+            [0x80e3_01f4, 0x0000_0384, 0x1122_3344, 0x000b_0000],
+        ),
+        (
+            65548,
+            501,
+            [0x8063_01f5, 0x0000_0708, 0x1122_3344, 0x000c_0000],
+        ),
     ];
     for (n, seq, words) in sent {
         let burst = Note::Burst { client: 5, n, seq };
         let answer = tick(&rt, alloc, &mut core)?;
-        asks_for(&rt, alloc, &config, &answer, burst, &bytes_of(alloc, &words, 1456)?)?;
+        asks_for(
+            &rt,
+            alloc,
+            &config,
+            &answer,
+            burst,
+            &bytes_of(alloc, &words, 1456)?,
+        )?;
     }
     Ok(())
 }
@@ -168,7 +198,7 @@ fn one_packet_in_each_tick(rt: HostRuntime) -> Result<(), Fail> {
 struct Book<'a> {
     name: &'static str,
     channel: Channel,
-    /// Second byte and sequence number, and how many zeros; the timestamp is 0.
+    /// First word of the header, and how many zeros; the timestamp is 0.
     packets: &'a [(u32, usize)],
     /// First packet of the burst, and after how many ticks it has caught up.
     accept: (u64, u64),
@@ -186,9 +216,15 @@ fn note_sendings(
     assert_eq!(rt; answer.notes.len(), answer.orders.len());
     for (note, order) in answer.notes.iter().zip(&answer.orders) {
         match (note, order) {
-            (Note::Burst { client: 5, n, seq }, Order::Rtx { client: 5, n: same, seq: number, .. })
-                if n == same && seq == number =>
-            {
+            (
+                Note::Burst { client: 5, n, seq },
+                Order::Rtx {
+                    client: 5,
+                    n: same,
+                    seq: number,
+                    ..
+                },
+            ) if n == same && seq == number => {
                 sent.push((tick, *n, *seq))?;
             }
             _ => panic!(rt; "{note:?}"),
@@ -201,8 +237,7 @@ fn keeps(rt: &impl Abort, alloc: Global, book: &Book<'_>) -> Result<(), Fail> {
     let name = book.name;
     let mut core = Core::new(alloc, &Config::check(book.channel, 10)?)?;
     for (front, zeros) in book.packets {
-        let words = [0x8000_0000 + *front % 0x100_0000, 0, 0x1122_3344];
-        live(rt, alloc, &mut core, &words, *zeros)?;
+        live(rt, alloc, &mut core, &[*front, 0, 0x1122_3344], *zeros)?;
     }
     let (first, join) = book.accept;
     let accept = Note::Accept {
@@ -232,49 +267,73 @@ fn bursts_go_on_from_tick_to_tick(rt: HostRuntime) -> Result<(), Fail> {
         Book {
             name: "numbers go on past 65535",
             channel: channel(),
-            packets: &[(0xa1_fffe, 4), (0x21_ffff, 4), (0x21_0000, 4), (0x21_0001, 4)],
+            packets: &[
+                (0x80a1_fffe, 4),
+                (0x8021_ffff, 4),
+                (0x8021_0000, 4),
+                (0x8021_0001, 4),
+            ],
             accept: (131070, 1),
-            sent: &[(1, 131070, 500), (1, 131071, 501), (1, 131072, 502), (1, 131073, 503)],
+            sent: &[
+                (1, 131070, 500),
+                (1, 131071, 501),
+                (1, 131072, 502),
+                (1, 131073, 503),
+            ],
         },
         Book {
             name: "stops at the rate, before a packet that fits too",
-            channel: Channel { burst: 1600, ..wide },
-            packets: &[(0xa1_000a, 1458), (0x21_000b, 1458), (0x21_000c, 4)],
+            channel: Channel {
+                burst: 1600,
+                ..wide
+            },
+            packets: &[(0x80a1_000a, 1458), (0x8021_000b, 1458), (0x8021_000c, 4)],
             accept: (65546, 3046),
             sent: &[(1, 65546, 500), (2, 65547, 501), (2, 65548, 502)],
         },
         Book {
             name: "fills the rate; the join time is rounded up",
-            channel: Channel { burst: 3000, ..wide },
-            packets: &[(0xa1_000a, 1458), (0x21_000b, 1458), (0x21_000c, 4)],
+            channel: Channel {
+                burst: 3000,
+                ..wide
+            },
+            packets: &[(0x80a1_000a, 1458), (0x8021_000b, 1458), (0x8021_000c, 4)],
             accept: (65546, 3),
             sent: &[(1, 65546, 500), (1, 65547, 501), (2, 65548, 502)],
         },
         Book {
             name: "2,401 bytes behind are caught up in a tick",
             channel: channel(),
-            packets: &[(0xa1_000a, 1458), (0x21_000b, 859)],
+            packets: &[(0x80a1_000a, 1458), (0x8021_000b, 859)],
             accept: (65546, 1),
             sent: &[(1, 65546, 500), (1, 65547, 501)],
         },
         Book {
             name: "2,402 bytes aren't",
             channel: channel(),
-            packets: &[(0xa1_000a, 1458), (0x21_000b, 860)],
+            packets: &[(0x80a1_000a, 1458), (0x8021_000b, 860)],
             accept: (65546, 2),
             sent: &[(1, 65546, 500), (1, 65547, 501)],
         },
         Book {
             name: "retransmissions are numbered modulo 65536, from the newest access point on",
-            channel: Channel { seq0: 65535, ..channel() },
-            packets: &[(0xa1_000a, 4), (0xa1_000b, 4), (0x21_000c, 4)],
+            channel: Channel {
+                seq0: 65535,
+                ..channel()
+            },
+            packets: &[(0x80a1_000a, 4), (0x80a1_000b, 4), (0x8021_000c, 4)],
             accept: (65547, 1),
             sent: &[(1, 65547, 65535), (1, 65548, 0)],
         },
         Book {
             name: "46 bytes fit into a ring of 46",
-            channel: Channel { ring: 1, declared: 0, minwire: 46, ..channel() },
-            packets: &[(0xa1_000a, 4)],
+            channel: Channel {
+                ring: 1,
+                declared: 0,
+                minwire: 46,
+                ..channel()
+            },
+            packets: &[(0x80a1_000a, 4)],
             accept: (65546, 1),
             sent: &[(1, 65546, 500)],
         },
@@ -285,7 +344,7 @@ fn bursts_go_on_from_tick_to_tick(rt: HostRuntime) -> Result<(), Fail> {
     Ok(())
 }
 
-/// A core of this channel that holds a packet with each of these second bytes and sequence numbers.
+/// A core of this channel that holds a packet of 16 bytes with each of these first words.
 fn core_with(
     rt: &impl Abort,
     alloc: Global,
@@ -294,8 +353,7 @@ fn core_with(
 ) -> Result<Core, Fail> {
     let mut core = Core::new(alloc, &Config::check(channel, 10)?)?;
     for front in packets {
-        let words = [0x8000_0000 + *front % 0x100_0000, 0, 0x1122_3344];
-        live(rt, alloc, &mut core, &words, 4)?;
+        live(rt, alloc, &mut core, &[*front, 0, 0x1122_3344], 4)?;
     }
     Ok(core)
 }
@@ -303,26 +361,141 @@ fn core_with(
 #[test]
 fn live_packets_are_built(rt: HostRuntime) -> Result<(), Fail> {
     let alloc = rt.alloc();
-    let ring_of_one = Channel { ring: 1, ..channel() };
-    let ten = [0x21_000a];
-    let last = [0x21_ffff];
+    let ring_of_one = Channel {
+        ring: 1,
+        ..channel()
+    };
+    let ten = [0x8021_000a];
+    let last = [0x8021_ffff];
     let next = 0x8021_000b;
     let cases = [
-        ("any number first", channel(), [].as_slice(), 0x8021_7777, 0x1122_3344, 4, true),
+        (
+            "any number first",
+            channel(),
+            [].as_slice(),
+            0x8021_7777,
+            0x1122_3344,
+            4,
+            true,
+        ),
         ("the next", channel(), &ten, next, 0x1122_3344, 4, true),
-        ("a marker", channel(), &ten, 0x80a1_000b, 0x1122_3344, 4, true),
-        ("1,470 bytes", channel(), &ten, next, 0x1122_3344, 1458, true),
-        ("1,471 bytes", channel(), &ten, next, 0x1122_3344, 1459, false),
-        ("version 1", channel(), &ten, 0x4021_000b, 0x1122_3344, 4, false),
-        ("padding", channel(), &ten, 0xa021_000b, 0x1122_3344, 4, false),
-        ("type 34", channel(), &ten, 0x8022_000b, 0x1122_3344, 4, false),
-        ("another source", channel(), &ten, next, 0x1122_3345, 4, false),
-        ("the same number", channel(), &ten, 0x8021_000a, 0x1122_3344, 4, false),
-        ("a number left out", channel(), &ten, 0x8021_000c, 0x1122_3344, 4, false),
-        ("0 behind 65535", channel(), &last, 0x8021_0000, 0x1122_3344, 4, true),
-        ("1 behind 65535", channel(), &last, 0x8021_0001, 0x1122_3344, 4, false),
-        ("65534 behind 65535", channel(), &last, 0x8021_fffe, 0x1122_3344, 4, false),
-        ("a full ring", ring_of_one, &ten, next, 0x1122_3344, 4, false),
+        (
+            "a marker",
+            channel(),
+            &ten,
+            0x80a1_000b,
+            0x1122_3344,
+            4,
+            true,
+        ),
+        (
+            "1,470 bytes",
+            channel(),
+            &ten,
+            next,
+            0x1122_3344,
+            1458,
+            true,
+        ),
+        (
+            "1,471 bytes",
+            channel(),
+            &ten,
+            next,
+            0x1122_3344,
+            1459,
+            false,
+        ),
+        (
+            "version 1",
+            channel(),
+            &ten,
+            0x4021_000b,
+            0x1122_3344,
+            4,
+            false,
+        ),
+        (
+            "padding",
+            channel(),
+            &ten,
+            0xa021_000b,
+            0x1122_3344,
+            4,
+            false,
+        ),
+        (
+            "type 34",
+            channel(),
+            &ten,
+            0x8022_000b,
+            0x1122_3344,
+            4,
+            false,
+        ),
+        (
+            "another source",
+            channel(),
+            &ten,
+            next,
+            0x1122_3345,
+            4,
+            false,
+        ),
+        (
+            "the same number",
+            channel(),
+            &ten,
+            0x8021_000a,
+            0x1122_3344,
+            4,
+            false,
+        ),
+        (
+            "a number left out",
+            channel(),
+            &ten,
+            0x8021_000c,
+            0x1122_3344,
+            4,
+            false,
+        ),
+        (
+            "0 behind 65535",
+            channel(),
+            &last,
+            0x8021_0000,
+            0x1122_3344,
+            4,
+            true,
+        ),
+        (
+            "1 behind 65535",
+            channel(),
+            &last,
+            0x8021_0001,
+            0x1122_3344,
+            4,
+            false,
+        ),
+        (
+            "65534 behind 65535",
+            channel(),
+            &last,
+            0x8021_fffe,
+            0x1122_3344,
+            4,
+            false,
+        ),
+        (
+            "a full ring",
+            ring_of_one,
+            &ten,
+            next,
+            0x1122_3344,
+            4,
+            false,
+        ),
     ];
     for (name, settings, packets, front, source, zeros, built) in cases {
         let core = core_with(&rt, alloc, settings, packets)?;
@@ -339,19 +512,28 @@ fn live_packets_are_built(rt: HostRuntime) -> Result<(), Fail> {
 #[test]
 fn plain_requests_are_built(rt: HostRuntime) -> Result<(), Fail> {
     let alloc = rt.alloc();
-    let small = Channel { ring: 1, declared: 0, minwire: 45, ..channel() };
+    let small = Channel {
+        ring: 1,
+        declared: 0,
+        minwire: 45,
+        ..channel()
+    };
     let cases = [
         ("nothing is held", channel(), [].as_slice(), false),
-        ("no access point", channel(), &[0x21_000a], false),
-        ("an access point", channel(), &[0xa1_000a], true),
-        ("46 bytes in a ring of 45", small, &[0xa1_000a], false),
+        ("no access point", channel(), &[0x8021_000a], false),
+        ("an access point", channel(), &[0x80a1_000a], true),
+        ("46 bytes in a ring of 45", small, &[0x80a1_000a], false),
     ];
     for (name, settings, packets, built) in cases {
         let core = core_with(&rt, alloc, settings, packets)?;
         let bytes = Octets::of(REQUEST.to_vec(alloc)?);
-        assert_eq!(rt; core.built(&Event::Feedback { client: 6, bytes }), built, "{name}");
+        assert_eq!(rt;
+            core.built(&Event::Feedback { client: 6, bytes }),
+            built,
+            "{name}"
+        );
     }
-    let mut core = core_with(&rt, alloc, channel(), &[0xa1_000a])?;
+    let mut core = core_with(&rt, alloc, channel(), &[0x80a1_000a])?;
     for place in 0..16 {
         let mut bytes = REQUEST;
         bytes[place] = bytes[place] ^ 0x10;
@@ -370,7 +552,15 @@ fn plain_requests_are_built(rt: HostRuntime) -> Result<(), Fail> {
 #[test]
 fn ticks_are_built_up_to_the_limit(rt: HostRuntime) -> Result<(), Fail> {
     let alloc = rt.alloc();
-    let mut core = core_with(&rt, alloc, Channel { limit: 3, ..channel() }, &[])?;
+    let mut core = core_with(
+        &rt,
+        alloc,
+        Channel {
+            limit: 3,
+            ..channel()
+        },
+        &[],
+    )?;
     for _ in 0..2 {
         assert!(rt; core.built(&Event::Tick));
         let answer = tick(&rt, alloc, &mut core)?;
@@ -385,9 +575,9 @@ fn ticks_are_built_up_to_the_limit(rt: HostRuntime) -> Result<(), Fail> {
 fn numbers_lie_between_lo_and_hi(rt: HostRuntime) -> Result<(), Fail> {
     let cases = [
         ([].as_slice(), 0, 0),
-        (&[0x21_0000], 65536, 65537),
-        (&[0x21_000a, 0x21_000b], 65546, 65548),
-        (&[0x21_ffff, 0x21_0000], 131071, 131073),
+        (&[0x8021_0000], 65536, 65537),
+        (&[0x8021_000a, 0x8021_000b], 65546, 65548),
+        (&[0x8021_ffff, 0x8021_0000], 131071, 131073),
     ];
     for (packets, lo, hi) in cases {
         let core = core_with(&rt, rt.alloc(), channel(), packets)?;
@@ -410,8 +600,18 @@ fn join_times_fit_into_32_bits(rt: HostRuntime) -> Result<(), Fail> {
     for (count, join_ms) in [(2863u32, 4_294_500_000u32), (2864, 4_294_967_295)] {
         let mut core = Core::new(alloc, &Config::check(settings, 1000)?)?;
         for sequence in 0..count {
-            let front = if sequence == 0 { 0x80a1_0000 } else { 0x8021_0000 };
-            live(&rt, alloc, &mut core, &[front + sequence, 0, 0x1122_3344], 1458)?;
+            let front = if sequence == 0 {
+                0x80a1_0000
+            } else {
+                0x8021_0000
+            };
+            live(
+                &rt,
+                alloc,
+                &mut core,
+                &[front + sequence, 0, 0x1122_3344],
+                1458,
+            )?;
         }
         let answer = feedback(&rt, alloc, &mut core, &REQUEST)?;
         assert_eq!(rt; answer.orders.len(), 1);

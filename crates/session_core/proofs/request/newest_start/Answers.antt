@@ -1,4 +1,4 @@
-use Rattle.std.proofs.Common.{◌-◌, ◌*◌, ◌≡◌, ◌+◌, ◌∙◌, None, length, sym, ap, subst, arith}
+use Rattle.std.proofs.Common.{◌*◌, ◌+◌, ◌∙◌, None, length, sym, ap, subst, arith}
 use Rattle.std.proofs.lemmas.List.{length_push, length-reverse}
 use Rattle.std.proofs.lemmas.Iterator.Adapters.{YieldsList-from_rev_slice}
 use Rattle.std.proofs.lemmas.Iterator.Consumers.{YieldsList-turn, YieldsList-end}
