@@ -22,10 +22,25 @@ fn notes_are_lines(rt: HostRuntime) -> Result<(), Fail> {
         seq: 0,
     };
     let lines = [
-        (1, 7, Note::Live(LiveNote::Took(65546)), b"a\n1 7 took 65546\n".as_slice()),
-        (4, 7, accept, b"a\n4 7 accept 5 first 65547 rate 1500 join 3000\n"),
+        (
+            1,
+            7,
+            Note::Live(LiveNote::Took(65546)),
+            b"a\n1 7 took 65546\n".as_slice(),
+        ),
+        (
+            4,
+            7,
+            accept,
+            b"a\n4 7 accept 5 first 65547 rate 1500 join 3000\n",
+        ),
         (5, 7, burst, b"a\n5 7 burst 5 65547 500\n"),
-        (1000000, 65535, far, b"a\n1000000 65535 burst 281474976710655 65536 0\n"),
+        (
+            1000000,
+            65535,
+            far,
+            b"a\n1000000 65535 burst 281474976710655 65536 0\n",
+        ),
     ];
     for (event, id, note, line) in lines {
         let mut text = b"a\n".to_vec(rt.alloc())?;
@@ -40,7 +55,10 @@ fn datagrams_and_counts_are_lines(rt: HostRuntime) -> Result<(), Fail> {
     let sends = [
         ([].as_slice(), b"a\n4 7 send 5 -\n".as_slice()),
         (&[0x0a], b"a\n4 7 send 5 0a\n"),
-        (&[0x86, 0xcd, 0x00, 0xfe, 0x39], b"a\n4 7 send 5 86cd00fe39\n"),
+        (
+            &[0x86, 0xcd, 0x00, 0xfe, 0x39],
+            b"a\n4 7 send 5 86cd00fe39\n",
+        ),
     ];
     for (bytes, line) in sends {
         let mut text = b"a\n".to_vec(rt.alloc())?;

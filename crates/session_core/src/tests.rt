@@ -15,13 +15,16 @@ const REQUEST: [u8; 16] = [
     0x86, 0xcd, 0, 3, 0, 0, 0xc0, 1, 0x11, 0x22, 0x33, 0x44, 1, 0, 0, 0,
 ];
 
+/// The media source of the channel.
+const SOURCE: u32 = 0x11223344;
+
 fn channel() -> Channel {
     Channel {
         id: 7,
-        ssrc: 0x1122_3344,
+        ssrc: SOURCE,
         pt: 33,
         rtx: 99,
-        server: 0xaabb_ccdd,
+        server: 0xaabbccdd,
         seq0: 500,
         ring: 64,
         window: 0,
@@ -113,6 +116,23 @@ fn client_of(order: &Order) -> u64 {
     }
 }
 
+/// The note of an accept for client 5.
+fn accept(first: u64, rate: u64, join: u64) -> Note {
+    Note::Accept {
+        client: 5,
+        first,
+        rate,
+        join,
+    }
+}
+
+/// The RAMS-I of an accept at 1,500 bytes a tick: from number 500 on, join in 30,000 ms, 1,000 ms
+/// long, 1,200,000 bits per second.
+const INFO: [u32; 13] = [
+    0x86cd000c, 0xaabbccdd, 0x11223344, 0x020000c8, 0x20000002, 0x01f40000, 0x21000004, 0x00007530,
+    0x22000004, 0x000003e8, 0x23000008, 0x00000000, 0x00124f80,
+];
+
 #[test]
 fn one_packet_in_each_tick(rt: HostRuntime) -> Result<(), Fail> {
     let alloc = rt.alloc();
@@ -126,9 +146,9 @@ fn one_packet_in_each_tick(rt: HostRuntime) -> Result<(), Fail> {
     let mut core = Core::new(alloc, &config)?;
     assert_eq!(rt; *core.config(), config);
     let packets = [
-        ([0x8021_000a, 0, 0x1122_3344], 65546),
-        ([0x80a1_000b, 900, 0x1122_3344], 65547),
-        ([0x8021_000c, 1800, 0x1122_3344], 65548),
+        ([0x8021000a, 0, SOURCE], 65546),
+        ([0x80a1000b, 900, SOURCE], 65547),
+        ([0x8021000c, 1800, SOURCE], 65548),
     ];
     for (words, number) in packets {
         let answer = live(&rt, alloc, &mut core, &words, 1458)?;
@@ -136,59 +156,19 @@ fn one_packet_in_each_tick(rt: HostRuntime) -> Result<(), Fail> {
         assert_eq!(rt; answer.notes.as_slice(), notes.as_slice());
         assert_eq!(rt; answer.orders.len(), 0);
     }
-    let accept = Note::Accept {
-        client: 5,
-        first: 65547,
-        rate: 1500,
-        join: 3000,
-    };
-    let info = [
-        0x86cd_000c,
-        0xaabb_ccdd,
-        0x1122_3344,
-        0x0200_00c8,
-        0x2000_0002,
-        0x01f4_0000,
-        0x2100_0004,
-        0x0000_7530,
-        0x2200_0004,
-        0x0000_03e8,
-        0x2300_0008,
-        0x0000_0000,
-        0x0012_4f80,
-    ];
     let answer = feedback(&rt, alloc, &mut core, &REQUEST)?;
-    asks_for(
-        &rt,
-        alloc,
-        &config,
-        &answer,
-        accept,
-        &bytes_of(alloc, &info, 0)?,
-    )?;
+    let info = bytes_of(alloc, &INFO, 0)?;
+    let note = accept(65547, 1500, 3000);
+    asks_for(&rt, alloc, &config, &answer, note, &info)?;
     let sent = [
-        (
-            65547,
-            500,
-            [0x80e3_01f4, 0x0000_0384, 0x1122_3344, 0x000b_0000],
-        ),
-        (
-            65548,
-            501,
-            [0x8063_01f5, 0x0000_0708, 0x1122_3344, 0x000c_0000],
-        ),
+        (65547, 500, [0x80e301f4, 0x384, SOURCE, 0x000b0000]),
+        (65548, 501, [0x806301f5, 0x708, SOURCE, 0x000c0000]),
     ];
     for (n, seq, words) in sent {
-        let burst = Note::Burst { client: 5, n, seq };
         let answer = tick(&rt, alloc, &mut core)?;
-        asks_for(
-            &rt,
-            alloc,
-            &config,
-            &answer,
-            burst,
-            &bytes_of(alloc, &words, 1456)?,
-        )?;
+        let burst = Note::Burst { client: 5, n, seq };
+        let packet = bytes_of(alloc, &words, 1456)?;
+        asks_for(&rt, alloc, &config, &answer, burst, &packet)?;
     }
     Ok(())
 }
@@ -237,17 +217,12 @@ fn keeps(rt: &impl Abort, alloc: Global, book: &Book<'_>) -> Result<(), Fail> {
     let name = book.name;
     let mut core = Core::new(alloc, &Config::check(book.channel, 10)?)?;
     for (front, zeros) in book.packets {
-        live(rt, alloc, &mut core, &[*front, 0, 0x1122_3344], *zeros)?;
+        live(rt, alloc, &mut core, &[*front, 0, SOURCE], *zeros)?;
     }
     let (first, join) = book.accept;
-    let accept = Note::Accept {
-        client: 5,
-        first,
-        rate: book.channel.burst,
-        join,
-    };
     let answer = feedback(rt, alloc, &mut core, &REQUEST)?;
-    assert_eq!(rt; answer.notes.as_slice(), [accept].as_slice(), "{name}");
+    let notes = [accept(first, book.channel.burst, join)];
+    assert_eq!(rt; answer.notes.as_slice(), notes.as_slice(), "{name}");
     let mut sent = Vec::new(alloc);
     for number in 1..4 {
         let answer = tick(rt, alloc, &mut core)?;
@@ -258,90 +233,84 @@ fn keeps(rt: &impl Abort, alloc: Global, book: &Book<'_>) -> Result<(), Fail> {
 }
 
 #[test]
-fn bursts_go_on_from_tick_to_tick(rt: HostRuntime) -> Result<(), Fail> {
+fn numbers_wrap(rt: HostRuntime) -> Result<(), Fail> {
+    let live_wraps = Book {
+        name: "live numbers go on past 65535",
+        channel: channel(),
+        packets: &[(0x80a1fffe, 4), (0x8021ffff, 4), (0x80210000, 4)],
+        accept: (131070, 1),
+        sent: &[(1, 131070, 500), (1, 131071, 501), (1, 131072, 502)],
+    };
+    keeps(&rt, rt.alloc(), &live_wraps)?;
+    let sent_wraps = Book {
+        name: "numbers of retransmissions wrap; the newest access point",
+        channel: Channel {
+            seq0: 65535,
+            ..channel()
+        },
+        packets: &[(0x80a1000a, 4), (0x80a1000b, 4), (0x8021000c, 4)],
+        accept: (65547, 1),
+        sent: &[(1, 65547, 65535), (1, 65548, 0)],
+    };
+    keeps(&rt, rt.alloc(), &sent_wraps)
+}
+
+#[test]
+fn runs_keep_to_the_rate(rt: HostRuntime) -> Result<(), Fail> {
     let wide = Channel {
         minwire: 1500,
         ..channel()
     };
-    let books = [
-        Book {
-            name: "numbers go on past 65535",
+    let stops = Book {
+        name: "stops before a packet that doesn't fit, though a smaller one follows",
+        channel: Channel {
+            burst: 1600,
+            ..wide
+        },
+        packets: &[(0x80a1000a, 1458), (0x8021000b, 1458), (0x8021000c, 4)],
+        accept: (65546, 3046),
+        sent: &[(1, 65546, 500), (2, 65547, 501), (2, 65548, 502)],
+    };
+    keeps(&rt, rt.alloc(), &stops)?;
+    let fills = Book {
+        name: "two packets fill the rate",
+        channel: Channel {
+            burst: 3000,
+            ..wide
+        },
+        packets: &[(0x80a1000a, 1458), (0x8021000b, 1458), (0x8021000c, 4)],
+        accept: (65546, 3),
+        sent: &[(1, 65546, 500), (1, 65547, 501), (2, 65548, 502)],
+    };
+    keeps(&rt, rt.alloc(), &fills)
+}
+
+#[test]
+fn join_times_are_rounded_up(rt: HostRuntime) -> Result<(), Fail> {
+    // A tick gains 2,401 bytes: 4,000 without 100 declared and 1,499 unused.
+    for (zeros, join) in [(858, 1), (859, 1), (860, 2)] {
+        let book = Book {
+            name: "2,400 bytes behind, and more",
             channel: channel(),
-            packets: &[
-                (0x80a1_fffe, 4),
-                (0x8021_ffff, 4),
-                (0x8021_0000, 4),
-                (0x8021_0001, 4),
-            ],
-            accept: (131070, 1),
-            sent: &[
-                (1, 131070, 500),
-                (1, 131071, 501),
-                (1, 131072, 502),
-                (1, 131073, 503),
-            ],
-        },
-        Book {
-            name: "stops at the rate, before a packet that fits too",
-            channel: Channel {
-                burst: 1600,
-                ..wide
-            },
-            packets: &[(0x80a1_000a, 1458), (0x8021_000b, 1458), (0x8021_000c, 4)],
-            accept: (65546, 3046),
-            sent: &[(1, 65546, 500), (2, 65547, 501), (2, 65548, 502)],
-        },
-        Book {
-            name: "fills the rate; the join time is rounded up",
-            channel: Channel {
-                burst: 3000,
-                ..wide
-            },
-            packets: &[(0x80a1_000a, 1458), (0x8021_000b, 1458), (0x8021_000c, 4)],
-            accept: (65546, 3),
-            sent: &[(1, 65546, 500), (1, 65547, 501), (2, 65548, 502)],
-        },
-        Book {
-            name: "2,401 bytes behind are caught up in a tick",
-            channel: channel(),
-            packets: &[(0x80a1_000a, 1458), (0x8021_000b, 859)],
-            accept: (65546, 1),
+            packets: &[(0x80a1000a, 1458), (0x8021000b, zeros)],
+            accept: (65546, join),
             sent: &[(1, 65546, 500), (1, 65547, 501)],
-        },
-        Book {
-            name: "2,402 bytes aren't",
-            channel: channel(),
-            packets: &[(0x80a1_000a, 1458), (0x8021_000b, 860)],
-            accept: (65546, 2),
-            sent: &[(1, 65546, 500), (1, 65547, 501)],
-        },
-        Book {
-            name: "retransmissions are numbered modulo 65536, from the newest access point on",
-            channel: Channel {
-                seq0: 65535,
-                ..channel()
-            },
-            packets: &[(0x80a1_000a, 4), (0x80a1_000b, 4), (0x8021_000c, 4)],
-            accept: (65547, 1),
-            sent: &[(1, 65547, 65535), (1, 65548, 0)],
-        },
-        Book {
-            name: "46 bytes fit into a ring of 46",
-            channel: Channel {
-                ring: 1,
-                declared: 0,
-                minwire: 46,
-                ..channel()
-            },
-            packets: &[(0x80a1_000a, 4)],
-            accept: (65546, 1),
-            sent: &[(1, 65546, 500)],
-        },
-    ];
-    for book in &books {
-        keeps(&rt, rt.alloc(), book)?;
+        };
+        keeps(&rt, rt.alloc(), &book)?;
     }
-    Ok(())
+    let fits = Book {
+        name: "46 bytes fit into a ring of 46",
+        channel: Channel {
+            ring: 1,
+            declared: 0,
+            minwire: 46,
+            ..channel()
+        },
+        packets: &[(0x80a1000a, 4)],
+        accept: (65546, 1),
+        sent: &[(1, 65546, 500)],
+    };
+    keeps(&rt, rt.alloc(), &fits)
 }
 
 /// A core of this channel that holds a packet of 16 bytes with each of these first words.
@@ -353,160 +322,65 @@ fn core_with(
 ) -> Result<Core, Fail> {
     let mut core = Core::new(alloc, &Config::check(channel, 10)?)?;
     for front in packets {
-        live(rt, alloc, &mut core, &[*front, 0, 0x1122_3344], 4)?;
+        live(rt, alloc, &mut core, &[*front, 0, SOURCE], 4)?;
     }
     Ok(core)
+}
+
+/// Which packets the core answers: their first word, source and zeros.
+fn answers(
+    rt: &impl Abort,
+    alloc: Global,
+    core: &Core,
+    cases: &[(&str, u32, u32, usize, bool)],
+) -> Result<(), Fail> {
+    for (name, front, source, zeros, built) in cases {
+        let bytes = bytes_of(alloc, &[*front, 0, *source], *zeros)?;
+        let event = Event::Live(Octets::of(bytes));
+        assert_eq!(rt; core.built(&event), *built, "{name}");
+    }
+    Ok(())
 }
 
 #[test]
 fn live_packets_are_built(rt: HostRuntime) -> Result<(), Fail> {
     let alloc = rt.alloc();
-    let ring_of_one = Channel {
+    let empty = core_with(&rt, alloc, channel(), &[])?;
+    answers(
+        &rt,
+        alloc,
+        &empty,
+        &[("first", 0x80217777, SOURCE, 4, true)],
+    )?;
+    let ten = core_with(&rt, alloc, channel(), &[0x8021000a])?;
+    let cases = [
+        ("the next", 0x8021000b, SOURCE, 4, true),
+        ("a marker", 0x80a1000b, SOURCE, 4, true),
+        ("12 bytes", 0x8021000b, SOURCE, 0, true),
+        ("1,470 bytes", 0x8021000b, SOURCE, 1458, true),
+        ("1,471 bytes", 0x8021000b, SOURCE, 1459, false),
+        ("version 1", 0x4021000b, SOURCE, 4, false),
+        ("padding", 0xa021000b, SOURCE, 4, false),
+        ("type 34", 0x8022000b, SOURCE, 4, false),
+        ("another source", 0x8021000b, 0x11223345, 4, false),
+        ("the same number", 0x8021000a, SOURCE, 4, false),
+        ("a number left out", 0x8021000c, SOURCE, 4, false),
+    ];
+    answers(&rt, alloc, &ten, &cases)?;
+    let eleven_bytes = bytes_of(alloc, &[0x8021000b, 0], 3)?;
+    assert!(rt; !ten.built(&Event::Live(Octets::of(eleven_bytes))));
+    let last = core_with(&rt, alloc, channel(), &[0x8021ffff])?;
+    let cases = [
+        ("0 behind 65535", 0x80210000, SOURCE, 4, true),
+        ("1 behind 65535", 0x80210001, SOURCE, 4, false),
+    ];
+    answers(&rt, alloc, &last, &cases)?;
+    let one = Channel {
         ring: 1,
         ..channel()
     };
-    let ten = [0x8021_000a];
-    let last = [0x8021_ffff];
-    let next = 0x8021_000b;
-    let cases = [
-        (
-            "any number first",
-            channel(),
-            [].as_slice(),
-            0x8021_7777,
-            0x1122_3344,
-            4,
-            true,
-        ),
-        ("the next", channel(), &ten, next, 0x1122_3344, 4, true),
-        (
-            "a marker",
-            channel(),
-            &ten,
-            0x80a1_000b,
-            0x1122_3344,
-            4,
-            true,
-        ),
-        (
-            "1,470 bytes",
-            channel(),
-            &ten,
-            next,
-            0x1122_3344,
-            1458,
-            true,
-        ),
-        (
-            "1,471 bytes",
-            channel(),
-            &ten,
-            next,
-            0x1122_3344,
-            1459,
-            false,
-        ),
-        (
-            "version 1",
-            channel(),
-            &ten,
-            0x4021_000b,
-            0x1122_3344,
-            4,
-            false,
-        ),
-        (
-            "padding",
-            channel(),
-            &ten,
-            0xa021_000b,
-            0x1122_3344,
-            4,
-            false,
-        ),
-        (
-            "type 34",
-            channel(),
-            &ten,
-            0x8022_000b,
-            0x1122_3344,
-            4,
-            false,
-        ),
-        (
-            "another source",
-            channel(),
-            &ten,
-            next,
-            0x1122_3345,
-            4,
-            false,
-        ),
-        (
-            "the same number",
-            channel(),
-            &ten,
-            0x8021_000a,
-            0x1122_3344,
-            4,
-            false,
-        ),
-        (
-            "a number left out",
-            channel(),
-            &ten,
-            0x8021_000c,
-            0x1122_3344,
-            4,
-            false,
-        ),
-        (
-            "0 behind 65535",
-            channel(),
-            &last,
-            0x8021_0000,
-            0x1122_3344,
-            4,
-            true,
-        ),
-        (
-            "1 behind 65535",
-            channel(),
-            &last,
-            0x8021_0001,
-            0x1122_3344,
-            4,
-            false,
-        ),
-        (
-            "65534 behind 65535",
-            channel(),
-            &last,
-            0x8021_fffe,
-            0x1122_3344,
-            4,
-            false,
-        ),
-        (
-            "a full ring",
-            ring_of_one,
-            &ten,
-            next,
-            0x1122_3344,
-            4,
-            false,
-        ),
-    ];
-    for (name, settings, packets, front, source, zeros, built) in cases {
-        let core = core_with(&rt, alloc, settings, packets)?;
-        let bytes = bytes_of(alloc, &[front, 0, source], zeros)?;
-        let event = Event::Live(Octets::of(bytes));
-        assert_eq!(rt; core.built(&event), built, "{name}");
-    }
-    let core = core_with(&rt, alloc, channel(), &ten)?;
-    let bytes = bytes_of(alloc, &[next, 0], 3)?;
-    assert!(rt; !core.built(&Event::Live(Octets::of(bytes))), "11 bytes");
-    Ok(())
+    let full = core_with(&rt, alloc, one, &[0x8021000a])?;
+    answers(&rt, alloc, &full, &[("full", 0x8021000b, SOURCE, 4, false)])
 }
 
 #[test]
@@ -520,9 +394,9 @@ fn plain_requests_are_built(rt: HostRuntime) -> Result<(), Fail> {
     };
     let cases = [
         ("nothing is held", channel(), [].as_slice(), false),
-        ("no access point", channel(), &[0x8021_000a], false),
-        ("an access point", channel(), &[0x80a1_000a], true),
-        ("46 bytes in a ring of 45", small, &[0x80a1_000a], false),
+        ("no access point", channel(), &[0x8021000a], false),
+        ("an access point", channel(), &[0x80a1000a], true),
+        ("46 bytes in a ring of 45", small, &[0x80a1000a], false),
     ];
     for (name, settings, packets, built) in cases {
         let core = core_with(&rt, alloc, settings, packets)?;
@@ -533,7 +407,7 @@ fn plain_requests_are_built(rt: HostRuntime) -> Result<(), Fail> {
             "{name}"
         );
     }
-    let mut core = core_with(&rt, alloc, channel(), &[0x80a1_000a])?;
+    let mut core = core_with(&rt, alloc, channel(), &[0x80a1000a])?;
     for place in 0..16 {
         let mut bytes = REQUEST;
         bytes[place] = bytes[place] ^ 0x10;
@@ -552,15 +426,11 @@ fn plain_requests_are_built(rt: HostRuntime) -> Result<(), Fail> {
 #[test]
 fn ticks_are_built_up_to_the_limit(rt: HostRuntime) -> Result<(), Fail> {
     let alloc = rt.alloc();
-    let mut core = core_with(
-        &rt,
-        alloc,
-        Channel {
-            limit: 3,
-            ..channel()
-        },
-        &[],
-    )?;
+    let limited = Channel {
+        limit: 3,
+        ..channel()
+    };
+    let mut core = core_with(&rt, alloc, limited, &[])?;
     for _ in 0..2 {
         assert!(rt; core.built(&Event::Tick));
         let answer = tick(&rt, alloc, &mut core)?;
@@ -575,9 +445,9 @@ fn ticks_are_built_up_to_the_limit(rt: HostRuntime) -> Result<(), Fail> {
 fn numbers_lie_between_lo_and_hi(rt: HostRuntime) -> Result<(), Fail> {
     let cases = [
         ([].as_slice(), 0, 0),
-        (&[0x8021_0000], 65536, 65537),
-        (&[0x8021_000a, 0x8021_000b], 65546, 65548),
-        (&[0x8021_ffff, 0x8021_0000], 131071, 131073),
+        (&[0x80210000], 65536, 65537),
+        (&[0x8021000a, 0x8021000b], 65546, 65548),
+        (&[0x8021ffff, 0x80210000], 131071, 131073),
     ];
     for (packets, lo, hi) in cases {
         let core = core_with(&rt, rt.alloc(), channel(), packets)?;
@@ -601,17 +471,11 @@ fn join_times_fit_into_32_bits(rt: HostRuntime) -> Result<(), Fail> {
         let mut core = Core::new(alloc, &Config::check(settings, 1000)?)?;
         for sequence in 0..count {
             let front = if sequence == 0 {
-                0x80a1_0000
+                0x80a10000
             } else {
-                0x8021_0000
+                0x80210000
             };
-            live(
-                &rt,
-                alloc,
-                &mut core,
-                &[front + sequence, 0, 0x1122_3344],
-                1458,
-            )?;
+            live(&rt, alloc, &mut core, &[front + sequence, 0, SOURCE], 1458)?;
         }
         let answer = feedback(&rt, alloc, &mut core, &REQUEST)?;
         assert_eq!(rt; answer.orders.len(), 1);
