@@ -6,6 +6,8 @@
 
 mod line;
 mod note;
+#[cfg(test)]
+mod tests;
 mod words;
 
 pub use line::{append_count, append_send};

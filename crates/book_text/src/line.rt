@@ -15,7 +15,7 @@ pub fn begin(text: &mut Vec<u8>, event: u64, id: u16) -> Result<(), NoMemory>
     Ok(())
 }
 
-/// The line of a datagram to a client: `EVENT ID send CLIENT HEX`.
+/// The line of a datagram to a client: `EVENT ID send CLIENT HEX`, with `-` for no bytes.
 #[tactic(auto, unfolding(rams_model::specs::BookText::send_line))]
 pub fn append_send(
     text: &mut Vec<u8>,
@@ -34,7 +34,7 @@ pub fn append_send(
     Ok(())
 }
 
-/// The line of a word and a number.
+/// The line of a word and a number, as `done 6`.
 pub fn append_count(text: &mut Vec<u8>, word: &[u8], n: u64) -> Result<(), NoMemory>
     ensures { OnOk result (text.new.items ≡ text.old.items ++ (word.now ++ spaced n ++ codes "\n")) }
 {

@@ -7,14 +7,9 @@ use crate::words::{named, spaced};
 use ram_io::NoMemory;
 use rams_model::{LiveNote, Note};
 
-/// The line of a note: `EVENT ID`, and the note's words.
+/// The line of a note: `EVENT ID`, and the note's words, as `5 7 burst 5 65547 500`.
 #[tactic(auto, unfolding(rams_model::specs::BookText::note_line))]
-pub fn append_note(
-    text: &mut Vec<u8>,
-    event: u64,
-    id: u16,
-    note: &Note,
-) -> Result<(), NoMemory>
+pub fn append_note(text: &mut Vec<u8>, event: u64, id: u16, note: &Note) -> Result<(), NoMemory>
     ensures { OnOk result (text.new.items ≡ text.old.items ++ note_line event id note.now) }
 {
     begin(text, event, id)?;
@@ -23,6 +18,7 @@ pub fn append_note(
     Ok(())
 }
 
+/// The words of a note, without a space in front.
 fn words(text: &mut Vec<u8>, note: &Note) -> Result<(), NoMemory>
     ensures { OnOk result (text.new.items ≡ text.old.items ++ note_words note.now) }
 {

@@ -31,7 +31,7 @@ pub fn named(text: &mut Vec<u8>, word: &[u8], n: u64) -> Result<(), NoMemory>
     spaced(text, n)
 }
 
-/// Bytes in hexadecimal digits; `-` for none.
+/// Bytes in hexadecimal digits, whose letters are small; `-` for none.
 pub fn hex(text: &mut Vec<u8>, bytes: &[u8]) -> Result<(), NoMemory>
     ensures { OnOk result (text.new.items ≡ text.old.items ++ hex_word bytes.now) }
 {
@@ -45,6 +45,6 @@ pub fn hex(text: &mut Vec<u8>, bytes: &[u8]) -> Result<(), NoMemory>
     };
     text.resize(end, 0)?;
     let (_, room) = text.split_at_mut(start);
-    let _ = hex::encode_to_slice(bytes, room);
+    hex::encode_to_slice(bytes, room).unwrap();
     Ok(())
 }

@@ -1,14 +1,14 @@
 -- Packets whose numbers rise by one.
-use Rattle.std.proofs.Common.{◌≡◌, ℕ, zero, suc, ◌+◌, ◌-◌, ◌<◌, ◌≤◌, Bool, true, false, cond, nat_le, List, [], ◌∷◌, ◌++◌, length, drop, filter, Option, Some, None, refl, sym, ap, ◌∙◌, subst, arith}
+use Rattle.std.proofs.Common.{◌≡◌, ℕ, zero, suc, ◌+◌, ◌-◌, ◌<◌, ◌≤◌, Bool, true, false, cond, nat_le, List, [], ◌∷◌, ◌++◌, length, drop, Some, None, refl, sym, ap, ◌∙◌, subst, arith}
 use Rattle.std.proofs.lemmas.Bool.{leb-true, leb-false}
 use Rattle.std.specs.List.{slice_get}
 use Rattle.std.proofs.lemmas.Option.{slice_get_within, slice_get-get_or}
 use Rattle.rams_model.specs.declared.held.Held.{Held}
 use Rattle.rams_model.specs.Hold.{lo, hi, last_of, from_number}
-use Rattle.session_core.specs.Seen.{RiseFrom, IsWhole}
+use Rattle.session_core.specs.Seen.{RiseFrom}
 
 -- hi is one above the number of the last packet
-pub hi_of_last : (hs : List Held) (i : ℕ) (h : Held) → i + 1 ≡ length hs → slice_get hs i ≡ Some h → h.n + 1 ≡ hi hs
+hi_of_last : (hs : List Held) (i : ℕ) (h : Held) → i + 1 ≡ length hs → slice_get hs i ≡ Some h → h.n + 1 ≡ hi hs
 unfolding hi
 hi_of_last [] i h e is = cc
 hi_of_last (x ∷ []) zero h e is = let same : x ≡ h = cc in ap (λ (y : Held). y.n + 1) (sym same)
@@ -17,30 +17,30 @@ hi_of_last (x ∷ y ∷ ys) zero h e is = absurd (omega arith)
 hi_of_last (x ∷ y ∷ ys) (suc i) h e is = hi_of_last (y ∷ ys) i h (omega arith) is
 
 -- the packet at a place
-pub record IsAt (n i : ℕ) (hs : List Held) (h : Held) : Type 0 where
-  pub number : h.n ≡ n + i
-  pub below : i < length hs
+record IsAt (n i : ℕ) (hs : List Held) (h : Held) : Type 0 where
+  number : h.n ≡ n + i
+  below : i < length hs
 
-pub numbered : (n : ℕ) (hs : List Held) (i : ℕ) (h : Held) → RiseFrom n hs → slice_get hs i ≡ Some h → IsAt n i hs h
+numbered : (n : ℕ) (hs : List Held) (i : ℕ) (h : Held) → RiseFrom n hs → slice_get hs i ≡ Some h → IsAt n i hs h
 numbered n [] i h r is = cc
 numbered n (x ∷ hs) zero h r is =
     let same : x ≡ h = cc in
     record { number = ap (λ (y : Held). y.n) (sym same) ∙ r.0 ∙ omega arith; below = omega arith }
 numbered n (x ∷ hs) (suc i) h r is =
-    let rest = numbered (n + 1) hs i h r.2 is in
+    let rest = numbered (n + 1) hs i h r.1 is in
     let number = rest.number in
     let below = rest.below in
     record { number = omega arith; below = omega arith }
 
 -- one more packet
-pub RiseFrom-push : (n : ℕ) (hs : List Held) (h : Held) → RiseFrom n hs → h.n ≡ n + length hs → IsWhole h → RiseFrom n (hs ++ h ∷ [])
-RiseFrom-push n [] h r e w = (omega arith, w, tt)
-RiseFrom-push n (x ∷ hs) h r e w = (r.0, r.1, RiseFrom-push (n + 1) hs h r.2 (omega arith) w)
+pub RiseFrom-push : (n : ℕ) (hs : List Held) (h : Held) → RiseFrom n hs → h.n ≡ n + length hs → RiseFrom n (hs ++ h ∷ [])
+RiseFrom-push n [] h r e = (omega arith, tt)
+RiseFrom-push n (x ∷ hs) h r e = (r.0, RiseFrom-push (n + 1) hs h r.1 (omega arith))
 
 pub hi_of_rise : (n : ℕ) (h : Held) (hs : List Held) → RiseFrom n (h ∷ hs) → hi (h ∷ hs) ≡ n + length (h ∷ hs)
 unfolding hi
 hi_of_rise n h [] r = let e = r.0 in omega arith
-hi_of_rise n h (k ∷ hs) r = let e = hi_of_rise (n + 1) k hs r.2 in omega arith
+hi_of_rise n h (k ∷ hs) r = let e = hi_of_rise (n + 1) k hs r.1 in omega arith
 
 -- all numbers are at or above m
 filter_all : (m n : ℕ) (hs : List Held) → RiseFrom n hs → m ≤ n → from_number m hs ≡ hs
@@ -48,7 +48,7 @@ filter_all m n [] r le = refl
 filter_all m n (h ∷ hs) r le =
     let number = r.0 in
     let at_least : m ≤ h.n = omega arith in
-    let rest = filter_all m (n + 1) hs r.2 (omega arith) in
+    let rest = filter_all m (n + 1) hs r.1 (omega arith) in
     let step : (b : Bool) → nat_le m h.n ≡ b → cond b (h ∷ from_number m hs) (from_number m hs) ≡ h ∷ hs =
     elim [ true ↦ λ e. ap (λ (l : List Held). h ∷ l) rest | false ↦ λ e. absurd (omega (arith, leb-false m h.n e)) ] in
     step (nat_le m h.n) refl
@@ -60,7 +60,7 @@ from_number_of_rise m n [] (suc k) r e = refl
 from_number_of_rise m n (h ∷ hs) zero r e = filter_all m n (h ∷ hs) r (omega arith)
 from_number_of_rise m n (h ∷ hs) (suc k) r e =
     let number = r.0 in
-    let rest = from_number_of_rise m (n + 1) hs k r.2 (omega arith) in
+    let rest = from_number_of_rise m (n + 1) hs k r.1 (omega arith) in
     let step : (b : Bool) → nat_le m h.n ≡ b → cond b (h ∷ from_number m hs) (from_number m hs) ≡ drop k hs =
     elim [ true ↦ λ t. absurd (omega (arith, leb-true m h.n t)) | false ↦ λ t. rest ] in
     step (nat_le m h.n) refl

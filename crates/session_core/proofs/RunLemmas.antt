@@ -1,5 +1,5 @@
 -- The steps of the loops over a run.
-use Rattle.std.proofs.Common.{◌≡◌, ℕ, zero, suc, ◌+◌, ◌-◌, ◌<◌, ◌≤◌, ◌==◌, ◌&&◌, Bool, true, false, cond, nat_le, List, [], ◌∷◌, ◌++◌, length, get_or, take, drop, refl, sym, ap, ◌∙◌, subst, append_assoc, append-nil, arith}
+use Rattle.std.proofs.Common.{◌≡◌, ℕ, ◌+◌, ◌-◌, ◌<◌, ◌≤◌, ◌==◌, ◌&&◌, true, false, cond, nat_le, List, [], ◌∷◌, ◌++◌, length, get_or, take, drop, sym, ap, ◌∙◌, append_assoc, append-nil, arith}
 use Rattle.std.proofs.lemmas.List.{take_more, drop_more, drop_all}
 use Rattle.rams_model.specs.declared.answer.Order.{Order}
 use Rattle.rams_model.specs.declared.answer.Order.TheVariants.{Rtx}
@@ -8,7 +8,9 @@ use Rattle.rams_model.specs.declared.note.Note.{Note}
 use Rattle.rams_model.specs.declared.note.Note.TheVariants.{Burst}
 use Rattle.rams_model.specs.Run.{run}
 use Rattle.session_core.specs.Render.{AllRender}
-use Rattle.session_core.specs.Seen.{RiseFrom, AllWhole}
+use Rattle.std.specs.Prelude.{All}
+use Rattle.std.proofs.lemmas.List.Elements.{All-head, All-tail}
+use Rattle.session_core.specs.Seen.{IsWhole}
 use Rattle.session_core.specs.Runs.{sequence_at, burst_notes, burst_orders}
 
 -- the run of a list that begins with a packet that is sent
@@ -87,26 +89,8 @@ unfolding burst_orders
 orders_end held made whole seq0 client sent i end so_far =
     sym (append-nil made) ∙ ap (λ (l : List Held). made ++ burst_orders seq0 client (sent + i) l) (sym (drop_all i held end)) ∙ so_far
 
--- ---- whole packets
-
-pub AllWhole-rise : (n : ℕ) (hs : List Held) → RiseFrom n hs → AllWhole hs
-AllWhole-rise n [] r = tt
-AllWhole-rise n (h ∷ hs) r = (r.1, AllWhole-rise (n + 1) hs r.2)
-
-pub AllWhole-drop : (k : ℕ) (hs : List Held) → AllWhole hs → AllWhole (drop k hs)
-AllWhole-drop zero hs w = w
-AllWhole-drop (suc k) [] w = w
-AllWhole-drop (suc k) (h ∷ hs) w = AllWhole-drop k hs w.1
-
-pub AllWhole-take : (k : ℕ) (hs : List Held) → AllWhole hs → AllWhole (take k hs)
-AllWhole-take zero hs w = tt
-AllWhole-take (suc k) [] w = tt
-AllWhole-take (suc k) (h ∷ hs) w = (w.0, AllWhole-take k hs w.1)
-
-pub AllRender-burst_orders : (seq0 client sent : ℕ) (hs : List Held) → AllWhole hs → AllRender (burst_orders seq0 client sent hs)
+-- retransmissions of packets with a header can be rendered
+pub AllRender-burst_orders : (seq0 client sent : ℕ) (hs : List Held) → All IsWhole hs → AllRender (burst_orders seq0 client sent hs)
 unfolding burst_orders
-AllRender-burst_orders seq0 client sent [] w = tt
-AllRender-burst_orders seq0 client sent (h ∷ hs) w =
-    let least = w.0.least in
-    let most = w.0.most in
-    ((least, omega arith), AllRender-burst_orders seq0 client (sent + 1) hs w.1)
+AllRender-burst_orders seq0 client sent [] whole = tt
+AllRender-burst_orders seq0 client sent (h ∷ hs) whole = ((All-head IsWhole h hs whole).header, AllRender-burst_orders seq0 client (sent + 1) hs (All-tail IsWhole h hs whole))

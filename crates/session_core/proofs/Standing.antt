@@ -1,12 +1,12 @@
 -- A core stands for the history with each event's answer.
-use Rattle.std.proofs.Common.{◌≡◌, ℕ, ◌+◌, ◌-◌, ◌%◌, ◌<◌, ◌≤◌, ◌&&◌, Bool, not, true, false, List, [], ◌∷◌, ◌++◌, length, Option, Some, None, option_map, is_some, nat_lt, refl, sym, ap, ◌∙◌, subst, append_assoc, append-nil, length-append, arith}
+use Rattle.std.proofs.Common.{◌≡◌, ℕ, ◌+◌, ◌%◌, ◌<◌, ◌≤◌, ◌&&◌, Bool, not, true, false, List, [], ◌∷◌, ◌++◌, length, Option, Some, None, option_map, is_some, nat_lt, refl, sym, ap, ◌∙◌, subst, append-nil, length-append, arith}
 use Rattle.rams_model.specs.declared.answer.Order.{Order}
 use Rattle.rams_model.specs.declared.event.Event.TheVariants.{Live, Feedback, Tick}
 use Rattle.rams_model.specs.declared.held.Held.{Held}
 use Rattle.rams_model.specs.declared.note.Note.{Note}
 use Rattle.rams_model.specs.Answered.{Answered, answered}
 use Rattle.rams_model.specs.Settings.{Settings}
-use Rattle.rams_model.specs.History.{Item, began, noted, History, source, hold}
+use Rattle.rams_model.specs.History.{began, noted, History, source, hold}
 use Rattle.rams_model.specs.Standing.{Burst, burst, sendings, was_asked, ticks, sequence}
 use Rattle.rams_model.specs.Run.{send}
 use Rattle.rams_model.specs.Orders.{newest_notes, newest_orders}
@@ -16,27 +16,27 @@ use Rattle.rams_model.specs.declared.event.Event.{Event}
 use Rattle.rams_model.specs.declared.note.LiveNote.TheVariants.{Took}
 use Rattle.rams_model.specs.declared.note.Note.TheVariants as notes
 use Rattle.rams_model.specs.declared.answer.Order.TheVariants as orders
-use Rattle.rams_model.specs.Packet.{Packet, packet_of}
-use Rattle.rams_model.specs.Hold.{Start, held_as, from_number, last_of, newest_start}
+use Rattle.rams_model.specs.Packet.{packet_of}
+use Rattle.rams_model.specs.Hold.{Start, held_as, from_number, newest_start}
 use Rattle.rams_model.specs.History.{next_number}
 use Rattle.rams_model.specs.Standing.{next, begun}
 use Rattle.rams_model.specs.Run.{run}
-use Rattle.rams_model.specs.Verdict.{join_ticks, accepts, after_request}
+use Rattle.rams_model.specs.Verdict.{join_ticks, accepts}
 use Rattle.rams_model.specs.Lawful.{after, served}
 use Rattle.rams_model.specs.Orders.{answer, newest_answer, accept_info}
 use Rattle.std.proofs.lemmas.Bool.{ltb-true, and_parts}
-use Rattle.session_core.specs.Seen.{Answers, serves}
+use Rattle.session_core.specs.Seen.{Answers, serves, new_core}
 use Rattle.session_core.specs.Runs.{sequence_at}
 use Rattle.session_core.proofs.HoldLemmas.{last_of_all}
 
 -- what is noted of a run
-pub newest_notes-send : (s : Settings) (client : ℕ) (hs : List Held) (history : History) (later : List Note)
+newest_notes-send : (s : Settings) (client : ℕ) (hs : List Held) (history : History) (later : List Note)
     → newest_notes (send s client hs history) later ≡ newest_notes history (burst_notes s.channel.seq0 client (sendings history) hs ++ later)
 unfolding send newest_notes burst_notes sendings
 newest_notes-send s client [] history later = refl
 newest_notes-send s client (h ∷ hs) history later = newest_notes-send s client hs _ later
 
-pub newest_orders-send : (s : Settings) (client : ℕ) (hs : List Held) (history : History) (later : List Order)
+newest_orders-send : (s : Settings) (client : ℕ) (hs : List Held) (history : History) (later : List Order)
     → newest_orders s (send s client hs history) later ≡ newest_orders s history (burst_orders s.channel.seq0 client (sendings history) hs ++ later)
 unfolding send newest_orders burst_orders sendings
 newest_orders-send s client [] history later = refl
@@ -72,6 +72,12 @@ unfolding send burst
 burst-send s client [] history b e = e ∙ ap (λ k. Some (record b { sent = k })) (omega arith)
 burst-send s client (h ∷ hs) history b e =
     burst-send s client hs _ (sent_more 1 b) (ap (option_map _) e) ∙ ap (λ k. Some (record b { sent = k })) (omega arith)
+
+-- ---- a new core
+
+pub new_core_stands : (s : Settings) → StandsFor (new_core s) []
+unfolding source burst sendings was_asked ticks
+new_core_stands s = record { held = refl; room = omega arith; burst = refl; sent = refl; asked = refl; ticks = refl }
 
 -- ---- a live packet
 

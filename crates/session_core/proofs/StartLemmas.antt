@@ -1,8 +1,10 @@
 -- The search for the newest eligible access point, from the newest packet on.
-use Rattle.std.proofs.Common.{◌≡◌, ℕ, zero, suc, ◌+◌, ◌-◌, ◌*◌, ◌<◌, ◌≤◌, ◌&&◌, Bool, true, false, cond, nat_le, List, [], ◌∷◌, length, get_or, drop, Option, Some, None, refl, sym, ap, ◌∙◌, arith}
-use Rattle.std.proofs.lemmas.List.{drop_more, drop_all}
+use Rattle.std.proofs.Common.{◌≡◌, ℕ, zero, suc, ◌+◌, ◌-◌, ◌*◌, ◌<◌, ◌&&◌, Bool, cond, nat_le, List, [], ◌∷◌, length, get_or, drop, Option, Some, None, sym, ap, ◌∙◌, subst, arith}
+use Rattle.std.proofs.lemmas.List.{drop_more, drop_all, length-reverse, get_or-reverse}
 use Rattle.std.proofs.lemmas.List.Sums.{sum_by-cons}
-use Rattle.std.specs.Prelude.{if◌then◌else◌}
+use Rattle.std.specs.Prelude.{if◌then◌else◌, reverse, All}
+use Rattle.std.proofs.lemmas.List.Elements.{All-get_or}
+use Rattle.session_core.specs.Seen.{IsWhole}
 use Rattle.rams_model.specs.declared.channel.Channel.{Channel}
 use Rattle.rams_model.specs.declared.held.Held.{Held}
 use Rattle.rams_model.specs.Hold.{wires, Start, start_at, is_eligible, or_start, newest_start}
@@ -17,7 +19,7 @@ start_in_front c (h ∷ hs) (suc k) s e =
     ap (λ (o : Option Start). or_start o (if is_eligible c h hs then Some (start_at h hs) else None)) (start_in_front c hs k s e)
 
 -- one packet more, where none so far is eligible
-pub newest_start-one : (c : Channel) (held : List Held) (k : ℕ) (h : Held) (b : Bool) → k < length held → h ≡ get_or held k h → newest_start c (drop (k + 1) held) ≡ None
+newest_start-one : (c : Channel) (held : List Held) (k : ℕ) (h : Held) (b : Bool) → k < length held → h ≡ get_or held k h → newest_start c (drop (k + 1) held) ≡ None
     → is_eligible c h (drop (k + 1) held) ≡ b → newest_start c (drop k held) ≡ cond b (Some (start_at h (drop (k + 1) held))) None
 unfolding newest_start
 newest_start-one c held k h b below is none test =
@@ -26,14 +28,7 @@ newest_start-one c held k h b below is none test =
     ∙ ap (λ (o : Option Start). or_start o (if is_eligible c h rest then Some (start_at h rest) else None)) none
     ∙ ap (λ (t : Bool). cond t (Some (start_at h rest)) None) test
 
-pub newest_start-past : (c : Channel) (held : List Held) (k : ℕ) → length held ≤ k → newest_start c (drop k held) ≡ None
-unfolding newest_start
-newest_start-past c held k end = ap (newest_start c) (drop_all k held end)
-
-pub wires-past : (held : List Held) (k : ℕ) → length held ≤ k → 0 ≡ wires (drop k held)
-wires-past held k end = sym (ap wires (drop_all k held end))
-
-pub wires-one : (held : List Held) (k : ℕ) (h : Held) (behind : ℕ) → k < length held → h ≡ get_or held k h → behind ≡ wires (drop (k + 1) held)
+wires-one : (held : List Held) (k : ℕ) (h : Held) (behind : ℕ) → k < length held → h ≡ get_or held k h → behind ≡ wires (drop (k + 1) held)
     → behind + h.wire ≡ wires (drop k held)
 wires-one held k h behind below is so_far =
     let split : wires (drop k held) ≡ wires (h ∷ drop (k + 1) held) = ap wires (drop_more held k h below ∙ ap (λ (x : Held). x ∷ drop (k + 1) held) (sym is)) in
@@ -44,6 +39,29 @@ wires-one held k h behind below is so_far =
 pub record Looked (c : Channel) (held : List Held) (newer behind : ℕ) (found : Option Start) : Type 0 where
   pub start : newest_start c (drop (length held - newer) held) ≡ found
   pub sum : behind ≡ wires (drop (length held - newer) held)
+
+-- the first turn
+pub looked_at_none : (c : Channel) (held : List Held) → Looked c held 0 0 None
+unfolding newest_start
+looked_at_none c held =
+    let past = drop_all (length held - 0) held (omega arith) in
+    record { start = ap (newest_start c) past; sum = sym (ap wires past) }
+
+-- the turn after the last
+pub looked_at_all : (c : Channel) (held : List Held) (newer behind : ℕ) (found : Option Start) → newer ≡ length held → Looked c held newer behind found → newest_start c held ≡ found
+looked_at_all c held newer behind found e looked =
+    let front : 0 ≡ length held - newer = omega arith in
+    ap (λ i. newest_start c (drop i held)) front ∙ looked.start
+
+-- the packet that comes after so many newer ones
+pub is_in_front : (held : List Held) (newer : ℕ) (h : Held) → (newer < length (reverse held)) × (h ≡ get_or (reverse held) newer h)
+    → (newer < length held) × (h ≡ get_or held (length held - 1 - newer) h)
+is_in_front held newer h at =
+    let below : newer < length held = omega (arith, length-reverse held, at.0) in
+    (below, at.1 ∙ get_or-reverse held newer h below)
+
+pub whole_at : (held : List Held) (newer : ℕ) (h : Held) → All IsWhole held → (newer < length held) × (h ≡ get_or held (length held - 1 - newer) h) → IsWhole h
+whole_at held newer h whole at = subst IsWhole (sym at.1) (All-get_or IsWhole held (length held - 1 - newer) h (let below = at.0 in omega arith) whole)
 
 pub looked_at_one : (c : Channel) (held : List Held) (newer behind wire room : ℕ) (h : Held) (b : Bool) → newer < length held → h ≡ get_or held (length held - 1 - newer) h
     → Looked c held newer behind None → wire ≡ h.wire → room ≡ c.ring * c.minwire → (h.access && nat_le ((behind + wire) + c.declared) room) ≡ b

@@ -1,5 +1,5 @@
 -- What contracts see of a core, and the history that it stands for.
-use Rattle.std.specs.Prelude.{◌≡◌, ℕ, zero, ◌+◌, ◌≤◌, ◌<◌, Bool, ◌&&◌, not, nat_lt, List, [], ◌∷◌, length, Option, None, Some, is_some}
+use Rattle.std.specs.Prelude.{◌≡◌, ℕ, ◌+◌, ◌≤◌, ◌<◌, Bool, ◌&&◌, not, nat_lt, List, [], ◌∷◌, length, Option, None, Some, is_some, All}
 use Rattle.rams_model.specs.declared.event.Event.{Event}
 use Rattle.rams_model.specs.declared.event.Event.TheVariants.{Live, Feedback, Tick}
 use Rattle.rams_model.specs.declared.held.Held.{Held}
@@ -12,6 +12,7 @@ use Rattle.rams_model.specs.Lawful.{after}
 use Rattle.rams_model.specs.Orders.{answer}
 use Rattle.rams_model.specs.Built.{is_built_live, is_plain_request}
 
+-- what a core has
 pub record Seen : Type 0 where
   pub settings : Settings
   -- oldest first
@@ -19,6 +20,7 @@ pub record Seen : Type 0 where
   pub burst : Option Burst
   pub ticks : ℕ
 
+-- a core that has seen nothing
 abbrev pub new_core : Settings → Seen
 new_core s = record { settings = s; held = []; burst = None; ticks = 0 }
 
@@ -33,7 +35,7 @@ abbrev pub sent_of : Option Burst → ℕ
 sent_of None = 0
 sent_of (Some b) = b.sent
 
--- The core has what the history says.
+-- The core has what the history says, and its ring still has every packet of the source.
 pub record StandsFor (v : Seen) (history : History) : Type 0 where
   pub held : v.held ≡ source history
   pub room : length (source history) ≤ v.settings.channel.ring
@@ -42,29 +44,25 @@ pub record StandsFor (v : Seen) (history : History) : Type 0 where
   pub asked : was_asked history ≡ is_some v.burst
   pub ticks : v.ticks ≡ ticks history
 
--- a packet that has its fixed header, at most 1,470 bytes, and at most 1,500 on the wire
+-- The packet has at least a fixed header (RFC 3550, 5.1), and takes at most 1,500 bytes on the wire.
 pub record IsWhole (h : Held) : Type 0 where
-  pub least : 12 ≤ length h.packet
-  pub most : length h.packet ≤ 1470
+  pub header : 12 ≤ length h.packet
   pub wire : h.wire ≤ 1500
 
-abbrev pub AllWhole : List Held → Type 0
-AllWhole [] = Unit {0}
-AllWhole (h ∷ hs) = IsWhole h × AllWhole hs
-
--- whole packets whose numbers rise by one from n on
+-- The packets' numbers rise by one from n on.
 abbrev pub RiseFrom : ℕ → List Held → Type 0
 RiseFrom n [] = Unit {0}
-RiseFrom n (h ∷ hs) = (h.n ≡ n) × IsWhole h × RiseFrom (n + 1) hs
+RiseFrom n (h ∷ hs) = (h.n ≡ n) × RiseFrom (n + 1) hs
 
--- a burst lies within what is held
+-- What a burst was sent, and its next packet, lie within what is held or right behind it.
 abbrev pub LiesWithin : List Held → Option Burst → Type 0
 LiesWithin held None = Unit {0}
 LiesWithin held (Some b) = (0 < length held) × (lo held ≤ b.first) × (next b ≤ lo held + length held)
 
--- what every core keeps
+-- What every core keeps.
 pub record IsCore (v : Seen) : Type 0 where
   pub rise : RiseFrom (lo v.held) v.held
+  pub whole : All IsWhole v.held
   pub low : lo v.held < 131072
   pub room : length v.held ≤ v.settings.channel.ring
   pub ring : v.settings.channel.ring ≤ 32768

@@ -9,6 +9,8 @@ mod packet;
 mod request;
 mod run;
 mod session;
+#[cfg(test)]
+mod tests;
 
 pub use channel_config::Config;
 pub use datagram::{append_order, render_order};

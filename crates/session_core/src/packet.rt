@@ -12,7 +12,7 @@ use ram_io::NoMemory;
 use rams_model::{Channel, Held};
 use std::alloc::Global;
 
-/// The 16 bits at a place.
+/// The number in the two bytes from a place on, big-endian.
 pub fn short_at(bytes: &[u8], at: usize) -> u16
     requires { at + 2 ≤ length bytes.now }
     ensures { result ≡ from_be_bytes w16 (drop at bytes.now) }
@@ -21,7 +21,7 @@ pub fn short_at(bytes: &[u8], at: usize) -> u16
     BigEndian::read_u16(rest)
 }
 
-/// The 32 bits at a place.
+/// The number in the four bytes from a place on, big-endian.
 pub fn word_at(bytes: &[u8], at: usize) -> u32
     requires { at + 4 ≤ length bytes.now }
     ensures { result ≡ from_be_bytes w32 (drop at bytes.now) }
@@ -45,7 +45,7 @@ pub fn is_of_channel(channel: &Channel, bytes: &[u8]) -> bool
         && word_at(bytes, 8) == channel.ssrc
 }
 
-/// The sequence number of a plain packet.
+/// The sequence number of a plain packet (RFC 3550, 5.1).
 #[tactic(auto, unfolding(rams_model::specs::Packet::packet_of))]
 pub fn sequence_of(bytes: &[u8]) -> u16
     requires { 12 ≤ length bytes.now }

@@ -1,17 +1,18 @@
 //! The plain RAMS-R, and where the burst that it asks for begins.
-ghost use Rattle.std.specs.Prelude.{◌≡◌, ◌≤◌, ◌<◌, ◌+◌, ◌-◌, ◌*◌, ◌^◌, min, ◌&&◌, nat_le, IfSome, length};
+ghost use Rattle.std.specs.Prelude.{◌≡◌, ◌≤◌, ◌<◌, ◌+◌, ◌-◌, ◌*◌, ◌^◌, min, ◌&&◌, nat_le, All, IfSome, length, option_map};
 ghost use Rattle.rams_model.specs.Hold.{newest_start};
 ghost use Rattle.rams_model.specs.Verdict.{join_ticks};
 ghost use Rattle.rams_model.specs.Orders.{accept_info};
 ghost use Rattle.rams_model.specs.Built.{is_plain_request};
 ghost use Rattle.session_core.specs.Runs.{sequence_at};
-ghost use Rattle.session_core.specs.Starts.{shown};
+ghost use Rattle.session_core.specs.Seen.{IsWhole};
+ghost use Rattle.session_core.specs.Starts.{shown_start};
 
 use crate::run::sequence_at;
 use channel_config::Config;
 use rams_model::{Held, Info};
 
-/// Where a burst may begin: a packet's number, and the wire sizes from it on.
+/// Where a burst may begin: a packet's number, and the wire sizes from it on, in bytes.
 #[derive(Clone, Copy)]
 pub struct Start {
     pub n: u64,
@@ -31,8 +32,8 @@ pub fn is_plain_request(bytes: &[u8]) -> bool
     front == [134, 205, 0, 3].as_slice() && back == [1, 0, 0, 0].as_slice()
 }
 
-/// Whether a burst may begin with this packet: an access point from which on what stands, and what
-/// the source declares, surely fits.
+/// Whether a burst may begin with this packet: an access point from which on all packets, with what
+/// the source declares for a tick, surely fit into the ring.
 fn is_eligible(packet: &Held, total: u64, room: u64) -> bool
     ensures { result ≡ (packet.now.access && nat_le total room) }
 {
@@ -41,15 +42,15 @@ fn is_eligible(packet: &Held, total: u64, room: u64) -> bool
 
 /// The newest eligible access point of what is held.
 pub fn newest_start(config: &Config, held: &[Held]) -> Option<Start>
-    requires { length held.now ≤ 32768 }
-    ensures value { shown result ≡ newest_start config.now.channel held.now }
+    requires few { length held.now ≤ 32768 }
+    requires whole { All IsWhole held.now }
+    ensures value { option_map shown_start result ≡ newest_start config.now.channel held.now }
     ensures small { IfSome result (λ s. s.behind < 2 ^ 62) }
 {
     let channel = config.channel();
     let room = u64::from(channel.ring) * channel.minwire;
     let mut behind = 0u64;
-    for newer in 0..held.len() {
-        let packet = &held[held.len() - 1 - newer];
+    for packet in held.iter().rev() {
         behind += u64::from(packet.wire);
         if is_eligible(packet, behind + channel.declared, room) {
             return Some(Start {
@@ -61,7 +62,7 @@ pub fn newest_start(config: &Config, held: &[Held]) -> Option<Start>
     None
 }
 
-/// After how many ticks a burst at the channel's rate has caught up.
+/// After how many ticks a burst at the channel's rate has caught up from so many bytes behind.
 pub fn join_ticks(config: &Config, behind: u64) -> u64
     requires { behind < 2 ^ 62 }
     ensures { result ≡ join_ticks config.now.channel behind config.now.channel.burst }
@@ -95,5 +96,5 @@ pub fn accept_info(config: &Config, join: u64) -> Info
 fn product_up_to_max(a: u64, b: u32) -> u32
     ensures { result ≡ min (a * b) (2 ^ 32 - 1) }
 {
-    a.saturating_mul(u64::from(b)).min(4_294_967_295) as u32
+    a.saturating_mul(u64::from(b)).min(u64::from(u32::MAX)) as u32
 }

@@ -1,8 +1,8 @@
 //! What a burst is sent in one tick.
-ghost use Rattle.std.specs.Prelude.{◌≡◌, ◌≤◌, ◌<◌, ◌+◌, ◌^◌, ◌==◌, ◌&&◌, nat_le, IfOk, length, take};
+ghost use Rattle.std.specs.Prelude.{◌≡◌, ◌≤◌, ◌<◌, ◌+◌, ◌^◌, ◌==◌, ◌&&◌, nat_le, All, IfOk, length, take};
 ghost use Rattle.rams_model.specs.Hold.{from_number};
 ghost use Rattle.rams_model.specs.Run.{run};
-ghost use Rattle.session_core.specs.Seen.{RiseFrom, AllWhole};
+ghost use Rattle.session_core.specs.Seen.{RiseFrom, IsWhole};
 ghost use Rattle.session_core.specs.Runs.{sequence_at, burst_notes, burst_orders};
 
 use ram_io::NoMemory;
@@ -17,14 +17,15 @@ pub fn sequence_at(seq0: u16, sent: u64) -> u16
     ((u64::from(seq0) + sent) % 65536) as u16
 }
 
+/// Whether this is packet `n`, and fits into the bytes that are left.
 fn is_next(packet: &Held, n: u64, left: u64) -> bool
     ensures { result ≡ (packet.now.n == n && nat_le packet.now.wire left) }
 {
     packet.n == n && u64::from(packet.wire) <= left
 }
 
-#[tactic(auto, using(crate::proofs::RunLemmas::run_goes_on, crate::proofs::RunLemmas::run_stops, crate::proofs::RunLemmas::run_ends))]
 /// How many packets from number `first` on are sent, one after another, within `rate` bytes.
+#[tactic(auto, using(crate::proofs::RunLemmas::run_goes_on, crate::proofs::RunLemmas::run_stops, crate::proofs::RunLemmas::run_ends))]
 pub fn run_length(held: &[Held], first: u64, rate: u64) -> usize
     requires { first + length held.now < 2 ^ 64 }
     ensures within { result ≤ length held.now }
@@ -45,20 +46,21 @@ pub fn run_length(held: &[Held], first: u64, rate: u64) -> usize
 /// number `lo`.
 pub fn run_of(held: &[Held], lo: u64, next: u64, rate: u64) -> &[Held]
     requires rise { RiseFrom lo held.now }
+    requires whole { All IsWhole held.now }
     requires small { lo + length held.now < 2 ^ 63 }
     requires low { lo ≤ next }
     requires high { next ≤ lo + length held.now }
     ensures run { result.now ≡ run next rate (from_number next held.now) }
     ensures within { next + length result.now ≤ lo + length held.now }
-    ensures whole { AllWhole result.now }
+    ensures whole { All IsWhole result.now }
 {
     let (_, later) = held.split_at((next - lo) as usize);
     let (run, _) = later.split_at(run_length(later, next, rate));
     run
 }
 
-#[tactic(auto, using(crate::proofs::RunLemmas::notes_go_on, crate::proofs::RunLemmas::notes_end))]
 /// A note for each packet of a run, after so many sendings.
+#[tactic(auto, using(crate::proofs::RunLemmas::notes_go_on, crate::proofs::RunLemmas::notes_end))]
 pub fn burst_notes(
     alloc: Global,
     seq0: u16,
@@ -80,8 +82,8 @@ pub fn burst_notes(
     Ok(notes)
 }
 
-#[tactic(auto, using(crate::proofs::RunLemmas::orders_go_on, crate::proofs::RunLemmas::orders_end))]
 /// The order of each packet of a run, after so many sendings; the packets are shared, not copied.
+#[tactic(auto, using(crate::proofs::RunLemmas::orders_go_on, crate::proofs::RunLemmas::orders_end))]
 pub fn burst_orders(
     alloc: Global,
     seq0: u16,

@@ -39,7 +39,7 @@ impl Model for Core {
 }
 
 impl Core {
-    ghost use Rattle.std.specs.Prelude.{◌≡◌, ◌≤◌, ◌<◌, ℕ, IfOk, OnErr, IsTrue, length};
+    ghost use Rattle.std.specs.Prelude.{◌≡◌, ◌≤◌, ◌<◌, ℕ, [], IfOk, OnErr, IsTrue, length};
     ghost use Rattle.rams_model.specs.declared.event.Event.TheVariants as events;
     ghost use Rattle.rams_model.specs.Hold.{lo, hi};
     ghost use Rattle.rams_model.specs.History.{History, next_number};
@@ -48,10 +48,11 @@ impl Core {
     ghost use Rattle.session_core.specs.Render.{AllRender};
     ghost use Rattle.session_core.specs.Seen.{StandsFor, Answers, new_core, serves};
 
-    /// A core that has seen nothing; it takes the room of its ring. The channel has access points by marker, no window, and keeps
-    /// nothing from tick to tick.
+    /// A core that has seen nothing, of a channel with access points by marker, no window, and nothing
+    /// kept from tick to tick; it takes the room of its ring.
     pub fn new(alloc: Global, config: &Config) -> Result<Core, NoMemory>
-        ensures { IfOk result (λ core. core ≡ new_core config.now) }
+        ensures value { IfOk result (λ core. core ≡ new_core config.now) }
+        ensures stands { IfOk result (λ core. StandsFor core []) }
     {
         let room = config.channel().ring as usize;
         Ok(Core {
@@ -62,6 +63,7 @@ impl Core {
         })
     }
 
+    /// The settings, as they were given.
     pub fn config(&self) -> &Config
         ensures { result.now ≡ self.now.settings }
     {
@@ -121,6 +123,7 @@ impl Core {
             && newest_start(&self.config, &self.held).is_some()
     }
 
+    /// Whether the sequence number is one more than that of the packet before.
     fn follows(&self, bytes: &[u8]) -> bool
         requires { 12 ≤ length bytes.now }
         ensures { result ≡ follows self.now.held (packet_of bytes.now) }
@@ -152,6 +155,7 @@ impl Core {
         Ok(Answer::new(notes, Vec::new(alloc)))
     }
 
+    /// The number of the packet that comes next.
     fn next_number(&self, bytes: &[u8]) -> u64
         requires { 12 ≤ length bytes.now }
         ensures value { result ≡ next_number self.now.held (packet_of bytes.now) }

@@ -1,7 +1,8 @@
 use Rattle.std.proofs.Common.{◌-◌, sym, ap, ◌∙◌, subst, arith}
 use Rattle.rams_model.specs.Run.{run}
-use Rattle.session_core.specs.Seen.{AllWhole}
-use Rattle.session_core.proofs.RunLemmas.{AllWhole-rise, AllWhole-drop, AllWhole-take}
+use Rattle.std.specs.Prelude.{All}
+use Rattle.std.proofs.lemmas.List.Elements.{All-take, All-drop}
+use Rattle.session_core.specs.Seen.{IsWhole}
 use Rattle.session_core.proofs.HoldLemmas.{from_number_of_rise}
 use Rattle.session_core.proofs.run.run_of.Goals as goal
 
@@ -14,8 +15,6 @@ returns-clause-run c =
 
 pub returns-clause-whole : goal.returns-clause-whole
 returns-clause-whole c =
-    let held = c.args.held.now in
     let later = c.split_at.result.1.now in
-    let rest : AllWhole later =
-      subst AllWhole (sym c.split_at.ensures.back) (AllWhole-drop (c.args.next - c.args.lo) held (AllWhole-rise c.args.lo held c.requires.rise)) in
-    subst AllWhole (sym c.split_at-2.ensures.front) (AllWhole-take c.run_length.result later rest)
+    let rest : All IsWhole later = subst (All IsWhole) (sym c.split_at.ensures.back) (All-drop IsWhole (c.args.next - c.args.lo) c.args.held.now c.requires.whole) in
+    subst (All IsWhole) (sym c.split_at-2.ensures.front) (All-take IsWhole c.run_length.result later rest)

@@ -1,4 +1,4 @@
-use Rattle.std.proofs.Common.{◌≡◌, sym, ap, ◌∙◌, rules}
+use Rattle.std.proofs.Common.{sym, ap, ◌∙◌}
 use Rattle.rams_model.specs.declared.event.Event.TheVariants.{Feedback}
 use Rattle.rams_model.specs.Built.{is_built}
 use Rattle.session_core.specs.Seen.{serves}

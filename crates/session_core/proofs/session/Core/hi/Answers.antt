@@ -1,4 +1,4 @@
-use Rattle.std.proofs.Common.{◌+◌, ◌<◌, length, arith, ap, ◌∙◌}
+use Rattle.std.proofs.Common.{arith, ap, ◌∙◌}
 use Rattle.rams_model.specs.Hold.{lo}
 use Rattle.session_core.specs.Seen.{Seen}
 use Rattle.session_core.proofs.HoldLemmas.{last_number, last_is_small, no_last}

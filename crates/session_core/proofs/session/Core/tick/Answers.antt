@@ -1,4 +1,4 @@
-use Rattle.std.proofs.Common.{◌≡◌, ◌+◌, ◌≤◌, None, Some, List, [], length, option_map, sym, ap, ◌∙◌, subst, arith}
+use Rattle.std.proofs.Common.{◌≡◌, ◌+◌, ◌≤◌, Some, List, [], length, option_map, sym, ap, ◌∙◌, subst, arith}
 use Rattle.rams_model.specs.declared.event.Event.TheVariants.{Tick}
 use Rattle.rams_model.specs.Answered.{Answered, answered}
 use Rattle.rams_model.specs.declared.channel.Channel.{Channel}
@@ -11,7 +11,7 @@ use Rattle.session_core.specs.Seen.{Seen, Answers}
 use Rattle.session_core.specs.Shown.{shown_core, shown_burst}
 use Rattle.session_core.specs.Render.{AllRender}
 use Rattle.session_core.proofs.RunLemmas.{AllRender-burst_orders}
-use Rattle.session_core.proofs.Kept.{tick_keeps, sent_keeps}
+use Rattle.session_core.proofs.Kept.{sent_keeps}
 use Rattle.session_core.proofs.Standing.{idle_answers, tick_answers, answered_so, tick_has_time, none_from}
 use Rattle.session_core.proofs.session.Core.tick.Goals as goal
 
@@ -51,4 +51,4 @@ pub returns-clause-renders : goal.returns-clause-renders
 returns-clause-renders c =
     let sent = c.run_of-run.result.now in
     subst (λ (a : Answered). AllRender a.orders) (sym c.new-2.ensures)
-      (subst AllRender (sym c.in_ok-orders.ensures) (AllRender-burst_orders c.channel.result.now.seq0 c.in-Some.burst.client c.in-Some.burst.sent sent c.run_of-run.ensures.whole))
+    (subst AllRender (sym c.in_ok-orders.ensures) (AllRender-burst_orders c.channel.result.now.seq0 c.in-Some.burst.client c.in-Some.burst.sent sent c.run_of-run.ensures.whole))
