@@ -25,5 +25,5 @@ pub returns-clause-turn : goal.returns-clause-turn
 returns-clause-turn c = λ stage reached number serves.
     let s = c.in-Ok.config in
     subst (λ (r : Result Settings ConfigFault). Took (opened stage reached number r stage.channel) (Some c.in_ok-new.field-0) stage.events reached number GoesOn) c.in-Ok.ensures
-    (subst (λ (v : Seen). Took (opened stage reached number (Ok s) stage.channel) (Some v) stage.events reached number GoesOn) (sym c.in_ok-new.ensures)
+    (subst (λ (v : Seen). Took (opened stage reached number (Ok s) stage.channel) (Some v) stage.events reached number GoesOn) (sym c.in_ok-new.ensures.value)
     (is_opened stage reached number s c.args.core.now stage.channel (sym c.if-is_some.ensures) (ap is_built_channel (sym c.channel.ensures.value) ∙ sym c.if-not-is_built_channel.ensures) serves))
