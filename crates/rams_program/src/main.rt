@@ -2,6 +2,9 @@
 //! status.
 #![tactic(auto)]
 
+ghost use Rattle.std.specs.Prelude.{◌≡◌};
+ghost use Rattle.rams_program.specs.Exit.{exit_number};
+
 use ram_io::{MemClock, MemWire, Octets, Open, StdSink, StdSource};
 use rams_replay::{Status, run};
 use std::alloc::Global;
@@ -57,7 +60,9 @@ fn command<R: Threads + Wait + Sync + Input + Print>(
 }
 
 /// The exit status that a status stands for.
-fn number(status: Status) -> u8 {
+fn number(status: Status) -> u8
+    ensures { result ≡ exit_number status }
+{
     match status {
         Status::Done => 0,
         Status::NoMemory => 1,
