@@ -13,3 +13,6 @@ mod writer;
 pub use commands::{plain, run};
 pub use ram_io::{NoMemory, Octets, Sink, Source};
 pub use rams_model::Status;
+
+#[cfg(test)]
+mod tests;
