@@ -8,11 +8,10 @@ ghost use Rattle.rams_program.specs.Exit.{exit_number};
 use ram_io::{MemClock, MemWire, Octets, Open, StdSink, StdSource};
 use rams_replay::{Status, run};
 use std::alloc::Global;
-use std::env;
-use std::io;
 use std::process::ExitCode;
 use std::sync::Wait;
 use std::thread::Threads;
+use std::{env, io};
 
 const USAGE: &str = "usage: rams-replay run";
 
@@ -56,7 +55,16 @@ fn command<R: Threads + Wait + Sync + Input + Print>(
     let mut clock = MemClock::new(Vec::new(alloc));
     let mut source = StdSource::new(rt.reader());
     let mut sink = StdSink::new(io::writer(rt));
-    run(rt, alloc, words, &mut source, &mut sink, &mut wire, &mut clock, &Open)
+    run(
+        rt,
+        alloc,
+        words,
+        &mut source,
+        &mut sink,
+        &mut wire,
+        &mut clock,
+        &Open,
+    )
 }
 
 /// The exit status that a status stands for.

@@ -13,6 +13,7 @@ mod writer;
 pub use commands::{plain, run};
 pub use ram_io::{NoMemory, Octets, Sink, Source};
 pub use rams_model::Status;
+pub use words::begins_with_run;
 
 #[cfg(test)]
 mod tests;
