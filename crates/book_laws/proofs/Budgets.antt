@@ -6,8 +6,8 @@ use Rattle.rams_model.specs.declared.event.Event.{Event}
 use Rattle.rams_model.specs.declared.event.Event.TheVariants.{Live, Feedback, Tick}
 use Rattle.rams_model.specs.declared.note.Note.TheVariants.{Live as LiveNoted, Accept, Burst as BurstNote}
 use Rattle.rams_model.specs.Settings.{Settings}
-use Rattle.rams_model.specs.History.{began, noted, History}
-use Rattle.rams_model.specs.Standing.{Burst, begun, sent_one, burst}
+use Rattle.rams_model.specs.First.History.{began, noted, History}
+use Rattle.rams_model.specs.First.Standing.{Burst, begun, sent_one, burst}
 use Rattle.book_laws.specs.Sent.{was_accepted, size_of, bytes_to, bytes_sent, events_of}
 use Rattle.book_laws.specs.Moments.{LastAccept}
 use Rattle.book_laws.proofs.Legal.{sent_now, is_tick, in_tick, IsLegal}

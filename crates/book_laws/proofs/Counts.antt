@@ -5,9 +5,9 @@ use Rattle.std.proofs.lemmas.Bool.{eq-eqb, cond-true}
 use Rattle.rams_model.specs.declared.held.Held.{Held}
 use Rattle.rams_model.specs.declared.note.Note.TheVariants.{Live as LiveNoted, Accept, Burst as BurstNote}
 use Rattle.rams_model.specs.Settings.{Settings}
-use Rattle.rams_model.specs.History.{began, noted, History}
-use Rattle.rams_model.specs.Standing.{sequence}
-use Rattle.rams_model.specs.Run.{send}
+use Rattle.rams_model.specs.First.History.{began, noted, History}
+use Rattle.rams_model.specs.First.Standing.{sequence}
+use Rattle.rams_model.specs.First.Run.{send}
 use Rattle.book_laws.specs.Sent.{Sending, sending, first_sendings}
 
 abbrev pub count : ℕ → History → ℕ

@@ -9,8 +9,8 @@ use Rattle.std.proofs.lemmas.List.FromFn.{map-range_with_len_more}
 use Rattle.rams_model.specs.declared.held.Held.{Held}
 use Rattle.rams_model.specs.declared.note.Note.TheVariants.{Live as LiveNoted, Accept, Burst as BurstNote}
 use Rattle.rams_model.specs.Settings.{Settings}
-use Rattle.rams_model.specs.History.{Item, began, noted, History, source}
-use Rattle.rams_model.specs.Standing.{Burst, sent_one, begun, burst, sendings}
+use Rattle.rams_model.specs.First.History.{Item, began, noted, History, source}
+use Rattle.rams_model.specs.First.Standing.{Burst, sent_one, begun, burst, sendings}
 use Rattle.book_laws.specs.Sent.{Sending, sending, first_sendings, sequence_numbers, was_accepted}
 use Rattle.book_laws.specs.Bursts.{AreNumberedFrom, IsPacketOf, AreSequencedFrom}
 use Rattle.book_laws.proofs.Legal.{Sends, IsLegal}

@@ -8,12 +8,12 @@ use Rattle.rams_model.specs.declared.note.Note.TheVariants.{Live as LiveNoted, A
 use Rattle.rams_model.specs.Settings.{Settings}
 use Rattle.rams_model.specs.Packet.{packet_of}
 use Rattle.rams_model.specs.Hold.{Start, newest_start, from_number}
-use Rattle.rams_model.specs.History.{began, noted, History, next_number, source, hold}
-use Rattle.rams_model.specs.Standing.{Burst, next, burst, sequence}
-use Rattle.rams_model.specs.Run.{run, send}
-use Rattle.rams_model.specs.Verdict.{join_ticks, accepts}
-use Rattle.rams_model.specs.Lawful.{served, after, book}
-use Rattle.rams_model.specs.Orders.{replies}
+use Rattle.rams_model.specs.First.History.{began, noted, History, next_number, source, hold}
+use Rattle.rams_model.specs.First.Standing.{Burst, next, burst, sequence}
+use Rattle.rams_model.specs.First.Run.{run, send}
+use Rattle.rams_model.specs.First.Verdict.{join_ticks, accepts}
+use Rattle.rams_model.specs.First.Lawful.{served, after, book}
+use Rattle.rams_model.specs.First.Orders.{replies}
 use Rattle.book_laws.specs.Sent.{events_of}
 use Rattle.book_laws.specs.OneBook.{GoesOn}
 

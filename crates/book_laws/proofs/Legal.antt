@@ -10,11 +10,11 @@ use Rattle.rams_model.specs.declared.note.Note.{Note}
 use Rattle.rams_model.specs.declared.note.Note.TheVariants.{Accept, Burst as BurstNote}
 use Rattle.rams_model.specs.Settings.{Settings}
 use Rattle.rams_model.specs.Hold.{Start, newest_start, wires, from_number}
-use Rattle.rams_model.specs.History.{began, noted, History, source, hold}
-use Rattle.rams_model.specs.Standing.{Burst, next, sent_one, burst, sequence}
-use Rattle.rams_model.specs.Run.{run, send}
-use Rattle.rams_model.specs.Verdict.{accepts}
-use Rattle.rams_model.specs.Lawful.{served, after, book}
+use Rattle.rams_model.specs.First.History.{began, noted, History, source, hold}
+use Rattle.rams_model.specs.First.Standing.{Burst, next, sent_one, burst, sequence}
+use Rattle.rams_model.specs.First.Run.{run, send}
+use Rattle.rams_model.specs.First.Verdict.{accepts}
+use Rattle.rams_model.specs.First.Lawful.{served, after, book}
 use Rattle.book_laws.specs.Sent.{size_of}
 use Rattle.book_laws.specs.Moments.{IsMoment}
 use Rattle.book_laws.proofs.Runs.{Rises, wires-cons, run_rises, run_fits, run_each, each_filter}

@@ -5,7 +5,7 @@ use Rattle.std.specs.List.{AllByRecursion as Each, range_with_len}
 use Rattle.std.proofs.lemmas.Bool.{eqb-false, leb-true, leb-false, and_parts, and_cases, cond_both}
 use Rattle.rams_model.specs.declared.held.Held.{Held}
 use Rattle.rams_model.specs.Hold.{wires, from_number}
-use Rattle.rams_model.specs.Run.{run}
+use Rattle.rams_model.specs.First.Run.{run}
 use Rattle.book_laws.specs.Ticks.{IsLongestThatFits}
 use Rattle.book_laws.proofs.Runs.{Rises, goes, wires-cons, run_fits}
 use Rattle.book_laws.proofs.Rising.{due_next}

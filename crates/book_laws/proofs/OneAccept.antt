@@ -8,12 +8,12 @@ use Rattle.rams_model.specs.declared.held.Held.{Held}
 use Rattle.rams_model.specs.declared.note.Note.TheVariants.{Live as LiveNoted, Accept, Burst as BurstNote}
 use Rattle.rams_model.specs.Settings.{Settings}
 use Rattle.rams_model.specs.Hold.{Start, newest_start, from_number}
-use Rattle.rams_model.specs.History.{began, noted, History, hold}
-use Rattle.rams_model.specs.Standing.{Burst, next, begun, sent_one, burst, was_asked, sequence}
-use Rattle.rams_model.specs.Run.{run, send}
-use Rattle.rams_model.specs.Verdict.{accepts}
-use Rattle.rams_model.specs.Lawful.{served, after, book}
-use Rattle.rams_model.specs.Built.{is_plain_request, is_built}
+use Rattle.rams_model.specs.First.History.{began, noted, History, hold}
+use Rattle.rams_model.specs.First.Standing.{Burst, next, begun, sent_one, burst, was_asked, sequence}
+use Rattle.rams_model.specs.First.Run.{run, send}
+use Rattle.rams_model.specs.First.Verdict.{accepts}
+use Rattle.rams_model.specs.First.Lawful.{served, after, book}
+use Rattle.rams_model.specs.First.Built.{is_plain_request, is_built}
 use Rattle.book_laws.specs.Moments.{are_built}
 
 -- how many requests were accepted

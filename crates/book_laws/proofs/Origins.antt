@@ -13,12 +13,12 @@ use Rattle.rams_model.specs.declared.note.Note.TheVariants.{Live as LiveNoted, B
 use Rattle.rams_model.specs.Settings.{Settings}
 use Rattle.rams_model.specs.Packet.{packet_of, retransmission}
 use Rattle.rams_model.specs.Hold.{Start, newest_start, held_as, from_number}
-use Rattle.rams_model.specs.History.{began, noted, History, next_number, source, hold}
-use Rattle.rams_model.specs.Standing.{Burst, next, burst, sequence}
-use Rattle.rams_model.specs.Run.{run, send}
-use Rattle.rams_model.specs.Verdict.{accepts}
-use Rattle.rams_model.specs.Lawful.{served, after, book}
-use Rattle.rams_model.specs.Orders.{newest_notes, newest_orders, answer, datagram}
+use Rattle.rams_model.specs.First.History.{began, noted, History, next_number, source, hold}
+use Rattle.rams_model.specs.First.Standing.{Burst, next, burst, sequence}
+use Rattle.rams_model.specs.First.Run.{run, send}
+use Rattle.rams_model.specs.First.Verdict.{accepts}
+use Rattle.rams_model.specs.First.Lawful.{served, after, book}
+use Rattle.rams_model.specs.First.Orders.{newest_notes, newest_orders, answer, datagram}
 use Rattle.book_laws.specs.Retransmitted.{IsOfTheSource}
 use Rattle.book_laws.proofs.Runs.{run_each, each_filter}
 use Rattle.book_laws.proofs.Sources.{held_of_source}

@@ -6,7 +6,7 @@ use Rattle.rams_model.specs.declared.event.Event.TheVariants.{Live, Feedback, Ti
 use Rattle.rams_model.specs.declared.held.Held.{Held}
 use Rattle.rams_model.specs.Packet.{packet_of}
 use Rattle.rams_model.specs.Hold.{held_as, hi, from_number}
-use Rattle.rams_model.specs.History.{began, noted, History, next_number, source, hold}
+use Rattle.rams_model.specs.First.History.{began, noted, History, next_number, source, hold}
 use Rattle.book_laws.proofs.Runs.{Rises}
 
 -- an element is the first, or of the rest

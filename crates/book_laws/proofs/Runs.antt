@@ -6,7 +6,7 @@ use Rattle.std.proofs.lemmas.Bool.{eqb-true, leb-true, and_parts, cond_both}
 use Rattle.std.proofs.lemmas.List.Sums.{sum_by-cons}
 use Rattle.rams_model.specs.declared.held.Held.{Held}
 use Rattle.rams_model.specs.Hold.{wires}
-use Rattle.rams_model.specs.Run.{run}
+use Rattle.rams_model.specs.First.Run.{run}
 
 -- the numbers go up from n, without a gap
 abbrev pub Rises : ℕ → List Held → Type 0

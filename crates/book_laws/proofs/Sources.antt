@@ -7,7 +7,7 @@ use Rattle.rams_model.specs.declared.event.Event.TheVariants.{Live, Feedback, Ti
 use Rattle.rams_model.specs.declared.held.Held.{Held}
 use Rattle.rams_model.specs.Packet.{packet_of}
 use Rattle.rams_model.specs.Hold.{held_as}
-use Rattle.rams_model.specs.History.{Item, began, noted, History, next_number, source, hold}
+use Rattle.rams_model.specs.First.History.{Item, began, noted, History, next_number, source, hold}
 
 -- what is held is of the source
 pub held_of_source : (ring : ℕ) (history : History) (h : Held) → Contains (hold ring history) h → Contains (source history) h

@@ -9,10 +9,10 @@ use Rattle.rams_model.specs.declared.held.Held.{Held}
 use Rattle.rams_model.specs.declared.note.Note.TheVariants.{Accept}
 use Rattle.rams_model.specs.Settings.{Settings}
 use Rattle.rams_model.specs.Hold.{wires, from_number}
-use Rattle.rams_model.specs.History.{began, noted, History, hold}
-use Rattle.rams_model.specs.Standing.{Burst, next, burst}
-use Rattle.rams_model.specs.Run.{run, send}
-use Rattle.rams_model.specs.Lawful.{served, after, book}
+use Rattle.rams_model.specs.First.History.{began, noted, History, hold}
+use Rattle.rams_model.specs.First.Standing.{Burst, next, burst}
+use Rattle.rams_model.specs.First.Run.{run, send}
+use Rattle.rams_model.specs.First.Lawful.{served, after, book}
 use Rattle.book_laws.specs.Sent.{first_sendings}
 use Rattle.book_laws.specs.Moments.{LastAccept, are_built}
 use Rattle.book_laws.proofs.Runs.{Rises}

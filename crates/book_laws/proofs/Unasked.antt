@@ -5,8 +5,8 @@ use Rattle.std.proofs.lemmas.Bool.{eqb-true, eq-eqb, both_ways, or_left, or_part
 use Rattle.std.proofs.lemmas.List.{append-nil}
 use Rattle.rams_model.specs.declared.note.Note.TheVariants.{Live as LiveNoted, Accept, Burst as BurstNote}
 use Rattle.rams_model.specs.Settings.{Settings}
-use Rattle.rams_model.specs.History.{Item, began, noted, History}
-use Rattle.rams_model.specs.Standing.{Burst, begun, sent_one, burst}
+use Rattle.rams_model.specs.First.History.{Item, began, noted, History}
+use Rattle.rams_model.specs.First.Standing.{Burst, begun, sent_one, burst}
 use Rattle.book_laws.specs.Sent.{sending, first_sendings, was_accepted, size_of, bytes_to}
 use Rattle.book_laws.specs.Moments.{LastAccept}
 use Rattle.book_laws.proofs.Legal.{IsLegal}

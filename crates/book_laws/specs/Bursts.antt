@@ -2,7 +2,7 @@
 use Rattle.std.specs.Prelude.{◌≡◌, ℕ, ◌+◌, ◌*◌, ◌%◌, ◌≤◌, true, false, List, [], ◌∷◌, ◌++◌, length, map, take, drop, Option, Some, IsTrue, IsSomeAnd, All, Contains}
 use Rattle.std.specs.List.{range_with_len}
 use Rattle.std.specs.Int.{w16, to_be_bytes}
-use Rattle.rams_model.specs.declared.answer.Info.{Info}
+use Rattle.rams_model.specs.declared.message.Info.{Info}
 use Rattle.rams_model.specs.declared.answer.Order.TheVariants as orders
 use Rattle.rams_model.specs.declared.channel.Access.TheVariants.{Marker}
 use Rattle.rams_model.specs.declared.channel.Channel.{Channel}
@@ -11,9 +11,9 @@ use Rattle.rams_model.specs.declared.note.Note.TheVariants.{Accept, Burst}
 use Rattle.rams_model.specs.Settings.{Settings}
 use Rattle.rams_model.specs.Packet.{packet_of}
 use Rattle.rams_model.specs.Hold.{wires}
-use Rattle.rams_model.specs.History.{noted, History, source, hold}
-use Rattle.rams_model.specs.Standing.{sequence}
-use Rattle.rams_model.specs.Orders.{order_of, datagram}
+use Rattle.rams_model.specs.First.History.{noted, History, source, hold}
+use Rattle.rams_model.specs.First.Standing.{sequence}
+use Rattle.rams_model.specs.First.Orders.{order_of, datagram}
 use Rattle.book_laws.specs.Sent.{Sending, sending, first_sendings, sequence_numbers, was_accepted, bytes_to}
 use Rattle.book_laws.specs.Moments.{IsMoment, LastAccept}
 

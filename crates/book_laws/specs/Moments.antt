@@ -4,9 +4,9 @@ use Rattle.rams_model.specs.declared.event.Event.{Event}
 use Rattle.rams_model.specs.declared.held.Held.{Held}
 use Rattle.rams_model.specs.declared.note.Note.TheVariants.{Accept}
 use Rattle.rams_model.specs.Settings.{Settings}
-use Rattle.rams_model.specs.History.{noted, History}
-use Rattle.rams_model.specs.Lawful.{book}
-use Rattle.rams_model.specs.Built.{is_built}
+use Rattle.rams_model.specs.First.History.{noted, History}
+use Rattle.rams_model.specs.First.Lawful.{book}
+use Rattle.rams_model.specs.First.Built.{is_built}
 use Rattle.book_laws.specs.Sent.{was_accepted}
 
 -- This was the history at some moment: the book of some events is this, and what came later.

@@ -2,9 +2,9 @@
 use Rattle.std.specs.Prelude.{◌≡◌, List, ◌++◌, length, drop}
 use Rattle.rams_model.specs.declared.event.Event.{Event}
 use Rattle.rams_model.specs.Settings.{Settings}
-use Rattle.rams_model.specs.History.{History}
-use Rattle.rams_model.specs.Lawful.{book}
-use Rattle.rams_model.specs.Orders.{replies}
+use Rattle.rams_model.specs.First.History.{History}
+use Rattle.rams_model.specs.First.Lawful.{book}
+use Rattle.rams_model.specs.First.Orders.{replies}
 use Rattle.book_laws.specs.Sent.{events_of}
 
 -- The book of more events has that of the earlier ones as its older part, tells of the later ones in front of it, and answers the earlier ones as before.

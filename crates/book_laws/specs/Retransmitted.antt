@@ -8,8 +8,8 @@ use Rattle.rams_model.specs.declared.note.LiveNote.TheVariants.{Took}
 use Rattle.rams_model.specs.declared.note.Note.TheVariants.{Live as LiveNoted}
 use Rattle.rams_model.specs.Settings.{Settings}
 use Rattle.rams_model.specs.Packet.{packet_of, retransmission}
-use Rattle.rams_model.specs.Lawful.{book}
-use Rattle.rams_model.specs.Orders.{answer, datagram}
+use Rattle.rams_model.specs.First.Lawful.{book}
+use Rattle.rams_model.specs.First.Orders.{answer, datagram}
 
 -- One of these events brought a packet, which was taken under this number, and the datagram is its retransmission under this sequence number.
 pub record Retransmits (s : Settings) (events : List Event) (n sequence : ℕ) (sent : List ℕ) : Type 0 where

@@ -3,7 +3,7 @@ use Rattle.std.specs.Prelude.{ℕ, ◌+◌, Bool, false, ◌||◌, ◌==◌, if�
 use Rattle.rams_model.specs.declared.event.Event.{Event}
 use Rattle.rams_model.specs.declared.held.Held.{Held}
 use Rattle.rams_model.specs.declared.note.Note.TheVariants.{Accept, Burst}
-use Rattle.rams_model.specs.History.{began, noted, History}
+use Rattle.rams_model.specs.First.History.{began, noted, History}
 
 -- A packet of a burst that was sent: the number that its note gives, and the packet.
 pub record Sending : Type 0 where

@@ -7,10 +7,10 @@ use Rattle.rams_model.specs.declared.event.Event.TheVariants.{Tick}
 use Rattle.rams_model.specs.declared.held.Held.{Held}
 use Rattle.rams_model.specs.Settings.{Settings}
 use Rattle.rams_model.specs.Hold.{wires}
-use Rattle.rams_model.specs.History.{began, History, source, hold}
-use Rattle.rams_model.specs.Run.{run}
-use Rattle.rams_model.specs.Lawful.{book}
-use Rattle.rams_model.specs.Orders.{datagram}
+use Rattle.rams_model.specs.First.History.{began, History, source, hold}
+use Rattle.rams_model.specs.First.Run.{run}
+use Rattle.rams_model.specs.First.Lawful.{book}
+use Rattle.rams_model.specs.First.Orders.{datagram}
 use Rattle.book_laws.specs.Sent.{first_sendings, bytes_to, bytes_sent, events_of}
 use Rattle.book_laws.specs.Moments.{IsMoment, LastAccept, are_built}
 

@@ -8,9 +8,9 @@ use Rattle.rams_model.specs.declared.note.LiveNote.TheVariants.{Took}
 use Rattle.rams_model.specs.declared.note.Note.{Note}
 use Rattle.rams_model.specs.declared.note.Note.TheVariants.{Live as LiveNoted, Accept, Burst}
 use Rattle.rams_model.specs.Settings.{Settings, settings}
-use Rattle.rams_model.specs.History.{began, noted, History}
-use Rattle.rams_model.specs.Lawful.{book}
-use Rattle.rams_model.specs.Orders.{replies}
+use Rattle.rams_model.specs.First.History.{began, noted, History}
+use Rattle.rams_model.specs.First.Lawful.{book}
+use Rattle.rams_model.specs.First.Orders.{replies}
 use Rattle.book_laws.specs.Sent.{sending, first_sendings, sequence_numbers, was_accepted, bytes_to, bytes_sent}
 use Rattle.book_laws.specs.Moments.{are_built}
 

@@ -1,7 +1,7 @@
 -- The RAMS-I message (RFC 6285, 7.3) as an RTCP packet (RFC 4585, 6.1).
 use Rattle.std.specs.Prelude.{ℕ, ◌+◌, ◌-◌, ◌/◌, ◌%◌, List, [], ◌∷◌, ◌++◌, length, replicate, Option, None, Some}
 use Rattle.std.specs.Int.{Width, w16, w32, w64, to_be_bytes}
-use Rattle.rams_model.specs.declared.answer.Info.{Info}
+use Rattle.rams_model.specs.declared.message.Info.{Info}
 
 -- transport layer feedback of this format
 --  0                   1                   2                   3

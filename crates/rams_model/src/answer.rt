@@ -2,26 +2,10 @@
 ghost use Rattle.std.specs.Prelude.{◌≡◌};
 ghost use Rattle.rams_model.specs.Answered.{answered};
 
+use crate::message::Info;
 use crate::note::Note;
 use bytes::Bytes;
 use std::marker::Model;
-
-/// The fields of a RAMS-I message (RFC 6285, 7.3). Those that are `None` aren't sent.
-#[derive(Clone, Copy, Debug, PartialEq, Eq)]
-pub struct Info {
-    /// Message sequence number.
-    pub msn: u8,
-    /// Response code.
-    pub code: u16,
-    /// Sequence number of the first packet in the retransmission stream.
-    pub first: Option<u16>,
-    /// Earliest time to join the multicast, in ms.
-    pub join_ms: Option<u32>,
-    /// Duration of the burst, in ms.
-    pub length_ms: Option<u32>,
-    /// Most bits per second that are sent.
-    pub bps: Option<u64>,
-}
 
 /// A datagram that an answer asks to send.
 #[derive(Debug, Drop)]

@@ -1,5 +1,5 @@
 //! Worked examples, which the checker computes.
-ghost use Rattle.rams_model.specs.Examples.{NoEvent, OnePacketPerTick};
+ghost use Rattle.rams_model.specs.First.Examples.{NoEvent, OnePacketPerTick};
 
 /// A trace without events.
 pub fn no_event()

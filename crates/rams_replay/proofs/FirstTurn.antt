@@ -7,8 +7,8 @@ use Rattle.rams_model.specs.declared.fault.LineFault.{LineFault}
 use Rattle.rams_model.specs.declared.fault.LineFault.TheVariants.{Form}
 use Rattle.rams_model.specs.TraceLine.{TraceLine, line_at}
 use Rattle.rams_model.specs.TraceOrder.{Reached}
-use Rattle.rams_model.specs.TraceText as text
-use Rattle.rams_model.specs.TraceText.{Stage, Outcome, goes_on, ends, not_built, after_bytes, after_text, after_turn, turn, text_from}
+use Rattle.rams_model.specs.First.TraceText as text
+use Rattle.rams_model.specs.First.TraceText.{Stage, Outcome, goes_on, ends, not_built, after_bytes, after_text, after_turn, turn, text_from}
 use Rattle.rams_model.specs.Words.{lines_of}
 use Rattle.session_core.specs.Seen.{Seen}
 use Rattle.rams_replay.specs.declared.replay.Turn.{Turn}

@@ -4,7 +4,7 @@ use Rattle.std.specs.Io.KnownBytes.{prepend_known}
 use Rattle.line_io.specs.Passes.{Passes}
 use Rattle.rams_model.specs.declared.status.Status.{Status}
 use Rattle.rams_model.specs.TraceOrder.{Reached}
-use Rattle.rams_model.specs.TraceText.{Stage, Outcome, opening, after_text, text_from}
+use Rattle.rams_model.specs.First.TraceText.{Stage, Outcome, opening, after_text, text_from}
 use Rattle.rams_model.specs.Words.{lines_of}
 use Rattle.session_core.specs.Seen.{Seen}
 use Rattle.rams_replay.specs.declared.replay.Turn.{Turn}

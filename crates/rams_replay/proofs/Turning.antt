@@ -2,11 +2,11 @@
 use Rattle.std.proofs.Common.{◌≡◌, ℕ, Bool, true, false, cond, [], Option, None, Some, Ok, is_some, refl, subst, arith}
 use Rattle.rams_model.specs.declared.event.Event.{Event}
 use Rattle.rams_model.specs.Settings.{Settings}
-use Rattle.rams_model.specs.Built.{is_built_channel}
-use Rattle.rams_model.specs.History.{History, source}
-use Rattle.rams_model.specs.Standing.{burst, sendings, was_asked, ticks}
+use Rattle.rams_model.specs.First.Built.{is_built_channel}
+use Rattle.rams_model.specs.First.History.{History, source}
+use Rattle.rams_model.specs.First.Standing.{burst, sendings, was_asked, ticks}
 use Rattle.rams_model.specs.TraceOrder.{Reached}
-use Rattle.rams_model.specs.TraceText.{Stage, goes_on, ends, not_built, opened, on_channel}
+use Rattle.rams_model.specs.First.TraceText.{Stage, goes_on, ends, not_built, opened, on_channel}
 use Rattle.session_core.specs.Seen.{Seen, StandsFor, new_core}
 use Rattle.rams_replay.specs.declared.replay.Turn.{Turn}
 use Rattle.rams_replay.specs.declared.replay.Turn.TheVariants.{GoesOn, NotBuilt}

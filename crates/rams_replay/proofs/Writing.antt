@@ -6,7 +6,8 @@ use Rattle.line_io.proofs.Passing.{Passes-none, Passes-put, Passes-more}
 use Rattle.rams_model.specs.declared.answer.Order.{Order}
 use Rattle.rams_model.specs.declared.note.Note.{Note}
 use Rattle.rams_model.specs.Settings.{Settings}
-use Rattle.rams_model.specs.BookText.{notes_text, order_count}
+use Rattle.rams_model.specs.BookText.{order_count}
+use Rattle.rams_model.specs.First.BookText.{notes_text}
 use Rattle.rams_replay.specs.declared.stop.Stop.{Stop}
 use Rattle.rams_replay.specs.declared.stop.Stop.TheVariants.{Memory, Read, Write}
 use Rattle.rams_replay.specs.Stops.{StopsIn}

@@ -4,7 +4,7 @@ use Rattle.std.specs.Io.KnownBytes.{Appends}
 use Rattle.ram_io.specs.Faults.{Rose}
 use Rattle.rams_model.specs.declared.status.Status.{Status}
 use Rattle.rams_model.specs.declared.status.Status.TheVariants.{Done, NoMemory, Words, ReadFault, WriteFault, BadTrace, WireFault, TooLong, NotBuilt}
-use Rattle.rams_model.specs.TraceText.{Outcome}
+use Rattle.rams_model.specs.First.TraceText.{Outcome}
 use Rattle.rams_replay.specs.declared.stop.Stop.{Stop}
 use Rattle.rams_replay.specs.declared.stop.Stop.TheVariants.{Memory, Read, Write}
 

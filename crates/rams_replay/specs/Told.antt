@@ -4,7 +4,7 @@ use Rattle.line_io.specs.Passes.{Passes}
 use Rattle.rams_model.specs.declared.status.Status.{Status}
 use Rattle.rams_model.specs.Words.{lines_of}
 use Rattle.rams_model.specs.TraceOrder.{Reached}
-use Rattle.rams_model.specs.TraceText.{Stage, Outcome, after_text, text_from}
+use Rattle.rams_model.specs.First.TraceText.{Stage, Outcome, after_text, text_from}
 use Rattle.session_core.specs.Seen.{Seen}
 use Rattle.rams_replay.specs.declared.replay.Turn.{Turn}
 use Rattle.rams_replay.specs.Turns.{Stands, ending, written}

@@ -6,11 +6,11 @@ use Rattle.rams_model.specs.declared.status.Status.{Status}
 use Rattle.rams_model.specs.declared.status.Status.TheVariants as statuses
 use Rattle.rams_model.specs.Answered.{Answered}
 use Rattle.rams_model.specs.Settings.{Settings}
-use Rattle.rams_model.specs.History.{History}
-use Rattle.rams_model.specs.BookText.{answer_text}
+use Rattle.rams_model.specs.First.History.{History}
+use Rattle.rams_model.specs.First.BookText.{answer_text}
 use Rattle.rams_model.specs.TraceOrder.{Reached}
-use Rattle.rams_model.specs.TraceText.{Stage, Outcome, goes_on, ends, not_built, done}
-use Rattle.rams_model.specs.TraceText as text
+use Rattle.rams_model.specs.First.TraceText.{Stage, Outcome, goes_on, ends, not_built, done}
+use Rattle.rams_model.specs.First.TraceText as text
 use Rattle.session_core.specs.Render.{AllRender}
 use Rattle.session_core.specs.Seen.{Seen, StandsFor, Answers, serves}
 use Rattle.rams_replay.specs.declared.heard.Heard.{Heard}

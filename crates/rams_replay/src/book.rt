@@ -4,7 +4,7 @@ ghost use Rattle.std.specs.Io.KnownBytes.{Appends, prepend_known};
 ghost use Rattle.line_io.specs.Passes.{Passes};
 ghost use Rattle.rams_replay.specs.declared.stop.Stop.TheVariants.{Write};
 ghost use Rattle.rams_model.specs.Words.{lines_of};
-ghost use Rattle.rams_model.specs.TraceText.{Stage, opening, text_from, trace_text};
+ghost use Rattle.rams_model.specs.First.TraceText.{Stage, opening, text_from, trace_text};
 ghost use Rattle.rams_replay.specs.Stops.{IsStopped, IsStoppedByRead, OnlyMemoryStops, StopsIn, EndsAs};
 ghost use Rattle.rams_replay.specs.Told.{IfTold, IfBothTold, IsFirstTurn, Ends};
 ghost use Rattle.rams_replay.specs.Turns.{Stands, CanWrite, IsEnd, ending};

@@ -1,7 +1,7 @@
 //! The commands.
 ghost use Rattle.std.specs.Prelude.{◌≡◌, false, true, not, ℕ, List, length};
 ghost use Rattle.line_io.specs.Passes.{Passes};
-ghost use Rattle.rams_model.specs.TraceText.{trace_text};
+ghost use Rattle.rams_model.specs.First.TraceText.{trace_text};
 ghost use Rattle.rams_replay.specs.CommandWords.{is_run, begins_with_run};
 ghost use Rattle.rams_replay.specs.Statuses.{status_of, is_words, HasText, IsCaused, IsOrLacksMemory};
 ghost use Rattle.rams_replay.specs.Told.{IfTold};

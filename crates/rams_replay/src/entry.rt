@@ -1,8 +1,9 @@
 //! The lines of one note: its own, and that of the datagram that it asks for.
 ghost use Rattle.std.specs.Prelude.{◌≡◌, ◌∷◌, ◌++◌, [], MatchOption, OnOk, drop, take};
 ghost use Rattle.std.specs.List.{flat_map};
-ghost use Rattle.rams_model.specs.BookText.{order_count, order_line};
-ghost use Rattle.rams_model.specs.Orders.{client_of};
+ghost use Rattle.rams_model.specs.BookText.{order_count};
+ghost use Rattle.rams_model.specs.First.BookText.{order_line};
+ghost use Rattle.rams_model.specs.First.Orders.{client_of};
 ghost use Rattle.session_core.specs.Render.{CanRender, AllRender};
 ghost use Rattle.rams_replay.specs.Entries.{entry_text};
 

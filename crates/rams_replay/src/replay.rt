@@ -1,10 +1,10 @@
 //! A trace, line by line.
 ghost use Rattle.std.specs.Prelude.{◌≡◌, ℕ, IfOk, Some};
-ghost use Rattle.rams_model.specs.Built.{is_built_channel};
-ghost use Rattle.rams_model.specs.History.{History};
+ghost use Rattle.rams_model.specs.First.Built.{is_built_channel};
+ghost use Rattle.rams_model.specs.First.History.{History};
 ghost use Rattle.rams_model.specs.Settings.{Settings, settings, checked};
 ghost use Rattle.rams_model.specs.TraceOrder.{Reached};
-ghost use Rattle.rams_model.specs.TraceText.{Stage, opening, turn, after_line, opened, on_channel};
+ghost use Rattle.rams_model.specs.First.TraceText.{Stage, opening, turn, after_line, opened, on_channel};
 ghost use Rattle.session_core.specs.Seen.{StandsFor};
 ghost use Rattle.trace_text.specs.Shown.{shown, HasDigits};
 ghost use Rattle.rams_replay.specs.Turns.{Stands, ServesChannel, Took, CanWrite, event_of, is_its};
@@ -55,7 +55,7 @@ pub fn new_replay(alloc: Global) -> Replay
 }
 
 /// What the next line does.
-#[tactic(auto, unfolding(rams_model::specs::TraceText::turn))]
+#[tactic(auto, unfolding(rams_model::specs::First::TraceText::turn))]
 pub fn take_line(alloc: Global, replay: &mut Replay, line: &[u8]) -> Result<Turn, NoMemory>
     ensures turn { IfOk result (λ t. (stage : Stage) (number : ℕ) → Stands replay.old.core replay.old.events replay.old.state stage
         → Took (turn stage number line.now) replay.new.core replay.new.events replay.new.state number t) }

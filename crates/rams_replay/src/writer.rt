@@ -1,7 +1,8 @@
 //! The text of a book on its way to the sink.
 ghost use Rattle.std.specs.Prelude.{◌≡◌, ℕ, ◌+◌, ◌++◌, IfOk, IfErr, OnOk, List, [], codes, length};
 ghost use Rattle.line_io.specs.Passes.{Passes};
-ghost use Rattle.rams_model.specs.BookText.{spaced, answer_text};
+ghost use Rattle.rams_model.specs.BookText.{spaced};
+ghost use Rattle.rams_model.specs.First.BookText.{answer_text};
 ghost use Rattle.session_core.specs.Render.{AllRender};
 ghost use Rattle.rams_replay.specs.Entries.{entry_text};
 ghost use Rattle.rams_replay.specs.Turns.{written, CanWrite};

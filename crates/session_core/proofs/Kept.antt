@@ -5,8 +5,8 @@ use Rattle.rams_model.specs.declared.held.Held.{Held}
 use Rattle.rams_model.specs.Packet.{Packet}
 use Rattle.rams_model.specs.Hold.{Start, start_at, is_eligible, or_start, newest_start, lo}
 use Rattle.std.specs.Prelude.{Bool, true, false, cond}
-use Rattle.rams_model.specs.History.{next_number}
-use Rattle.rams_model.specs.Standing.{Burst, next}
+use Rattle.rams_model.specs.First.History.{next_number}
+use Rattle.rams_model.specs.First.Standing.{Burst, next}
 use Rattle.std.proofs.lemmas.List.Elements.{All-push}
 use Rattle.session_core.specs.Seen.{Seen, IsCore, IsWhole, RiseFrom, LiesWithin}
 use Rattle.session_core.proofs.HoldLemmas.{RiseFrom-push, hi_of_rise}

@@ -6,10 +6,10 @@ use Rattle.rams_model.specs.declared.held.Held.{Held}
 use Rattle.rams_model.specs.declared.note.Note.{Note}
 use Rattle.rams_model.specs.Answered.{Answered, answered}
 use Rattle.rams_model.specs.Settings.{Settings}
-use Rattle.rams_model.specs.History.{began, noted, History, source, hold}
-use Rattle.rams_model.specs.Standing.{Burst, burst, sendings, was_asked, ticks, sequence}
-use Rattle.rams_model.specs.Run.{send}
-use Rattle.rams_model.specs.Orders.{newest_notes, newest_orders}
+use Rattle.rams_model.specs.First.History.{began, noted, History, source, hold}
+use Rattle.rams_model.specs.First.Standing.{Burst, burst, sendings, was_asked, ticks, sequence}
+use Rattle.rams_model.specs.First.Run.{send}
+use Rattle.rams_model.specs.First.Orders.{newest_notes, newest_orders}
 use Rattle.session_core.specs.Seen.{Seen, StandsFor, sent_of}
 use Rattle.session_core.specs.Runs.{burst_notes, burst_orders}
 use Rattle.rams_model.specs.declared.event.Event.{Event}
@@ -18,12 +18,12 @@ use Rattle.rams_model.specs.declared.note.Note.TheVariants as notes
 use Rattle.rams_model.specs.declared.answer.Order.TheVariants as orders
 use Rattle.rams_model.specs.Packet.{packet_of}
 use Rattle.rams_model.specs.Hold.{Start, held_as, from_number, newest_start}
-use Rattle.rams_model.specs.History.{next_number}
-use Rattle.rams_model.specs.Standing.{next, begun}
-use Rattle.rams_model.specs.Run.{run}
-use Rattle.rams_model.specs.Verdict.{join_ticks, accepts}
-use Rattle.rams_model.specs.Lawful.{after, served}
-use Rattle.rams_model.specs.Orders.{answer, newest_answer, accept_info}
+use Rattle.rams_model.specs.First.History.{next_number}
+use Rattle.rams_model.specs.First.Standing.{next, begun}
+use Rattle.rams_model.specs.First.Run.{run}
+use Rattle.rams_model.specs.First.Verdict.{join_ticks, accepts}
+use Rattle.rams_model.specs.First.Lawful.{after, served}
+use Rattle.rams_model.specs.First.Orders.{answer, newest_answer, accept_info}
 use Rattle.std.proofs.lemmas.Bool.{ltb-true, and_parts}
 use Rattle.session_core.specs.Seen.{Answers, serves, new_core}
 use Rattle.session_core.specs.Runs.{sequence_at}

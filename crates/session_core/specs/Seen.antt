@@ -5,12 +5,12 @@ use Rattle.rams_model.specs.declared.event.Event.TheVariants.{Live, Feedback, Ti
 use Rattle.rams_model.specs.declared.held.Held.{Held}
 use Rattle.rams_model.specs.Settings.{Settings}
 use Rattle.rams_model.specs.Hold.{lo, newest_start}
-use Rattle.rams_model.specs.History.{History, source}
-use Rattle.rams_model.specs.Standing.{Burst, next, burst, sendings, was_asked, ticks}
+use Rattle.rams_model.specs.First.History.{History, source}
+use Rattle.rams_model.specs.First.Standing.{Burst, next, burst, sendings, was_asked, ticks}
 use Rattle.rams_model.specs.Answered.{Answered}
-use Rattle.rams_model.specs.Lawful.{after}
-use Rattle.rams_model.specs.Orders.{answer}
-use Rattle.rams_model.specs.Built.{is_built_live, is_plain_request}
+use Rattle.rams_model.specs.First.Lawful.{after}
+use Rattle.rams_model.specs.First.Orders.{answer}
+use Rattle.rams_model.specs.First.Built.{is_built_live, is_plain_request}
 
 -- what a core has
 pub record Seen : Type 0 where

@@ -1,6 +1,6 @@
 -- A core's fields as contracts see them.
 use Rattle.std.specs.Prelude.{option_map}
-use Rattle.rams_model.specs.Standing as standing
+use Rattle.rams_model.specs.First.Standing as standing
 use Rattle.session_core.specs.declared.session.Burst.{Burst}
 use Rattle.session_core.specs.declared.session.Core.TheInside.{Inside}
 use Rattle.session_core.specs.Seen.{Seen}

@@ -1,7 +1,7 @@
 //! The datagrams that orders ask for.
 ghost use Rattle.std.specs.Prelude.{◌≡◌, ◌+◌, ◌∷◌, ◌++◌, ◌<◌, ◌≤◌, ◌^◌, IfOk, OnOk, length};
 ghost use Rattle.std.specs.Int.{w16, w32, w64, to_be_bytes};
-ghost use Rattle.rams_model.specs.Orders.{datagram};
+ghost use Rattle.rams_model.specs.First.Orders.{datagram};
 ghost use Rattle.rams_model.specs.Packet.{packet_of, retransmission};
 ghost use Rattle.rams_model.specs.RamsInfo.{rams_info, optional_tlv, info_fci};
 ghost use Rattle.session_core.specs.Render.{CanRender};
@@ -24,7 +24,7 @@ pub fn render_order(alloc: Global, config: &Config, order: &Order) -> Result<Vec
 }
 
 /// `render_order`, behind what is there; an error may leave a part of the datagram.
-#[tactic(auto, unfolding(rams_model::specs::Orders::datagram))]
+#[tactic(auto, unfolding(rams_model::specs::First::Orders::datagram))]
 pub fn append_order(
     alloc: Global,
     out: &mut Vec<u8>,

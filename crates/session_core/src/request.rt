@@ -1,9 +1,9 @@
 //! The plain RAMS-R, and where the burst that it asks for begins.
 ghost use Rattle.std.specs.Prelude.{◌≡◌, ◌≤◌, ◌<◌, ◌+◌, ◌-◌, ◌*◌, ◌^◌, min, ◌&&◌, nat_le, All, IfSome, length, option_map};
 ghost use Rattle.rams_model.specs.Hold.{newest_start};
-ghost use Rattle.rams_model.specs.Verdict.{join_ticks};
-ghost use Rattle.rams_model.specs.Orders.{accept_info};
-ghost use Rattle.rams_model.specs.Built.{is_plain_request};
+ghost use Rattle.rams_model.specs.First.Verdict.{join_ticks};
+ghost use Rattle.rams_model.specs.First.Orders.{accept_info};
+ghost use Rattle.rams_model.specs.First.Built.{is_plain_request};
 ghost use Rattle.session_core.specs.Runs.{sequence_at};
 ghost use Rattle.session_core.specs.Seen.{IsWhole};
 ghost use Rattle.session_core.specs.Starts.{shown_start};

@@ -1,7 +1,7 @@
 //! What a burst is sent in one tick.
 ghost use Rattle.std.specs.Prelude.{◌≡◌, ◌≤◌, ◌<◌, ◌+◌, ◌^◌, ◌==◌, ◌&&◌, nat_le, All, IfOk, length, take};
 ghost use Rattle.rams_model.specs.Hold.{from_number};
-ghost use Rattle.rams_model.specs.Run.{run};
+ghost use Rattle.rams_model.specs.First.Run.{run};
 ghost use Rattle.session_core.specs.Seen.{RiseFrom, IsWhole};
 ghost use Rattle.session_core.specs.Runs.{sequence_at, burst_notes, burst_orders};
 

@@ -42,9 +42,9 @@ impl Core {
     ghost use Rattle.std.specs.Prelude.{◌≡◌, ◌≤◌, ◌<◌, ℕ, [], IfOk, OnErr, IsTrue, length};
     ghost use Rattle.rams_model.specs.declared.event.Event.TheVariants as events;
     ghost use Rattle.rams_model.specs.Hold.{lo, hi};
-    ghost use Rattle.rams_model.specs.History.{History, next_number};
+    ghost use Rattle.rams_model.specs.First.History.{History, next_number};
     ghost use Rattle.rams_model.specs.Packet.{packet_of};
-    ghost use Rattle.rams_model.specs.Built.{is_built, follows};
+    ghost use Rattle.rams_model.specs.First.Built.{is_built, follows};
     ghost use Rattle.session_core.specs.Render.{AllRender};
     ghost use Rattle.session_core.specs.Seen.{StandsFor, Answers, new_core, serves};
 

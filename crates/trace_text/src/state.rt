@@ -2,7 +2,7 @@
 ghost use Rattle.std.specs.Prelude.{◌≡◌, ◌≤◌, Ok, Err, Some, ◌==◌, IfErr, OnErr, OnOk, MatchResult};
 ghost use Rattle.rams_model.specs.Settings.{settings, checked};
 ghost use Rattle.rams_model.specs.TraceOrder.{nothing_reached, may_come, with_channel, accepted, line_fault};
-ghost use Rattle.rams_model.specs.TraceText.{tick_of};
+ghost use Rattle.rams_model.specs.First.TraceText.{tick_of};
 ghost use Rattle.trace_text.specs.Shown.{shown};
 ghost use Rattle.std.specs.List.{list_any};
 

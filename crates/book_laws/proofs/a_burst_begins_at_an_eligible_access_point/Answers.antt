@@ -1,5 +1,5 @@
 use Rattle.std.proofs.Common.{sym, subst}
-use Rattle.rams_model.specs.History.{hold}
+use Rattle.rams_model.specs.First.History.{hold}
 use Rattle.book_laws.specs.Bursts.{BeginsAtNewest}
 use Rattle.book_laws.proofs.Legal.{IsLegal, legal_part, legal_moment}
 use Rattle.book_laws.proofs.Origins.{was_read, access_is_marker}

@@ -1,6 +1,6 @@
 use Rattle.std.proofs.Common.{arith, ◌++◌, ◌∷◌, subst}
 use Rattle.rams_model.specs.declared.event.Event.TheVariants.{Tick}
-use Rattle.rams_model.specs.History.{began}
+use Rattle.rams_model.specs.First.History.{began}
 use Rattle.book_laws.proofs.Legal.{IsLegal, legal_part, legal_moment}
 use Rattle.book_laws.proofs.Budgets.{client_bytes, all_bytes, only_ticks}
 use Rattle.book_laws.proofs.Origins.{was_read, size_on_wire}

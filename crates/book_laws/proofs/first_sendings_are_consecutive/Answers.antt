@@ -1,6 +1,6 @@
 use Rattle.std.proofs.Common.{sym, subst}
 use Rattle.std.specs.Prelude.{All}
-use Rattle.rams_model.specs.History.{History, source}
+use Rattle.rams_model.specs.First.History.{History, source}
 use Rattle.book_laws.specs.Sent.{first_sendings}
 use Rattle.book_laws.specs.Bursts.{IsPacketOf}
 use Rattle.book_laws.proofs.Legal.{IsLegal, legal_moment}

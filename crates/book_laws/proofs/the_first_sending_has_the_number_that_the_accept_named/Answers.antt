@@ -1,7 +1,7 @@
 use Rattle.std.proofs.Common.{refl, subst}
 use Rattle.rams_model.specs.RamsInfo.{rams_info}
-use Rattle.rams_model.specs.Standing.{sequence}
-use Rattle.rams_model.specs.Orders.{accept_info, datagram}
+use Rattle.rams_model.specs.First.Standing.{sequence}
+use Rattle.rams_model.specs.First.Orders.{accept_info, datagram}
 use Rattle.book_laws.proofs.Legal.{IsLegal, legal_moment}
 use Rattle.book_laws.proofs.Following.{follows}
 use Rattle.book_laws.proofs.the_first_sending_has_the_number_that_the_accept_named.Goals as goal

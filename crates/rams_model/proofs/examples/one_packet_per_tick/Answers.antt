@@ -5,16 +5,17 @@ use Rattle.rams_model.specs.Settings.{checked}
 use Rattle.rams_model.specs.Packet.{header, spelling, packet_of}
 use Rattle.rams_model.specs.RamsInfo.{rams_info}
 use Rattle.rams_model.specs.Hold.{hi, newest_start}
-use Rattle.rams_model.specs.History.{source}
-use Rattle.rams_model.specs.Standing.{burst, sendings, was_asked, ticks}
-use Rattle.rams_model.specs.Run.{run, send}
-use Rattle.rams_model.specs.Lawful.{after, book}
-use Rattle.rams_model.specs.Orders.{newest_notes, newest_orders, datagram, replies}
+use Rattle.rams_model.specs.First.History.{source}
+use Rattle.rams_model.specs.First.Standing.{burst, sendings, was_asked, ticks}
+use Rattle.rams_model.specs.First.Run.{run, send}
+use Rattle.rams_model.specs.First.Lawful.{after, book}
+use Rattle.rams_model.specs.First.Orders.{newest_notes, newest_orders, datagram, replies}
 use Rattle.rams_model.specs.Words.{lines_of, words_of}
 use Rattle.rams_model.specs.TraceLine.{head_in, channel_in, live_in, feedback_in, line_at}
 use Rattle.rams_model.specs.TraceOrder.{accepted}
-use Rattle.rams_model.specs.BookText.{note_line, send_line, notes_text}
-use Rattle.rams_model.specs.TraceText.{turn, text_from, trace_text}
+use Rattle.rams_model.specs.BookText.{note_line, send_line}
+use Rattle.rams_model.specs.First.BookText.{notes_text}
+use Rattle.rams_model.specs.First.TraceText.{turn, text_from, trace_text}
 use Rattle.std.specs.Fmt.{digits}
 use Rattle.rams_model.proofs.examples.one_packet_per_tick.Goals as goal
 

@@ -1,7 +1,7 @@
 use Rattle.std.proofs.Common.{ℕ, Some, List, sym, ◌∙◌, subst}
 use Rattle.std.proofs.lemmas.Result.{IfOk-weaker}
 use Rattle.rams_model.specs.declared.event.Event.TheVariants as events
-use Rattle.rams_model.specs.TraceText.{after_line, on_channel}
+use Rattle.rams_model.specs.First.TraceText.{after_line, on_channel}
 use Rattle.trace_text.specs.declared.line.Line.{Line}
 use Rattle.trace_text.specs.Shown.{shown}
 use Rattle.rams_replay.specs.Turns.{Took, is_its}

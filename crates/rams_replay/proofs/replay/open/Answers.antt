@@ -1,8 +1,8 @@
 use Rattle.std.proofs.Common.{Some, Result, Ok, sym, ap, ◌∙◌, subst}
 use Rattle.rams_model.specs.declared.fault.ConfigFault.{ConfigFault}
-use Rattle.rams_model.specs.Built.{is_built_channel}
+use Rattle.rams_model.specs.First.Built.{is_built_channel}
 use Rattle.rams_model.specs.Settings.{Settings}
-use Rattle.rams_model.specs.TraceText.{opened}
+use Rattle.rams_model.specs.First.TraceText.{opened}
 use Rattle.session_core.specs.Seen.{Seen}
 use Rattle.rams_replay.specs.declared.replay.Turn.TheVariants.{GoesOn, NotBuilt}
 use Rattle.rams_replay.specs.Turns.{Took}

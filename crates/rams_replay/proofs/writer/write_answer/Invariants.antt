@@ -1,5 +1,5 @@
 use Rattle.std.proofs.Common.{◌++◌, drop}
-use Rattle.rams_model.specs.BookText.{answer_text, notes_text}
+use Rattle.rams_model.specs.First.BookText.{answer_text, notes_text}
 use Rattle.session_core.specs.Render.{AllRender}
 use Rattle.rams_replay.proofs.Writing.{IsWriting}
 use Rattle.rams_replay.proofs.writer.write_answer.Given as goal

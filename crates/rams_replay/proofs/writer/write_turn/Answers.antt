@@ -1,6 +1,6 @@
 use Rattle.std.proofs.Common.{List, ℕ, Option, ◌++◌, IfErr, sym, subst}
 use Rattle.rams_model.specs.Settings.{Settings}
-use Rattle.rams_model.specs.BookText.{answer_text}
+use Rattle.rams_model.specs.First.BookText.{answer_text}
 use Rattle.session_core.specs.Seen.{Seen}
 use Rattle.rams_replay.specs.declared.replay.Turn.{Turn}
 use Rattle.rams_replay.specs.declared.replay.Turn.TheVariants.{Answered}

@@ -1,5 +1,5 @@
 use Rattle.std.proofs.Common.{◌≡◌, length, arith, take, sym, ◌∙◌, subst}
-use Rattle.rams_model.specs.Run.{run}
+use Rattle.rams_model.specs.First.Run.{run}
 use Rattle.session_core.proofs.RunLemmas.{run_stops, run_ends}
 use Rattle.session_core.proofs.run.run_length.Goals as goal
 

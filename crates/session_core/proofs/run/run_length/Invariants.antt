@@ -1,5 +1,5 @@
 use Rattle.std.proofs.Common.{◌≡◌, ◌+◌, ◌++◌, take, drop}
-use Rattle.rams_model.specs.Run.{run}
+use Rattle.rams_model.specs.First.Run.{run}
 use Rattle.session_core.proofs.run.run_length.Given as goal
 
 abbrev pub invariant-loop-i : goal.invariant-loop-i

@@ -1,5 +1,5 @@
 use Rattle.std.proofs.Common.{◌-◌, sym, ap, ◌∙◌, subst, arith}
-use Rattle.rams_model.specs.Run.{run}
+use Rattle.rams_model.specs.First.Run.{run}
 use Rattle.std.specs.Prelude.{All}
 use Rattle.std.proofs.lemmas.List.Elements.{All-take, All-drop}
 use Rattle.session_core.specs.Seen.{IsWhole}

@@ -1,6 +1,6 @@
 use Rattle.std.proofs.Common.{sym, ap, ◌∙◌}
 use Rattle.rams_model.specs.declared.event.Event.TheVariants.{Feedback}
-use Rattle.rams_model.specs.Built.{is_built}
+use Rattle.rams_model.specs.First.Built.{is_built}
 use Rattle.session_core.specs.Seen.{serves}
 use Rattle.session_core.proofs.session.Core.built.Goals as goal
 

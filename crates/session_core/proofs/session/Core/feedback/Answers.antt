@@ -1,5 +1,5 @@
 use Rattle.std.proofs.Common.{◌≡◌, ◌++◌, ◌∷◌, [], List, None, Some, sym, ap, ◌∙◌, subst, refl}
-use Rattle.rams_model.specs.declared.answer.Info.{Info}
+use Rattle.rams_model.specs.declared.message.Info.{Info}
 use Rattle.rams_model.specs.declared.answer.Order.{Order}
 use Rattle.rams_model.specs.declared.answer.Order.TheVariants as orders
 use Rattle.rams_model.specs.declared.channel.Channel.{Channel}
@@ -8,9 +8,9 @@ use Rattle.rams_model.specs.declared.note.Note.{Note}
 use Rattle.rams_model.specs.declared.note.Note.TheVariants as notes
 use Rattle.rams_model.specs.Answered.{answered}
 use Rattle.rams_model.specs.Hold.{newest_start}
-use Rattle.rams_model.specs.Orders.{accept_info}
-use Rattle.rams_model.specs.Standing.{begun}
-use Rattle.rams_model.specs.Verdict.{join_ticks}
+use Rattle.rams_model.specs.First.Orders.{accept_info}
+use Rattle.rams_model.specs.First.Standing.{begun}
+use Rattle.rams_model.specs.First.Verdict.{join_ticks}
 use Rattle.session_core.specs.Runs.{sequence_at}
 use Rattle.session_core.specs.Seen.{Seen, Answers}
 use Rattle.session_core.specs.Shown.{shown_core}

@@ -5,7 +5,7 @@ use Rattle.rams_model.specs.declared.note.LiveNote.TheVariants.{Took}
 use Rattle.rams_model.specs.declared.note.Note.{Note}
 use Rattle.rams_model.specs.declared.note.Note.TheVariants as notes
 use Rattle.rams_model.specs.Answered.{answered}
-use Rattle.rams_model.specs.History.{next_number}
+use Rattle.rams_model.specs.First.History.{next_number}
 use Rattle.rams_model.specs.Packet.{packet_of}
 use Rattle.session_core.specs.Seen.{Seen, Answers}
 use Rattle.session_core.specs.Shown.{shown_core}

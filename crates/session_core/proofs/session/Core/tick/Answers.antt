@@ -4,8 +4,8 @@ use Rattle.rams_model.specs.Answered.{Answered, answered}
 use Rattle.rams_model.specs.declared.channel.Channel.{Channel}
 use Rattle.rams_model.specs.declared.held.Held.{Held}
 use Rattle.rams_model.specs.Hold.{lo, from_number}
-use Rattle.rams_model.specs.Run.{run}
-use Rattle.rams_model.specs.Standing.{next}
+use Rattle.rams_model.specs.First.Run.{run}
+use Rattle.rams_model.specs.First.Standing.{next}
 use Rattle.session_core.specs.Runs.{burst_notes, burst_orders}
 use Rattle.session_core.specs.Seen.{Seen, Answers}
 use Rattle.session_core.specs.Shown.{shown_core, shown_burst}

@@ -3,8 +3,8 @@ use Rattle.std.specs.Prelude.{ℕ, ◌+◌, ◌-◌, ◌&&◌, ◌==◌, nat_le,
 use Rattle.rams_model.specs.declared.held.Held.{Held}
 use Rattle.rams_model.specs.declared.note.Note.TheVariants.{Burst as BurstNote}
 use Rattle.rams_model.specs.Settings.{Settings}
-use Rattle.rams_model.specs.History.{noted, History}
-use Rattle.rams_model.specs.Standing.{sequence}
+use Rattle.rams_model.specs.First.History.{noted, History}
+use Rattle.rams_model.specs.First.Standing.{sequence}
 
 -- the packets from number n on, one after another, as long as the next one is held and fits into what is left
 unfoldable pub run : ℕ → ℕ → List Held → List Held

@@ -9,9 +9,9 @@ use Rattle.rams_model.specs.declared.note.Note.TheVariants.{Live as LiveNoted, A
 use Rattle.rams_model.specs.declared.status.Status.TheVariants.{Done}
 use Rattle.rams_model.specs.Settings.{settings}
 use Rattle.rams_model.specs.Packet.{Packet, spelling}
-use Rattle.rams_model.specs.Orders.{reply, replies}
+use Rattle.rams_model.specs.First.Orders.{reply, replies}
 use Rattle.rams_model.specs.Words.{bytes_in}
-use Rattle.rams_model.specs.TraceText.{ended, trace_text}
+use Rattle.rams_model.specs.First.TraceText.{ended, trace_text}
 
 -- a packet of type 33 and SSRC 11223344, with so many zero bytes
 abbrev pub packet : ℕ → ℕ → Bool → ℕ → Packet

@@ -7,14 +7,15 @@ use Rattle.rams_model.specs.declared.fault.LineFault.{LineFault}
 use Rattle.rams_model.specs.declared.status.Status.{Status}
 use Rattle.rams_model.specs.declared.status.Status.TheVariants.{Done, NotBuilt}
 use Rattle.rams_model.specs.Settings.{Settings, settings, checked}
-use Rattle.rams_model.specs.History.{History}
-use Rattle.rams_model.specs.Lawful.{after}
-use Rattle.rams_model.specs.Orders.{answer}
-use Rattle.rams_model.specs.Built.{is_built_channel, is_built}
+use Rattle.rams_model.specs.First.History.{History}
+use Rattle.rams_model.specs.First.Lawful.{after}
+use Rattle.rams_model.specs.First.Orders.{answer}
+use Rattle.rams_model.specs.First.Built.{is_built_channel, is_built}
 use Rattle.rams_model.specs.Words.{lines_of, bytes_in}
 use Rattle.rams_model.specs.TraceLine.{TraceLine, head_line, channel_line, live_line, feedback_line, tick_line, end_line, line_at}
 use Rattle.rams_model.specs.TraceOrder.{Head, Reached, nothing_reached, accepted}
-use Rattle.rams_model.specs.BookText.{spaced, answer_text}
+use Rattle.rams_model.specs.BookText.{spaced}
+use Rattle.rams_model.specs.First.BookText.{answer_text}
 
 -- What stands before a line.
 pub record Stage : Type 0 where

@@ -3,7 +3,7 @@ use Rattle.std.specs.Prelude.{ℕ, ◌+◌, ◌%◌, Bool, true, false, [], ◌�
 use Rattle.rams_model.specs.declared.event.Event.TheVariants.{Feedback, Tick}
 use Rattle.rams_model.specs.declared.note.Note.TheVariants.{Accept, Burst as BurstNote}
 use Rattle.rams_model.specs.Settings.{Settings}
-use Rattle.rams_model.specs.History.{began, noted, History}
+use Rattle.rams_model.specs.First.History.{began, noted, History}
 
 -- A burst: what its Accept said, and how many packets it has been sent.
 pub record Burst : Type 0 where

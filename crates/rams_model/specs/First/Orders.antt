@@ -1,6 +1,6 @@
 -- The answer to an event, and the datagrams that it asks for.
 use Rattle.std.specs.Prelude.{ℕ, ◌-◌, ◌*◌, ◌/◌, ◌^◌, min, List, [], ◌∷◌, ◌++◌, Option, Some, None, option_to_list, map}
-use Rattle.rams_model.specs.declared.answer.Info.{Info}
+use Rattle.rams_model.specs.declared.message.Info.{Info}
 use Rattle.rams_model.specs.declared.answer.Order.{Order}
 use Rattle.rams_model.specs.declared.answer.Order.TheVariants as orders
 use Rattle.rams_model.specs.declared.event.Event.{Event}
@@ -11,9 +11,9 @@ use Rattle.rams_model.specs.Answered.{Answered, answered}
 use Rattle.rams_model.specs.Settings.{Settings}
 use Rattle.rams_model.specs.Packet.{packet_of, retransmission}
 use Rattle.rams_model.specs.RamsInfo.{rams_info}
-use Rattle.rams_model.specs.History.{began, noted, History}
-use Rattle.rams_model.specs.Standing.{sequence}
-use Rattle.rams_model.specs.Lawful.{after, book}
+use Rattle.rams_model.specs.First.History.{began, noted, History}
+use Rattle.rams_model.specs.First.Standing.{sequence}
+use Rattle.rams_model.specs.First.Lawful.{after, book}
 
 -- the RAMS-I of an accepted request: response 200, the burst's first sequence number, its times in ms and its bits per second (RFC 6285, 7.3)
 abbrev pub accept_info : Settings → ℕ → ℕ → ℕ → Info

@@ -4,7 +4,7 @@ use Rattle.rams_model.specs.declared.channel.Channel.{Channel}
 use Rattle.rams_model.specs.declared.note.Note.TheVariants.{Accept}
 use Rattle.rams_model.specs.Settings.{Settings}
 use Rattle.rams_model.specs.Hold.{Start, newest_start}
-use Rattle.rams_model.specs.History.{noted, History, hold}
+use Rattle.rams_model.specs.First.History.{noted, History, hold}
 
 -- a divided by b, rounded up
 abbrev pub ceiling : ℕ → ℕ → ℕ

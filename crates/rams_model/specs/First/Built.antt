@@ -9,8 +9,8 @@ use Rattle.rams_model.specs.declared.held.Held.{Held}
 use Rattle.rams_model.specs.Settings.{Settings}
 use Rattle.rams_model.specs.Packet.{Packet, is_plain, packet_of}
 use Rattle.rams_model.specs.Hold.{hi, newest_start}
-use Rattle.rams_model.specs.History.{History, source, hold}
-use Rattle.rams_model.specs.Standing.{was_asked, ticks}
+use Rattle.rams_model.specs.First.History.{History, source, hold}
+use Rattle.rams_model.specs.First.Standing.{was_asked, ticks}
 
 abbrev pub is_marker : Access → Bool
 is_marker Marker = true

@@ -8,10 +8,10 @@ use Rattle.rams_model.specs.declared.note.Note.TheVariants.{Live as LiveNoted}
 use Rattle.rams_model.specs.Settings.{Settings}
 use Rattle.rams_model.specs.Packet.{packet_of}
 use Rattle.rams_model.specs.Hold.{from_number}
-use Rattle.rams_model.specs.History.{began, noted, History, next_number, source, hold}
-use Rattle.rams_model.specs.Standing.{Burst, next, burst}
-use Rattle.rams_model.specs.Run.{run, send}
-use Rattle.rams_model.specs.Verdict.{after_request}
+use Rattle.rams_model.specs.First.History.{began, noted, History, next_number, source, hold}
+use Rattle.rams_model.specs.First.Standing.{Burst, next, burst}
+use Rattle.rams_model.specs.First.Run.{run, send}
+use Rattle.rams_model.specs.First.Verdict.{after_request}
 
 -- the burst is sent the longest run that fits its rate
 abbrev pub served : Settings → Option Burst → List Held → History → History
