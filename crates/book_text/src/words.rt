@@ -1,10 +1,18 @@
 //! Numbers and bytes as words.
 ghost use Rattle.std.specs.Prelude.{◌≡◌, ◌++◌, OnOk, decimal};
-ghost use Rattle.rams_model.specs.BookText.{spaced};
+ghost use Rattle.rams_model.specs.BookText.{spaced, of_client, of_number};
 ghost use Rattle.rams_model.specs.Words.{hex_word};
 
 use itoa::Buffer;
 use ram_io::NoMemory;
+
+/// A word.
+pub fn word(text: &mut Vec<u8>, word: &[u8]) -> Result<(), NoMemory>
+    ensures { OnOk result (text.new.items ≡ text.old.items ++ word.now) }
+{
+    text.extend_from_slice(word)?;
+    Ok(())
+}
 
 /// A number in decimal digits.
 pub fn number(text: &mut Vec<u8>, n: u64) -> Result<(), NoMemory>
@@ -28,6 +36,14 @@ pub fn named(text: &mut Vec<u8>, word: &[u8], n: u64) -> Result<(), NoMemory>
     ensures { OnOk result (text.new.items ≡ text.old.items ++ (word.now ++ spaced n)) }
 {
     text.extend_from_slice(word)?;
+    spaced(text, n)
+}
+
+/// A word, a client and a number.
+pub fn numbered(text: &mut Vec<u8>, word: &[u8], client: u64, n: u64) -> Result<(), NoMemory>
+    ensures { OnOk result (text.new.items ≡ text.old.items ++ of_number word.now client n) }
+{
+    named(text, word, client)?;
     spaced(text, n)
 }
 

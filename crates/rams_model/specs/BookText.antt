@@ -56,6 +56,10 @@ of_client word client = word ++ spaced client
 abbrev pub of_number : List ℕ → ℕ → ℕ → List ℕ
 of_number word client n = word ++ spaced client ++ spaced n
 
+-- a word, a client and one more word
+abbrev pub of_word : List ℕ → ℕ → List ℕ → List ℕ
+of_word word client what = word ++ spaced client ++ (32 ∷ what)
+
 abbrev pub note_words : Note → List ℕ
 note_words (Live note) = live_words note
 note_words (Accept client first rate join) =
@@ -74,13 +78,13 @@ note_words (TableFull client n) = of_number (codes "table-full") client n
 note_words (ClientFull client n) = of_number (codes "client-full") client n
 note_words (QueueFull client n) = of_number (codes "queue-full") client n
 note_words (ForeignNack client) = of_client (codes "foreign-nack") client
-note_words (BadFeedback client fault) = of_client (codes "bad-feedback") client ++ codes " " ++ frame_fault_word fault
+note_words (BadFeedback client fault) = of_word (codes "bad-feedback") client (frame_fault_word fault)
 note_words (Bye client) = of_client (codes "bye") client
 note_words (ByeIdle client) = of_client (codes "bye-idle") client
 note_words (Burst client n sequence) = codes "burst" ++ spaced client ++ spaced n ++ spaced sequence
 note_words (Repair client n sequence) = codes "repair" ++ spaced client ++ spaced n ++ spaced sequence
 note_words (Gone client n) = of_number (codes "gone") client n
-note_words (End client cause) = of_client (codes "end") client ++ codes " " ++ cause_word cause
+note_words (End client cause) = of_word (codes "end") client (cause_word cause)
 note_words (Forgot client) = of_client (codes "forgot") client
 
 -- event number, channel, and then these words
