@@ -17,11 +17,11 @@ pub count-append : (client : ℕ) (xs ys : History) → count client (xs ++ ys) 
 unfolding first_sendings
 count-append client [] ys = omega arith
 count-append client (began event ∷ xs) ys = count-append client xs ys
-count-append client (noted (LiveNoted note) packet ∷ xs) ys = count-append client xs ys
 count-append client (noted (Accept who first rate join) packet ∷ xs) ys = count-append client xs ys
 count-append client (noted (BurstNote who n number) packet ∷ xs) ys =
     let this = if who == client then sending n packet ∷ [] else [] in
     omega (arith, count-append client xs ys, length-append (first_sendings client (xs ++ ys)) this, length-append (first_sendings client xs) this)
+count-append client (noted note packet ∷ xs) ys = count-append client xs ys
 
 pub count-send : (s : Settings) (client : ℕ) (hs : List Held) (history : History) → count client (send s client hs history) ≡ count client history + length hs
 unfolding send first_sendings

@@ -158,10 +158,6 @@ follows s client first rate join packet before (began event ∷ since) w l =
     let whole = since ++ (noted (Accept client first rate join) packet ∷ before) in
     follows_same s client first rate (sendings before) (began event) whole (first_sendings client since) (sequence_numbers client since) refl refl
     (follows s client first rate join packet before since w l)
-follows s client first rate join packet before (noted (LiveNoted note) p ∷ since) w l =
-    let whole = since ++ (noted (Accept client first rate join) packet ∷ before) in
-    follows_same s client first rate (sendings before) (noted (LiveNoted note) p) whole (first_sendings client since) (sequence_numbers client since) refl refl
-    (follows s client first rate join packet before since w l.1)
 follows s client first rate join packet before (noted (Accept who first' rate' join') p ∷ since) w l =
     let parts = or_parts (who == client) (was_accepted client since) w in
     let whole = since ++ (noted (Accept client first rate join) packet ∷ before) in
@@ -170,4 +166,8 @@ follows s client first rate join packet before (noted (Accept who first' rate' j
 follows s client first rate join packet before (noted (BurstNote who n number) p ∷ since) w l =
     let whole = since ++ (noted (Accept client first rate join) packet ∷ before) in
     follows_sent s client first rate (sendings before) who n number p whole (first_sendings client since) (sequence_numbers client since) (who == client) refl l.0
+    (follows s client first rate join packet before since w l.1)
+follows s client first rate join packet before (noted note p ∷ since) w l =
+    let whole = since ++ (noted (Accept client first rate join) packet ∷ before) in
+    follows_same s client first rate (sendings before) (noted note p) whole (first_sendings client since) (sequence_numbers client since) refl refl
     (follows s client first rate join packet before since w l.1)

@@ -70,9 +70,9 @@ at_least_one : (client first rate join : ℕ) (packet : Option Held) (before sin
     → 1 ≤ accept_count (since ++ (noted (Accept client first rate join) packet ∷ before))
 at_least_one client first rate join packet before [] = omega arith
 at_least_one client first rate join packet before (began event ∷ since) = at_least_one client first rate join packet before since
-at_least_one client first rate join packet before (noted (LiveNoted note) p ∷ since) = at_least_one client first rate join packet before since
 at_least_one client first rate join packet before (noted (Accept who f r j) p ∷ since) = omega arith
 at_least_one client first rate join packet before (noted (BurstNote who n number) p ∷ since) = at_least_one client first rate join packet before since
+at_least_one client first rate join packet before (noted note p ∷ since) = at_least_one client first rate join packet before since
 
 -- after the only Accept its client's burst is open
 pub open_to : (client first rate join : ℕ) (packet : Option Held) (before since : History)
@@ -82,10 +82,10 @@ unfolding burst
 open_to client first rate join packet before [] few = record { opened = begun client first rate; is_open = refl; client_is = refl }
 open_to client first rate join packet before (began event ∷ since) few =
     let i = open_to client first rate join packet before since few in record { opened = i.opened; is_open = i.is_open; client_is = i.client_is }
-open_to client first rate join packet before (noted (LiveNoted note) p ∷ since) few =
-    let i = open_to client first rate join packet before since few in record { opened = i.opened; is_open = i.is_open; client_is = i.client_is }
 open_to client first rate join packet before (noted (Accept who f r j) p ∷ since) few =
     absurd (omega (arith, at_least_one client first rate join packet before since))
 open_to client first rate join packet before (noted (BurstNote who n number) p ∷ since) few =
     let i = open_to client first rate join packet before since few in
     record { opened = sent_one i.opened; is_open = ap (option_map sent_one) i.is_open; client_is = i.client_is }
+open_to client first rate join packet before (noted note p ∷ since) few =
+    let i = open_to client first rate join packet before since few in record { opened = i.opened; is_open = i.is_open; client_is = i.client_is }

@@ -17,7 +17,6 @@ burst_accepted : (history : History) (o : Burst) → burst history ≡ Some o �
 unfolding burst was_accepted
 burst_accepted [] o e = absurd cc
 burst_accepted (began event ∷ history) o e = burst_accepted history o e
-burst_accepted (noted (LiveNoted note) packet ∷ history) o e = burst_accepted history o e
 burst_accepted (noted (Accept who first rate join) packet ∷ history) o e =
     or_left (who == o.client) (was_accepted o.client history) (eq-eqb who o.client (ap (λ (b : Burst). b.client) (some_same (begun who first rate) o e)))
 burst_accepted (noted (BurstNote who n number) packet ∷ history) o e = from (burst history) (burst_accepted history) e
@@ -26,13 +25,13 @@ burst_accepted (noted (BurstNote who n number) packet ∷ history) o e = from (b
         → was_accepted o.client history ≡ true
     from None each e = absurd cc
     from (Some b) each e = subst (λ (k : ℕ). was_accepted k history ≡ true) (ap (λ (b : Burst). b.client) (some_same (sent_one b) o e)) (each b refl)
+burst_accepted (noted note packet ∷ history) o e = burst_accepted history o e
 
 pub unasked : (s : Settings) (client : ℕ) (history : History) → IsLegal s history → was_accepted client history ≡ false
     → (first_sendings client history ≡ []) × (bytes_to client history ≡ 0)
 unfolding first_sendings bytes_to was_accepted
 unasked s client [] l w = (refl, refl)
 unasked s client (began event ∷ history) l w = unasked s client history l w
-unasked s client (noted (LiveNoted note) packet ∷ history) l w = unasked s client history l.1 w
 unasked s client (noted (Accept who first rate join) packet ∷ history) l w =
     unasked s client history l.1 (or_parts (who == client) (was_accepted client history) w).1
 unasked s client (noted (BurstNote who n number) packet ∷ history) l w = at (who == client) refl (unasked s client history l.1 w)
@@ -43,6 +42,7 @@ unasked s client (noted (BurstNote who n number) packet ∷ history) l w = at (w
         let is : l.0.opened.client ≡ client = sym l.0.client_is ∙ eqb-true who client e in
         absurd (both_ways (was_accepted client history) w (subst (λ (k : ℕ). was_accepted k history ≡ true) is (burst_accepted history l.0.opened l.0.is_open)))
     at false e none = (append-nil (first_sendings client history) ∙ none.0, omega (arith, none.1))
+unasked s client (noted note packet ∷ history) l w = unasked s client history l.1 w
 
 -- an item in front that is no Accept of the client
 after_item : (client : ℕ) (item : Item) (history : History) → ((since : History) → was_accepted client (item ∷ since) ≡ was_accepted client since)
@@ -62,8 +62,6 @@ pub last_accept : (history : History) (client : ℕ) → was_accepted client his
 unfolding was_accepted
 last_accept [] client w = absurd cc
 last_accept (began event ∷ history) client w = after_item client (began event) history (λ since. refl) (last_accept history client w)
-last_accept (noted (LiveNoted note) packet ∷ history) client w =
-    after_item client (noted (LiveNoted note) packet) history (λ since. refl) (last_accept history client w)
 last_accept (noted (BurstNote who n number) packet ∷ history) client w =
     after_item client (noted (BurstNote who n number) packet) history (λ since. refl) (last_accept history client w)
 last_accept (noted (Accept who first rate join) packet ∷ history) client w = at (who == client) refl w (last_accept history client)
@@ -82,3 +80,5 @@ last_accept (noted (Accept who first rate join) packet ∷ history) client w = a
     }
     at false e w' earlier =
         after_item client (noted (Accept who first rate join) packet) history (λ since. ap (λ (b : Bool). b || was_accepted client since) e) (earlier w')
+last_accept (noted note packet ∷ history) client w =
+    after_item client (noted note packet) history (λ since. refl) (last_accept history client w)

@@ -1,5 +1,5 @@
 //! The lines of one note: its own, and that of the datagram that it asks for.
-ghost use Rattle.std.specs.Prelude.{◌≡◌, ◌∷◌, ◌++◌, [], MatchOption, OnOk, drop, take};
+ghost use Rattle.std.specs.Prelude.{◌≡◌, ◌∷◌, ◌++◌, [], MatchOption, OnOk, drop, if◌then◌else◌, take};
 ghost use Rattle.std.specs.List.{flat_map};
 ghost use Rattle.rams_model.specs.BookText.{order_count};
 ghost use Rattle.rams_model.specs.First.BookText.{order_line};
@@ -9,7 +9,7 @@ ghost use Rattle.rams_replay.specs.Entries.{entry_text};
 
 use book_text::{append_note, append_send};
 use ram_io::NoMemory;
-use rams_model::{Note, Order};
+use rams_model::{Cause, Note, Order};
 use session_core::{Config, append_order};
 use std::alloc::Global;
 
@@ -40,9 +40,9 @@ fn asked<'a>(note: &Note, orders: &'a [Order]) -> Option<&'a Order>
     ensures asked { MatchOption result (take (order_count note.now) orders.now ≡ [])
         (λ order. (take (order_count note.now) orders.now ≡ order.now ∷ []) × CanRender order.now) }
 {
-    match (note, orders) {
-        (Note::Live(_), _) | (_, []) => None,
-        (_, [order, ..]) => Some(order),
+    match (asks(note), orders) {
+        (true, [order, ..]) => Some(order),
+        _ => None,
     }
 }
 
@@ -51,9 +51,41 @@ pub fn after<'a>(note: &Note, orders: &'a [Order]) -> &'a [Order]
     ensures after { result.now ≡ drop (order_count note.now) orders.now }
     ensures render { AllRender orders.now → AllRender result.now }
 {
-    match (note, orders) {
-        (Note::Live(_), _) | (_, []) => orders,
-        (_, [_, rest @ ..]) => rest,
+    match (asks(note), orders) {
+        (true, [_, rest @ ..]) => rest,
+        _ => orders,
+    }
+}
+
+/// Whether a note asks for a datagram.
+fn asks(note: &Note) -> bool
+    ensures { order_count note.now ≡ (if result then 1 else 0) }
+{
+    match note {
+        Note::Accept { .. }
+        | Note::Update { .. }
+        | Note::Again { .. }
+        | Note::Refuse { .. }
+        | Note::Burst { .. }
+        | Note::Repair { .. } => true,
+        Note::End { cause, .. } => !matches!(cause, Cause::Bye),
+        Note::Live(_)
+        | Note::StopAt { .. }
+        | Note::StopKept { .. }
+        | Note::StopIdle { .. }
+        | Note::Queued { .. }
+        | Note::Already { .. }
+        | Note::Unheld { .. }
+        | Note::Early { .. }
+        | Note::TableFull { .. }
+        | Note::ClientFull { .. }
+        | Note::QueueFull { .. }
+        | Note::ForeignNack { .. }
+        | Note::BadFeedback { .. }
+        | Note::Bye { .. }
+        | Note::ByeIdle { .. }
+        | Note::Gone { .. }
+        | Note::Forgot { .. } => false,
     }
 }
 
