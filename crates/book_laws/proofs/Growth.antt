@@ -4,14 +4,14 @@ use Rattle.rams_model.specs.declared.event.Event.{Event}
 use Rattle.rams_model.specs.declared.event.Event.TheVariants.{Live, Feedback, Tick}
 use Rattle.rams_model.specs.declared.held.Held.{Held}
 use Rattle.rams_model.specs.declared.note.LiveNote.TheVariants.{Took}
-use Rattle.rams_model.specs.declared.note.Note.TheVariants.{Live as LiveNoted, Accept, Burst as BurstNote}
+use Rattle.rams_model.specs.declared.note.Note.TheVariants.{Live as LiveNoted, Accept, Refuse, Burst as BurstNote}
 use Rattle.rams_model.specs.Settings.{Settings}
 use Rattle.rams_model.specs.Packet.{packet_of}
 use Rattle.rams_model.specs.Hold.{Start, newest_start, from_number}
 use Rattle.rams_model.specs.First.History.{began, noted, History, next_number, source, hold}
 use Rattle.rams_model.specs.First.Standing.{Burst, next, burst, sequence}
 use Rattle.rams_model.specs.First.Run.{run, send}
-use Rattle.rams_model.specs.First.Verdict.{join_ticks, accepts}
+use Rattle.rams_model.specs.First.Verdict.{no_start, join_ticks, answers}
 use Rattle.rams_model.specs.First.Lawful.{served, after, book}
 use Rattle.rams_model.specs.First.Orders.{replies}
 use Rattle.book_laws.specs.Sent.{events_of}
@@ -51,11 +51,11 @@ grows_served s (Some b) held history =
     grows_more (Tick ∷ []) [] history (began Tick ∷ history) (send s b.client (run (next b) b.rate (from_number (next b) held)) (began Tick ∷ history))
     (record { since = began Tick ∷ []; splits = refl; tells = refl }) (grows_send s b.client (run (next b) b.rate (from_number (next b) held)) (began Tick ∷ history))
 
-grows_accepts : (s : Settings) (client : ℕ) (bytes : List ℕ) (o : Option Start) (history : History)
-    → Grows (Feedback client bytes ∷ []) history (accepts s.channel client o (began (Feedback client bytes) ∷ history))
+grows_answers : (s : Settings) (client : ℕ) (bytes : List ℕ) (o : Option Start) (history : History)
+    → Grows (Feedback client bytes ∷ []) history (answers s.channel client o (began (Feedback client bytes) ∷ history))
 unfolding events_of
-grows_accepts s client bytes None history = record { since = began (Feedback client bytes) ∷ []; splits = refl; tells = refl }
-grows_accepts s client bytes (Some start) history = record {
+grows_answers s client bytes None history = record { since = noted (Refuse client no_start) None ∷ began (Feedback client bytes) ∷ []; splits = refl; tells = refl }
+grows_answers s client bytes (Some start) history = record {
   since = noted (Accept client start.n s.channel.burst (join_ticks s.channel start.behind s.channel.burst)) None ∷ began (Feedback client bytes) ∷ [];
   splits = refl;
   tells = refl;
@@ -69,7 +69,7 @@ grows_after s (Live bytes) history = record {
   tells = refl;
 }
 grows_after s (Feedback client bytes) history =
-    grows_accepts s client bytes (newest_start s.channel (hold s.channel.ring (began (Feedback client bytes) ∷ history))) history
+    grows_answers s client bytes (newest_start s.channel (hold s.channel.ring (began (Feedback client bytes) ∷ history))) history
 grows_after s Tick history = grows_served s (burst history) (hold s.channel.ring history) history
 
 grows_book : (s : Settings) (later earlier : List Event) → Grows later (book s earlier) (book s (later ++ earlier))

@@ -7,13 +7,13 @@ use Rattle.rams_model.specs.declared.event.Event.{Event}
 use Rattle.rams_model.specs.declared.event.Event.TheVariants.{Live, Feedback, Tick}
 use Rattle.rams_model.specs.declared.held.Held.{Held}
 use Rattle.rams_model.specs.declared.note.Note.{Note}
-use Rattle.rams_model.specs.declared.note.Note.TheVariants.{Accept, Burst as BurstNote}
+use Rattle.rams_model.specs.declared.note.Note.TheVariants.{Accept, Refuse, Burst as BurstNote}
 use Rattle.rams_model.specs.Settings.{Settings}
 use Rattle.rams_model.specs.Hold.{Start, newest_start, wires, from_number}
 use Rattle.rams_model.specs.First.History.{began, noted, History, source, hold}
 use Rattle.rams_model.specs.First.Standing.{Burst, next, sent_one, burst, sequence}
 use Rattle.rams_model.specs.First.Run.{run, send}
-use Rattle.rams_model.specs.First.Verdict.{accepts}
+use Rattle.rams_model.specs.First.Verdict.{no_start, answers}
 use Rattle.rams_model.specs.First.Lawful.{served, after, book}
 use Rattle.book_laws.specs.Sent.{size_of}
 use Rattle.book_laws.specs.Moments.{IsMoment}
@@ -58,9 +58,15 @@ pub record Sends (s : Settings) (history : History) (client n number : ℕ) (pac
   pub fits : sent_now history + h.wire ≤ opened.rate
   pub ticking : in_tick history ≡ true
 
+-- a request is refused where there is no eligible access point
+pub record Refuses (s : Settings) (history : History) (code : ℕ) : Type 0 where
+  pub code_is : code ≡ no_start
+  pub none : newest_start s.channel (hold s.channel.ring history) ≡ None
+
 abbrev pub Allows : Settings → History → Note → Option Held → Type 0
 Allows s history (Accept client first rate join) packet = Accepts s history first rate
 Allows s history (BurstNote client n number) packet = Sends s history client n number packet
+Allows s history (Refuse client code) packet = Refuses s history code
 Allows s history note packet = Unit {0}
 
 -- each note was allowed by what stands before it
@@ -113,16 +119,16 @@ legal_served s history (Some o) e l =
     let fits = run_fits (next o) o.rate due in
     legal_send s o (run (next o) o.rate due) (began Tick ∷ history) e (run_rises (next o) o.rate due) each (omega arith) refl l
 
-legal_accepts : (s : Settings) (client : ℕ) (history : History) (o : Option Start) → newest_start s.channel (hold s.channel.ring history) ≡ o
-    → in_tick history ≡ false → IsLegal s history → IsLegal s (accepts s.channel client o history)
-legal_accepts s client history None e a l = l
-legal_accepts s client history (Some start) e a l = (record { start = start; found = e; first_is = refl; rate_is = refl; asked = a }, l)
+legal_answers : (s : Settings) (client : ℕ) (history : History) (o : Option Start) → newest_start s.channel (hold s.channel.ring history) ≡ o
+    → in_tick history ≡ false → IsLegal s history → IsLegal s (answers s.channel client o history)
+legal_answers s client history None e a l = (record { code_is = refl; none = e }, l)
+legal_answers s client history (Some start) e a l = (record { start = start; found = e; first_is = refl; rate_is = refl; asked = a }, l)
 
 legal_after : (s : Settings) (event : Event) (history : History) → IsLegal s history → IsLegal s (after s event history)
 unfolding after
 legal_after s (Live bytes) history l = (tt, l)
 legal_after s (Feedback client bytes) history l =
-    legal_accepts s client (began (Feedback client bytes) ∷ history) (newest_start s.channel (hold s.channel.ring (began (Feedback client bytes) ∷ history))) refl refl l
+    legal_answers s client (began (Feedback client bytes) ∷ history) (newest_start s.channel (hold s.channel.ring (began (Feedback client bytes) ∷ history))) refl refl l
 legal_after s Tick history l = legal_served s history (burst history) refl l
 
 pub legal_book : (s : Settings) (events : List Event) → IsLegal s (book s events)

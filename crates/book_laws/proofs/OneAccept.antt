@@ -11,7 +11,7 @@ use Rattle.rams_model.specs.Hold.{Start, newest_start, from_number}
 use Rattle.rams_model.specs.First.History.{began, noted, History, hold}
 use Rattle.rams_model.specs.First.Standing.{Burst, next, begun, sent_one, burst, was_asked, sequence}
 use Rattle.rams_model.specs.First.Run.{run, send}
-use Rattle.rams_model.specs.First.Verdict.{accepts}
+use Rattle.rams_model.specs.First.Verdict.{answers}
 use Rattle.rams_model.specs.First.Lawful.{served, after, book}
 use Rattle.rams_model.specs.First.Built.{is_plain_request, is_built}
 use Rattle.book_laws.specs.Moments.{are_built}
@@ -37,11 +37,11 @@ one_accept_served : (s : Settings) (o : Option Burst) (held : List Held) (histor
 one_accept_served s None held history i = i
 one_accept_served s (Some b) held history i = one_accept_send s b.client (run (next b) b.rate (from_number (next b) held)) history i
 
-one_accept_accepts : (s : Settings) (client : ℕ) (bytes : List ℕ) (o : Option Start) (history : History) → accept_count history ≡ 0
-    → IsOneAccept (accepts s.channel client o (began (Feedback client bytes) ∷ history))
+one_accept_answers : (s : Settings) (client : ℕ) (bytes : List ℕ) (o : Option Start) (history : History) → accept_count history ≡ 0
+    → IsOneAccept (answers s.channel client o (began (Feedback client bytes) ∷ history))
 unfolding was_asked
-one_accept_accepts s client bytes None history none = record { few = omega arith; none = λ e. absurd cc }
-one_accept_accepts s client bytes (Some start) history none = record { few = omega arith; none = λ e. absurd cc }
+one_accept_answers s client bytes None history none = record { few = omega arith; none = λ e. absurd cc }
+one_accept_answers s client bytes (Some start) history none = record { few = omega arith; none = λ e. absurd cc }
 
 pub one_accept : (s : Settings) (events : List Event) → are_built s events ≡ true → IsOneAccept (book s events)
 unfolding are_built book after was_asked
@@ -51,11 +51,9 @@ one_accept s (Live bytes ∷ events) b =
 one_accept s (Feedback client bytes ∷ events) b =
     let history = book s events in
     let parts = and_parts (is_built s history (Feedback client bytes)) (are_built s events) b in
-    let found = is_some (newest_start s.channel (hold s.channel.ring history)) in
-    let first_two = and_parts (is_plain_request bytes && not (was_asked history)) found parts.0 in
-    let unasked = not-true (was_asked history) (and_parts (is_plain_request bytes) (not (was_asked history)) first_two.0).1 in
+    let unasked = not-true (was_asked history) (and_parts (is_plain_request bytes) (not (was_asked history)) parts.0).1 in
     let start = newest_start s.channel (hold s.channel.ring (began (Feedback client bytes) ∷ history)) in
-    one_accept_accepts s client bytes start history ((one_accept s events parts.1).none unasked)
+    one_accept_answers s client bytes start history ((one_accept s events parts.1).none unasked)
 one_accept s (Tick ∷ events) b =
     let i = one_accept s events (and_parts (is_built s (book s events) Tick) (are_built s events) b).1 in
     one_accept_served s (burst (book s events)) (hold s.channel.ring (book s events)) (began Tick ∷ book s events) (record { few = i.few; none = i.none })

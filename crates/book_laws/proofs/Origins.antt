@@ -16,7 +16,7 @@ use Rattle.rams_model.specs.Hold.{Start, newest_start, held_as, from_number}
 use Rattle.rams_model.specs.First.History.{began, noted, History, next_number, source, hold}
 use Rattle.rams_model.specs.First.Standing.{Burst, next, burst, sequence}
 use Rattle.rams_model.specs.First.Run.{run, send}
-use Rattle.rams_model.specs.First.Verdict.{accepts}
+use Rattle.rams_model.specs.First.Verdict.{answers}
 use Rattle.rams_model.specs.First.Lawful.{served, after, book}
 use Rattle.rams_model.specs.First.Orders.{newest_notes, newest_orders, answer, datagram}
 use Rattle.book_laws.specs.Retransmitted.{IsOfTheSource}
@@ -54,10 +54,10 @@ access_is_marker h r =
     ap (λ (x : Held). x.access) r.is_read ∙ (sym (marker_of_stripped r.bytes) ∙ ap (λ (x : Held). (packet_of x.packet).marker) (sym r.is_read))
 
 -- neither requests nor ticks change the source
-source_accepts : (s : Settings) (client : ℕ) (o : Option Start) (history : History) → source (accepts s.channel client o history) ≡ source history
+source_answers : (s : Settings) (client : ℕ) (o : Option Start) (history : History) → source (answers s.channel client o history) ≡ source history
 unfolding source
-source_accepts s client None history = refl
-source_accepts s client (Some start) history = refl
+source_answers s client None history = refl
+source_answers s client (Some start) history = refl
 
 source_send : (s : Settings) (client : ℕ) (hs : List Held) (history : History) → source (send s client hs history) ≡ source history
 unfolding send source
@@ -95,7 +95,7 @@ came s (Live bytes ∷ events) h c =
     (Contains-push_cases (source (book s events)) (held_as n (packet_of bytes)) h c)
 came s (Feedback client bytes ∷ events) h c =
     let history = began (Feedback client bytes) ∷ book s events in
-    let same = source_accepts s client (newest_start s.channel (hold s.channel.ring history)) history in
+    let same = source_answers s client (newest_start s.channel (hold s.channel.ring history)) history in
     came_before s (Feedback client bytes) events h (came s events h (subst (λ (hs : List Held). Contains hs h) same c))
 came s (Tick ∷ events) h c =
     let same = source_served s (burst (book s events)) (hold s.channel.ring (book s events)) (began Tick ∷ book s events) in
@@ -147,15 +147,15 @@ orders_of_served s events (Some b) =
     each_weaker held Q f [] a = tt
     each_weaker held Q f (h ∷ hs) a = (f h a.0, each_weaker held Q f hs a.1)
 
-orders_of_accepts : (s : Settings) (events : List Event) (client : ℕ) (bytes : List ℕ) (o : Option Start)
-    → All (IsOfTheSource s events) (newest_orders s (accepts s.channel client o (began (Feedback client bytes) ∷ book s events)) [])
+orders_of_answers : (s : Settings) (events : List Event) (client : ℕ) (bytes : List ℕ) (o : Option Start)
+    → All (IsOfTheSource s events) (newest_orders s (answers s.channel client o (began (Feedback client bytes) ∷ book s events)) [])
 unfolding newest_orders
-orders_of_accepts s events client bytes None = All-nil (IsOfTheSource s events)
-orders_of_accepts s events client bytes (Some start) = All-cons (IsOfTheSource s events) _ [] tt (All-nil (IsOfTheSource s events))
+orders_of_answers s events client bytes None = All-cons (IsOfTheSource s events) _ [] tt (All-nil (IsOfTheSource s events))
+orders_of_answers s events client bytes (Some start) = All-cons (IsOfTheSource s events) _ [] tt (All-nil (IsOfTheSource s events))
 
 pub orders_came : (s : Settings) (events : List Event) (event : Event) → All (IsOfTheSource s events) (answer s (book s events) event).orders
 unfolding after newest_orders
 orders_came s events (Live bytes) = All-nil (IsOfTheSource s events)
 orders_came s events (Feedback client bytes) =
-    orders_of_accepts s events client bytes (newest_start s.channel (hold s.channel.ring (began (Feedback client bytes) ∷ book s events)))
+    orders_of_answers s events client bytes (newest_start s.channel (hold s.channel.ring (began (Feedback client bytes) ∷ book s events)))
 orders_came s events Tick = orders_of_served s events (burst (book s events))

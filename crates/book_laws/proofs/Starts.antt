@@ -5,7 +5,7 @@ use Rattle.std.proofs.lemmas.Bool.{and_parts, and_from, leb-true, le-leb, both_w
 use Rattle.rams_model.specs.declared.channel.Channel.{Channel}
 use Rattle.rams_model.specs.declared.held.Held.{Held}
 use Rattle.rams_model.specs.Hold.{Start, start_at, wires, is_eligible, or_start, newest_start}
-use Rattle.book_laws.specs.Bursts.{IsEligible, BeginsAtNewest}
+use Rattle.book_laws.specs.Bursts.{IsEligible, NoneEligible, BeginsAtNewest}
 use Rattle.book_laws.proofs.Following.{some_same}
 
 eligible_when : (c : Channel) (h : Held) (hs : List Held) → is_eligible c h hs ≡ true → IsEligible c h hs
@@ -19,16 +19,12 @@ ineligible_when c h hs e i =
     let room = c.ring * c.minwire in
     both_ways (is_eligible c h hs) e (and_from h.access (nat_le needed room) i.access (le-leb needed room i.fits))
 
--- no packet of these is an eligible access point
-abbrev NoneEligible : Channel → List Held → Type 0
-NoneEligible c held = (between : List Held) (h : Held) (rest : List Held) → held ≡ between ++ (h ∷ rest) → ¬ IsEligible c h rest
-
 none_parts : (o : Option Start) (t : Bool) (start : Start) → or_start o (if t then Some start else None) ≡ None → (o ≡ None) × (t ≡ false)
 none_parts (Some other) t start e = absurd cc
 none_parts None true start e = absurd cc
 none_parts None false start e = (refl, refl)
 
-none_eligible : (c : Channel) (held : List Held) → newest_start c held ≡ None → NoneEligible c held
+pub none_eligible : (c : Channel) (held : List Held) → newest_start c held ≡ None → NoneEligible c held
 unfolding newest_start
 none_eligible c [] e [] h rest split = absurd cc
 none_eligible c [] e (b ∷ between) h rest split = absurd cc

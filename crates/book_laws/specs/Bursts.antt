@@ -7,7 +7,7 @@ use Rattle.rams_model.specs.declared.answer.Order.TheVariants as orders
 use Rattle.rams_model.specs.declared.channel.Access.TheVariants.{Marker}
 use Rattle.rams_model.specs.declared.channel.Channel.{Channel}
 use Rattle.rams_model.specs.declared.held.Held.{Held}
-use Rattle.rams_model.specs.declared.note.Note.TheVariants.{Accept, Burst}
+use Rattle.rams_model.specs.declared.note.Note.TheVariants.{Accept, Refuse, Burst}
 use Rattle.rams_model.specs.Settings.{Settings}
 use Rattle.rams_model.specs.Packet.{packet_of}
 use Rattle.rams_model.specs.Hold.{wires}
@@ -52,6 +52,10 @@ pub record IsEligible (c : Channel) (h : Held) (newer : List Held) : Type 0 wher
   pub access : IsTrue h.access
   pub fits : wires (h ∷ newer) + c.declared ≤ c.ring * c.minwire
 
+-- No packet of these is an eligible access point.
+abbrev pub NoneEligible : Channel → List Held → Type 0
+NoneEligible c held = (older : List Held) (h : Held) (newer : List Held) → held ≡ older ++ (h ∷ newer) → ¬ IsEligible c h newer
+
 -- The newest eligible access point of what is held has this number.
 pub record BeginsAtNewest (c : Channel) (held : List Held) (first : ℕ) : Type 0 where
   pub older : List Held
@@ -60,13 +64,19 @@ pub record BeginsAtNewest (c : Channel) (held : List Held) (first : ℕ) : Type 
   pub splits : held ≡ older ++ (start ∷ newer)
   pub number : start.n ≡ first
   pub eligible : IsEligible c start newer
-  pub newest : (between : List Held) (h : Held) (rest : List Held) → newer ≡ between ++ (h ∷ rest) → ¬ IsEligible c h rest
+  pub newest : NoneEligible c newer
 
 -- An Accept names the newest access point that was held then and was eligible.
 abbrev pub ABurstBeginsAtAnEligibleAccessPoint : Type 0
 ABurstBeginsAtAnEligibleAccessPoint =
     (s : Settings) (history : History) → IsMoment s history → (client : ℕ) (a : LastAccept history client)
     → BeginsAtNewest s.channel (hold s.channel.ring a.before) a.first
+
+-- A refused request came while nothing that was held was an eligible access point, and its response code says so.
+abbrev pub RefusalsAreTrue : Type 0
+RefusalsAreTrue =
+    (s : Settings) (client code : ℕ) (packet : Option Held) (before : History) → IsMoment s (noted (Refuse client code) packet ∷ before)
+    → (code ≡ 507) × NoneEligible s.channel (hold s.channel.ring before)
 
 -- Where the marker tells access points, they are the packets that have it.
 abbrev pub AccessPointsHaveTheMarker : Type 0

@@ -6,7 +6,7 @@ use Rattle.rams_model.specs.declared.event.Event.TheVariants.{Live, Feedback, Ti
 use Rattle.rams_model.specs.declared.held.Held.{Held}
 use Rattle.rams_model.specs.declared.note.LiveNote.TheVariants.{Took}
 use Rattle.rams_model.specs.declared.note.Note.{Note}
-use Rattle.rams_model.specs.declared.note.Note.TheVariants.{Live as LiveNoted, Accept, Burst}
+use Rattle.rams_model.specs.declared.note.Note.TheVariants.{Live as LiveNoted, Accept, Refuse, Burst}
 use Rattle.rams_model.specs.Settings.{Settings, settings}
 use Rattle.rams_model.specs.First.History.{began, noted, History}
 use Rattle.rams_model.specs.First.Lawful.{book}
@@ -76,11 +76,11 @@ OneOfEach =
     × (sequence_numbers 5 since_accept ≡ 500 ∷ []) × (bytes_to 5 since_accept ≡ 46) × (bytes_sent since_accept ≡ 46)
     × (are_built (worked 1 4000 0 46 500) one_of_each ≡ true)
 
--- With a byte less of room the access point isn't eligible, and the request isn't built.
+-- With a byte less of room the access point isn't eligible, and the request is refused.
 abbrev pub NoRoom : Type 0
 NoRoom =
-    (book (worked 1 4000 0 45 500) (request ∷ Live (access_point 0 10 4) ∷ []) ≡ before_accept)
-    × (are_built (worked 1 4000 0 45 500) (request ∷ Live (access_point 0 10 4) ∷ []) ≡ false)
+    (book (worked 1 4000 0 45 500) (request ∷ Live (access_point 0 10 4) ∷ []) ≡ noted (Refuse 5 507) None ∷ before_accept)
+    × (are_built (worked 1 4000 0 45 500) (request ∷ Live (access_point 0 10 4) ∷ []) ≡ true)
 
 -- the notes of each answer, the newest first
 abbrev pub notes_of : Settings → List Event → List (List Note)

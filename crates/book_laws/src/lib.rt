@@ -3,7 +3,7 @@
 //! A law is the contract of a function that does nothing. Its words stand in `specs/`.
 #![tactic(auto)]
 
-ghost use Rattle.book_laws.specs.Bursts.{FirstSendingsAreConsecutive, WhatIsSentIsHeld, NothingIsSentUnasked, WhoeverWasAcceptedHasALastAccept, ABurstBeginsAtAnEligibleAccessPoint, AccessPointsHaveTheMarker, TheFirstSendingHasTheNumberThatTheAcceptNamed};
+ghost use Rattle.book_laws.specs.Bursts.{FirstSendingsAreConsecutive, WhatIsSentIsHeld, NothingIsSentUnasked, WhoeverWasAcceptedHasALastAccept, ABurstBeginsAtAnEligibleAccessPoint, AccessPointsHaveTheMarker, RefusalsAreTrue, TheFirstSendingHasTheNumberThatTheAcceptNamed};
 ghost use Rattle.book_laws.specs.Ticks.{ClientBudgetsAreKept, SharesAreKept, OnlyTicksSend, SizesAreThoseOnTheWire, ARunIsTheLongestThatFits, ATickSendsAllThatFits};
 ghost use Rattle.book_laws.specs.Retransmitted.{EachDatagramIsTheRetransmissionOfASourcePacket};
 ghost use Rattle.book_laws.specs.OneBook.{OneBook};
@@ -22,6 +22,11 @@ pub fn first_sendings_are_consecutive()
 pub fn a_burst_begins_at_an_eligible_access_point()
     ensures begins { ABurstBeginsAtAnEligibleAccessPoint }
     ensures marked { AccessPointsHaveTheMarker }
+{}
+
+/// A request is refused only where nothing that is held is an eligible access point.
+pub fn refusals_are_true()
+    ensures { RefusalsAreTrue }
 {}
 
 /// What a client is sent after an Accept is numbered from TLV 32 of its RAMS-I on (RFC 6285, 7.3).

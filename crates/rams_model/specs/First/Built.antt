@@ -1,5 +1,5 @@
 -- What of the whole server is built so far. The rest is answered by the line `not-built`.
-use Rattle.std.specs.Prelude.{ℕ, ◌+◌, ◌%◌, Bool, true, ◌&&◌, ◌==◌, not, nat_le, nat_lt, List, [], ◌∷◌, length, take, drop, is_some, bytes_eq}
+use Rattle.std.specs.Prelude.{ℕ, ◌+◌, ◌%◌, Bool, true, ◌&&◌, ◌==◌, not, nat_le, nat_lt, List, [], ◌∷◌, length, take, drop, bytes_eq}
 use Rattle.rams_model.specs.declared.channel.Access.{Access}
 use Rattle.rams_model.specs.declared.channel.Access.TheVariants.{Marker, Ts}
 use Rattle.rams_model.specs.declared.channel.Channel.{Channel}
@@ -8,8 +8,8 @@ use Rattle.rams_model.specs.declared.event.Event.TheVariants.{Live, Feedback, Ti
 use Rattle.rams_model.specs.declared.held.Held.{Held}
 use Rattle.rams_model.specs.Settings.{Settings}
 use Rattle.rams_model.specs.Packet.{Packet, is_plain, packet_of}
-use Rattle.rams_model.specs.Hold.{hi, newest_start}
-use Rattle.rams_model.specs.First.History.{History, source, hold}
+use Rattle.rams_model.specs.Hold.{hi}
+use Rattle.rams_model.specs.First.History.{History, source}
 use Rattle.rams_model.specs.First.Standing.{was_asked, ticks}
 
 abbrev pub is_marker : Access → Bool
@@ -39,6 +39,5 @@ is_plain_request bytes =
 -- whether the event is built after this history
 abbrev pub is_built : Settings → History → Event → Bool
 is_built s history (Live bytes) = is_built_live s.channel (source history) bytes
-is_built s history (Feedback client bytes) =
-    is_plain_request bytes && not (was_asked history) && is_some (newest_start s.channel (hold s.channel.ring history))
+is_built s history (Feedback client bytes) = is_plain_request bytes && not (was_asked history)
 is_built s history Tick = nat_lt (ticks history + 1) s.channel.limit

@@ -6,7 +6,7 @@ use Rattle.rams_model.specs.declared.answer.Order.TheVariants as orders
 use Rattle.rams_model.specs.declared.event.Event.{Event}
 use Rattle.rams_model.specs.declared.held.Held.{Held}
 use Rattle.rams_model.specs.declared.note.Note.{Note}
-use Rattle.rams_model.specs.declared.note.Note.TheVariants.{Accept, Burst as BurstNote}
+use Rattle.rams_model.specs.declared.note.Note.TheVariants.{Accept, Refuse, Burst as BurstNote}
 use Rattle.rams_model.specs.Answered.{Answered, answered}
 use Rattle.rams_model.specs.Settings.{Settings}
 use Rattle.rams_model.specs.Packet.{packet_of, retransmission}
@@ -26,9 +26,14 @@ accept_info s first rate join = record {
   bps = Some (rate * 8000 / s.tick);
 }
 
+-- the RAMS-I of a refused request: its response and nothing else
+abbrev pub refuse_info : ℕ → Info
+refuse_info code = record { msn = 0; code = code; first = None; join_ms = None; length_ms = None; bps = None }
+
 -- what a note asks to send, by what stands in front of it
 abbrev pub order_of : Settings → History → Note → Option Held → Option Order
 order_of s history (Accept client first rate join) packet = Some (orders.Info client (accept_info s (sequence s history) rate join))
+order_of s history (Refuse client code) packet = Some (orders.Info client (refuse_info code))
 order_of s history (BurstNote client n sequence) (Some h) = Some (orders.Rtx client n sequence h.packet)
 order_of s history _ packet = None
 

@@ -1,7 +1,7 @@
 -- The answer to a RAMS-R without TLVs (RFC 6285, 6.2 and 7.2).
 use Rattle.std.specs.Prelude.{ℕ, ◌+◌, ◌-◌, ◌/◌, min, ◌∷◌, Option, Some, None}
 use Rattle.rams_model.specs.declared.channel.Channel.{Channel}
-use Rattle.rams_model.specs.declared.note.Note.TheVariants.{Accept}
+use Rattle.rams_model.specs.declared.note.Note.TheVariants.{Accept, Refuse}
 use Rattle.rams_model.specs.Settings.{Settings}
 use Rattle.rams_model.specs.Hold.{Start, newest_start}
 use Rattle.rams_model.specs.First.History.{noted, History, hold}
@@ -18,10 +18,14 @@ waste c = 1499 - min c.depth 1499
 abbrev pub join_ticks : Channel → ℕ → ℕ → ℕ
 join_ticks c behind rate = ceiling behind (rate - waste c - c.declared)
 
--- the burst begins at the newest eligible access point
-abbrev pub accepts : Channel → ℕ → Option Start → History → History
-accepts c client None history = history
-accepts c client (Some start) history = noted (Accept client start.n c.burst (join_ticks c start.behind c.burst)) None ∷ history
+-- the response code where there is no eligible access point
+abbrev pub no_start : ℕ
+no_start = 507
+
+-- the burst begins at the newest eligible access point; where there is none, the request is refused
+abbrev pub answers : Channel → ℕ → Option Start → History → History
+answers c client None history = noted (Refuse client no_start) None ∷ history
+answers c client (Some start) history = noted (Accept client start.n c.burst (join_ticks c start.behind c.burst)) None ∷ history
 
 abbrev pub after_request : Settings → ℕ → History → History
-after_request s client history = accepts s.channel client (newest_start s.channel (hold s.channel.ring history)) history
+after_request s client history = answers s.channel client (newest_start s.channel (hold s.channel.ring history)) history
