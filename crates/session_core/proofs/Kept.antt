@@ -41,6 +41,7 @@ live_keeps v h items p core e room header number first =
       room = omega (arith, long);
       ring = core.ring;
       within = within_more v.held h v.burst core.within;
+      quiet = core.quiet;
       few = core.few;
     } in
     subst (λ (l : List Held). IsCore (record v { held = l })) (sym e) kept
@@ -75,16 +76,20 @@ start_is_held c n (h ∷ hs) s r e =
     start_either n h hs (is_eligible c h hs) s (newest_start c hs) r.0 e (λ t. start_is_held c (n + 1) hs t r.1)
 
 -- a burst begins
-pub feedback_keeps : (v : Seen) (b : Burst) (s : Start) → IsCore v → newest_start v.settings.channel v.held ≡ Some s → b.first ≡ s.n → b.sent ≡ 0 → IsCore (record v { burst = Some b })
+pub feedback_keeps : (v : Seen) (b : Burst) (s : Start) → IsCore v → newest_start v.settings.channel v.held ≡ Some s → b.first ≡ s.n → b.sent ≡ 0 → IsCore (record v { burst = Some b; asked = true })
 feedback_keeps v b s core found first none =
     let at = start_is_held v.settings.channel (lo v.held) v.held s core.rise found in
     let low = at.low in
     let high = at.high in
-    record { rise = core.rise; whole = core.whole; low = core.low; room = core.room; ring = core.ring; few = core.few; within = (omega arith, omega arith, omega arith) }
+    record { rise = core.rise; whole = core.whole; low = core.low; room = core.room; ring = core.ring; few = core.few; quiet = λ e. cc; within = (omega arith, omega arith, omega arith) }
+
+-- a request is refused
+pub refusal_keeps : (v : Seen) → IsCore v → IsCore (record v { asked = true })
+refusal_keeps v core = record { rise = core.rise; whole = core.whole; low = core.low; room = core.room; ring = core.ring; within = core.within; quiet = λ e. cc; few = core.few }
 
 -- a tick passes
 pub tick_keeps : (v : Seen) → IsCore v → v.ticks + 1 ≤ v.settings.channel.limit → IsCore (record v { ticks = v.ticks + 1 })
-tick_keeps v core few = record { rise = core.rise; whole = core.whole; low = core.low; room = core.room; ring = core.ring; within = core.within; few = few }
+tick_keeps v core few = record { rise = core.rise; whole = core.whole; low = core.low; room = core.room; ring = core.ring; within = core.within; quiet = core.quiet; few = few }
 
 -- some packets were sent that are held
 pub sent_keeps : (v : Seen) (b : Burst) (count : ℕ) → IsCore v → v.burst ≡ Some b → v.ticks + 1 ≤ v.settings.channel.limit → next b + count ≤ lo v.held + length v.held
@@ -93,4 +98,4 @@ sent_keeps v b count core is few within =
     let w : LiesWithin v.held (Some b) = subst (λ (o : Option Burst). LiesWithin v.held o) is core.within in
     let some = w.0 in
     let low = w.1 in
-    record { rise = core.rise; whole = core.whole; low = core.low; room = core.room; ring = core.ring; few = few; within = (some, low, omega arith) }
+    record { rise = core.rise; whole = core.whole; low = core.low; room = core.room; ring = core.ring; few = few; quiet = λ e. let none = core.quiet e in cc; within = (some, low, omega arith) }

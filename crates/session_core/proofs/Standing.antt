@@ -21,10 +21,10 @@ use Rattle.rams_model.specs.Hold.{Start, held_as, from_number, newest_start}
 use Rattle.rams_model.specs.First.History.{next_number}
 use Rattle.rams_model.specs.First.Standing.{next, begun}
 use Rattle.rams_model.specs.First.Run.{run}
-use Rattle.rams_model.specs.First.Verdict.{join_ticks, accepts}
+use Rattle.rams_model.specs.First.Verdict.{no_start, join_ticks, answers}
 use Rattle.rams_model.specs.First.Lawful.{after, served}
-use Rattle.rams_model.specs.First.Orders.{answer, newest_answer, accept_info}
-use Rattle.std.proofs.lemmas.Bool.{ltb-true, and_parts}
+use Rattle.rams_model.specs.First.Orders.{answer, newest_answer, accept_info, refuse_info}
+use Rattle.std.proofs.lemmas.Bool.{ltb-true, and_parts, not-true}
 use Rattle.session_core.specs.Seen.{Answers, serves, new_core}
 use Rattle.session_core.specs.Runs.{sequence_at}
 use Rattle.session_core.proofs.HoldLemmas.{last_of_all}
@@ -114,14 +114,14 @@ hold_is v history s = last_of_all v.settings.channel.ring (source history) s.roo
 
 pub feedback_answers : (v : Seen) (client : ℕ) (bytes : List ℕ) (start : Start) → newest_start v.settings.channel v.held ≡ Some start → v.burst ≡ None
     → let c = v.settings.channel in let join = join_ticks c start.behind c.burst in
-    Answers v (record v { burst = Some (begun client start.n c.burst) }) (Feedback client bytes)
+    Answers v (record v { burst = Some (begun client start.n c.burst); asked = true }) (Feedback client bytes)
     (answered (notes.Accept client start.n c.burst join ∷ []) (orders.Info client (accept_info v.settings (sequence_at c.seq0 0) c.burst join) ∷ []))
 unfolding after source burst sendings was_asked ticks newest_notes newest_orders
 feedback_answers v client bytes start found none =
     let c = v.settings.channel in
     let join = join_ticks c start.behind c.burst in
     let begins : (history : History) → StandsFor v history → after v.settings (Feedback client bytes) history ≡ noted (notes.Accept client start.n c.burst join) None ∷ began (Feedback client bytes) ∷ history =
-    λ history s. ap (λ (o : Option Start). accepts c client o (began (Feedback client bytes) ∷ history)) (ap (newest_start c) (hold_is v history s) ∙ found) in
+    λ history s. ap (λ (o : Option Start). answers c client o (began (Feedback client bytes) ∷ history)) (ap (newest_start c) (hold_is v history s) ∙ found) in
     let first : (history : History) → StandsFor v history → sequence_at c.seq0 0 ≡ sequence v.settings (began (Feedback client bytes) ∷ history) =
     λ history s. ap (λ k. k % 65536) (let zero_sent : sendings history ≡ 0 = s.sent ∙ ap sent_of none in omega arith) in
     record {
@@ -130,8 +130,24 @@ feedback_answers v client bytes start found none =
           ap (λ k. answered (notes.Accept client start.n c.burst join ∷ []) (orders.Info client (accept_info v.settings k c.burst join) ∷ [])) (first history s)
           ∙ ap (newest_answer v.settings) (sym (begins history s));
       stands = λ history s.
-          subst (λ (h : History). StandsFor (record v { burst = Some (begun client start.n c.burst) }) h) (sym (begins history s))
+          subst (λ (h : History). StandsFor (record v { burst = Some (begun client start.n c.burst); asked = true }) h) (sym (begins history s))
           (record { held = s.held; room = s.room; burst = refl; sent = s.sent ∙ ap sent_of none; asked = refl; ticks = s.ticks });
+    }
+
+pub refusal_answers : (v : Seen) (client : ℕ) (bytes : List ℕ) → newest_start v.settings.channel v.held ≡ None
+    → Answers v (record v { asked = true }) (Feedback client bytes)
+    (answered (notes.Refuse client no_start ∷ []) (orders.Info client (refuse_info no_start) ∷ []))
+unfolding after source burst sendings was_asked ticks newest_notes newest_orders
+refusal_answers v client bytes none =
+    let c = v.settings.channel in
+    let refuses : (history : History) → StandsFor v history → after v.settings (Feedback client bytes) history ≡ noted (notes.Refuse client no_start) None ∷ began (Feedback client bytes) ∷ history =
+    λ history s. ap (λ (o : Option Start). answers c client o (began (Feedback client bytes) ∷ history)) (ap (newest_start c) (hold_is v history s) ∙ none) in
+    record {
+      settings = refl;
+      lawful = λ history s. ap (newest_answer v.settings) (sym (refuses history s));
+      stands = λ history s.
+          subst (λ (h : History). StandsFor (record v { asked = true }) h) (sym (refuses history s))
+          (record { held = s.held; room = s.room; burst = s.burst; sent = s.sent; asked = refl; ticks = s.ticks });
     }
 
 -- ---- a tick
@@ -162,7 +178,7 @@ sent_stands v b sent history is t =
       room = subst (λ (l : List Held). length l ≤ v.settings.channel.ring) (sym sources) t.room;
       burst = sym (burst-send s b.client sent story b (sym t.burst ∙ is));
       sent = sendings-send s b.client sent story ∙ ap (λ k. k + length sent) (t.sent ∙ ap sent_of is);
-      asked = was_asked-send s b.client sent story ∙ t.asked ∙ ap is_some is;
+      asked = t.asked ∙ sym (was_asked-send s b.client sent story);
       ticks = ap (λ k. k + 1) t.ticks ∙ sym (ticks-send s b.client sent story);
     }
 
@@ -210,13 +226,9 @@ live_has_room v bytes e = ltb-true (length v.held) v.settings.channel.ring (and_
 pub tick_has_time : (v : Seen) → serves v Tick ≡ true → v.ticks + 1 ≤ v.settings.channel.limit
 tick_has_time v e = let below = ltb-true (v.ticks + 1) v.settings.channel.limit e in omega arith
 
--- a core that serves a request has no burst
-no_burst : (plain found : Bool) (b : Option Burst) → (plain && not (is_some b) && found) ≡ true → b ≡ None
-no_burst plain found None e = refl
-no_burst plain found (Some b) e = let f = (and_parts plain false (and_parts (plain && false) found e).0).1 in cc
-
-pub request_finds_no_burst : (v : Seen) (client : ℕ) (bytes : List ℕ) → serves v (Feedback client bytes) ≡ true → v.burst ≡ None
-request_finds_no_burst v client bytes e = no_burst _ _ v.burst e
+-- no request came before one that is served
+pub request_is_first : (v : Seen) (client : ℕ) (bytes : List ℕ) → serves v (Feedback client bytes) ≡ true → v.asked ≡ false
+request_is_first v client bytes e = not-true v.asked (and_parts _ (not v.asked) e).1
 
 pub none_from : {X : Type 0} (o : Option X) → ((x : X) → o ≡ Some x → ⊥) → o ≡ None
 none_from None never = refl

@@ -1,10 +1,10 @@
 -- What contracts see of a core, and the history that it stands for.
-use Rattle.std.specs.Prelude.{◌≡◌, ℕ, ◌+◌, ◌≤◌, ◌<◌, Bool, ◌&&◌, not, nat_lt, List, [], ◌∷◌, length, Option, None, Some, is_some, All}
+use Rattle.std.specs.Prelude.{◌≡◌, ℕ, ◌+◌, ◌≤◌, ◌<◌, Bool, ◌&&◌, false, not, nat_lt, List, [], ◌∷◌, length, Option, None, Some, All}
 use Rattle.rams_model.specs.declared.event.Event.{Event}
 use Rattle.rams_model.specs.declared.event.Event.TheVariants.{Live, Feedback, Tick}
 use Rattle.rams_model.specs.declared.held.Held.{Held}
 use Rattle.rams_model.specs.Settings.{Settings}
-use Rattle.rams_model.specs.Hold.{lo, newest_start}
+use Rattle.rams_model.specs.Hold.{lo}
 use Rattle.rams_model.specs.First.History.{History, source}
 use Rattle.rams_model.specs.First.Standing.{Burst, next, burst, sendings, was_asked, ticks}
 use Rattle.rams_model.specs.Answered.{Answered}
@@ -18,16 +18,18 @@ pub record Seen : Type 0 where
   -- oldest first
   pub held : List Held
   pub burst : Option Burst
+  -- a request came
+  pub asked : Bool
   pub ticks : ℕ
 
 -- a core that has seen nothing
 abbrev pub new_core : Settings → Seen
-new_core s = record { settings = s; held = []; burst = None; ticks = 0 }
+new_core s = record { settings = s; held = []; burst = None; asked = false; ticks = 0 }
 
 -- whether the event is built for this core
 abbrev pub serves : Seen → Event → Bool
 serves v (Live bytes) = is_built_live v.settings.channel v.held bytes
-serves v (Feedback client bytes) = is_plain_request bytes && not (is_some v.burst) && is_some (newest_start v.settings.channel v.held)
+serves v (Feedback client bytes) = is_plain_request bytes && not v.asked
 serves v Tick = nat_lt (v.ticks + 1) v.settings.channel.limit
 
 -- how many packets the burst was sent
@@ -41,7 +43,7 @@ pub record StandsFor (v : Seen) (history : History) : Type 0 where
   pub room : length (source history) ≤ v.settings.channel.ring
   pub burst : v.burst ≡ burst history
   pub sent : sendings history ≡ sent_of v.burst
-  pub asked : was_asked history ≡ is_some v.burst
+  pub asked : v.asked ≡ was_asked history
   pub ticks : v.ticks ≡ ticks history
 
 -- The packet has at least a fixed header (RFC 3550, 5.1), and takes at most 1,500 bytes on the wire.
@@ -67,6 +69,7 @@ pub record IsCore (v : Seen) : Type 0 where
   pub room : length v.held ≤ v.settings.channel.ring
   pub ring : v.settings.channel.ring ≤ 32768
   pub within : LiesWithin v.held v.burst
+  pub quiet : v.asked ≡ false → v.burst ≡ None
   pub few : v.ticks ≤ v.settings.channel.limit
 
 -- What the core then has, and its answer, are what the event gives after every history that the core stood for.

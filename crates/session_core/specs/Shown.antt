@@ -11,4 +11,4 @@ shown_burst b = record { client = b.client; first = b.first; rate = b.rate; sent
 
 -- what a core has in its fields
 abbrev pub shown_core : Inside → Seen
-shown_core c = record { settings = c.config; held = c.held.items; burst = option_map shown_burst c.burst; ticks = c.ticks }
+shown_core c = record { settings = c.config; held = c.held.items; burst = option_map shown_burst c.burst; asked = c.asked; ticks = c.ticks }

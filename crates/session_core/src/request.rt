@@ -2,7 +2,7 @@
 ghost use Rattle.std.specs.Prelude.{◌≡◌, ◌≤◌, ◌<◌, ◌+◌, ◌-◌, ◌*◌, ◌^◌, min, ◌&&◌, nat_le, All, IfSome, length, option_map};
 ghost use Rattle.rams_model.specs.Hold.{newest_start};
 ghost use Rattle.rams_model.specs.First.Verdict.{join_ticks};
-ghost use Rattle.rams_model.specs.First.Orders.{accept_info};
+ghost use Rattle.rams_model.specs.First.Orders.{accept_info, refuse_info};
 ghost use Rattle.rams_model.specs.First.Built.{is_plain_request};
 ghost use Rattle.session_core.specs.Runs.{sequence_at};
 ghost use Rattle.session_core.specs.Seen.{IsWhole};
@@ -11,6 +11,9 @@ ghost use Rattle.session_core.specs.Starts.{shown_start};
 use crate::run::sequence_at;
 use channel_config::Config;
 use rams_model::{Held, Info};
+
+/// The response code where there is no eligible access point.
+pub const NO_START: u16 = 507;
 
 /// Where a burst may begin: a packet's number, and the wire sizes from it on, in bytes.
 #[derive(Clone, Copy)]
@@ -89,6 +92,20 @@ pub fn accept_info(config: &Config, join: u64) -> Info
         join_ms: Some(product_up_to_max(join, tick)),
         length_ms: Some(channel.limit * tick),
         bps: Some(channel.burst * 8000 / u64::from(tick)),
+    }
+}
+
+/// The RAMS-I of a refused request: its response and nothing else (RFC 6285, 7.3).
+pub fn refuse_info(code: u16) -> Info
+    ensures { result ≡ refuse_info code }
+{
+    Info {
+        msn: 0,
+        code,
+        first: None,
+        join_ms: None,
+        length_ms: None,
+        bps: None,
     }
 }
 

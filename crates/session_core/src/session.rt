@@ -1,6 +1,8 @@
 //! The core of one channel.
 use crate::packet::{hold_packet, is_of_channel, sequence_of};
-use crate::request::{accept_info, is_plain_request, join_ticks, newest_start};
+use crate::request::{
+    NO_START, accept_info, is_plain_request, join_ticks, newest_start, refuse_info,
+};
 use crate::run::{burst_notes, burst_orders, run_of};
 use channel_config::Config;
 use ram_io::NoMemory;
@@ -17,12 +19,13 @@ struct Burst {
     sent: u64,
 }
 
-/// What a channel holds, and its burst.
+/// What a channel holds, its burst, and whether a request came.
 #[derive(Drop)]
 pub struct Core {
     config: Config,
     held: Vec<Held>,
     burst: Option<Burst>,
+    asked: bool,
     ticks: u32,
 }
 
@@ -39,9 +42,9 @@ impl Model for Core {
 }
 
 impl Core {
-    ghost use Rattle.std.specs.Prelude.{◌≡◌, ◌≤◌, ◌<◌, ℕ, [], IfOk, OnErr, IsTrue, length};
+    ghost use Rattle.std.specs.Prelude.{◌≡◌, ◌≤◌, ◌<◌, ℕ, [], List, None, IfOk, OnErr, IsTrue, length};
     ghost use Rattle.rams_model.specs.declared.event.Event.TheVariants as events;
-    ghost use Rattle.rams_model.specs.Hold.{lo, hi};
+    ghost use Rattle.rams_model.specs.Hold.{lo, hi, newest_start};
     ghost use Rattle.rams_model.specs.First.History.{History, next_number};
     ghost use Rattle.rams_model.specs.Packet.{packet_of};
     ghost use Rattle.rams_model.specs.First.Built.{is_built, follows};
@@ -59,6 +62,7 @@ impl Core {
             config: *config,
             held: Vec::with_capacity(alloc, room)?,
             burst: None,
+            asked: false,
             ticks: 0,
         })
     }
@@ -118,9 +122,7 @@ impl Core {
         ensures value { (client : ℕ) → result ≡ serves self.now (events.Feedback client bytes.now) }
         ensures stands { (client : ℕ) (history : History) → StandsFor self.now history → result ≡ is_built self.now.settings history (events.Feedback client bytes.now) }
     {
-        is_plain_request(bytes)
-            && self.burst.is_none()
-            && newest_start(&self.config, &self.held).is_some()
+        is_plain_request(bytes) && !self.asked
     }
 
     /// Whether the sequence number is one more than that of the packet before.
@@ -168,7 +170,8 @@ impl Core {
         }
     }
 
-    /// A RAMS-R is accepted: its burst begins at the newest eligible access point.
+    /// A RAMS-R is accepted, and its burst begins at the newest eligible access point; where there is
+    /// none, it is refused with 507.
     pub fn feedback(&mut self, alloc: Global, client: u64, bytes: &[u8]) -> Result<Answer, NoMemory>
         requires { IsTrue (serves self.old (events.Feedback client bytes.now)) }
         ensures stands { IfOk result (λ a. Answers self.old self.new (events.Feedback client bytes.now) a) }
@@ -176,7 +179,7 @@ impl Core {
         ensures same { OnErr result (self.new ≡ self.old) }
     {
         let Some(start) = newest_start(&self.config, &self.held) else {
-            unreachable!()
+            return self.refuse(alloc, client);
         };
         let join = join_ticks(&self.config, start.behind);
         let info = accept_info(&self.config, join);
@@ -197,6 +200,24 @@ impl Core {
             rate,
             sent: 0,
         });
+        self.asked = true;
+        Ok(Answer::new(notes, orders))
+    }
+
+    /// The answer to a RAMS-R where there is no eligible access point.
+    fn refuse(&mut self, alloc: Global, client: u64) -> Result<Answer, NoMemory>
+        requires { newest_start self.old.settings.channel self.old.held ≡ None }
+        ensures stands { IfOk result (λ a. (bytes : List ℕ) → Answers self.old self.new (events.Feedback client bytes) a) }
+        ensures renders { IfOk result (λ a. AllRender a.orders) }
+        ensures same { OnErr result (self.new ≡ self.old) }
+    {
+        let code = NO_START;
+        let info = refuse_info(code);
+        let mut notes = Vec::with_capacity(alloc, 1)?;
+        notes.push(Note::Refuse { client, code })?;
+        let mut orders = Vec::with_capacity(alloc, 1)?;
+        orders.push(Order::Info { client, info })?;
+        self.asked = true;
         Ok(Answer::new(notes, orders))
     }
 
