@@ -1,6 +1,7 @@
 pub mod Answered
 pub mod Settings
 pub mod Packet
+pub mod Rtp
 pub mod RamsInfo
 pub mod Hold
 pub mod Words
