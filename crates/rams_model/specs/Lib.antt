@@ -2,6 +2,10 @@ pub mod Answered
 pub mod Settings
 pub mod Packet
 pub mod RamsInfo
+pub mod Joined
+pub mod Rtcp
+pub mod Feedback
+pub mod Rams
 pub mod Hold
 pub mod Words
 pub mod TraceLine
