@@ -3,6 +3,10 @@ pub mod Settings
 pub mod Packet
 pub mod Rtp
 pub mod RamsInfo
+pub mod Joined
+pub mod Rtcp
+pub mod Feedback
+pub mod Rams
 pub mod Hold
 pub mod Words
 pub mod TraceLine
