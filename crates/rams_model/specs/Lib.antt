@@ -25,6 +25,7 @@ pub mod Answers
 pub mod Tick
 pub mod Orders
 pub mod Book
+pub mod Worked
 pub mod Words
 pub mod TraceLine
 pub mod TraceOrder
