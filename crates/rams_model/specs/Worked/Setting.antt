@@ -1,16 +1,18 @@
 -- What the worked examples speak of: a channel, packets, and feedback from clients.
-use Rattle.std.specs.Prelude.{ℕ, Bool, List, [], ◌++◌, map, reverse, replicate, codes}
-use Rattle.std.specs.List.{flat_map}
+use Rattle.std.specs.Prelude.{◌≡◌, ℕ, Bool, List, [], ◌∷◌, ◌++◌, map, reverse, replicate, codes}
 use Rattle.rams_model.specs.declared.channel.Access.TheVariants.{Marker}
 use Rattle.rams_model.specs.declared.channel.Channel.{Channel}
 use Rattle.rams_model.specs.declared.event.Event.{Event}
 use Rattle.rams_model.specs.declared.event.Event.TheVariants.{Live, Feedback}
+use Rattle.rams_model.specs.declared.note.LiveNote.{LiveNote}
+use Rattle.rams_model.specs.declared.note.LiveNote.TheVariants.{Took}
 use Rattle.rams_model.specs.declared.note.Note.{Note}
+use Rattle.rams_model.specs.declared.note.Note.TheVariants.{Live as LiveNoted}
 use Rattle.rams_model.specs.Settings.{Settings, settings}
 use Rattle.rams_model.specs.Packet.{spelling}
 use Rattle.rams_model.specs.Words.{bytes_in}
 use Rattle.rams_model.specs.Orders.{datagram}
-use Rattle.rams_model.specs.Book.{book}
+use Rattle.rams_model.specs.Book.{Entry, book}
 
 -- the settings of the channel, where nothing else is said
 abbrev pub channel : Channel
@@ -84,10 +86,27 @@ stop_request client number = feedback client (codes "86cd00050000c00111223344030
 abbrev pub nack : ℕ → List ℕ → Event
 nack client word = feedback client (codes "81cd00030000c00111223344" ++ word)
 
--- what the channel notes of each of these events, the oldest first
-abbrev pub notes_of : Channel → List Event → List (List Note)
-notes_of c events = reverse (map (λ e. e.answer.notes) (book (with_ticks c) (reverse events)))
+-- An event, with the notes and the datagrams that answer it.
+pub record Step : Type 0 where
+  pub event : Event
+  pub notes : List Note
+  pub datagrams : List (List ℕ)
 
--- the datagrams that it sends
-abbrev pub datagrams_of : Channel → List Event → List (List ℕ)
-datagrams_of c events = flat_map (λ e. map (datagram (with_ticks c)) e.answer.orders) (reverse (book (with_ticks c) (reverse events)))
+abbrev pub step : Event → List Note → List (List ℕ) → Step
+step event notes datagrams = record { event = event; notes = notes; datagrams = datagrams }
+
+-- a live packet with its note
+abbrev pub noted : Event → LiveNote → Step
+noted event note = step event (LiveNoted note ∷ []) []
+
+-- one that came in time, with its number
+abbrev pub took : Event → ℕ → Step
+took event n = noted event (Took n)
+
+-- the step that an entry of a book is
+abbrev pub step_of : Settings → Entry → Step
+step_of s e = step e.event e.answer.notes (map (datagram s) e.answer.orders)
+
+-- In the channel's book these events, the first of all in front, are answered so.
+abbrev pub IsAnswered : Channel → List Step → Type 0
+IsAnswered c steps = map (step_of (with_ticks c)) (book (with_ticks c) (reverse (map (λ t. t.event) steps))) ≡ reverse steps

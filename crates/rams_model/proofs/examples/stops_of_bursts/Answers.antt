@@ -29,7 +29,7 @@ use Rattle.rams_model.proofs.examples.stops_of_bursts.Goals as goal
 
 computed : StopAcrossTheWrap × StopAfterTheLast × StopAlreadyPassed × StopHighBits
 unfolding digits encode_with decode_pairs header spelling fields_of packet_at rams_info pieces_from words32 word_numbers numbers_of first_value hi numbered awaited live_note stream_of source consecutive_end hold has_access chosen message_of messages heard_of arrivals as_tick_began known opened sendings newest_sender ssrc bursts pending quiet_ticks channel_left sent_now verdict number_answer after_numbers after_messages run send all_served all_repaired all_forgotten after_tick order_of newest_notes newest_orders datagram after_hearing history_of book
-computed = ((refl, refl), (refl, refl), (refl, refl), (refl, refl))
+computed = (refl, refl, refl, refl)
 
 pub returns-clause-stop_across_the_wrap : goal.returns-clause-stop_across_the_wrap
 returns-clause-stop_across_the_wrap c = computed.0
