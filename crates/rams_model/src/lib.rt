@@ -19,7 +19,10 @@ mod status;
 pub use answer::{Answer, Order};
 pub use channel::{Access, Channel};
 pub use event::Event;
-pub use examples::{no_event, one_packet_per_tick};
+pub use examples::{
+    budgets_of_ticks, bursts_in_ticks, live_packets, no_event, one_packet_per_tick,
+    repairs_of_packets, requests_of_clients, stops_of_bursts,
+};
 pub use fault::{ConfigFault, FrameFault, LineFault, NackFault, RtpFault, TlvFault};
 pub use held::Held;
 pub use laws::plain_packets_are_spelled_again;
