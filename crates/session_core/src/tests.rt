@@ -384,29 +384,53 @@ fn live_packets_are_built(rt: HostRuntime) -> Result<(), Fail> {
 }
 
 #[test]
-fn plain_requests_are_built(rt: HostRuntime) -> Result<(), Fail> {
+fn requests_are_accepted_or_refused(rt: HostRuntime) -> Result<(), Fail> {
     let alloc = rt.alloc();
-    let small = Channel {
+    let ring_of_one = |minwire| Channel {
         ring: 1,
         declared: 0,
-        minwire: 45,
+        minwire,
         ..channel()
     };
+    let accept = Note::Accept {
+        client: 6,
+        first: 65546,
+        rate: 4000,
+        join: 1,
+    };
+    let refuse = Note::Refuse {
+        client: 6,
+        code: 507,
+    };
     let cases = [
-        ("nothing is held", channel(), [].as_slice(), false),
-        ("no access point", channel(), &[0x8021000a], false),
-        ("an access point", channel(), &[0x80a1000a], true),
-        ("46 bytes in a ring of 45", small, &[0x80a1000a], false),
+        ("nothing is held", channel(), [].as_slice(), refuse),
+        ("no access point", channel(), &[0x8021000a], refuse),
+        ("an access point", channel(), &[0x80a1000a], accept),
+        (
+            "46 bytes in a ring of 45",
+            ring_of_one(45),
+            &[0x80a1000a],
+            refuse,
+        ),
+        (
+            "46 bytes in a ring of 46",
+            ring_of_one(46),
+            &[0x80a1000a],
+            accept,
+        ),
     ];
-    for (name, settings, packets, built) in cases {
-        let core = core_with(&rt, alloc, settings, packets)?;
-        let bytes = Octets::of(REQUEST.to_vec(alloc)?);
-        assert_eq!(rt;
-            core.built(&Event::Feedback { client: 6, bytes }),
-            built,
-            "{name}"
-        );
+    for (name, settings, packets, note) in cases {
+        let mut core = core_with(&rt, alloc, settings, packets)?;
+        let answer = core.feedback(alloc, 6, &REQUEST)?;
+        assert_eq!(rt; answer.notes.as_slice(), [note].as_slice(), "{name}");
+        assert!(rt; !core.built_feedback(&REQUEST), "a second request");
     }
+    Ok(())
+}
+
+#[test]
+fn plain_requests_are_built(rt: HostRuntime) -> Result<(), Fail> {
+    let alloc = rt.alloc();
     let mut core = core_with(&rt, alloc, channel(), &[0x80a1000a])?;
     for place in 0..16 {
         let mut bytes = REQUEST;
