@@ -153,6 +153,17 @@ drop_in words = do
   client ← one number_in id.1
   whole (drop_line id.0 client.0) client.1
 
+-- an event of a receiver
+abbrev pub receiver_in : Words → Option TraceLine
+receiver_in [] = None
+receiver_in (word ∷ rest) =
+    if bytes_eq word (codes "tune") then tune_in (word ∷ rest)
+    else if bytes_eq word (codes "give") then give_in (word ∷ rest)
+    else if bytes_eq word (codes "mcast") then mcast_in (word ∷ rest)
+    else if bytes_eq word (codes "ask") then ask_in (word ∷ rest)
+    else if bytes_eq word (codes "drop") then drop_in (word ∷ rest)
+    else None
+
 -- the line that these words are
 abbrev pub line_in : Words → Option TraceLine
 line_in [] = None
@@ -163,12 +174,7 @@ line_in (word ∷ rest) =
     else if bytes_eq word (codes "end") then whole end_line rest
     else if bytes_eq word (codes "channel") then channel_in (word ∷ rest)
     else if bytes_eq word (codes "rams-trace") then head_in (word ∷ rest)
-    else if bytes_eq word (codes "tune") then tune_in (word ∷ rest)
-    else if bytes_eq word (codes "give") then give_in (word ∷ rest)
-    else if bytes_eq word (codes "mcast") then mcast_in (word ∷ rest)
-    else if bytes_eq word (codes "ask") then ask_in (word ∷ rest)
-    else if bytes_eq word (codes "drop") then drop_in (word ∷ rest)
-    else None
+    else receiver_in (word ∷ rest)
 
 -- the line that the bytes are, which have at most 4,096
 abbrev pub line_of : List ℕ → Option TraceLine

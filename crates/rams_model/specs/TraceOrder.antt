@@ -89,17 +89,22 @@ kind_of (drop_line id client) = kind.ReceiverEvent
 abbrev pub may_come : Reached → TraceLine → Bool
 may_come r line = kind_may_come r (kind_of line)
 
-abbrev pub is_one_of : List ℕ → List (List ℕ) → Bool
-is_one_of word words = list_any (bytes_eq word) words
+abbrev pub is_event_word : List ℕ → Bool
+is_event_word word = bytes_eq word (codes "live") || bytes_eq word (codes "fb") || bytes_eq word (codes "tick")
+
+abbrev pub is_receiver_word : List ℕ → Bool
+is_receiver_word word =
+    bytes_eq word (codes "tune") || bytes_eq word (codes "give") || bytes_eq word (codes "mcast") || bytes_eq word (codes "ask")
+    || bytes_eq word (codes "drop")
 
 -- the kind of the lines with this first word
 abbrev pub kind_named : List ℕ → Option LineKind
 kind_named word =
-    if is_one_of word (codes "live" ∷ codes "fb" ∷ codes "tick" ∷ []) then Some kind.Event
+    if is_event_word word then Some kind.Event
     else if bytes_eq word (codes "end") then Some kind.End
     else if bytes_eq word (codes "channel") then Some kind.Channel
     else if bytes_eq word (codes "rams-trace") then Some kind.Head
-    else if is_one_of word (codes "tune" ∷ codes "give" ∷ codes "mcast" ∷ codes "ask" ∷ codes "drop" ∷ []) then Some kind.ReceiverEvent
+    else if is_receiver_word word then Some kind.ReceiverEvent
     else None
 
 abbrev pub named_may_come : Reached → Option LineKind → Bool
