@@ -1,13 +1,18 @@
 -- Which line may come where in a trace: one head, then channel lines, then event lines, then `end`.
-use Rattle.std.specs.Prelude.{ℕ, ◌+◌, Bool, true, false, ◌&&◌, ◌==◌, not, nat_le, nat_lt, if◌then◌else◌, List, [], ◌∷◌, ◌++◌, length, sum_by, Option, Some, None, is_some, Result, Ok, Err}
+use Rattle.std.specs.Prelude.{ℕ, ◌+◌, Bool, true, false, ◌&&◌, ◌||◌, ◌==◌, not, nat_le, nat_lt, if◌then◌else◌, List, [], ◌∷◌, ◌++◌, length, sum_by, Option, Some, None, is_some, Result, Ok, Err, codes, bytes_eq}
 use Rattle.std.specs.List.{list_any}
 use Rattle.rams_model.specs.declared.channel.Channel.{Channel}
 use Rattle.rams_model.specs.declared.fault.ConfigFault.{ConfigFault}
 use Rattle.rams_model.specs.declared.fault.ConfigFault.TheVariants as config
 use Rattle.rams_model.specs.declared.fault.LineFault.{LineFault}
-use Rattle.rams_model.specs.declared.fault.LineFault.TheVariants.{Order, Range, Twice, Rule}
+use Rattle.rams_model.specs.declared.fault.LineFault.TheVariants.{Form, Order, Range, Twice, Rule}
+use Rattle.rams_model.specs.declared.mode.LineKind.{LineKind}
+use Rattle.rams_model.specs.declared.mode.LineKind.TheVariants as kind
+use Rattle.rams_model.specs.declared.mode.Mode.{Mode}
+use Rattle.rams_model.specs.declared.mode.Mode.TheVariants.{Meet, Threads, Serve}
 use Rattle.rams_model.specs.Settings.{Settings, settings, checked}
-use Rattle.rams_model.specs.TraceLine.{TraceLine, head_line, channel_line, live_line, feedback_line, tick_line, end_line}
+use Rattle.rams_model.specs.TraceLine.{TraceLine, head_line, channel_line, live_line, feedback_line, tick_line, end_line, tune_line, give_line, mcast_line, ask_line, drop_line, line_in_range, line_of}
+use Rattle.rams_model.specs.Words.{first_word}
 
 pub record Head : Type 0 where
   -- in ms
@@ -22,26 +27,102 @@ pub record Claim : Type 0 where
 
 -- how far a trace has come
 pub record Reached : Type 0 where
+  -- what the trace is read for
+  pub mode : Mode
   pub head : Option Head
   -- the channels so far, in the order of their lines
   pub channels : List Claim
   -- an event line has come
   pub begun : Bool
+  -- `end` has come
+  pub ended : Bool
 
-abbrev pub nothing_reached : Reached
-nothing_reached = record { head = None; channels = []; begun = false }
+abbrev pub nothing_reached : Mode → Reached
+nothing_reached mode = record { mode = mode; head = None; channels = []; begun = false; ended = false }
+
+abbrev pub tick_of : Option Head → ℕ
+tick_of None = 0
+tick_of (Some head) = head.tick
 
 abbrev pub has_channel : Reached → Bool
 has_channel r = nat_lt 0 (length r.channels)
 
+-- threads read the events of one channel
+abbrev pub is_threads : Mode → Bool
+is_threads Threads = true
+is_threads _ = false
+
+abbrev pub has_events : Mode → Bool
+has_events Serve = false
+has_events _ = true
+
+abbrev pub has_receivers : Mode → Bool
+has_receivers Meet = true
+has_receivers _ = false
+
+-- a line of this kind may come before `end`
+abbrev pub may_come_next : Reached → LineKind → Bool
+may_come_next r kind.Head = not (is_some r.head)
+may_come_next r kind.Channel = is_some r.head && not r.begun && not (is_threads r.mode && has_channel r)
+may_come_next r kind.Event = has_channel r && has_events r.mode
+may_come_next r kind.ReceiverEvent = has_channel r && has_receivers r.mode
+may_come_next r kind.End = has_channel r
+
 -- a line of this kind may come next
+abbrev pub kind_may_come : Reached → LineKind → Bool
+kind_may_come r k = not r.ended && may_come_next r k
+
+abbrev pub kind_of : TraceLine → LineKind
+kind_of (head_line tick link) = kind.Head
+kind_of (channel_line c) = kind.Channel
+kind_of (live_line id hex) = kind.Event
+kind_of (feedback_line id client hex) = kind.Event
+kind_of tick_line = kind.Event
+kind_of end_line = kind.End
+kind_of (tune_line id client ssrc) = kind.ReceiverEvent
+kind_of (give_line number) = kind.ReceiverEvent
+kind_of (mcast_line id client n) = kind.ReceiverEvent
+kind_of (ask_line id client) = kind.ReceiverEvent
+kind_of (drop_line id client) = kind.ReceiverEvent
+
+-- this line may come next
 abbrev pub may_come : Reached → TraceLine → Bool
-may_come r (head_line tick link) = not (is_some r.head)
-may_come r (channel_line c) = is_some r.head && not r.begun
-may_come r (live_line id hex) = has_channel r
-may_come r (feedback_line id client hex) = has_channel r
-may_come r tick_line = has_channel r
-may_come r end_line = has_channel r
+may_come r line = kind_may_come r (kind_of line)
+
+abbrev pub is_event_word : List ℕ → Bool
+is_event_word word = bytes_eq word (codes "live") || bytes_eq word (codes "fb") || bytes_eq word (codes "tick")
+
+abbrev pub is_receiver_word : List ℕ → Bool
+is_receiver_word word =
+    bytes_eq word (codes "tune") || bytes_eq word (codes "give") || bytes_eq word (codes "mcast") || bytes_eq word (codes "ask")
+    || bytes_eq word (codes "drop")
+
+-- the kind of the lines with this first word
+abbrev pub kind_named : List ℕ → Option LineKind
+kind_named word =
+    if is_event_word word then Some kind.Event
+    else if bytes_eq word (codes "end") then Some kind.End
+    else if bytes_eq word (codes "channel") then Some kind.Channel
+    else if bytes_eq word (codes "rams-trace") then Some kind.Head
+    else if is_receiver_word word then Some kind.ReceiverEvent
+    else None
+
+abbrev pub named_may_come : Reached → Option LineKind → Bool
+named_may_come r None = false
+named_may_come r (Some k) = kind_may_come r k
+
+-- a line with the first word of these bytes may come next
+unfoldable pub expected : Reached → List ℕ → Bool
+expected r bytes = named_may_come r (kind_named (first_word bytes))
+
+-- in threads an event is of the one channel
+abbrev pub is_served : Reached → ℕ → Bool
+is_served r id = not (is_threads r.mode) || list_any (λ k. k.id == id) r.channels
+
+abbrev pub line_is_served : Reached → TraceLine → Bool
+line_is_served r (live_line id hex) = is_served r id
+line_is_served r (feedback_line id client hex) = is_served r id
+line_is_served r _ = true
 
 -- a fault of the settings as a fault of their line
 abbrev pub line_fault : ConfigFault → LineFault
@@ -64,11 +145,24 @@ with_channel r (Some head) c =
 abbrev pub with_line : Reached → TraceLine → Result Reached LineFault
 with_line r (head_line tick link) = Ok (record r { head = Some (record { tick = tick; link = link }) })
 with_line r (channel_line c) = with_channel r r.head c
-with_line r (live_line id hex) = Ok (record r { begun = true })
-with_line r (feedback_line id client hex) = Ok (record r { begun = true })
-with_line r tick_line = Ok (record r { begun = true })
-with_line r end_line = Ok (record r { begun = true })
+with_line r end_line = Ok (record r { ended = true })
+with_line r _ = Ok (record r { begun = true })
 
--- how far the trace has come after this line, or why the line is refused
+-- how far the trace has come after this line, or why the line is refused: its order first, then its range, then the rest
 unfoldable pub accepted : Reached → TraceLine → Result Reached LineFault
-accepted r line = if may_come r line then with_line r line else Err Order
+accepted r line =
+    if not (may_come r line) then Err Order
+    else if not (line_in_range line && line_is_served r line) then Err Range
+    else with_line r line
+
+abbrev pub with_reached : TraceLine → Result Reached LineFault → Result (TraceLine × Reached) LineFault
+with_reached line (Ok r) = Ok (line, r)
+with_reached line (Err fault) = Err fault
+
+abbrev pub judged_line : Reached → Option TraceLine → Result (TraceLine × Reached) LineFault
+judged_line r None = Err Form
+judged_line r (Some line) = with_reached line (accepted r line)
+
+-- the line that the bytes are and how far the trace has come after it, or the first fault: the form, the order, the range, the rest
+unfoldable pub judged : Reached → List ℕ → Result (TraceLine × Reached) LineFault
+judged r bytes = judged_line r (line_of bytes)

@@ -1,7 +1,7 @@
 -- The words of a trace's line, and what they may be.
-use Rattle.std.specs.Prelude.{ℕ, ◌%◌, Bool, ◌&&◌, ◌||◌, ◌==◌, not, nat_lt, if◌then◌else◌, List, [], ◌∷◌, length, slice_index, Option, Some, None, Result, Ok, Err, codes, bytes_eq}
+use Rattle.std.specs.Prelude.{ℕ, ◌%◌, Bool, ◌&&◌, ◌||◌, ◌==◌, not, nat_lt, if◌then◌else◌, List, [], ◌∷◌, ◌++◌, length, slice_index, Option, Some, None, Result, Ok, Err, codes, bytes_eq}
 use Rattle.std.specs.List.{list_all}
-use Rattle.std.specs.Int.{w32, from_be_bytes, is_in_range}
+use Rattle.std.specs.Int.{w32, from_be_bytes, to_be_bytes, is_in_range}
 use Rattle.std.specs.Str.Parse.{digits_value}
 use Rattle.hex.specs.Hex.{encode_lower, decode_of}
 use Rattle.hex.specs.declared.error.FromHexError.{FromHexError}
@@ -23,6 +23,24 @@ words_of (b ∷ bytes) = if b == 32 then [] ∷ words_of bytes else onto_first b
 
 abbrev pub is_digit : ℕ → Bool
 is_digit c = is_in_range 48 57 c
+
+abbrev pub front : List (List ℕ) → List ℕ
+front [] = []
+front (word ∷ words) = word
+
+-- the bytes in front of the first space
+abbrev pub first_word : List ℕ → List ℕ
+first_word bytes = front (words_of bytes)
+
+-- words with a space in front of each
+abbrev pub spaced_words : List (List ℕ) → List ℕ
+spaced_words [] = []
+spaced_words (word ∷ words) = 32 ∷ (word ++ spaced_words words)
+
+-- words with a space between two of them
+abbrev pub text_of : List (List ℕ) → List ℕ
+text_of [] = []
+text_of (word ∷ words) = word ++ spaced_words words
 
 -- a digit of hexadecimal text, whose letters are small
 abbrev pub is_hex_digit : ℕ → Bool
@@ -46,6 +64,10 @@ bytes_in word = decoded (decode_of word)
 -- eight hexadecimal digits
 abbrev pub word32_in : List ℕ → Option ℕ
 word32_in word = if length word == 8 && list_all is_hex_digit word then Some (from_be_bytes w32 (bytes_in word)) else None
+
+-- the word that a number below 2^32 is written as
+abbrev pub word32 : ℕ → List ℕ
+word32 n = encode_lower (to_be_bytes w32 n)
 
 -- `-` for no bytes, or pairs of hexadecimal digits
 abbrev pub is_hex : List ℕ → Bool

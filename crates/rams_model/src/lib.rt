@@ -12,6 +12,7 @@ mod fault;
 mod held;
 mod laws;
 mod message;
+mod mode;
 mod note;
 mod octets;
 mod status;
@@ -27,6 +28,7 @@ pub use fault::{ConfigFault, FrameFault, LineFault, NackFault, RtpFault, TlvFaul
 pub use held::Held;
 pub use laws::plain_packets_are_spelled_again;
 pub use message::{Info, Stop};
+pub use mode::{LineKind, Mode};
 pub use note::{Cause, LiveNote, Note};
 pub use octets::Octets;
 pub use status::Status;

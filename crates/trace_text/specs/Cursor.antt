@@ -1,8 +1,8 @@
 -- The words of a line that are left to read, and what was read of them.
 use Rattle.std.specs.Prelude.{◌≡◌, ℕ, Bool, true, false, List, [], ◌∷◌, Option, Some, None, bytes_eq}
 use Rattle.std.specs.Borrow.{Bor}
-use Rattle.rams_model.specs.TraceLine.{Words}
-use Rattle.rams_model.specs.Words.{words_of}
+use Rattle.rams_model.specs.TraceLine.{Words, one, whole, ◌>>=◌}
+use Rattle.rams_model.specs.Words.{words_of, number_in}
 
 -- the words of the bytes that are left, of which there may be none
 abbrev pub words_left : Option (Bor (List ℕ)) → Words
@@ -33,3 +33,10 @@ ReadsWord None left read = read ≡ None
 abbrev pub IsWord : Option (Bor (List ℕ)) → Option (List ℕ) → Type 0
 IsWord (Some word) read = read ≡ Some word.now
 IsWord None read = read ≡ None
+
+-- two numbers that are all the words
+abbrev pub pair_in : Words → Option (ℕ × ℕ)
+pair_in words = do
+  first ← one number_in words
+  second ← one number_in first.1
+  whole (first.0, second.0) second.1

@@ -1,3 +1,4 @@
 pub mod Shown
 pub mod Cursor
 pub mod Numbers
+pub mod Parts

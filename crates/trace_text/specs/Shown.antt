@@ -1,10 +1,10 @@
 -- What a line means, and what its reader answers.
 use Rattle.std.specs.Prelude.{◌≡◌, true, Result, Ok, Err}
 use Rattle.rams_model.specs.declared.fault.LineFault.{LineFault}
-use Rattle.rams_model.specs.TraceLine.{TraceLine, head_line, channel_line, live_line, feedback_line, tick_line, end_line}
+use Rattle.rams_model.specs.TraceLine.{TraceLine, head_line, channel_line, live_line, feedback_line, tick_line, end_line, tune_line, give_line, mcast_line, ask_line, drop_line}
 use Rattle.rams_model.specs.Words.{is_hex}
 use Rattle.trace_text.specs.declared.line.Line.{Line}
-use Rattle.trace_text.specs.declared.line.Line.TheVariants.{Head, Channel, Live, Feedback, Tick, End}
+use Rattle.trace_text.specs.declared.line.Line.TheVariants.{Head, Channel, Live, Feedback, Tick, End, Tune, Give, Mcast, Ask, Drop}
 
 -- the line that it is
 abbrev pub shown : Line → TraceLine
@@ -14,6 +14,11 @@ shown (Live id hex) = live_line id hex.now
 shown (Feedback id client hex) = feedback_line id client hex.now
 shown Tick = tick_line
 shown End = end_line
+shown (Tune id client ssrc) = tune_line id client ssrc
+shown (Give number) = give_line number
+shown (Mcast id client n) = mcast_line id client n
+shown (Ask id client) = ask_line id client
+shown (Drop id client) = drop_line id client
 
 -- the answer is what a definition answers
 abbrev pub Gives : Result Line LineFault → Result TraceLine LineFault → Type 0
@@ -24,7 +29,4 @@ Gives (Err fault) read = read ≡ Err fault
 abbrev pub HasDigits : Line → Type 0
 HasDigits (Live id hex) = is_hex hex.now ≡ true
 HasDigits (Feedback id client hex) = is_hex hex.now ≡ true
-HasDigits (Head tick link) = Unit {0}
-HasDigits (Channel channel) = Unit {0}
-HasDigits Tick = Unit {0}
-HasDigits End = Unit {0}
+HasDigits _ = Unit {0}

@@ -6,8 +6,8 @@ ghost use Rattle.trace_text.specs.Shown.{Gives, HasDigits};
 ghost use Rattle.trace_text.specs.Numbers.{channel_of};
 
 use crate::fields::{access_field, ends, next_number, number_field, word32_field};
-use crate::kinds::is_amount;
 use crate::line::Line;
+use crate::ranges::is_amount;
 use crate::words::Words;
 use rams_model::{Access, Channel, LineFault};
 

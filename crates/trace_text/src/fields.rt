@@ -15,6 +15,13 @@ pub fn next_number(words: &mut Words<'_>) -> Option<u64>
     number(words.next()?)
 }
 
+/// The next word as eight hexadecimal digits.
+pub fn next_word32(words: &mut Words<'_>) -> Option<u32>
+    ensures { Reads result words.new (one word32_in words.old) }
+{
+    word32(words.next()?)
+}
+
 /// The next word as hexadecimal digits.
 pub fn next_hex<'a>(words: &mut Words<'a>) -> Option<&'a [u8]>
     ensures word { ReadsWord result words.new (one hex_in words.old) }

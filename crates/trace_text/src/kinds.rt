@@ -1,14 +1,13 @@
-//! The lines of each kind, behind their first word: the words must have the form of the kind, and
-//! then each number must be in its range.
-ghost use Rattle.std.specs.Prelude.{◌≡◌, ◌&&◌, ◌∷◌, true, false, codes, IfOk, IfSome, MatchOption, option_map};
-ghost use Rattle.std.specs.Int.{is_in_range};
-ghost use Rattle.rams_model.specs.Settings.{most_bytes, tick_in_range};
-ghost use Rattle.rams_model.specs.TraceLine.{head_line, live_line, feedback_line, head_in, live_in, feedback_in, ranged, id_in_range, client_in_range};
+//! The head and the events of channels, behind their first word: the words must have the form of
+//! the kind, and then each number must be in its range.
+ghost use Rattle.std.specs.Prelude.{◌≡◌, ◌∷◌, true, codes, IfOk, IfSome, option_map};
+ghost use Rattle.rams_model.specs.TraceLine.{head_line, live_line, feedback_line, head_in, live_in, feedback_in, ranged};
 ghost use Rattle.rams_model.specs.Words.{is_hex};
 ghost use Rattle.trace_text.specs.Shown.{Gives, HasDigits};
 
 use crate::fields::{ends, next_hex, next_number, next_version, number_field};
 use crate::line::Line;
+use crate::ranges::{channel_id, client_channel, is_amount, tick_ms};
 use crate::words::Words;
 use rams_model::LineFault;
 
@@ -38,10 +37,7 @@ pub fn feedback<'a>(words: &mut Words<'a>) -> Result<Line<'a>, LineFault>
     ensures digits { IfOk result HasDigits }
 {
     let (id, client, hex) = feedback_words(words).ok_or(LineFault::Form)?;
-    let id = channel_id(id).ok_or(LineFault::Range)?;
-    if !is_client(client) {
-        return Err(LineFault::Range);
-    }
+    let id = client_channel(id, client).ok_or(LineFault::Range)?;
     Ok(Line::Feedback { id, client, hex })
 }
 
@@ -77,43 +73,4 @@ fn head_words(words: &mut Words<'_>) -> Option<(u64, u64)>
     let tick = number_field(words, b"tick")?;
     let link = number_field(words, b"link")?;
     ends(words).then_some((tick, link))
-}
-
-// The channel's number, where it is in its range.
-fn channel_id(number: u64) -> Option<u16>
-    ensures { MatchOption result
-        (id_in_range number ≡ false)
-        (λ id. (id_in_range number ≡ true) × (id ≡ number)) }
-{
-    if (1..=65535).contains(&number) {
-        Some(number as u16)
-    } else {
-        None
-    }
-}
-
-// The length of a tick, where it is in its range.
-fn tick_ms(number: u64) -> Option<u32>
-    ensures { MatchOption result
-        (tick_in_range number ≡ false)
-        (λ tick. (tick_in_range number ≡ true) × (tick ≡ number)) }
-{
-    if (1..=1000).contains(&number) {
-        Some(number as u32)
-    } else {
-        None
-    }
-}
-
-fn is_client(number: u64) -> bool
-    ensures { result ≡ client_in_range number }
-{
-    number < 1 << 48
-}
-
-// At least one packet's bytes, and no more than the most in a tick.
-pub fn is_amount(number: u64) -> bool
-    ensures { result ≡ is_in_range 1500 most_bytes number }
-{
-    (1500..=1_000_000_000).contains(&number)
 }

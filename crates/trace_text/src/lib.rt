@@ -6,15 +6,20 @@ mod channel_line;
 mod fields;
 mod kinds;
 mod line;
+mod order;
+mod ranges;
 mod read;
+mod receivers;
 mod state;
 #[cfg(test)]
 mod tests;
+mod text;
 mod values;
 mod words;
 
 pub use bytes::{decode, decode_into, decode_to};
 pub use line::Line;
-pub use rams_model::LineFault;
+pub use rams_model::{LineFault, Mode};
 pub use read::read_line;
-pub use state::{Mode, State};
+pub use state::State;
+pub use text::{append_line, write_line};

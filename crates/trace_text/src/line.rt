@@ -13,4 +13,14 @@ pub enum Line<'a> {
     Feedback { id: u16, client: u64, hex: &'a [u8] },
     Tick,
     End,
+    /// The client gets a receiver with this SSRC.
+    Tune { id: u16, client: u64, ssrc: u32 },
+    /// The datagram with this number arrives.
+    Give { number: u64 },
+    /// Packet `n` of the multicast comes to the client.
+    Mcast { id: u16, client: u64, n: u64 },
+    /// The client's receiver asks for what it misses.
+    Ask { id: u16, client: u64 },
+    /// The client's receiver leaves.
+    Drop { id: u16, client: u64 },
 }

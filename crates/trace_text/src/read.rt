@@ -1,12 +1,13 @@
 //! Reads a line of a trace.
 ghost use Rattle.std.specs.Prelude.{◌≡◌, ◌∷◌, true, IfOk};
-ghost use Rattle.rams_model.specs.TraceLine.{line_at, line_in, line_in_range, ranged, whole};
+ghost use Rattle.rams_model.specs.TraceLine.{line_at, line_in, receiver_in, line_in_range, ranged, whole};
 ghost use Rattle.trace_text.specs.Shown.{Gives, HasDigits, shown};
 
 use crate::channel_line::channel;
 use crate::fields::ends;
 use crate::kinds::{feedback, head, live};
 use crate::line::Line;
+use crate::receivers::{ask, drop, give, mcast, tune};
 use crate::words::Words;
 use rams_model::LineFault;
 
@@ -58,6 +59,29 @@ fn read_kind<'a>(kind: &[u8], words: &mut Words<'a>) -> Result<Line<'a>, LineFau
     }
     if kind == b"rams-trace".as_slice() {
         return head(words);
+    }
+    read_receiver(kind, words)
+}
+
+// The events of receivers.
+fn read_receiver<'a>(kind: &[u8], words: &mut Words<'a>) -> Result<Line<'a>, LineFault>
+    ensures line { Gives result (ranged (receiver_in (kind.now ∷ words.old))) }
+    ensures digits { IfOk result HasDigits }
+{
+    if kind == b"tune".as_slice() {
+        return tune(words);
+    }
+    if kind == b"give".as_slice() {
+        return give(words);
+    }
+    if kind == b"mcast".as_slice() {
+        return mcast(words);
+    }
+    if kind == b"ask".as_slice() {
+        return ask(words);
+    }
+    if kind == b"drop".as_slice() {
+        return drop(words);
     }
     Err(LineFault::Form)
 }

@@ -1,26 +1,22 @@
 //! Which line may come where in a trace.
-ghost use Rattle.std.specs.Prelude.{◌≡◌, ◌≤◌, Ok, Err, Some, ◌==◌, IfErr, OnErr, OnOk, MatchResult};
+ghost use Rattle.std.specs.Prelude.{◌≡◌, ◌≤◌, Ok, Err, Some, ◌==◌, IfErr, IfOk, OnErr, OnOk, MatchResult};
 ghost use Rattle.rams_model.specs.Settings.{settings, checked};
-ghost use Rattle.rams_model.specs.TraceOrder.{nothing_reached, may_come, with_channel, accepted, line_fault};
-ghost use Rattle.rams_model.specs.First.TraceText.{tick_of};
-ghost use Rattle.trace_text.specs.Shown.{shown};
+ghost use Rattle.rams_model.specs.TraceOrder.{nothing_reached, tick_of, kind_may_come, may_come_next, line_is_served, with_channel, expected, accepted, judged, line_fault};
+ghost use Rattle.trace_text.specs.Shown.{shown, HasDigits};
 ghost use Rattle.std.specs.List.{list_any};
 
 use crate::line::Line;
+use crate::order::{has_events, has_receivers, is_threads, kind_named, kind_of};
+use crate::ranges::is_in_range;
+use crate::read::read_line;
+use crate::words::first_word;
 use arrayvec::ArrayVec;
 use channel_config::Config;
-use rams_model::{Channel, ConfigFault, LineFault};
+use rams_model::{Channel, ConfigFault, LineFault, LineKind, Mode};
 use std::marker::Model;
 
 /// Most channels of a trace.
 const MOST_CHANNELS: usize = 64;
-
-/// What a trace is read for, which decides the lines that it may have.
-#[derive(Clone, Copy, Debug, PartialEq, Eq)]
-pub enum Mode {
-    /// The lines are the head, channels, live packets, feedback, ticks and the end.
-    Run,
-}
 
 /// What the head line said.
 #[derive(Clone, Copy)]
@@ -59,11 +55,13 @@ impl Model for Claim {
 /// How far a trace has come.
 #[derive(Drop)]
 pub struct State {
+    mode: Mode,
     head: Option<Head>,
     channels: ArrayVec<Claim, MOST_CHANNELS>,
     /// The sum of the channels' shares.
     claimed: u64,
     begun: bool,
+    ended: bool,
 }
 
 impl Model for State {
@@ -72,7 +70,7 @@ impl Model for State {
 
     ghost Value = { Reached };
 
-    ghost view = { λ s. record { head = s.head; channels = s.channels.items; begun = s.begun } };
+    ghost view = { λ s. record { mode = s.mode; head = s.head; channels = s.channels.items; begun = s.begun; ended = s.ended } };
 
     ghost invariant = { λ s. (s.claimed ≡ sum_by (λ k. k.share) s.channels.items) × (s.claimed ≤ 1000000000 * length s.channels.items) × (length s.channels.items ≤ 64) };
 }
@@ -80,35 +78,72 @@ impl Model for State {
 impl State {
     /// Nothing has come yet.
     pub fn new(mode: Mode) -> State
-        ensures { result ≡ nothing_reached }
+        ensures { result ≡ nothing_reached mode }
     {
-        match mode {
-            Mode::Run => State {
-                head: None,
-                channels: ArrayVec::new(),
-                claimed: 0,
-                begun: false,
-            },
+        State {
+            mode,
+            head: None,
+            channels: ArrayVec::new(),
+            claimed: 0,
+            begun: false,
+            ended: false,
         }
     }
 
-    /// Goes on behind this line. `Order` where a line of its kind may not come here, else what is
-    /// wrong with a channel line: `Twice` where a channel before has its number, a fault of its
-    /// settings, `Rule(4)` where the shares are more than the link, `Rule(5)` where there are 64
-    /// channels already. A refusal changes nothing.
+    /// Reads a line, without its line feed, and goes on behind it. The first fault that is true, in
+    /// this order: `Form` where it is no line of a trace, `Order` where a line of its kind may not
+    /// come here, `Range` where a number is out of its range, and what is wrong with a channel line.
+    /// A refusal changes nothing.
+    #[tactic(auto, unfolding(rams_model::specs::TraceOrder::judged))]
+    pub fn judge<'a>(&mut self, line: &'a [u8]) -> Result<Line<'a>, LineFault>
+        ensures ok { IfOk result (λ read. judged self.old line.now ≡ Ok (shown read, self.new)) }
+        ensures err { IfErr result (λ fault. judged self.old line.now ≡ Err fault) }
+        ensures same { OnErr result (self.new ≡ self.old) }
+        ensures digits { IfOk result HasDigits }
+    {
+        match read_line(line) {
+            Ok(read) => {
+                self.accept(&read)?;
+                Ok(read)
+            }
+            Err(LineFault::Range) if !self.expects(line) => Err(LineFault::Order),
+            Err(fault) => Err(fault),
+        }
+    }
+
+    /// Whether a line with the first word of this one may come next.
+    #[tactic(auto, unfolding(rams_model::specs::TraceOrder::expected))]
+    pub fn expects(&self, line: &[u8]) -> bool
+        ensures { result ≡ expected self.now line.now }
+    {
+        match kind_named(first_word(line)) {
+            Some(kind) => self.may_come(kind),
+            None => false,
+        }
+    }
+
+    /// Goes on behind this line. `Order` where a line of its kind may not come here, else `Range`
+    /// where a number is out of its range, or, for threads, is not the channel's, else what is wrong
+    /// with a channel line: `Twice` where a channel before has its number, the first of rules 1 to 3
+    /// that its settings break, `Rule(4)` where the shares are more than the link, `Rule(5)` where
+    /// there are 64 channels already. A refusal changes nothing.
     #[tactic(auto, unfolding(rams_model::specs::TraceOrder::accepted))]
     pub fn accept(&mut self, line: &Line<'_>) -> Result<(), LineFault>
         ensures ok { OnOk result (accepted self.old (shown line.now) ≡ Ok self.new) }
         ensures err { IfErr result (λ fault. accepted self.old (shown line.now) ≡ Err fault) }
         ensures same { OnErr result (self.new ≡ self.old) }
     {
-        if !self.may_come(line) {
+        if !self.may_come(kind_of(line)) {
             return Err(LineFault::Order);
+        }
+        if !is_in_range(line) || !self.serves(line) {
+            return Err(LineFault::Range);
         }
         match line {
             Line::Head { tick_ms, link } => self.set_head(*tick_ms, *link),
             Line::Channel(channel) => return self.add(channel),
-            Line::Live { .. } | Line::Feedback { .. } | Line::Tick | Line::End => self.begun = true,
+            Line::End => self.ended = true,
+            _ => self.begun = true,
         }
         Ok(())
     }
@@ -124,15 +159,36 @@ impl State {
     }
 
     // Whether a line of this kind may come next.
-    fn may_come(&self, line: &Line<'_>) -> bool
-        ensures { result ≡ may_come self.now (shown line.now) }
+    fn may_come(&self, kind: LineKind) -> bool
+        ensures { result ≡ kind_may_come self.now kind }
+    {
+        !self.ended && self.may_come_next(kind)
+    }
+
+    fn may_come_next(&self, kind: LineKind) -> bool
+        ensures { result ≡ may_come_next self.now kind }
+    {
+        let has_channel = !self.channels.is_empty();
+        match kind {
+            LineKind::Event => has_channel && has_events(self.mode),
+            LineKind::ReceiverEvent => has_channel && has_receivers(self.mode),
+            LineKind::Head => self.head.is_none(),
+            LineKind::Channel => {
+                self.head.is_some() && !self.begun && !(is_threads(self.mode) && has_channel)
+            }
+            LineKind::End => has_channel,
+        }
+    }
+
+    // Whether an event is of a channel that is read for.
+    fn serves(&self, line: &Line<'_>) -> bool
+        ensures { result ≡ line_is_served self.now (shown line.now) }
     {
         match line {
-            Line::Head { .. } => self.head.is_none(),
-            Line::Channel(_) => self.head.is_some() && !self.begun,
-            Line::Live { .. } | Line::Feedback { .. } | Line::Tick | Line::End => {
-                !self.channels.is_empty()
+            Line::Live { id, .. } | Line::Feedback { id, .. } => {
+                !is_threads(self.mode) || self.has(*id)
             }
+            _ => true,
         }
     }
 

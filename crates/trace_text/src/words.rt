@@ -1,7 +1,7 @@
 //! The words of a line.
 ghost use Rattle.std.specs.Prelude.{◌≡◌, ◌∷◌};
 ghost use Rattle.std.specs.Iterator.{YieldsFirstRef, item_count};
-ghost use Rattle.rams_model.specs.Words.{words_of};
+ghost use Rattle.rams_model.specs.Words.{words_of, first_word};
 ghost use Rattle.trace_text.specs.Cursor.{words_left};
 
 use memchr::memchr;
@@ -43,6 +43,13 @@ impl<'a> Iterator for Words<'a> {
         self.rest = rest;
         Some(word)
     }
+}
+
+/// What stands in front of the first space.
+pub fn first_word(line: &[u8]) -> &[u8]
+    ensures { result.now ≡ first_word line.now }
+{
+    cut(line).0
 }
 
 #[tactic(auto, using(crate::proofs::Cuts::words_at, crate::proofs::Cuts::words_whole))]

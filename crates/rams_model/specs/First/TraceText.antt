@@ -4,6 +4,7 @@ use Rattle.rams_model.specs.declared.event.Event.{Event}
 use Rattle.rams_model.specs.declared.event.Event.TheVariants.{Live, Feedback, Tick}
 use Rattle.rams_model.specs.declared.fault.ConfigFault.{ConfigFault}
 use Rattle.rams_model.specs.declared.fault.LineFault.{LineFault}
+use Rattle.rams_model.specs.declared.mode.Mode.TheVariants.{Run}
 use Rattle.rams_model.specs.declared.status.Status.{Status}
 use Rattle.rams_model.specs.declared.status.Status.TheVariants.{Done, NotBuilt}
 use Rattle.rams_model.specs.Settings.{Settings, settings, checked}
@@ -13,7 +14,7 @@ use Rattle.rams_model.specs.First.Orders.{answer}
 use Rattle.rams_model.specs.First.Built.{is_built_channel, is_built}
 use Rattle.rams_model.specs.Words.{lines_of, bytes_in}
 use Rattle.rams_model.specs.TraceLine.{TraceLine, head_line, channel_line, live_line, feedback_line, tick_line, end_line, line_at}
-use Rattle.rams_model.specs.TraceOrder.{Head, Reached, nothing_reached, accepted}
+use Rattle.rams_model.specs.TraceOrder.{Reached, nothing_reached, tick_of, accepted}
 use Rattle.rams_model.specs.BookText.{spaced}
 use Rattle.rams_model.specs.First.BookText.{answer_text}
 
@@ -27,7 +28,7 @@ pub record Stage : Type 0 where
   pub events : ℕ
 
 abbrev pub opening : Stage
-opening = record { reached = nothing_reached; channel = None; events = 0 }
+opening = record { reached = nothing_reached Run; channel = None; events = 0 }
 
 -- A trace's end, and the text.
 pub record Outcome : Type 0 where
@@ -75,10 +76,6 @@ opened stage reached number (Ok s) None =
     if is_built_channel s.channel then goes_on (record { reached = reached; channel = Some (s, []); events = stage.events }) [] else ends (not_built number)
 opened stage reached number _ _ = ends (not_built number)
 
-abbrev pub tick_of : Option Head → ℕ
-tick_of None = 0
-tick_of (Some head) = head.tick
-
 -- a line that may come
 abbrev pub after_line : Stage → Reached → ℕ → TraceLine → Turn
 after_line stage reached number (head_line tick link) = goes_on (record stage { reached = reached }) []
@@ -88,6 +85,7 @@ after_line stage reached number (feedback_line id client hex) =
     on_channel stage reached number (λ s. s.channel.id == id) (Feedback client (bytes_in hex)) stage.channel
 after_line stage reached number tick_line = on_channel stage reached number (λ s. Bool.true) Tick stage.channel
 after_line stage reached number end_line = ends (done stage.events)
+after_line stage reached number _ = ends (not_built number)
 
 abbrev pub after_reading : Stage → ℕ → TraceLine → Result Reached LineFault → Turn
 after_reading stage number line (Ok reached) = after_line stage reached number line
