@@ -66,25 +66,23 @@ lines_of-all [] clean some = absurd (omega arith)
 lines_of-all (b ∷ []) clean some = rw clean.0 refl
 lines_of-all (b ∷ c ∷ xs) clean some = rw (clean.0, lines_of-all (c ∷ xs) clean.1 (omega arith)) refl
 
--- the first of some pieces has n bytes or more
-pub record Begins (n : ℕ) (pieces : List (List ℕ)) : Type 0 where
-  pub first : List ℕ
+-- the first of some pieces begins with this front
+pub record Begins (front : List ℕ) (pieces : List (List ℕ)) : Type 0 where
+  pub more : List ℕ
   pub rest : List (List ℕ)
-  pub whole : pieces ≡ first ∷ rest
-  pub long : n ≤ length first
+  pub whole : pieces ≡ (front ++ more) ∷ rest
 
-onto_first-begins : (b : ℕ) (pieces : List (List ℕ)) → Begins 1 (onto_first b pieces)
-onto_first-begins b [] = record { first = b ∷ []; rest = []; whole = refl; long = omega arith }
-onto_first-begins b (piece ∷ pieces) = record { first = b ∷ piece; rest = pieces; whole = refl; long = omega arith }
+onto_first-begins : (b : ℕ) (pieces : List (List ℕ)) → Begins (b ∷ []) (onto_first b pieces)
+onto_first-begins b [] = record { more = []; rest = []; whole = refl }
+onto_first-begins b (piece ∷ pieces) = record { more = piece; rest = pieces; whole = refl }
 
-onto_first-longer : (b n : ℕ) (pieces : List (List ℕ)) → Begins n pieces → Begins (suc n) (onto_first b pieces)
-onto_first-longer b n pieces begins =
-    record { first = b ∷ begins.first; rest = begins.rest; whole = ap (onto_first b) begins.whole; long = omega (arith, begins.long) }
+onto_first-longer : (b : ℕ) (front : List ℕ) (pieces : List (List ℕ)) → Begins front pieces → Begins (b ∷ front) (onto_first b pieces)
+onto_first-longer b front pieces begins = record { more = begins.more; rest = begins.rest; whole = ap (onto_first b) begins.whole }
 
 -- the first line goes on as long as there is no feed
-pub lines_of-begins : (front rest : List ℕ) → HasNoFeed front → 0 < length front → Begins (length front) (lines_of (front ++ rest))
+pub lines_of-begins : (front rest : List ℕ) → HasNoFeed front → 0 < length front → Begins front (lines_of (front ++ rest))
 unfolding lines_of
 lines_of-begins [] rest clean some = absurd (omega arith)
 lines_of-begins (b ∷ []) rest clean some = rw clean.0 (onto_first-begins b (lines_of rest))
 lines_of-begins (b ∷ c ∷ front) rest clean some =
-    rw clean.0 (onto_first-longer b (length (c ∷ front)) (lines_of ((c ∷ front) ++ rest)) (lines_of-begins (c ∷ front) rest clean.1 (omega arith)))
+    rw clean.0 (onto_first-longer b (c ∷ front) (lines_of ((c ∷ front) ++ rest)) (lines_of-begins (c ∷ front) rest clean.1 (omega arith)))

@@ -1,5 +1,6 @@
 -- The next line of what is kept and what the source has left.
-use Rattle.std.proofs.Common.{◌≡◌, ℕ, ◌+◌, ◌<◌, ◌≤◌, List, [], ◌∷◌, ◌++◌, length, take, drop, Option, Some, None, refl, sym, ap, ◌∙◌, arith, append_assoc, append-nil, length-take}
+use Rattle.std.proofs.Common.{◌≡◌, ℕ, ◌+◌, ◌<◌, ◌≤◌, List, [], ◌∷◌, ◌++◌, length, take, drop, Option, Some, None, refl, sym, ap, ◌∙◌, arith, append_assoc, append-nil, length-take, length-append, take-append-drop}
+use Rattle.std.proofs.lemmas.List.{take-append-le}
 use Rattle.std.specs.Io.KnownBytes.{Keeps, Consumes, IsAtEnd, prepend_known}
 use Rattle.rams_model.specs.Words.{lines_of}
 use Rattle.line_io.specs.declared.reader.Next.TheVariants.{Line, Long, End}
@@ -22,21 +23,27 @@ TakesNext-cut kept now line at cut small is rest (Some xs) (Some ys) same =
     rw (is, rest) (first_line kept at xs ys cut same, omega (arith, length-take at kept))
 
 -- a line that its feed ends too late
-pub TakesNext-cut_late : (kept now line : List ℕ) (at : ℕ) → IsCutAt kept at → 4096 < at
+pub TakesNext-cut_late : (kept now line : List ℕ) (at : ℕ) → IsCutAt kept at → 4096 < at → line ≡ take 4097 kept
     → (a b : Option (List ℕ)) → Keeps a (prepend_known kept b) → TakesNext a (prepend_known now b) line Long
-TakesNext-cut_late kept now line at cut large None b same = tt
-TakesNext-cut_late kept now line at cut large (Some xs) None same = absurd same
-TakesNext-cut_late kept now line at cut large (Some xs) (Some ys) same =
-    (take at kept, lines_of (drop (at + 1) kept ++ ys), first_line kept at xs ys cut same, omega (arith, length-take at kept, cut.inside))
+TakesNext-cut_late kept now line at cut large is None b same = tt
+TakesNext-cut_late kept now line at cut large is (Some xs) None same = absurd same
+TakesNext-cut_late kept now line at cut large is (Some xs) (Some ys) same =
+    let size = length-take at kept in
+    let inside = cut.inside in
+    let long : 4096 < length (take at kept) = omega arith in
+    let front : take 4097 kept ≡ take 4097 (take at kept) =
+    ap (take 4097) (sym (take-append-drop at kept)) ∙ take-append-le 4097 (take at kept) (drop at kept) (omega arith) in
+    (take at kept, lines_of (drop (at + 1) kept ++ ys), first_line kept at xs ys cut same, long, is ∙ front)
 
 -- a line with no feed so far that is too long
-pub TakesNext-long : (kept line : List ℕ) → HasNoFeed kept → 4096 < length kept
-    → (a b : Option (List ℕ)) → Keeps a (prepend_known kept b) → TakesNext a (prepend_known kept b) line Long
-TakesNext-long kept line clean large None b same = tt
-TakesNext-long kept line clean large (Some xs) None same = absurd same
-TakesNext-long kept line clean large (Some xs) (Some ys) same =
+pub TakesNext-long : (kept now line : List ℕ) → HasNoFeed kept → 4096 < length kept → line ≡ take 4097 kept
+    → (a b : Option (List ℕ)) → Keeps a (prepend_known kept b) → TakesNext a (prepend_known now b) line Long
+TakesNext-long kept now line clean large is None b same = tt
+TakesNext-long kept now line clean large is (Some xs) None same = absurd same
+TakesNext-long kept now line clean large is (Some xs) (Some ys) same =
     let begins = lines_of-begins kept ys clean (omega arith) in
-    (begins.first, begins.rest, ap lines_of (sym same) ∙ begins.whole, omega (arith, begins.long))
+    let long : 4096 < length (kept ++ begins.more) = omega (arith, length-append kept begins.more) in
+    (kept ++ begins.more, begins.rest, ap lines_of (sym same) ∙ begins.whole, long, is ∙ sym (take-append-le 4097 kept begins.more (omega arith)))
 
 -- the last line lacks its feed
 pub TakesNext-last : (kept now line : List ℕ) → HasNoFeed kept → 0 < length kept → length kept ≤ 4096 → line ≡ kept → now ≡ []

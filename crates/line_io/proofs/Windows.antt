@@ -1,5 +1,5 @@
 -- The window of a buffer, after a write behind it.
-use Rattle.std.proofs.Common.{◌≡◌, ℕ, ◌+◌, ◌-◌, ◌≤◌, List, ◌++◌, take, drop, slice_range, sym, ap, ◌∙◌, arith, take-add, drop-drop}
+use Rattle.std.proofs.Common.{◌≡◌, ℕ, ◌+◌, ◌-◌, ◌≤◌, List, ◌++◌, take, drop, slice_range, sym, ap, ◌∙◌, arith, take-add, take-take, drop-drop}
 use Rattle.std.proofs.lemmas.Slice.{between_is}
 
 -- the same front, the same window within it
@@ -23,3 +23,9 @@ slice_range-grown kept xs ys from at n ordered is front =
 -- the window without its first bytes
 pub slice_range-drop : (xs : List ℕ) (from to n : ℕ) → slice_range xs (from + n) to ≡ drop n (slice_range xs from to)
 slice_range-drop xs from to n = between_is xs (from + n) to ∙ sym (drop-drop n from (take to xs)) ∙ ap (drop n) (sym (between_is xs from to))
+
+-- the front of the window
+pub slice_range-take : (xs : List ℕ) (from to n : ℕ) → from + n ≤ to → slice_range xs from (from + n) ≡ take n (slice_range xs from to)
+slice_range-take xs from to n within =
+    let size : from + n - from ≡ n = omega arith in
+    ap (λ k. take k (drop from xs)) size ∙ sym (take-take n (to - from) (drop from xs) (omega arith))

@@ -1,5 +1,5 @@
 -- What a line reader holds, and what reading the next line does.
-use Rattle.std.specs.Prelude.{◌≡◌, ℕ, ◌<◌, ◌≤◌, List, [], ◌∷◌, length, Option, Some, None}
+use Rattle.std.specs.Prelude.{◌≡◌, ℕ, ◌<◌, ◌≤◌, List, [], ◌∷◌, length, take, Option, Some, None}
 use Rattle.rams_model.specs.Words.{lines_of}
 use Rattle.line_io.specs.declared.reader.Next.{Next}
 use Rattle.line_io.specs.declared.reader.Next.TheVariants.{Line, Long, End}
@@ -9,10 +9,10 @@ pub record Reading : Type 0 where
   pub line : List ℕ
   pub kept : List ℕ
 
--- xs begins with the line, of which ys is left; or its first line is too long; or it has no line
+-- xs begins with the line, of which ys is left; or its first line is too long, and this is the front of it; or it has no line
 abbrev pub IsNextOf : List ℕ → List ℕ → List ℕ → Next → Type 0
 IsNextOf xs ys line Line = (lines_of xs ≡ line ∷ lines_of ys) × (length line ≤ 4096)
-IsNextOf xs ys line Long = (first : List ℕ) × (rest : List (List ℕ)) × (lines_of xs ≡ first ∷ rest) × (4096 < length first)
+IsNextOf xs ys line Long = (first : List ℕ) × (rest : List (List ℕ)) × (lines_of xs ≡ first ∷ rest) × (4096 < length first) × (line ≡ take 4097 first)
 IsNextOf xs ys line End = lines_of xs ≡ []
 
 -- the same, where all that was left to read is told

@@ -15,7 +15,7 @@ use std::marker::Model;
 pub enum Next {
     /// A whole line of at most 4,096 bytes, without its line feed.
     Line,
-    /// The next line has more than 4,096 bytes.
+    /// The next line has more than 4,096 bytes; its first 4,097 are handed out.
     Long,
     /// No line is left.
     End,
@@ -127,6 +127,7 @@ impl LineReader {
             }
             seen = self.kept().len();
         }
+        self.cut_front();
         Ok(Next::Long)
     }
 
@@ -160,6 +161,7 @@ impl LineReader {
         ensures short { IsShort self.new.line result }
     {
         if at > LONGEST {
+            self.cut_front();
             return Next::Long;
         }
         self.cut(at);
@@ -189,6 +191,16 @@ impl LineReader {
         self.line = self.from;
         self.end = self.from + at;
         self.from = self.end + 1;
+    }
+
+    /// Hands out the front of a line that is too long, and keeps it.
+    fn cut_front(&mut self)
+        requires { 4096 < length self.old.kept }
+        ensures line { self.new.line ≡ take 4097 self.old.kept }
+        ensures kept { self.new.kept ≡ self.old.kept }
+    {
+        self.line = self.from;
+        self.end = self.from + LONGEST + 1;
     }
 
     fn cut_all(&mut self)

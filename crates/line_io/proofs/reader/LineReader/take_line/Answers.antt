@@ -6,4 +6,4 @@ pub returns-clause-next : goal.returns-clause-next
 returns-clause-next g c =
     let kept = c.pieces.self.kept in
     let large : 4096 < length kept = omega (arith, c.pieces.invariant.counted, c.pieces-test.false) in
-    TakesNext-long kept c.pieces.self.line c.pieces.invariant.clean large _ _ c.pieces.invariant.same
+    TakesNext-long kept c.cut_front.new.self.kept c.cut_front.new.self.line c.pieces.invariant.clean large c.cut_front.ensures.line _ _ c.pieces.invariant.same
