@@ -111,6 +111,9 @@ fn gives(
             assert_eq!(rt; reader.line(), *line);
         }
         assert_eq!(rt; reader.advance(&mut source)?, last);
+        if last == Next::Long {
+            assert_eq!(rt; reader.line(), &bytes[..4097]);
+        }
         assert_eq!(rt; reader.advance(&mut source)?, last);
     }
     Ok(())

@@ -17,6 +17,12 @@ pub fn one_packet_per_tick()
     ensures { first.OnePacketPerTick }
 {}
 
+/// Requests that find no eligible access point, and lines that are refused, as whole texts.
+pub fn refusals()
+    ensures requests { first.NoStart }
+    ensures lines { first.RefusedLines }
+{}
+
 /// Live packets: numbers, the reordering window, restarts.
 pub fn live_packets()
     ensures live_refusals { LiveRefusals }

@@ -21,7 +21,7 @@ pub use answer::{Answer, Order};
 pub use channel::{Access, Channel};
 pub use event::Event;
 pub use examples::{
-    budgets_of_ticks, bursts_in_ticks, live_packets, no_event, one_packet_per_tick,
+    budgets_of_ticks, bursts_in_ticks, live_packets, no_event, one_packet_per_tick, refusals,
     repairs_of_packets, requests_of_clients, stops_of_bursts,
 };
 pub use fault::{ConfigFault, FrameFault, LineFault, NackFault, RtpFault, TlvFault};

@@ -1,20 +1,23 @@
 -- The text that `run` writes for a trace.
-use Rattle.std.specs.Prelude.{ℕ, ◌+◌, Bool, ◌&&◌, ◌==◌, nat_lt, if◌then◌else◌, List, [], ◌∷◌, ◌++◌, Option, Some, None, Result, Ok, Err, codes}
+use Rattle.std.specs.Prelude.{ℕ, ◌+◌, Bool, ◌==◌, nat_lt, if◌then◌else◌, List, [], ◌∷◌, ◌++◌, Option, Some, None, Result, Ok, Err, codes, decimal}
 use Rattle.rams_model.specs.declared.event.Event.{Event}
 use Rattle.rams_model.specs.declared.event.Event.TheVariants.{Live, Feedback, Tick}
 use Rattle.rams_model.specs.declared.fault.ConfigFault.{ConfigFault}
 use Rattle.rams_model.specs.declared.fault.LineFault.{LineFault}
+use Rattle.rams_model.specs.declared.fault.LineFault.TheVariants as fault
+use Rattle.rams_model.specs.declared.mode.LineKind.{LineKind}
+use Rattle.rams_model.specs.declared.mode.LineKind.TheVariants as kind
 use Rattle.rams_model.specs.declared.mode.Mode.TheVariants.{Run}
 use Rattle.rams_model.specs.declared.status.Status.{Status}
-use Rattle.rams_model.specs.declared.status.Status.TheVariants.{Done, NotBuilt}
+use Rattle.rams_model.specs.declared.status.Status.TheVariants.{Done, BadTrace, TooLong, NotBuilt}
 use Rattle.rams_model.specs.Settings.{Settings, settings, checked}
 use Rattle.rams_model.specs.First.History.{History}
 use Rattle.rams_model.specs.First.Lawful.{after}
 use Rattle.rams_model.specs.First.Orders.{answer}
 use Rattle.rams_model.specs.First.Built.{is_built_channel, is_built}
-use Rattle.rams_model.specs.Words.{lines_of, bytes_in}
-use Rattle.rams_model.specs.TraceLine.{TraceLine, head_line, channel_line, live_line, feedback_line, tick_line, end_line, line_at}
-use Rattle.rams_model.specs.TraceOrder.{Reached, nothing_reached, tick_of, accepted}
+use Rattle.rams_model.specs.Words.{lines_of, first_word, bytes_in}
+use Rattle.rams_model.specs.TraceLine.{TraceLine, head_line, channel_line, live_line, feedback_line, tick_line, end_line}
+use Rattle.rams_model.specs.TraceOrder.{Reached, nothing_reached, tick_of, has_channel, kind_named, judged}
 use Rattle.rams_model.specs.BookText.{spaced}
 use Rattle.rams_model.specs.First.BookText.{answer_text}
 
@@ -52,6 +55,21 @@ not_built number = ended NotBuilt (codes "not-built" ++ spaced number ++ codes "
 abbrev pub done : ℕ → Outcome
 done events = ended Done (codes "done" ++ spaced events ++ codes "\n")
 
+abbrev pub fault_word : LineFault → List ℕ
+fault_word fault.Form = codes "form"
+fault_word fault.Order = codes "order"
+fault_word fault.Range = codes "range"
+fault_word fault.Twice = codes "twice"
+fault_word (fault.Rule k) = codes "rule-" ++ decimal k
+
+-- the line of this number is refused
+abbrev pub refused : ℕ → LineFault → Outcome
+refused number fault = ended BadTrace (codes "refused" ++ spaced number ++ (32 ∷ (fault_word fault ++ codes "\n")))
+
+-- an event is one too many
+abbrev pub too_long : Outcome
+too_long = ended TooLong (codes "too-long\n")
+
 -- most events
 abbrev pub most_events : ℕ
 most_events = 1000000
@@ -59,16 +77,20 @@ most_events = 1000000
 -- the event is answered, and its answer is written
 abbrev pub after_event : Stage → Reached → ℕ → Settings → History → Event → Turn
 after_event stage reached number s history event =
-    if nat_lt stage.events most_events && is_built s history event then
+    if is_built s history event then
     goes_on (record { reached = reached; channel = Some (s, after s event history); events = stage.events + 1 })
     (answer_text s (stage.events + 1) (answer s history event))
     else ends (not_built number)
 
--- an event of the channel with this number
+-- an event of the channel for which the test is true
 abbrev pub on_channel : Stage → Reached → ℕ → (Settings → Bool) → Event → Option (Settings × History) → Turn
 on_channel stage reached number is_its event None = ends (not_built number)
 on_channel stage reached number is_its event (Some channel) =
     if is_its channel.0 then after_event stage reached number channel.0 channel.1 event else ends (not_built number)
+
+-- an event is counted before anything else is asked of it
+abbrev pub counted : Stage → Turn → Turn
+counted stage turn = if nat_lt stage.events most_events then turn else ends too_long
 
 -- the channel that a line opens
 abbrev pub opened : Stage → Reached → ℕ → Result Settings ConfigFault → Option (Settings × History) → Turn
@@ -80,24 +102,31 @@ opened stage reached number _ _ = ends (not_built number)
 abbrev pub after_line : Stage → Reached → ℕ → TraceLine → Turn
 after_line stage reached number (head_line tick link) = goes_on (record stage { reached = reached }) []
 after_line stage reached number (channel_line c) = opened stage reached number (checked (settings c (tick_of reached.head))) stage.channel
-after_line stage reached number (live_line id hex) = on_channel stage reached number (λ s. s.channel.id == id) (Live (bytes_in hex)) stage.channel
+after_line stage reached number (live_line id hex) =
+    counted stage (on_channel stage reached number (λ s. s.channel.id == id) (Live (bytes_in hex)) stage.channel)
 after_line stage reached number (feedback_line id client hex) =
-    on_channel stage reached number (λ s. s.channel.id == id) (Feedback client (bytes_in hex)) stage.channel
-after_line stage reached number tick_line = on_channel stage reached number (λ s. Bool.true) Tick stage.channel
+    counted stage (on_channel stage reached number (λ s. s.channel.id == id) (Feedback client (bytes_in hex)) stage.channel)
+after_line stage reached number tick_line = counted stage (on_channel stage reached number (λ s. Bool.true) Tick stage.channel)
 after_line stage reached number end_line = ends (done stage.events)
 after_line stage reached number _ = ends (not_built number)
 
-abbrev pub after_reading : Stage → ℕ → TraceLine → Result Reached LineFault → Turn
-after_reading stage number line (Ok reached) = after_line stage reached number line
-after_reading stage number line (Err fault) = ends (not_built number)
+-- the lines of receivers, and a second channel line, aren't built, whatever stands behind their first word
+abbrev pub is_unbuilt : Reached → Option LineKind → Bool
+is_unbuilt reached (Some kind.ReceiverEvent) = Bool.true
+is_unbuilt reached (Some kind.Channel) = has_channel reached
+is_unbuilt reached _ = Bool.false
 
-abbrev pub after_bytes : Stage → ℕ → Result TraceLine LineFault → Turn
-after_bytes stage number (Ok line) = after_reading stage number line (accepted stage.reached line)
-after_bytes stage number (Err fault) = ends (not_built number)
+-- a line that is refused, with the kind that its first word names
+abbrev pub after_refusal : Stage → ℕ → Option LineKind → LineFault → Turn
+after_refusal stage number named fault = if is_unbuilt stage.reached named then ends (not_built number) else ends (refused number fault)
+
+abbrev pub after_judging : Stage → ℕ → Option LineKind → Result (TraceLine × Reached) LineFault → Turn
+after_judging stage number named (Ok read) = after_line stage read.1 number read.0
+after_judging stage number named (Err fault) = after_refusal stage number named fault
 
 -- what line number `number` does, at this stage
 unfoldable pub turn : Stage → ℕ → List ℕ → Turn
-turn stage number bytes = after_bytes stage number (line_at bytes)
+turn stage number bytes = after_judging stage number (kind_named (first_word bytes)) (judged stage.reached bytes)
 
 -- the same outcome after some text
 abbrev pub after_text : List ℕ → Outcome → Outcome
@@ -108,9 +137,9 @@ abbrev pub after_turn : Turn → (Stage → Outcome) → Outcome
 after_turn (goes_on later text) rest = after_text text (rest later)
 after_turn (ends o) rest = o
 
--- the rest of a trace from line number `number` on; where the lines end before `end`, the missing line isn't built
+-- the rest of a trace from line number `number` on; where the lines end before `end`, the missing line is out of order
 unfoldable pub text_from : Stage → ℕ → List (List ℕ) → Outcome
-text_from stage number [] = not_built number
+text_from stage number [] = refused number fault.Order
 text_from stage number (bytes ∷ lines) = after_turn (turn stage number bytes) (λ later. text_from later (number + 1) lines)
 
 -- how the trace ends, and its book
