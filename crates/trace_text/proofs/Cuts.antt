@@ -5,13 +5,13 @@ use Rattle.memchr.specs.Find.{is_byte, Passes, Nowhere, NoneBefore}
 use Rattle.rams_model.specs.Words.{words_of, onto_first}
 
 -- one byte that is no space goes onto the first word
-words_of-other : (b : ℕ) (bytes : List ℕ) → ¬ (eqb b 32 ≡ true) → words_of (b ∷ bytes) ≡ onto_first b (words_of bytes)
+pub words_of-other : (b : ℕ) (bytes : List ℕ) → ¬ (eqb b 32 ≡ true) → words_of (b ∷ bytes) ≡ onto_first b (words_of bytes)
 unfolding words_of
 words_of-other b bytes h =
     ap (λ t. cond t ([] ∷ words_of bytes) (onto_first b (words_of bytes))) (false_from_ne_true (eqb b 32) h)
 
 -- a space ends a word
-words_of-space : (b : ℕ) (bytes : List ℕ) → eqb b 32 ≡ true → words_of (b ∷ bytes) ≡ [] ∷ words_of bytes
+pub words_of-space : (b : ℕ) (bytes : List ℕ) → eqb b 32 ≡ true → words_of (b ∷ bytes) ≡ [] ∷ words_of bytes
 unfolding words_of
 words_of-space b bytes h = ap (λ t. cond t ([] ∷ words_of bytes) (onto_first b (words_of bytes))) h
 

@@ -14,7 +14,7 @@ use Rattle.rams_model.specs.Words.{is_hex_digit, is_hex, bytes_in, decoded}
 digit_is : (c : ℕ) → is_hex_digit c ≡ true → is_any_hex_digit c ≡ true
 digit_is c h = grind (arith, nat_tests)
 
-digits_are : (word : List ℕ) → list_all is_hex_digit word ≡ true → AllPass is_any_hex_digit word
+pub digits_are : (word : List ℕ) → list_all is_hex_digit word ≡ true → AllPass is_any_hex_digit word
 digits_are [] h = All-nil (λ c. is_any_hex_digit c ≡ true)
 digits_are (c ∷ word) h =
     let parts = and_parts (is_hex_digit c) (list_all is_hex_digit word) h in
@@ -35,10 +35,14 @@ eight_decode word eight digits =
 pub no_failure : (read : Result (List ℕ) FromHexError) (bytes : List ℕ) → read ≡ Ok bytes → false ≡ is_ok read → ⊥
 no_failure read bytes decodes fails = cc (fails ∙ ap is_ok decodes)
 
+-- a word of bytes that isn't `-` has digits
+pub word_digits : (word : List ℕ) → is_hex word ≡ true → bytes_eq word (codes "-") ≡ false → list_all is_hex_digit word ≡ true
+word_digits word hex other = grind (arith, nat_tests)
+
 -- a word of digits is as long as its bytes need, and decodes
 pub word_decodes : (word : List ℕ) (n : ℕ) → is_hex word ≡ true → bytes_eq word (codes "-") ≡ false → n ≡ length word / 2 → decode_sized word n ≡ Ok (bytes_in word)
 word_decodes word n hex other half =
-    let digits : list_all is_hex_digit word ≡ true = grind (arith, nat_tests) in
+    let digits = word_digits word hex other in
     let even : length word % 2 ≡ 0 = grind (arith, nat_tests) in
     decode_sized-twice word n (omega arith) ∙ digits_decode word even digits
 

@@ -1,4 +1,11 @@
+pub mod ReadAgain
 pub mod Checks
 pub mod Cuts
 pub mod Digits
 pub mod Hexes
+pub mod Joins
+pub mod Judging
+pub mod AsRead
+pub mod Spelled
+pub mod Spelling
+pub mod Word32

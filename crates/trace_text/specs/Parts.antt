@@ -1,5 +1,5 @@
 -- The words of a channel line, in the parts that they are written in.
-use Rattle.std.specs.Prelude.{List, ◌∷◌, [], codes, decimal}
+use Rattle.std.specs.Prelude.{◌∷◌, [], codes, decimal}
 use Rattle.rams_model.specs.declared.channel.Channel.{Channel}
 use Rattle.rams_model.specs.TraceLine.{Words, access_word}
 use Rattle.rams_model.specs.Words.{word32}

@@ -5,6 +5,7 @@ mod bytes;
 mod channel_line;
 mod fields;
 mod kinds;
+mod laws;
 mod line;
 mod order;
 mod ranges;
@@ -18,6 +19,7 @@ mod values;
 mod words;
 
 pub use bytes::{decode, decode_into, decode_to};
+pub use laws::{lines_are_spelled_as_read, spelled_lines_are_read, the_first_word_tells};
 pub use line::Line;
 pub use rams_model::{LineFault, Mode};
 pub use read::read_line;

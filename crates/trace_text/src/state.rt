@@ -1,6 +1,7 @@
 //! Which line may come where in a trace.
 ghost use Rattle.std.specs.Prelude.{◌≡◌, ◌≤◌, Ok, Err, Some, ◌==◌, IfErr, IfOk, OnErr, OnOk, MatchResult};
 ghost use Rattle.rams_model.specs.Settings.{settings, checked};
+ghost use Rattle.rams_model.specs.TraceLine.{line_at};
 ghost use Rattle.rams_model.specs.TraceOrder.{nothing_reached, tick_of, kind_may_come, may_come_next, line_is_served, with_channel, expected, accepted, judged, line_fault};
 ghost use Rattle.trace_text.specs.Shown.{shown, HasDigits};
 ghost use Rattle.std.specs.List.{list_any};
@@ -94,21 +95,19 @@ impl State {
     /// this order: `Form` where it is no line of a trace, `Order` where a line of its kind may not
     /// come here, `Range` where a number is out of its range, and what is wrong with a channel line.
     /// A refusal changes nothing.
-    #[tactic(auto, unfolding(rams_model::specs::TraceOrder::judged))]
+    #[tactic(auto, using(crate::proofs::Judging::judged_ok, crate::proofs::Judging::judged_refused))]
     pub fn judge<'a>(&mut self, line: &'a [u8]) -> Result<Line<'a>, LineFault>
         ensures ok { IfOk result (λ read. judged self.old line.now ≡ Ok (shown read, self.new)) }
         ensures err { IfErr result (λ fault. judged self.old line.now ≡ Err fault) }
         ensures same { OnErr result (self.new ≡ self.old) }
         ensures digits { IfOk result HasDigits }
     {
-        match read_line(line) {
-            Ok(read) => {
-                self.accept(&read)?;
-                Ok(read)
-            }
-            Err(LineFault::Range) if !self.expects(line) => Err(LineFault::Order),
-            Err(fault) => Err(fault),
-        }
+        let read = match read_line(line) {
+            Ok(read) => read,
+            Err(fault) => return Err(self.first_fault(line, fault)),
+        };
+        self.accept(&read)?;
+        Ok(read)
     }
 
     /// Whether a line with the first word of this one may come next.
@@ -155,6 +154,19 @@ impl State {
         match self.head {
             Some(head) => head.tick_ms,
             None => 0,
+        }
+    }
+
+    // The first fault of a line that isn't read for this one.
+    #[tactic(auto, using(crate::proofs::Judging::judged_fault, crate::proofs::Judging::judged_order))]
+    fn first_fault(&self, line: &[u8], fault: LineFault) -> LineFault
+        requires { line_at line.now ≡ Err fault }
+        ensures { judged self.now line.now ≡ Err result }
+    {
+        match fault {
+            LineFault::Range if self.expects(line) => LineFault::Range,
+            LineFault::Range => LineFault::Order,
+            other => other,
         }
     }
 
