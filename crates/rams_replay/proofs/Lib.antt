@@ -1,5 +1,6 @@
 pub mod Writing
 pub mod Turning
+pub mod LongLines
 pub mod FirstTurn
 pub mod Running
 pub mod Booking

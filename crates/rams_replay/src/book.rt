@@ -34,7 +34,8 @@ fn next_turn<S: Source>(
 {
     match reader.advance(source) {
         Err(_) => Err(Stop::Read),
-        Ok(Next::Line | Next::Long) => Ok(take_line(alloc, replay, reader.line())?),
+        Ok(Next::Line) => Ok(take_line(alloc, replay, reader.line())?),
+        Ok(Next::Long) => Ok(take_line(alloc, replay, reader.line())?),
         Ok(Next::End) => Ok(Turn::Refused(LineFault::Order)),
     }
 }

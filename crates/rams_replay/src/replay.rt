@@ -1,5 +1,5 @@
 //! A trace, line by line.
-ghost use Rattle.std.specs.Prelude.{◌≡◌, ℕ, IfOk, Option, Some};
+ghost use Rattle.std.specs.Prelude.{◌≡◌, ◌<◌, ℕ, IfOk, Option, Some};
 ghost use Rattle.rams_model.specs.First.Built.{is_built_channel};
 ghost use Rattle.rams_model.specs.First.History.{History};
 ghost use Rattle.rams_model.specs.Settings.{Settings, settings, checked};
@@ -192,6 +192,7 @@ fn serve_channel(
     id: Option<u16>,
     heard: Heard<'_>,
 ) -> Result<Turn, NoMemory>
+    requires { events.old < 1000000 }
     ensures turn { IfOk result (λ t. (stage : Stage) (reached : Reached) (number : ℕ) (channel : Settings × History)
         → core.old.settings ≡ channel.0 → StandsFor core.old channel.1 → events.old ≡ stage.events
         → Took (on_channel stage reached number (is_its id) (event_of heard.entry) (Some channel)) (Some core.new) events.new reached number t) }

@@ -171,11 +171,11 @@ pub fn write_turn<K: Sink>(
     ensures steady { (room : ℕ) → K.is_steady sink.old (length writer.old.gather + length (written replay.now.core replay.now.events number turn.now) + room)
         → OnlyMemoryStops result (K.is_steady sink.new (length writer.new.gather + room)) }
 {
-    match (turn, &replay.core) {
-        (Turn::Answered(answer), Some(core)) => {
-            write_answer(alloc, writer, sink, core.config(), replay.events, answer)
-        }
-        (Turn::Answered(_), None) => Ok(()),
+    match turn {
+        Turn::Answered(answer) => match &replay.core {
+            Some(core) => write_answer(alloc, writer, sink, core.config(), replay.events, answer),
+            None => Ok(()),
+        },
         _ => write_last(writer, sink, replay.events, number, turn),
     }
 }

@@ -1,10 +1,12 @@
-use Rattle.std.proofs.Common.{List, ℕ, Option, ◌++◌, IfErr, sym, subst}
+use Rattle.std.proofs.Common.{List, ℕ, Option, ◌++◌, ◌+◌, length, IfErr, OnOk, sym, subst}
 use Rattle.rams_model.specs.Settings.{Settings}
 use Rattle.rams_model.specs.First.BookText.{answer_text}
 use Rattle.session_core.specs.Seen.{Seen}
 use Rattle.rams_replay.specs.declared.replay.Turn.{Turn}
 use Rattle.rams_replay.specs.declared.replay.Turn.TheVariants.{Answered}
-use Rattle.rams_replay.specs.Stops.{StopsIn}
+use Rattle.line_io.specs.Passes.{Passes}
+use Rattle.rams_replay.specs.Stops.{OnlyMemoryStops, StopsIn}
+use Rattle.rams_replay.proofs.Turning.{written_last}
 use Rattle.rams_replay.specs.Turns.{written}
 use Rattle.rams_replay.proofs.writer.write_turn.Goals as goal
 
@@ -17,16 +19,17 @@ returns-in-Some-clause-front g c =
     (subst (λ (core : Option Seen). stops (written core events c.args.number (Answered c.in-Answered.answer))) (sym c.in-Some.is)
     (subst (λ (s : Settings). stops (answer_text s events c.in-Answered.answer)) c.config.ensures call.ensures.front))
 
-pub returns-in-NotBuilt-clause-front : goal.returns-in-NotBuilt-clause-front
-returns-in-NotBuilt-clause-front g c =
-    let call = c.write_count in
-    let events = c.args.replay.now.events in
-    subst (λ (t : Turn). IfErr call.result (StopsIn (g.K.Sink.held c.args.sink.now) (g.K.Sink.held call.new.sink) (c.args.writer.now.gather ++ written c.args.replay.now.core events c.args.number t) call.new.writer.gather)) (sym c.in-NotBuilt.is)
-    call.ensures.front
-
-pub returns-in-Done-clause-front : goal.returns-in-Done-clause-front
-returns-in-Done-clause-front g c =
-    let call = c.write_count-in-Done in
-    let events = c.args.replay.now.events in
-    subst (λ (t : Turn). IfErr call.result (StopsIn (g.K.Sink.held c.args.sink.now) (g.K.Sink.held call.new.sink) (c.args.writer.now.gather ++ written c.args.replay.now.core events c.args.number t) call.new.writer.gather)) (sym c.in-Done.is)
-    call.ensures.front
+pub returns-in_default : goal.returns-in_default
+returns-in_default g c =
+    let call = c.write_last in
+    let waits = c.args.writer.now.gather in
+    let held = g.K.Sink.held c.args.sink.now in
+    let holds = g.K.Sink.held call.new.sink in
+    let same = written_last c.args.replay.now.core c.args.replay.now.events c.args.number c.args.turn.now c.in_default.not-Answered in
+    record {
+      all = subst (λ (text : List ℕ). OnOk call.result (Passes held holds (waits ++ text) call.new.writer.gather)) same call.ensures.all;
+      front = subst (λ (text : List ℕ). IfErr call.result (StopsIn held holds (waits ++ text) call.new.writer.gather)) same call.ensures.front;
+      cause = call.ensures.cause;
+      steady = subst (λ (text : List ℕ). (room : ℕ) → g.K.Sink.is_steady c.args.sink.now (length waits + length text + room)
+          → OnlyMemoryStops call.result (g.K.Sink.is_steady call.new.sink (length call.new.writer.gather + room))) same call.ensures.steady;
+    }
