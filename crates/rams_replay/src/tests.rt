@@ -6,6 +6,8 @@ use std::alloc::{AllocError, Global};
 use std::process::Abort;
 use std::test::Fail;
 
+mod faults;
+
 const HEAD: &str = "rams-trace 1 tick 10 link 100000\n";
 
 /// The line of a channel, with its ring, its access and its burst's longest time.
@@ -78,8 +80,18 @@ fn ends(
     Ok(())
 }
 
-/// The book of a trace of this opening and these lines has these lines behind its first, and ends
-/// before the end of the trace.
+/// How a run ends whose book has this last line.
+fn status_of(book: &str) -> Status {
+    if book.contains("not-built") {
+        Status::NotBuilt
+    } else if book.contains("refused") {
+        Status::BadTrace
+    } else {
+        Status::Done
+    }
+}
+
+/// The book of a trace of this opening and these lines has these lines behind its first.
 fn stops(
     rt: &impl Abort,
     alloc: Global,
@@ -89,7 +101,7 @@ fn stops(
 ) -> Result<(), Fail> {
     let trace = format!(in alloc; "{opening}{lines}")?;
     let book = format!(in alloc; "rams-book 1\n{book}")?;
-    ends(rt, alloc, &trace, (&[], &[]), Status::NotBuilt, &book)
+    ends(rt, alloc, &trace, (&[], &[]), status_of(&book), &book)
 }
 
 /// A channel and no event.
@@ -158,15 +170,43 @@ fn channels_that_are_not_built(rt: HostRuntime) -> Result<(), Fail> {
     stops(&rt, alloc, &opening(alloc)?, &second, "not-built 3\n")
 }
 
+/// The end of the trace is line `n` missing, unless `end` came, whose line feed may lack.
 #[test]
 fn traces_that_end_early(rt: HostRuntime) -> Result<(), Fail> {
     let alloc = rt.alloc();
-    stops(&rt, alloc, "", "", "not-built 1\n")?;
-    stops(&rt, alloc, HEAD, "", "not-built 2\n")?;
     let opening = opening(alloc)?;
-    stops(&rt, alloc, &opening, "", "not-built 3\n")?;
-    stops(&rt, alloc, &opening, "tick", "not-built 4\n")?;
-    stops(&rt, alloc, &opening, "tick\n", "not-built 4\n")
+    for (front, lines, book) in [
+        ("", "", "refused 1 order\n"),
+        (HEAD, "", "refused 2 order\n"),
+        (&opening, "", "refused 3 order\n"),
+        (&opening, "tick", "refused 4 order\n"),
+        (&opening, "tick\n", "refused 4 order\n"),
+        (&opening, "tick\nen", "refused 4 form\n"),
+        (&opening, "tick\nend", "done 1\n"),
+        (&opening, "tick\nend\nwhat", "done 1\n"),
+    ] {
+        stops(&rt, alloc, front, lines, book)?;
+    }
+    Ok(())
+}
+
+/// Every front of a trace without its last line is refused or not built.
+#[test]
+fn fronts_of_a_trace(rt: HostRuntime) -> Result<(), Fail> {
+    let alloc = rt.alloc();
+    let opening = opening(alloc)?;
+    let trace = format!(in alloc; "{opening}live 7 80a1000a0000000011223344\ntick\nend")?;
+    let words = words_of(alloc, &["run"])?;
+    for length in 0..trace.len() {
+        let mut source = source_of(alloc, &trace[..length], &[])?;
+        let mut sink = sink_for(alloc, &[])?;
+        let got = plain(alloc, &words, &mut source, &mut sink);
+        assert!(rt;
+            matches!(got, Status::BadTrace | Status::NotBuilt),
+            "{length}"
+        );
+    }
+    Ok(())
 }
 
 /// Behind the opening, which is lines 1 and 2.
@@ -174,24 +214,68 @@ fn traces_that_end_early(rt: HostRuntime) -> Result<(), Fail> {
 fn lines_that_are_refused(rt: HostRuntime) -> Result<(), Fail> {
     let alloc = rt.alloc();
     let opening = opening(alloc)?;
+    for (line, word) in [
+        ("hello\n", "form"),
+        ("\n", "form"),
+        ("tick \n", "form"),
+        ("live 7  8021000a0000000011223344\n", "form"),
+        ("live 7 8021000A0000000011223344\n", "form"),
+        ("live 7 0\n", "form"),
+        ("live 07 80\n", "form"),
+        ("tuned 7\n", "form"),
+        ("channels\n", "form"),
+        ("rams-trace 1 tick 0 link 1500\n", "order"),
+        ("live 0 80\n", "range"),
+        ("live 65536 80\n", "range"),
+        ("fb 7 281474976710656 80\n", "range"),
+    ] {
+        let book = format!(in alloc; "refused 3 {word}\n")?;
+        stops(&rt, alloc, &opening, line, &book)?;
+    }
+    // Of this many bytes of 0 the line has 4,096, and the packet is too long; with one more it has
+    // 4,098.
+    for (count, book) in [(2_044, "not-built 3\n"), (2_046, "refused 3 form\n")] {
+        let digits = zeros(alloc, count)?;
+        let line = format!(in alloc; "live 65 {digits}\nend\n")?;
+        stops(&rt, alloc, &opening, &line, book)?;
+    }
+    let low = channel(alloc, 7, 2, "window 0 access marker", 3)?;
+    for (from, to, word) in [
+        ("share 10000", "share 2999", "rule-3"),
+        ("rtx 99", "rtx 33", "rule-1"),
+        ("burst 1500 declared 0", "burst 1500 declared 1", "rule-2"),
+        ("share 10000", "share 100001", "rule-4"),
+        ("ring 2", "ring 0", "range"),
+        ("ring 2", "ring 32769", "range"),
+        ("ring 2", "ring two", "form"),
+    ] {
+        let line = low.replace(alloc, from, to)?;
+        let book = format!(in alloc; "refused 2 {word}\n")?;
+        stops(&rt, alloc, HEAD, &line, &book)?;
+    }
+    Ok(())
+}
+
+/// Lines of which nothing is built, whatever stands behind their first word.
+#[test]
+fn words_that_are_not_built(rt: HostRuntime) -> Result<(), Fail> {
+    let alloc = rt.alloc();
+    let opening = opening(alloc)?;
+    let digits = zeros(alloc, 2_050)?;
+    let long = format!(in alloc; "tune {digits}\n")?;
     for line in [
         "tune 7 5\n",
-        "give 7 5\n",
+        "tune 7 5 0000c001\n",
+        "give 7\n",
         "mcast 7 5\n",
         "ask 7 5\n",
         "drop 7 5\n",
-        "hello\n",
-        "\n",
-        "tick \n",
-        "live 7  8021000a0000000011223344\n",
-        "live 7 8021000A0000000011223344\n",
+        "channel\n",
+        &long,
     ] {
         stops(&rt, alloc, &opening, line, "not-built 3\n")?;
     }
-    // Of this many bytes of 0 the line has 4,097.
-    let digits = zeros(alloc, 2_045)?;
-    let line = format!(in alloc; "live 7 {digits}\nend\n")?;
-    stops(&rt, alloc, &opening, &line, "not-built 3\n")
+    Ok(())
 }
 
 /// Packets that no event is built of.
@@ -247,11 +331,10 @@ fn requests_that_are_not_built(rt: HostRuntime) -> Result<(), Fail> {
     let alloc = rt.alloc();
     let opening = opening(alloc)?;
     let took = "1 7 took 65546\nnot-built 4\n";
-    let (plain, marked) = ("8021000a", "80a1000a");
+    let marked = "80a1000a";
     let request = "fb 7 5 86cd00030000c0011122334401000000\n";
     // The request is the fourth line, behind a packet that begins so.
     for (packet, lines, book) in [
-        (plain, request, took),
         (marked, "fb 8 5 86cd00030000c0011122334401000000\n", took),
         (marked, "fb 7 5 86cd00030000c00111223344010000\n", took),
         (marked, "fb 7 5 86cd00030000c001112233440100000000\n", took),
@@ -261,9 +344,41 @@ fn requests_that_are_not_built(rt: HostRuntime) -> Result<(), Fail> {
         let lines = format!(in alloc; "live 7 {packet}0000000011223344\n{lines}")?;
         stops(&rt, alloc, &opening, &lines, book)?;
     }
-    stops(&rt, alloc, &opening, request, "not-built 3\n")?;
     let twice = format!(in alloc; "live 7 {marked}0000000011223344\n{request}{request}")?;
     stops(&rt, alloc, &opening, &twice, ACCEPTED)
+}
+
+/// A request that finds no eligible access point is refused: none has the marker, or the one that has
+/// it has a byte more behind it than the ring surely has room for.
+#[test]
+fn requests_that_are_refused(rt: HostRuntime) -> Result<(), Fail> {
+    let alloc = rt.alloc();
+    let refused = "1 7 took 65546
+2 7 refuse 5 507
+2 7 send 5 86cd0003aabbccdd11223344020001fb
+done 2
+";
+    let accepted = "1 7 took 65546
+2 7 accept 5 first 65546 rate 4000 join 1
+2 7 send 5 86cd000caabbccdd11223344020000c82000000201f40000210000040000000a22000004000003e823000008000000000030d400
+done 2
+";
+    for (ring, declared, minwire, packet, book) in [
+        (64, 100, 42, "8021000a", refused),
+        (1, 0, 45, "80a1000a", refused),
+        (1, 0, 46, "80a1000a", accepted),
+    ] {
+        let front = "channel 7 ssrc 11223344 pt 33 rtx 99 server aabbccdd seq0 500";
+        let lines = format!(in alloc;
+            "{front} ring {ring} window 0 access marker share 10000 reserve 1500 burst 4000 declared {declared} minwire {minwire} limit 100 idle 100 clients 4
+live 7 {packet}000000001122334400000000
+fb 7 5 86cd00030000c0011122334401000000
+end
+"
+        )?;
+        stops(&rt, alloc, HEAD, &lines, book)?;
+    }
+    Ok(())
 }
 
 /// The third tick is the first that isn't built.
@@ -281,25 +396,6 @@ fn ticks_have_a_limit(rt: HostRuntime) -> Result<(), Fail> {
     let trace = format!(in alloc; "{opening}tick\ntick\nend\n")?;
     let book = "rams-book 1\ndone 2\n";
     ends(&rt, alloc, &trace, (&[], &[]), Status::Done, book)
-}
-
-/// The first 4,096 bytes of the trace end in its fourth line.
-#[test]
-fn faults_end_a_run(rt: HostRuntime) -> Result<(), Fail> {
-    let alloc = rt.alloc();
-    let trace = one_packet_per_tick(alloc)?;
-    let first = "rams-book 1\n";
-    let front = "rams-book 1\n1 7 took 65546\n";
-    let none: &[u64] = &[];
-    for (source, sink, status, held) in [
-        ([0u64].as_slice(), none, Status::ReadFault, first),
-        ([1].as_slice(), none, Status::ReadFault, front),
-        (none, [0u64].as_slice(), Status::WriteFault, ""),
-        (none, [1].as_slice(), Status::WriteFault, first),
-    ] {
-        ends(&rt, alloc, &trace, (source, sink), status, held)?;
-    }
-    Ok(())
 }
 
 /// What isn't the word `run` alone is refused and takes nothing of the trace.
