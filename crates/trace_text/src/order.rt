@@ -1,9 +1,11 @@
 //! What lines are to the order of a trace.
 ghost use Rattle.std.specs.Prelude.{◌≡◌};
 ghost use Rattle.rams_model.specs.TraceOrder.{kind_of, kind_named, is_event_word, is_receiver_word, has_receivers, has_events, is_threads};
+ghost use Rattle.rams_model.specs.Words.{first_word};
 ghost use Rattle.trace_text.specs.Shown.{shown};
 
 use crate::line::Line;
+use crate::words::first_word;
 use rams_model::{LineKind, Mode};
 
 /// The kind of a line.
@@ -40,6 +42,13 @@ pub fn kind_named(word: &[u8]) -> Option<LineKind>
     } else {
         None
     }
+}
+
+/// The kind that the first word of a line names, whatever stands behind it.
+pub fn kind_of_first_word(line: &[u8]) -> Option<LineKind>
+    ensures { result ≡ kind_named (first_word line.now) }
+{
+    kind_named(first_word(line))
 }
 
 fn is_event(word: &[u8]) -> bool
