@@ -10,5 +10,5 @@ mod note;
 mod tests;
 mod words;
 
-pub use line::{append_count, append_send};
+pub use line::{append_count, append_refused, append_send};
 pub use note::append_note;

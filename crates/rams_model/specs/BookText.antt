@@ -2,6 +2,8 @@
 use Rattle.std.specs.Prelude.{ℕ, List, ◌∷◌, ◌++◌, codes, decimal}
 use Rattle.rams_model.specs.declared.fault.FrameFault.{FrameFault}
 use Rattle.rams_model.specs.declared.fault.FrameFault.TheVariants as frame
+use Rattle.rams_model.specs.declared.fault.LineFault.{LineFault}
+use Rattle.rams_model.specs.declared.fault.LineFault.TheVariants as line
 use Rattle.rams_model.specs.declared.fault.RtpFault.{RtpFault}
 use Rattle.rams_model.specs.declared.fault.RtpFault.TheVariants as rtp
 use Rattle.rams_model.specs.declared.note.Cause.{Cause}
@@ -113,3 +115,14 @@ order_count (Burst client n sequence) = 1
 order_count (Repair client n sequence) = 1
 order_count (End client cause) = end_order_count cause
 order_count _ = 0
+
+abbrev pub line_fault_word : LineFault → List ℕ
+line_fault_word line.Form = codes "form"
+line_fault_word line.Order = codes "order"
+line_fault_word line.Range = codes "range"
+line_fault_word line.Twice = codes "twice"
+line_fault_word (line.Rule k) = codes "rule-" ++ decimal k
+
+-- the last line of a book whose trace has a line that is refused: its number and its fault
+abbrev pub refused_line : ℕ → LineFault → List ℕ
+refused_line number fault = codes "refused" ++ spaced number ++ (32 ∷ (line_fault_word fault ++ codes "\n"))

@@ -23,16 +23,16 @@ is_words _ = false
 -- the run came to an end of its own, and the sink got exactly the text
 abbrev pub HasText : Option (List ℕ) → Option (List ℕ) → Outcome → Status → Type 0
 HasText held holds o Done = (o.status ≡ Done) × Appends held holds o.text
+HasText held holds o BadTrace = (o.status ≡ BadTrace) × Appends held holds o.text
+HasText held holds o TooLong = (o.status ≡ TooLong) × Appends held holds o.text
 HasText held holds o NotBuilt = (o.status ≡ NotBuilt) × Appends held holds o.text
 HasText held holds o _ = Unit {0}
 
--- the object's faults rose where the status names it; a run has none of the last three statuses
+-- the object's faults rose where the status names it; a run has no wire
 abbrev pub HasFault : ℕ → ℕ → ℕ → ℕ → Status → Type 0
 HasFault read reads write writes ReadFault = Rose read reads
 HasFault read reads write writes WriteFault = Rose write writes
-HasFault read reads write writes BadTrace = ⊥
 HasFault read reads write writes WireFault = ⊥
-HasFault read reads write writes TooLong = ⊥
 HasFault read reads write writes _ = Unit {0}
 
 -- No count of faults fell, and a status that names an object has its cause.

@@ -9,14 +9,14 @@ use Rattle.rams_model.specs.Settings.{Settings}
 use Rattle.rams_model.specs.First.History.{History}
 use Rattle.rams_model.specs.First.BookText.{answer_text}
 use Rattle.rams_model.specs.TraceOrder.{Reached}
-use Rattle.rams_model.specs.First.TraceText.{Stage, Outcome, goes_on, ends, not_built, done}
+use Rattle.rams_model.specs.First.TraceText.{Stage, Outcome, goes_on, ends, refused, too_long, not_built, done}
 use Rattle.rams_model.specs.First.TraceText as text
 use Rattle.session_core.specs.Render.{AllRender}
 use Rattle.session_core.specs.Seen.{Seen, StandsFor, Answers, serves}
 use Rattle.rams_replay.specs.declared.heard.Heard.{Heard}
 use Rattle.rams_replay.specs.declared.heard.Heard.TheVariants.{Live, Feedback, Tick}
 use Rattle.rams_replay.specs.declared.replay.Turn.{Turn}
-use Rattle.rams_replay.specs.declared.replay.Turn.TheVariants.{GoesOn, Answered as AnsweredTurn, NotBuilt, Done}
+use Rattle.rams_replay.specs.declared.replay.Turn.TheVariants.{GoesOn, Answered as AnsweredTurn, Refused, TooLong, NotBuilt, Done}
 
 -- the event that is heard
 abbrev pub event_of : Heard → Event
@@ -51,12 +51,16 @@ is_its (Some id) s = s.channel.id == id
 abbrev pub ending : Turn → Option Status
 ending GoesOn = None
 ending (AnsweredTurn a) = None
+ending (Refused fault) = Some statuses.BadTrace
+ending TooLong = Some statuses.TooLong
 ending NotBuilt = Some statuses.NotBuilt
 ending Done = Some statuses.Done
 
 -- a status with which a trace ends
 abbrev pub IsEnd : Status → Type 0
 IsEnd statuses.Done = Unit {0}
+IsEnd statuses.BadTrace = Unit {0}
+IsEnd statuses.TooLong = Unit {0}
 IsEnd statuses.NotBuilt = Unit {0}
 IsEnd _ = ⊥
 
@@ -64,17 +68,25 @@ abbrev pub answered_text : Option Seen → ℕ → Answered → List ℕ
 answered_text None event a = []
 answered_text (Some v) event a = answer_text v.settings event a
 
+-- the line with which a turn ends the run, after so many events and at the line of this number
+abbrev pub last_line : ℕ → ℕ → Turn → List ℕ
+last_line events number (Refused fault) = (refused number fault).text
+last_line events number TooLong = too_long.text
+last_line events number NotBuilt = (not_built number).text
+last_line events number Done = (done events).text
+last_line events number _ = []
+
 -- what is written for a turn, at the line of this number
 abbrev pub written : Option Seen → ℕ → ℕ → Turn → List ℕ
-written core events number GoesOn = []
 written core events number (AnsweredTurn a) = answered_text core events a
-written core events number NotBuilt = (not_built number).text
-written core events number Done = (done events).text
+written core events number t = last_line events number t
 
 -- the orders of an answer can be rendered
 abbrev pub CanWrite : Turn → Type 0
 CanWrite GoesOn = Unit {0}
 CanWrite (AnsweredTurn a) = AllRender a.orders
+CanWrite (Refused fault) = Unit {0}
+CanWrite TooLong = Unit {0}
 CanWrite NotBuilt = Unit {0}
 CanWrite Done = Unit {0}
 

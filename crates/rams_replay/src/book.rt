@@ -14,10 +14,11 @@ use crate::stop::Stop;
 use crate::writer::{Writer, flush, new_writer, put, write_turn};
 use line_io::{Gather, LineReader, Next};
 use ram_io::{Sink, Source};
-use rams_model::Status;
+use rams_model::{LineFault, Status};
 use std::alloc::Global;
 
-/// What the next line does: nothing is built of a line that is too long, nor of one that is missing.
+/// What the next line does. Of a line that is too long the front tells; one that is missing is out
+/// of order.
 fn next_turn<S: Source>(
     alloc: Global,
     reader: &mut LineReader,
@@ -33,9 +34,8 @@ fn next_turn<S: Source>(
 {
     match reader.advance(source) {
         Err(_) => Err(Stop::Read),
-        Ok(Next::Line) => Ok(take_line(alloc, replay, reader.line())?),
-        Ok(Next::Long) => Ok(Turn::NotBuilt),
-        Ok(Next::End) => Ok(Turn::NotBuilt),
+        Ok(Next::Line | Next::Long) => Ok(take_line(alloc, replay, reader.line())?),
+        Ok(Next::End) => Ok(Turn::Refused(LineFault::Order)),
     }
 }
 
@@ -46,6 +46,8 @@ fn ending(turn: &Turn) -> Option<Status>
 {
     match turn {
         Turn::GoesOn | Turn::Answered(_) => None,
+        Turn::Refused(_) => Some(Status::BadTrace),
+        Turn::TooLong => Some(Status::TooLong),
         Turn::NotBuilt => Some(Status::NotBuilt),
         Turn::Done => Some(Status::Done),
     }

@@ -1,21 +1,21 @@
 //! A trace, line by line.
-ghost use Rattle.std.specs.Prelude.{◌≡◌, ℕ, IfOk, Some};
+ghost use Rattle.std.specs.Prelude.{◌≡◌, ℕ, IfOk, Option, Some};
 ghost use Rattle.rams_model.specs.First.Built.{is_built_channel};
 ghost use Rattle.rams_model.specs.First.History.{History};
 ghost use Rattle.rams_model.specs.Settings.{Settings, settings, checked};
 ghost use Rattle.rams_model.specs.TraceOrder.{Reached};
-ghost use Rattle.rams_model.specs.First.TraceText.{Stage, opening, turn, after_line, opened, on_channel};
-ghost use Rattle.session_core.specs.Seen.{StandsFor};
+ghost use Rattle.rams_model.specs.First.TraceText.{Stage, opening, turn, after_line, after_refusal, is_unbuilt, counted, opened, on_channel};
+ghost use Rattle.session_core.specs.Seen.{Seen, StandsFor};
 ghost use Rattle.trace_text.specs.Shown.{shown, HasDigits};
 ghost use Rattle.rams_replay.specs.Turns.{Stands, ServesChannel, Took, CanWrite, event_of, is_its};
 
 use crate::heard::{Heard, serve};
 use channel_config::Config;
 use ram_io::NoMemory;
-use rams_model::{Access, Answer, Channel};
+use rams_model::{Access, Answer, Channel, LineFault, LineKind};
 use session_core::Core;
 use std::alloc::Global;
-use trace_text::{Line, Mode, State, decode_to, read_line};
+use trace_text::{Line, Mode, State, decode_to, kind_of_first_word};
 
 /// Most events of a trace.
 const MOST_EVENTS: u64 = 1_000_000;
@@ -27,6 +27,10 @@ pub enum Turn {
     GoesOn,
     /// Its event is answered.
     Answered(Answer),
+    /// It is refused for this fault, and the run ends.
+    Refused(LineFault),
+    /// Its event is one too many, and the run ends.
+    TooLong,
     /// It isn't built, and the run ends.
     NotBuilt,
     /// It is the end of the trace.
@@ -61,13 +65,33 @@ pub fn take_line(alloc: Global, replay: &mut Replay, line: &[u8]) -> Result<Turn
         → Took (turn stage number line.now) replay.new.core replay.new.events replay.new.state number t) }
     ensures write { IfOk result CanWrite }
 {
-    let Ok(line) = read_line(line) else {
-        return Ok(Turn::NotBuilt);
-    };
-    if replay.state.accept(&line).is_err() {
-        return Ok(Turn::NotBuilt);
+    match replay.state.judge(line) {
+        Ok(read) => after_line(alloc, replay, read),
+        Err(fault) => Ok(refuse(&replay.state, kind_of_first_word(line), fault)),
     }
-    after_line(alloc, replay, line)
+}
+
+/// What a line does that is refused, with the kind that its first word names.
+fn refuse(state: &State, named: Option<LineKind>, fault: LineFault) -> Turn
+    ensures turn { (core : Option Seen) (stage : Stage) (number : ℕ) → state.now ≡ stage.reached
+        → Took (after_refusal stage number named fault) core stage.events state.now number result }
+    ensures write { CanWrite result }
+{
+    if is_unbuilt(state, named) {
+        Turn::NotBuilt
+    } else {
+        Turn::Refused(fault)
+    }
+}
+
+fn is_unbuilt(state: &State, named: Option<LineKind>) -> bool
+    ensures { result ≡ is_unbuilt state.now named }
+{
+    match named {
+        Some(LineKind::ReceiverEvent) => true,
+        Some(LineKind::Channel) => state.has_channel(),
+        _ => false,
+    }
 }
 
 /// What a line does that may come.
@@ -98,6 +122,11 @@ fn after_line(alloc: Global, replay: &mut Replay, line: Line<'_>) -> Result<Turn
             Heard::Tick,
         ),
         Line::End => Ok(Turn::Done),
+        Line::Tune { .. }
+        | Line::Give { .. }
+        | Line::Mcast { .. }
+        | Line::Ask { .. }
+        | Line::Drop { .. } => Ok(Turn::NotBuilt),
     }
 }
 
@@ -143,9 +172,12 @@ fn serve_event(
     heard: Heard<'_>,
 ) -> Result<Turn, NoMemory>
     ensures turn { IfOk result (λ t. (stage : Stage) (reached : Reached) (number : ℕ) → ServesChannel core.old stage.channel → events.old ≡ stage.events
-        → Took (on_channel stage reached number (is_its id) (event_of heard.entry) stage.channel) core.new events.new reached number t) }
+        → Took (counted stage (on_channel stage reached number (is_its id) (event_of heard.entry) stage.channel)) core.new events.new reached number t) }
     ensures write { IfOk result CanWrite }
 {
+    if *events >= MOST_EVENTS {
+        return Ok(Turn::TooLong);
+    }
     match core {
         None => Ok(Turn::NotBuilt),
         Some(core) => serve_channel(alloc, core, events, id, heard),
@@ -165,7 +197,7 @@ fn serve_channel(
         → Took (on_channel stage reached number (is_its id) (event_of heard.entry) (Some channel)) (Some core.new) events.new reached number t) }
     ensures write { IfOk result CanWrite }
 {
-    if !is_its(core, id) || *events >= MOST_EVENTS {
+    if !is_its(core, id) {
         return Ok(Turn::NotBuilt);
     }
     match serve(alloc, core, heard)? {

@@ -1,17 +1,16 @@
 //! The text of a book on its way to the sink.
 ghost use Rattle.std.specs.Prelude.{◌≡◌, ℕ, ◌+◌, ◌++◌, IfOk, IfErr, OnOk, List, [], codes, length};
 ghost use Rattle.line_io.specs.Passes.{Passes};
-ghost use Rattle.rams_model.specs.BookText.{spaced};
 ghost use Rattle.rams_model.specs.First.BookText.{answer_text};
 ghost use Rattle.session_core.specs.Render.{AllRender};
 ghost use Rattle.rams_replay.specs.Entries.{entry_text};
-ghost use Rattle.rams_replay.specs.Turns.{written, CanWrite};
+ghost use Rattle.rams_replay.specs.Turns.{last_line, written, CanWrite};
 ghost use Rattle.rams_replay.specs.Stops.{IsStoppedByWrite, OnlyMemoryStops, StopsIn};
 
 use crate::entry::{after, append_entry};
 use crate::replay::{Replay, Turn};
 use crate::stop::Stop;
-use book_text::append_count;
+use book_text::{append_count, append_refused};
 use line_io::Gather;
 use ram_io::{NoMemory, Sink};
 use rams_model::{Answer, Note, Order};
@@ -66,22 +65,40 @@ pub fn flush<K: Sink>(gather: &mut Gather, sink: &mut K) -> Result<(), Stop>
     }
 }
 
-/// Adds the line of a word and a number.
-pub fn write_count<K: Sink>(
+/// Adds the line with which a turn ends the run, if it does.
+pub fn write_last<K: Sink>(
     writer: &mut Writer,
     sink: &mut K,
-    word: &[u8],
-    n: u64,
+    events: u64,
+    number: u64,
+    turn: &Turn,
 ) -> Result<(), Stop>
-    ensures all { OnOk result (Passes (K.held sink.old) (K.held sink.new) (writer.old.gather ++ (word.now ++ spaced n ++ codes "\n")) writer.new.gather) }
-    ensures front { IfErr result (StopsIn (K.held sink.old) (K.held sink.new) (writer.old.gather ++ (word.now ++ spaced n ++ codes "\n")) writer.new.gather) }
+    ensures all { OnOk result (Passes (K.held sink.old) (K.held sink.new) (writer.old.gather ++ last_line events number turn.now) writer.new.gather) }
+    ensures front { IfErr result (StopsIn (K.held sink.old) (K.held sink.new) (writer.old.gather ++ last_line events number turn.now) writer.new.gather) }
     ensures cause { IsStoppedByWrite (K.faults sink.old) (K.faults sink.new) result }
-    ensures steady { (room : ℕ) → K.is_steady sink.old (length writer.old.gather + length (word.now ++ spaced n ++ codes "\n") + room)
+    ensures steady { (room : ℕ) → K.is_steady sink.old (length writer.old.gather + length (last_line events number turn.now) + room)
         → OnlyMemoryStops result (K.is_steady sink.new (length writer.new.gather + room)) }
 {
     writer.lines.clear();
-    append_count(&mut writer.lines, word, n)?;
+    append_last(&mut writer.lines, events, number, turn)?;
     put(&mut writer.gather, sink, &writer.lines)
+}
+
+/// Appends the line with which a turn ends the run, after so many events and at the line of this
+/// number; nothing where it goes on.
+fn append_last(text: &mut Vec<u8>, events: u64, number: u64, turn: &Turn) -> Result<(), NoMemory>
+    ensures { OnOk result (text.new.items ≡ text.old.items ++ last_line events number turn.now) }
+{
+    match turn {
+        Turn::GoesOn | Turn::Answered(_) => Ok(()),
+        Turn::Refused(fault) => append_refused(text, number, *fault),
+        Turn::TooLong => {
+            text.extend_from_slice(b"too-long\n")?;
+            Ok(())
+        }
+        Turn::NotBuilt => append_count(text, b"not-built", number),
+        Turn::Done => append_count(text, b"done", events),
+    }
 }
 
 /// Adds the lines of an answer: each note, followed at once by the datagram that it asks for.
@@ -154,13 +171,11 @@ pub fn write_turn<K: Sink>(
     ensures steady { (room : ℕ) → K.is_steady sink.old (length writer.old.gather + length (written replay.now.core replay.now.events number turn.now) + room)
         → OnlyMemoryStops result (K.is_steady sink.new (length writer.new.gather + room)) }
 {
-    match turn {
-        Turn::GoesOn => Ok(()),
-        Turn::Answered(answer) => match &replay.core {
-            Some(core) => write_answer(alloc, writer, sink, core.config(), replay.events, answer),
-            None => Ok(()),
-        },
-        Turn::NotBuilt => write_count(writer, sink, b"not-built", number),
-        Turn::Done => write_count(writer, sink, b"done", replay.events),
+    match (turn, &replay.core) {
+        (Turn::Answered(answer), Some(core)) => {
+            write_answer(alloc, writer, sink, core.config(), replay.events, answer)
+        }
+        (Turn::Answered(_), None) => Ok(()),
+        _ => write_last(writer, sink, replay.events, number, turn),
     }
 }

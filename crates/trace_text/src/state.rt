@@ -2,7 +2,7 @@
 ghost use Rattle.std.specs.Prelude.{◌≡◌, ◌≤◌, Ok, Err, Some, ◌==◌, IfErr, IfOk, OnErr, OnOk, MatchResult};
 ghost use Rattle.rams_model.specs.Settings.{settings, checked};
 ghost use Rattle.rams_model.specs.TraceLine.{line_at};
-ghost use Rattle.rams_model.specs.TraceOrder.{nothing_reached, tick_of, kind_may_come, may_come_next, line_is_served, with_channel, expected, accepted, judged, line_fault};
+ghost use Rattle.rams_model.specs.TraceOrder.{nothing_reached, tick_of, has_channel, kind_may_come, may_come_next, line_is_served, with_channel, expected, accepted, judged, line_fault};
 ghost use Rattle.trace_text.specs.Shown.{shown, HasDigits};
 ghost use Rattle.std.specs.List.{list_any};
 
@@ -144,6 +144,13 @@ impl State {
             _ => self.begun = true,
         }
         Ok(())
+    }
+
+    /// Whether a channel line has come.
+    pub fn has_channel(&self) -> bool
+        ensures { result ≡ has_channel self.now }
+    {
+        !self.channels.is_empty()
     }
 
     /// The length of a tick in ms; 0 before the head line.

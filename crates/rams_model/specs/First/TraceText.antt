@@ -1,5 +1,5 @@
 -- The text that `run` writes for a trace.
-use Rattle.std.specs.Prelude.{ℕ, ◌+◌, Bool, ◌==◌, nat_lt, if◌then◌else◌, List, [], ◌∷◌, ◌++◌, Option, Some, None, Result, Ok, Err, codes, decimal}
+use Rattle.std.specs.Prelude.{ℕ, ◌+◌, Bool, ◌==◌, nat_lt, if◌then◌else◌, List, [], ◌∷◌, ◌++◌, Option, Some, None, Result, Ok, Err, codes}
 use Rattle.rams_model.specs.declared.event.Event.{Event}
 use Rattle.rams_model.specs.declared.event.Event.TheVariants.{Live, Feedback, Tick}
 use Rattle.rams_model.specs.declared.fault.ConfigFault.{ConfigFault}
@@ -18,7 +18,7 @@ use Rattle.rams_model.specs.First.Built.{is_built_channel, is_built}
 use Rattle.rams_model.specs.Words.{lines_of, first_word, bytes_in}
 use Rattle.rams_model.specs.TraceLine.{TraceLine, head_line, channel_line, live_line, feedback_line, tick_line, end_line}
 use Rattle.rams_model.specs.TraceOrder.{Reached, nothing_reached, tick_of, has_channel, kind_named, judged}
-use Rattle.rams_model.specs.BookText.{spaced}
+use Rattle.rams_model.specs.BookText.{spaced, refused_line}
 use Rattle.rams_model.specs.First.BookText.{answer_text}
 
 -- What stands before a line.
@@ -55,16 +55,9 @@ not_built number = ended NotBuilt (codes "not-built" ++ spaced number ++ codes "
 abbrev pub done : ℕ → Outcome
 done events = ended Done (codes "done" ++ spaced events ++ codes "\n")
 
-abbrev pub fault_word : LineFault → List ℕ
-fault_word fault.Form = codes "form"
-fault_word fault.Order = codes "order"
-fault_word fault.Range = codes "range"
-fault_word fault.Twice = codes "twice"
-fault_word (fault.Rule k) = codes "rule-" ++ decimal k
-
 -- the line of this number is refused
 abbrev pub refused : ℕ → LineFault → Outcome
-refused number fault = ended BadTrace (codes "refused" ++ spaced number ++ (32 ∷ (fault_word fault ++ codes "\n")))
+refused number fault = ended BadTrace (refused_line number fault)
 
 -- an event is one too many
 abbrev pub too_long : Outcome

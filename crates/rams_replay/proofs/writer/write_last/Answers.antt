@@ -1,15 +1,15 @@
-use Rattle.std.proofs.Common.{◌++◌, Result, IfErr, codes, sym, subst}
+use Rattle.std.proofs.Common.{◌++◌, Result, IfErr, sym, subst}
 use Rattle.std.proofs.lemmas.Result.{err_from_is_err_and}
-use Rattle.rams_model.specs.BookText.{spaced}
 use Rattle.rams_replay.specs.declared.stop.Stop.{Stop}
 use Rattle.rams_replay.specs.Stops.{StopsIn}
+use Rattle.rams_replay.specs.Turns.{last_line}
 use Rattle.rams_replay.proofs.Writing.{unwritten}
-use Rattle.rams_replay.proofs.writer.write_count.Goals as goal
+use Rattle.rams_replay.proofs.writer.write_last.Goals as goal
 
-pub returns-in_err-append_count-clause-front : goal.returns-in_err-append_count-clause-front
-returns-in_err-append_count-clause-front g c =
+pub returns-in_err-append_last-clause-front : goal.returns-in_err-append_last-clause-front
+returns-in_err-append_last-clause-front g c =
     let held = g.K.Sink.held c.args.sink.now in
     let waits = c.args.writer.now.gather in
-    let text = c.args.word.now ++ spaced c.args.n ++ codes "\n" in
+    let text = last_line c.args.events c.args.number c.args.turn.now in
     let p = err_from_is_err_and c.from_residual.result c.from_residual.ensures.1 in
     subst (λ (r : Result (Unit {0}) Stop). IfErr r (StopsIn held held (waits ++ text) waits)) (sym p.1) (unwritten held waits text p.0)
