@@ -186,7 +186,7 @@ impl State {
     fn may_come_next(&self, kind: LineKind) -> bool
         ensures { result ≡ may_come_next self.now kind }
     {
-        let has_channel = !self.channels.is_empty();
+        let has_channel = self.has_channel();
         match kind {
             LineKind::Event => has_channel && has_events(self.mode),
             LineKind::ReceiverEvent => has_channel && has_receivers(self.mode),
