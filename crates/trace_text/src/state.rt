@@ -7,10 +7,9 @@ ghost use Rattle.trace_text.specs.Shown.{shown, HasDigits};
 ghost use Rattle.std.specs.List.{list_any};
 
 use crate::line::Line;
-use crate::order::{has_events, has_receivers, is_threads, kind_named, kind_of};
+use crate::order::{has_events, has_receivers, is_threads, kind_of, kind_of_first_word};
 use crate::ranges::is_in_range;
 use crate::read::read_line;
-use crate::words::first_word;
 use arrayvec::ArrayVec;
 use channel_config::Config;
 use rams_model::{Channel, ConfigFault, LineFault, LineKind, Mode};
@@ -115,7 +114,7 @@ impl State {
     pub fn expects(&self, line: &[u8]) -> bool
         ensures { result ≡ expected self.now line.now }
     {
-        match kind_named(first_word(line)) {
+        match kind_of_first_word(line) {
             Some(kind) => self.may_come(kind),
             None => false,
         }
@@ -187,7 +186,7 @@ impl State {
     fn may_come_next(&self, kind: LineKind) -> bool
         ensures { result ≡ may_come_next self.now kind }
     {
-        let has_channel = !self.channels.is_empty();
+        let has_channel = self.has_channel();
         match kind {
             LineKind::Event => has_channel && has_events(self.mode),
             LineKind::ReceiverEvent => has_channel && has_receivers(self.mode),

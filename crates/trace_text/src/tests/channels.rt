@@ -1,6 +1,6 @@
 //! Channel lines, each number at the edges of its range.
 use super::edited;
-use crate::{LineFault, read_line};
+use crate::{LineFault, read_line, write_line};
 use std::test::Fail;
 
 #[test]
@@ -36,8 +36,13 @@ fn edges_are_in_range(rt: HostRuntime) -> Result<(), Fail> {
         ("server aabbccdd", "server ffffffff"),
     ];
     for (old, new) in edits {
-        let line = edited(rt.alloc(), old, new)?;
-        assert!(rt; read_line(line.as_bytes()).is_ok(), "{new}");
+        let text = edited(rt.alloc(), old, new)?;
+        let line = read_line(text.as_bytes());
+        assert!(rt; line.is_ok(), "{new}");
+        if let Ok(line) = line {
+            let written = write_line(rt.alloc(), &line)?;
+            assert!(rt; written.as_slice() == text.as_bytes(), "{new}");
+        }
     }
     Ok(())
 }
@@ -96,6 +101,10 @@ fn another_form_is_refused(rt: HostRuntime) -> Result<(), Fail> {
         ("clients 4", "clients 4 "),
         ("clients 4", "clients"),
         ("clients 4", "clients 4 depth 0"),
+        ("clients 4", "clients 4 depth 0 swell 0"),
+        ("channel 7", "channel 07"),
+        ("seq0 500", "seq0 0500"),
+        ("minwire 42", "minwire -42"),
         ("ring 64", "ring 1000000000000000"),
     ];
     for (old, new) in edits {

@@ -86,7 +86,7 @@ fn lines_come_in_their_order(rt: HostRuntime) {
             (HEAD, Ok(())),
             (sharing(7, 20001), Err(LineFault::Rule(4))),
             (sharing(7, 20000), Ok(())),
-            (sharing(7, 0), Err(LineFault::Twice)),
+            (sharing(7, 0), Err(LineFault::Range)),
         ],
     ];
     for (number, trace) in traces.iter().enumerate() {
@@ -114,6 +114,39 @@ fn the_first_broken_rule_is_named(rt: HostRuntime) -> Result<(), Fail> {
             assert!(rt; state.accept(&line) == Err(LineFault::Rule(rule)), "{new}");
         }
     }
+    let several = [
+        (
+            Channel {
+                rtx: 33,
+                burst: 1500,
+                share: 1500,
+                ..channel()
+            },
+            1,
+        ),
+        (
+            Channel {
+                burst: 1500,
+                share: 1500,
+                ..channel()
+            },
+            2,
+        ),
+        (
+            Channel {
+                share: 20001,
+                burst: 20000,
+                ..channel()
+            },
+            3,
+        ),
+    ];
+    for (channel, rule) in several {
+        assert!(rt;
+            state.accept(&Line::Channel(channel)) == Err(LineFault::Rule(rule)),
+            "{rule}"
+        );
+    }
     let out_of_range = Line::Channel(Channel {
         ring: 0,
         ..channel()
@@ -134,5 +167,8 @@ fn there_are_at_most_64_channels(rt: HostRuntime) {
         assert!(rt; state.accept(&sharing(id, 10000)).is_ok(), "{id}");
     }
     assert!(rt; state.accept(&sharing(65, 10000)) == Err(LineFault::Rule(5)));
+    assert!(rt; state.accept(&sharing(65, 360001)) == Err(LineFault::Rule(4)));
+    assert!(rt; state.accept(&sharing(65, 360000)) == Err(LineFault::Rule(5)));
     assert!(rt; state.accept(&sharing(64, 10000)) == Err(LineFault::Twice));
+    assert!(rt; state.accept(&Line::End).is_ok());
 }
