@@ -4,7 +4,7 @@ use Rattle.std.specs.Prelude.{◌==◌, if◌then◌else◌, option_map}
 use Rattle.std.proofs.lemmas.Bool.{eqb-true, both_ways}
 use Rattle.rams_model.specs.declared.event.Event.{Event}
 use Rattle.rams_model.specs.declared.event.Event.TheVariants.{Live, Feedback, Tick}
-use Rattle.rams_model.specs.declared.note.Note.TheVariants.{Live as LiveNoted, Accept, Burst as BurstNote}
+use Rattle.rams_model.specs.declared.note.Note.TheVariants.{Accept, Burst as BurstNote}
 use Rattle.rams_model.specs.Settings.{Settings}
 use Rattle.rams_model.specs.First.History.{began, noted, History}
 use Rattle.rams_model.specs.First.Standing.{Burst, begun, sent_one, burst}

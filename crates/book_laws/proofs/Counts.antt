@@ -3,7 +3,7 @@ use Rattle.std.proofs.Common.{◌≡◌, ℕ, ◌+◌, List, [], ◌∷◌, ◌+
 use Rattle.std.specs.Prelude.{◌==◌, if◌then◌else◌}
 use Rattle.std.proofs.lemmas.Bool.{eq-eqb, cond-true}
 use Rattle.rams_model.specs.declared.held.Held.{Held}
-use Rattle.rams_model.specs.declared.note.Note.TheVariants.{Live as LiveNoted, Accept, Burst as BurstNote}
+use Rattle.rams_model.specs.declared.note.Note.TheVariants.{Accept, Burst as BurstNote}
 use Rattle.rams_model.specs.Settings.{Settings}
 use Rattle.rams_model.specs.First.History.{began, noted, History}
 use Rattle.rams_model.specs.First.Standing.{sequence}

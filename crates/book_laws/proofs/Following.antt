@@ -7,7 +7,7 @@ use Rattle.std.proofs.lemmas.List.{append-nil, map-append, length_push}
 use Rattle.std.proofs.lemmas.List.Elements.{All-nil, All-push, All-weaker}
 use Rattle.std.proofs.lemmas.List.FromFn.{map-range_with_len_more}
 use Rattle.rams_model.specs.declared.held.Held.{Held}
-use Rattle.rams_model.specs.declared.note.Note.TheVariants.{Live as LiveNoted, Accept, Burst as BurstNote}
+use Rattle.rams_model.specs.declared.note.Note.TheVariants.{Accept, Burst as BurstNote}
 use Rattle.rams_model.specs.Settings.{Settings}
 use Rattle.rams_model.specs.First.History.{Item, began, noted, History, source}
 use Rattle.rams_model.specs.First.Standing.{Burst, sent_one, begun, burst, sendings}

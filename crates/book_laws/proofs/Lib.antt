@@ -13,3 +13,5 @@ pub mod Rising
 pub mod OneAccept
 pub mod Counts
 pub mod TickRuns
+pub mod Served
+pub mod Promises

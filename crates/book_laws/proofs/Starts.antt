@@ -1,5 +1,5 @@
 -- Where a burst may begin, in the words of the law.
-use Rattle.std.proofs.Common.{◌≡◌, ℕ, ◌+◌, ◌*◌, Bool, true, false, List, [], ◌∷◌, ◌++◌, refl, ap, Option, Some, None}
+use Rattle.std.proofs.Common.{◌≡◌, ℕ, ◌+◌, ◌*◌, Bool, true, false, List, [], ◌∷◌, refl, ap, Option, Some, None}
 use Rattle.std.specs.Prelude.{nat_le, if◌then◌else◌}
 use Rattle.std.proofs.lemmas.Bool.{and_parts, and_from, leb-true, le-leb, both_ways}
 use Rattle.rams_model.specs.declared.channel.Channel.{Channel}

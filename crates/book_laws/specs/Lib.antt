@@ -5,3 +5,4 @@ pub mod Ticks
 pub mod Retransmitted
 pub mod OneBook
 pub mod Worked
+pub mod Traces

@@ -7,6 +7,7 @@ ghost use Rattle.book_laws.specs.Bursts.{FirstSendingsAreConsecutive, WhatIsSent
 ghost use Rattle.book_laws.specs.Ticks.{ClientBudgetsAreKept, SharesAreKept, OnlyTicksSend, SizesAreThoseOnTheWire, ARunIsTheLongestThatFits, ATickSendsAllThatFits};
 ghost use Rattle.book_laws.specs.Retransmitted.{EachDatagramIsTheRetransmissionOfASourcePacket};
 ghost use Rattle.book_laws.specs.OneBook.{OneBook};
+ghost use Rattle.book_laws.specs.Traces.{TracesAreServedLawfully};
 ghost use Rattle.book_laws.specs.Worked.{OneOfEach, NoRoom, ThreeTicks, TheNewerOne};
 
 /// The packets sent of a burst are numbered from the one that its Accept named, without a gap, and
@@ -56,6 +57,11 @@ pub fn each_datagram_is_the_retransmission_of_a_source_packet()
 /// Nothing that was answered changes later.
 pub fn one_book()
     ensures { OneBook }
+{}
+
+/// What the channel of a trace promises: consecutive sendings, budgets, true refusals.
+pub fn traces_are_served_lawfully()
+    ensures { TracesAreServedLawfully }
 {}
 
 /// A book of one access point, one request and one tick.

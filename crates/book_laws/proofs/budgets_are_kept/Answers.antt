@@ -1,20 +1,17 @@
-use Rattle.std.proofs.Common.{arith, ◌++◌, ◌∷◌, subst}
+use Rattle.std.proofs.Common.{◌++◌, ◌∷◌}
 use Rattle.rams_model.specs.declared.event.Event.TheVariants.{Tick}
 use Rattle.rams_model.specs.First.History.{began}
-use Rattle.book_laws.proofs.Legal.{IsLegal, legal_part, legal_moment}
-use Rattle.book_laws.proofs.Budgets.{client_bytes, all_bytes, only_ticks}
+use Rattle.book_laws.proofs.Legal.{legal_moment}
+use Rattle.book_laws.proofs.Budgets.{only_ticks}
 use Rattle.book_laws.proofs.Origins.{was_read, size_on_wire}
+use Rattle.book_laws.proofs.Promises.{client_kept, share_kept}
 use Rattle.book_laws.proofs.budgets_are_kept.Goals as goal
 
 pub returns-clause-clients : goal.returns-clause-clients
-returns-clause-clients c s now before m none client a =
-    let l = legal_moment s (now ++ (began Tick ∷ before)) m in
-    let accepts = (legal_part s a.since _ (subst (IsLegal s) a.splits (legal_part s now (began Tick ∷ before) l))).0 in
-    (client_bytes s client now before a l none, omega (arith, accepts.rate_is))
+returns-clause-clients c s now before m none client a = client_kept s now before (legal_moment s (now ++ (began Tick ∷ before)) m) none client a
 
 pub returns-clause-shares : goal.returns-clause-shares
-returns-clause-shares c s now before fits m none =
-    omega (arith, all_bytes s Tick now before (legal_moment s (now ++ (began Tick ∷ before)) m) none)
+returns-clause-shares c s now before fits m none = share_kept s now before fits (legal_moment s (now ++ (began Tick ∷ before)) m) none
 
 pub returns-clause-ticks : goal.returns-clause-ticks
 returns-clause-ticks c s event now before other m none =

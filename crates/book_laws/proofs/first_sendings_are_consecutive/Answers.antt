@@ -1,17 +1,10 @@
-use Rattle.std.proofs.Common.{sym, subst}
-use Rattle.std.specs.Prelude.{All}
-use Rattle.rams_model.specs.First.History.{History, source}
-use Rattle.book_laws.specs.Sent.{first_sendings}
-use Rattle.book_laws.specs.Bursts.{IsPacketOf}
-use Rattle.book_laws.proofs.Legal.{IsLegal, legal_moment}
-use Rattle.book_laws.proofs.Following.{follows}
+use Rattle.book_laws.proofs.Legal.{legal_moment}
+use Rattle.book_laws.proofs.Promises.{consecutive}
 use Rattle.book_laws.proofs.Unasked.{unasked, last_accept}
 use Rattle.book_laws.proofs.first_sendings_are_consecutive.Goals as goal
 
 pub returns-clause-consecutive : goal.returns-clause-consecutive
-returns-clause-consecutive c s history m client a =
-    let f = follows s client a.first a.rate a.join a.packet a.before a.since a.last (subst (IsLegal s) a.splits (legal_moment s history m)) in
-    (f.numbered, subst (λ (h : History). All (IsPacketOf (source h)) (first_sendings client a.since)) (sym a.splits) f.packets)
+returns-clause-consecutive c s history m client a = consecutive s history (legal_moment s history m) client a
 
 pub returns-clause-held : goal.returns-clause-held
 returns-clause-held c s client n number packet before m =

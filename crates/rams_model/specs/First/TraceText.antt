@@ -135,6 +135,20 @@ unfoldable pub text_from : Stage → ℕ → List (List ℕ) → Outcome
 text_from stage number [] = refused number fault.Order
 text_from stage number (bytes ∷ lines) = after_turn (turn stage number bytes) (λ later. text_from later (number + 1) lines)
 
+-- the channel that a turn leaves: that of the stage where the trace ends
+abbrev pub channel_after : Option (Settings × History) → Turn → (Stage → Option (Settings × History)) → Option (Settings × History)
+channel_after channel (goes_on later text) rest = rest later
+channel_after channel (ends o) rest = channel
+
+-- the channel that the rest of a trace is served by, and its history at the end
+unfoldable pub served_from : Stage → ℕ → List (List ℕ) → Option (Settings × History)
+served_from stage number [] = stage.channel
+served_from stage number (bytes ∷ lines) = channel_after stage.channel (turn stage number bytes) (λ later. served_from later (number + 1) lines)
+
+-- the channel that a trace is served by, and the history of which its book is written
+abbrev pub served_by : List ℕ → Option (Settings × History)
+served_by trace = served_from opening 1 (lines_of trace)
+
 -- how the trace ends, and its book
 unfoldable pub trace_text : List ℕ → Outcome
 trace_text trace = after_text first_line (text_from opening 1 (lines_of trace))
