@@ -7,7 +7,8 @@ use Rattle.rams_model.specs.Source.{Stream, is_consecutive, consecutive_end, sou
 use Rattle.rams_model.specs.Source as sources
 use Rattle.rams_model.specs.Settings.{Settings}
 use Rattle.rams_model.specs.History.{History, stream, hold}
-use Rattle.rams_model.specs.Laws.{Rises, Follows}
+use Rattle.rams_model.specs.Source.{Follows}
+use Rattle.rams_model.specs.Laws.{Rises}
 
 follows_from : (hs : List Held) → is_consecutive hs ≡ true → Follows (lo hs) hs
 follows_from [] e = tt

@@ -6,7 +6,8 @@ use Rattle.rams_model.specs.declared.held.Held.{Held}
 use Rattle.rams_model.specs.Hold.{wires}
 use Rattle.rams_model.specs.Answers.{is_before}
 use Rattle.rams_model.specs.Tick.{run}
-use Rattle.rams_model.specs.Laws.{Follows, IsByStop, MayBeSent}
+use Rattle.rams_model.specs.Source.{Follows}
+use Rattle.rams_model.specs.Laws.{IsByStop, MayBeSent}
 
 wires-cons : (h : Held) (hs : List Held) → wires (h ∷ hs) ≡ h.wire + wires hs
 wires-cons h hs = sum_by-cons (λ (x : Held). x.wire) h hs

@@ -1,10 +1,12 @@
 -- A quiet burst, and the lists of numbers that catch up: why a burst keeps the join time that its client was told.
 use Rattle.std.specs.Prelude.{◌≡◌, ℕ, ◌+◌, ◌*◌, ◌<◌, ◌≤◌, ◌⊎◌, ◌==◌, if◌then◌else◌, List, [], ◌∷◌, drop}
 use Rattle.rams_model.specs.declared.held.Held.{Held}
-use Rattle.rams_model.specs.declared.note.Note.TheVariants.{Accept, End}
+use Rattle.rams_model.specs.declared.note.Note.TheVariants.{Accept, Update, End}
 use Rattle.rams_model.specs.Settings.{Settings}
 use Rattle.rams_model.specs.Hold.{wires, from_number}
+use Rattle.rams_model.specs.Source.{Follows}
 use Rattle.rams_model.specs.Source as sources
+use Rattle.rams_model.specs.Clients.{opened, is_among}
 use Rattle.rams_model.specs.Heard.{tick}
 use Rattle.rams_model.specs.History.{began, noted, History, stream}
 
@@ -55,13 +57,23 @@ abbrev pub AreAtLeast : ℕ → List Held → Type 0
 AreAtLeast size [] = Unit {0}
 AreAtLeast size (h ∷ hs) = (size ≤ h.wire) × AreAtLeast size hs
 
--- the numbers are n, n + 1 and so on
-abbrev pub Follows : ℕ → List Held → Type 0
-Follows n [] = Unit {0}
-Follows n (h ∷ hs) = (h.n ≡ n) × Follows (n + 1) hs
-
--- A client's newest burst, with this first number, is quiet up to a moment: from its first packet on nothing is missing in the source, no packet is smaller than declared, and no tick brings more than declared.
+-- From a burst's first packet on nothing is missing in the source, no packet is smaller than declared, and no tick brings more than declared.
 pub record IsQuiet (s : Settings) (k first : ℕ) (history : History) : Type 0 where
   pub follows : Follows first (from_number first (source s history))
   pub sizes : AreAtLeast s.channel.minwire (from_number first (source s history))
   pub joins : JoinsSlowly s (moments k history)
+
+-- the history for as long as the client's newest burst is open
+abbrev pub while_open : ℕ → History → History
+while_open k history = if is_among k (opened history) then history else until_end k history
+
+-- A client's newest burst, with this first number, is quiet: from its Accept until its End, or until now.
+abbrev pub IsQuietBurst : Settings → ℕ → ℕ → History → Type 0
+IsQuietBurst s k first history = IsQuiet s k first (while_open k history)
+
+-- The join time that the client was told last, in ticks: that of its latest Accept or Update.
+unfoldable pub told_join : ℕ → History → ℕ
+told_join k [] = 0
+told_join k (noted (Accept client first rate join) packet ∷ history) = if client == k then join else told_join k history
+told_join k (noted (Update client rate join) packet ∷ history) = if client == k then join else told_join k history
+told_join k (_ ∷ history) = told_join k history

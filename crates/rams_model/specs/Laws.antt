@@ -6,7 +6,7 @@ use Rattle.rams_model.specs.declared.held.Held.{Held}
 use Rattle.rams_model.specs.declared.note.Note.TheVariants as note
 use Rattle.rams_model.specs.Settings.{Settings}
 use Rattle.rams_model.specs.Hold.{lo, hi, wires, from_number}
-use Rattle.rams_model.specs.Source.{Arrival, awaited, is_missing, stream_of, source}
+use Rattle.rams_model.specs.Source.{Arrival, Follows, awaited, is_missing, stream_of, source}
 use Rattle.rams_model.specs.Access.{is_eligible, age, is_at_most, chosen}
 use Rattle.rams_model.specs.Rates.{stop_of}
 use Rattle.rams_model.specs.History.{Item, noted, History, hold}
@@ -25,11 +25,6 @@ IsAmong h (k ∷ ks) = (k ≡ h) ⊎ IsAmong h ks
 abbrev pub Rises : ℕ → List Held → Type 0
 Rises n [] = Unit {0}
 Rises n (h ∷ hs) = (n ≤ h.n) × Rises (h.n + 1) hs
-
--- the numbers are n, n + 1 and so on
-abbrev pub Follows : ℕ → List Held → Type 0
-Follows n [] = Unit {0}
-Follows n (h ∷ hs) = (h.n ≡ n) × Follows (n + 1) hs
 
 -- Each packet stands once in the source list, by its number.
 abbrev pub EachPacketStandsOnce : Type 0

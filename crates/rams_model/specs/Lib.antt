@@ -32,5 +32,6 @@ pub mod Words
 pub mod TraceLine
 pub mod TraceOrder
 pub mod BookText
+pub mod BookLines
 pub mod First
 pub mod PlainPackets

@@ -7,3 +7,4 @@ pub mod Repairs
 pub mod Requests
 pub mod Buckets
 pub mod Parts
+pub mod Texts

@@ -7,6 +7,7 @@ ghost use Rattle.rams_model.specs.Worked.Repairs.{RepairAcrossTheWrap, EarlyAndA
 ghost use Rattle.rams_model.specs.Worked.Requests.{CompoundFeedback, RequestRefusals, BufferFillBounds, FullTable, RateIsUpdated, UpdateFitsTheShare, EveryBadDatagram, PaddingIsAllowed, FirstRamsMessageCounts, MessagesInOrder, ByeOfAnother, SourceOfTheClient, RefusedOnAnOpenBurst, NamedSources, IdleIsCounted, UpdatesInATrace, RefusalsInOrder};
 ghost use Rattle.rams_model.specs.Worked.Buckets.{BurstKeepsWhatItLeft, DepthIsReserved, ChannelKeepsWhatItLeft, RepairsLeaveTheDepth, EndedBurstLeavesAll, UpdateKeepsWhatIsKept};
 ghost use Rattle.rams_model.specs.Worked.Parts.{Numbers, Flags, FullRooms, LongTimes};
+ghost use Rattle.rams_model.specs.Worked.Texts.{LiveNoteLines, MessageNoteLines, RepairNoteLines, LinesOfABook};
 
 /// A trace without events.
 pub fn no_event()
@@ -107,4 +108,12 @@ pub fn budgets_of_ticks()
     ensures repairs_leave_the_depth { RepairsLeaveTheDepth }
     ensures ended_burst_leaves_all { EndedBurstLeavesAll }
     ensures update_keeps_what_is_kept { UpdateKeepsWhatIsKept }
+{}
+
+/// The line of every note, and the lines of a book.
+pub fn lines_of_notes()
+    ensures of_live { LiveNoteLines }
+    ensures of_messages { MessageNoteLines }
+    ensures of_repairs { RepairNoteLines }
+    ensures of_a_book { LinesOfABook }
 {}
