@@ -1,3 +1,4 @@
+pub mod LastAccept
 pub mod Holding
 pub mod OneBook
 pub mod Catching

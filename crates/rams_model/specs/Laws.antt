@@ -1,5 +1,5 @@
 -- What the definitions that compute mean, in the words of the rules.
-use Rattle.std.specs.Prelude.{◌≡◌, ℕ, ◌+◌, ◌%◌, ◌≤◌, max, Bool, ◌&&◌, ◌==◌, nat_le, IsTrue, IsFalse, ◌⊎◌, ◌↔◌, List, [], ◌∷◌, ◌++◌, length, take, Option, Some, None, Result, Ok, Err}
+use Rattle.std.specs.Prelude.{◌≡◌, ℕ, ◌+◌, ◌%◌, ◌≤◌, max, Bool, ◌&&◌, ◌==◌, nat_le, if◌then◌else◌, IsTrue, IsFalse, ◌⊎◌, ◌↔◌, List, [], ◌∷◌, ◌++◌, length, take, Option, Some, None, Result, Ok, Err}
 use Rattle.rams_model.specs.declared.channel.Channel.{Channel}
 use Rattle.rams_model.specs.declared.event.Event.{Event}
 use Rattle.rams_model.specs.declared.held.Held.{Held}
@@ -9,9 +9,10 @@ use Rattle.rams_model.specs.Hold.{lo, hi, wires, from_number}
 use Rattle.rams_model.specs.Source.{Arrival, Follows, awaited, is_missing, stream_of, source}
 use Rattle.rams_model.specs.Access.{is_eligible, age, is_at_most, chosen}
 use Rattle.rams_model.specs.Rates.{stop_of}
-use Rattle.rams_model.specs.History.{Item, noted, History, hold}
+use Rattle.rams_model.specs.Heard.{tick}
+use Rattle.rams_model.specs.History.{Item, began, noted, History, hold}
 use Rattle.rams_model.specs.Clients.{known, opened, is_among}
-use Rattle.rams_model.specs.Bursts.{Burst, bursts}
+use Rattle.rams_model.specs.Bursts.{Burst, bursts, has_open}
 use Rattle.rams_model.specs.Pending.{is_pending}
 use Rattle.rams_model.specs.Tick.{run}
 use Rattle.rams_model.specs.Book.{Book, IsLawful, events_of, book}
@@ -175,6 +176,43 @@ newest_stop (b ∷ bs) = b.stop
 abbrev pub StopIsOfTheLastStopAt : Type 0
 StopIsOfTheLastStopAt = (s : Settings) (k n : ℕ) (history : History) → StandsWithout (is_accept_of k) (λ i. Bool.false) history
     → (newest_stop (bursts s k history) ≡ Some n) ↔ StandsWithout (is_stop_at k n) (ends_stop k) history
+
+-- the numbers of a client's Burst notes among these items, the newest first
+abbrev pub numbers_sent : ℕ → History → List ℕ
+numbers_sent k [] = []
+numbers_sent k (noted (note.Burst client n sequence) packet ∷ history) = if client == k then n ∷ numbers_sent k history else numbers_sent k history
+numbers_sent k (_ ∷ history) = numbers_sent k history
+
+-- how many ticks began
+abbrev pub ticks_begun : History → ℕ
+ticks_begun [] = 0
+ticks_begun (began tick ∷ history) = ticks_begun history + 1
+ticks_begun (_ ∷ history) = ticks_begun history
+
+-- the rate of a client's latest Update, or else this one
+abbrev pub latest_rate : ℕ → ℕ → History → ℕ
+latest_rate k rate [] = rate
+latest_rate k rate (noted (note.Update client new join) packet ∷ history) = if client == k then new else latest_rate k rate history
+latest_rate k rate (_ ∷ history) = latest_rate k rate history
+
+-- the newest burst has these first number, rate, sent numbers and ticks
+pub record IsBurst (bs : List Burst) (first rate : ℕ) (sent : List ℕ) (ticks : ℕ) : Type 0 where
+  pub burst : Burst
+  pub others : List Burst
+  pub is_newest : bs ≡ burst ∷ others
+  pub is_first : burst.first ≡ first
+  pub is_rate : burst.rate ≡ rate
+  pub is_sent : burst.sent ≡ sent
+  pub is_ticks : burst.ticks ≡ ticks
+
+-- A client's newest burst is what its last Accept says, with the rate of the latest Update since, the Burst notes since, and the ticks since.
+abbrev pub BurstIsSinceTheLastAccept : Type 0
+BurstIsSinceTheLastAccept = (s : Settings) (k first rate join : ℕ) (packet : Option Held) (later before : History) → NoneIs (is_accept_of k) later
+    → IsBurst (bursts s k (later ++ noted (note.Accept k first rate join) packet ∷ before)) first (latest_rate k rate later) (numbers_sent k later) (ticks_begun later)
+
+-- A client's open burst is its newest, where an Accept of it stands, and no End of it after that.
+abbrev pub BurstIsOpenSinceTheLastEnd : Type 0
+BurstIsOpenSinceTheLastEnd = (s : Settings) (k : ℕ) (history : History) → IsTrue (has_open s k history) ↔ StandsWithout (is_accept_of k) (is_end_of k) history
 
 -- The book of some events is lawful, and no other book of them is.
 abbrev pub ExactlyOneBook : Type 0

@@ -1,6 +1,6 @@
 //! Laws of the definitions: each is the contract of a function that does nothing.
 ghost use Rattle.rams_model.specs.CatchUp.{CatchingUpEnds};
-ghost use Rattle.rams_model.specs.Laws.{EachPacketStandsOnce, TheSourceOnlyGrows, TheAwaitedIsTheLeast, HeldPacketsFollow, TheRunIsTheLongest, TheChosenIsTheNewest, TheStopIsTheLeast, KnownIsSinceTheLastBye, OpenIsSinceTheLastEnd, PendingIsSinceTheLastRepair, StopIsOfTheLastStopAt, ExactlyOneBook};
+ghost use Rattle.rams_model.specs.Laws.{EachPacketStandsOnce, TheSourceOnlyGrows, TheAwaitedIsTheLeast, HeldPacketsFollow, TheRunIsTheLongest, TheChosenIsTheNewest, TheStopIsTheLeast, KnownIsSinceTheLastBye, OpenIsSinceTheLastEnd, PendingIsSinceTheLastRepair, StopIsOfTheLastStopAt, BurstIsSinceTheLastAccept, BurstIsOpenSinceTheLastEnd, ExactlyOneBook};
 ghost use Rattle.rams_model.specs.PlainPackets.{PlainPacketsAreSpelledAgain};
 
 /// A packet with a fixed header alone is spelled again, byte for byte, from what is read of it
@@ -40,12 +40,17 @@ pub fn stop_is_least()
     ensures { TheStopIsTheLeast }
 {}
 
-/// What the notes say of a client: whether it is known, whether its burst is open, which of its
-/// repairs are pending, and where its burst stops.
-pub fn notes_say()
+/// Who is known and who has an open burst, and which repairs are pending.
+pub fn clients_are_since()
     ensures known { KnownIsSinceTheLastBye }
     ensures opened { OpenIsSinceTheLastEnd }
     ensures pending { PendingIsSinceTheLastRepair }
+{}
+
+/// What a client's newest burst is, whether it is open, and where it stops.
+pub fn bursts_are_since()
+    ensures accepted { BurstIsSinceTheLastAccept }
+    ensures opened { BurstIsOpenSinceTheLastEnd }
     ensures stop { StopIsOfTheLastStopAt }
 {}
 
