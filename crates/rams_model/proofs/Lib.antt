@@ -1,3 +1,4 @@
+pub mod Budgets
 pub mod LastAccept
 pub mod Holding
 pub mod OneBook

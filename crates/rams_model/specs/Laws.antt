@@ -1,8 +1,9 @@
 -- What the definitions that compute mean, in the words of the rules.
-use Rattle.std.specs.Prelude.{◌≡◌, ℕ, ◌+◌, ◌%◌, ◌≤◌, max, Bool, ◌&&◌, ◌==◌, nat_le, if◌then◌else◌, IsTrue, IsFalse, ◌⊎◌, ◌↔◌, List, [], ◌∷◌, ◌++◌, length, take, Option, Some, None, Result, Ok, Err}
+use Rattle.std.specs.Prelude.{◌≡◌, ℕ, ◌+◌, ◌-◌, ◌%◌, ◌≤◌, min, max, Bool, ◌&&◌, ◌==◌, nat_le, if◌then◌else◌, IsTrue, IsFalse, ◌⊎◌, ◌↔◌, List, [], ◌∷◌, ◌++◌, length, take, Option, Some, None, Result, Ok, Err}
 use Rattle.rams_model.specs.declared.channel.Channel.{Channel}
 use Rattle.rams_model.specs.declared.event.Event.{Event}
 use Rattle.rams_model.specs.declared.held.Held.{Held}
+use Rattle.rams_model.specs.declared.note.Note.{Note}
 use Rattle.rams_model.specs.declared.note.Note.TheVariants as note
 use Rattle.rams_model.specs.Settings.{Settings}
 use Rattle.rams_model.specs.Hold.{lo, hi, wires, from_number}
@@ -12,7 +13,8 @@ use Rattle.rams_model.specs.Rates.{stop_of}
 use Rattle.rams_model.specs.Heard.{tick}
 use Rattle.rams_model.specs.History.{Item, began, noted, History, hold}
 use Rattle.rams_model.specs.Clients.{known, opened, is_among}
-use Rattle.rams_model.specs.Bursts.{Burst, bursts, has_open}
+use Rattle.rams_model.specs.Bursts.{Burst, size_of, bursts, has_open}
+use Rattle.rams_model.specs.Buckets.{channel_left}
 use Rattle.rams_model.specs.Pending.{is_pending}
 use Rattle.rams_model.specs.Tick.{run}
 use Rattle.rams_model.specs.Book.{Book, IsLawful, events_of, book}
@@ -213,6 +215,43 @@ BurstIsSinceTheLastAccept = (s : Settings) (k first rate join : ℕ) (packet : O
 -- A client's open burst is its newest, where an Accept of it stands, and no End of it after that.
 abbrev pub BurstIsOpenSinceTheLastEnd : Type 0
 BurstIsOpenSinceTheLastEnd = (s : Settings) (k : ℕ) (history : History) → IsTrue (has_open s k history) ↔ StandsWithout (is_accept_of k) (is_end_of k) history
+
+abbrev pub is_event : Item → Bool
+is_event (began heard) = Bool.true
+is_event _ = Bool.false
+
+-- a note that sends a packet, and one that sends it to this client
+abbrev pub is_sending : Note → Bool
+is_sending (note.Burst client n sequence) = Bool.true
+is_sending (note.Repair client n sequence) = Bool.true
+is_sending _ = Bool.false
+
+abbrev pub is_sending_to : ℕ → Note → Bool
+is_sending_to k (note.Burst client n sequence) = client == k
+is_sending_to k (note.Repair client n sequence) = client == k
+is_sending_to k _ = Bool.false
+
+-- the wire sizes of the packets that such notes among these items send
+abbrev pub sizes_sent : (Note → Bool) → History → ℕ
+sizes_sent test [] = 0
+sizes_sent test (noted note packet ∷ history) = if test note then sizes_sent test history + size_of packet else sizes_sent test history
+sizes_sent test (_ ∷ history) = sizes_sent test history
+
+-- In a tick the channel's budget has left what it kept and the share, less what was sent since the tick began.
+abbrev pub ChannelHasLeft : Type 0
+ChannelHasLeft = (s : Settings) (later before : History) → NoneIs is_event later
+    → channel_left s (later ++ began tick ∷ before) ≡ (s.channel.share + min s.channel.swell (channel_left s before)) - sizes_sent is_sending later
+
+-- what the budget of the newest burst has left
+abbrev pub newest_left : List Burst → Option ℕ
+newest_left [] = None
+newest_left (b ∷ bs) = Some b.left
+
+-- In a tick a burst's budget has left what it kept and the rate, less what its client was sent since the tick began.
+abbrev pub BurstHasLeft : Type 0
+BurstHasLeft = (s : Settings) (k : ℕ) (b : Burst) (others : List Burst) (later before : History) → bursts s k before ≡ b ∷ others
+    → NoneIs is_event later → NoneIs (is_accept_of k) later
+    → newest_left (bursts s k (later ++ began tick ∷ before)) ≡ Some ((b.rate + min s.channel.depth b.left) - sizes_sent (is_sending_to k) later)
 
 -- The book of some events is lawful, and no other book of them is.
 abbrev pub ExactlyOneBook : Type 0

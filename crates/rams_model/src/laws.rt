@@ -1,6 +1,6 @@
 //! Laws of the definitions: each is the contract of a function that does nothing.
 ghost use Rattle.rams_model.specs.CatchUp.{CatchingUpEnds};
-ghost use Rattle.rams_model.specs.Laws.{EachPacketStandsOnce, TheSourceOnlyGrows, TheAwaitedIsTheLeast, HeldPacketsFollow, TheRunIsTheLongest, TheChosenIsTheNewest, TheStopIsTheLeast, KnownIsSinceTheLastBye, OpenIsSinceTheLastEnd, PendingIsSinceTheLastRepair, StopIsOfTheLastStopAt, BurstIsSinceTheLastAccept, BurstIsOpenSinceTheLastEnd, ExactlyOneBook};
+ghost use Rattle.rams_model.specs.Laws.{EachPacketStandsOnce, TheSourceOnlyGrows, TheAwaitedIsTheLeast, HeldPacketsFollow, TheRunIsTheLongest, TheChosenIsTheNewest, TheStopIsTheLeast, KnownIsSinceTheLastBye, OpenIsSinceTheLastEnd, PendingIsSinceTheLastRepair, StopIsOfTheLastStopAt, BurstIsSinceTheLastAccept, BurstIsOpenSinceTheLastEnd, ChannelHasLeft, BurstHasLeft, ExactlyOneBook};
 ghost use Rattle.rams_model.specs.PlainPackets.{PlainPacketsAreSpelledAgain};
 
 /// A packet with a fixed header alone is spelled again, byte for byte, from what is read of it
@@ -52,6 +52,12 @@ pub fn bursts_are_since()
     ensures accepted { BurstIsSinceTheLastAccept }
     ensures opened { BurstIsOpenSinceTheLastEnd }
     ensures stop { StopIsOfTheLastStopAt }
+{}
+
+/// What the budgets of a channel and of a burst have left in a tick.
+pub fn budgets_have_left()
+    ensures channel { ChannelHasLeft }
+    ensures burst { BurstHasLeft }
 {}
 
 /// For each list of events there is exactly one lawful book.
