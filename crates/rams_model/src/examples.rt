@@ -4,7 +4,7 @@ ghost use Rattle.rams_model.specs.Worked.Live.{LiveRefusals, WindowAndLate, Rest
 ghost use Rattle.rams_model.specs.Worked.Bursts.{OnePacketPerTick, NoEligibleAccessPoint, BurstLost, LimitAndIdle, ShareIsSpent, SlowClient, StatedJoinTimeIsKept, RingIsFilled, SourceSendsMoreThanDeclared, NotEligibleWithOneMore, BurstsInTheOrderOfClients, BurstWaitsForTheSource, RunStopsAtTheFirstThatDoesNotFit};
 ghost use Rattle.rams_model.specs.Worked.Stops.{StopAcrossTheWrap, StopAfterTheLast, StopAlreadyPassed, StopHighBits, StopIsKept, StopWithoutNumber};
 ghost use Rattle.rams_model.specs.Worked.Repairs.{RepairAcrossTheWrap, EarlyAndAlready, RepairWaitsForBudget, GoneFromTheRing, EarlyUpToTheStop, NacksWithoutNumbers, RepairsBehindTheRuns};
-ghost use Rattle.rams_model.specs.Worked.Requests.{CompoundFeedback, RequestRefusals, BufferFillBounds, FullTable, RateIsUpdated, UpdateFitsTheShare, EveryBadDatagram, PaddingIsAllowed, FirstRamsMessageCounts, MessagesInOrder, ByeOfAnother, SourceOfTheClient, RefusedOnAnOpenBurst, NamedSources, IdleIsCounted, UpdatesInATrace, RefusalsInOrder};
+ghost use Rattle.rams_model.specs.Worked.Requests.{CompoundFeedback, RequestRefusals, BufferFillBounds, FullTable, RateIsUpdated, UpdateFitsTheShare, EveryBadDatagram, PaddingIsAllowed, FirstRamsMessageCounts, MessagesInOrder, ByeOfAnother, SourceOfTheClient, RefusedOnAnOpenBurst, NamedSources, IdleIsCounted, BusyIsNotIdle, UpdatesInATrace, RefusalsInOrder};
 ghost use Rattle.rams_model.specs.Worked.Buckets.{BurstKeepsWhatItLeft, DepthIsReserved, ChannelKeepsWhatItLeft, RepairsLeaveTheDepth, EndedBurstLeavesAll, UpdateKeepsWhatIsKept};
 ghost use Rattle.rams_model.specs.Worked.Parts.{Numbers, Flags, FullRooms, LongTimes};
 ghost use Rattle.rams_model.specs.Worked.Texts.{LiveNoteLines, MessageNoteLines, RepairNoteLines, LinesOfABook};
@@ -96,6 +96,7 @@ pub fn requests_of_clients()
     ensures refused_on_an_open_burst { RefusedOnAnOpenBurst }
     ensures named_sources { NamedSources }
     ensures idle_is_counted { IdleIsCounted }
+    ensures busy_is_not_idle { BusyIsNotIdle }
     ensures updates_in_a_trace { UpdatesInATrace }
     ensures refusals_in_order { RefusalsInOrder }
 {}

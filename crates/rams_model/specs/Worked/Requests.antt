@@ -253,6 +253,38 @@ IdleIsCounted =
     (hex (codes "80e301f40000000011223344000a00000000") ∷ hex (codes "86cd0003aabbccdd11223344020100c9") ∷ [])
     ∷ [])
 
+-- a client whose burst waits for the source is not idle, though nothing is sent to it; nor is one whose repair waits for the share
+abbrev pub BusyIsNotIdle : Type 0
+BusyIsNotIdle =
+    IsAnswered (record channel { idle = 1 }) (
+    took (packet 10 0 true 4) 65546
+    ∷ step (plain_request 5) (Accept 5 65546 4000 1 ∷ [])
+    (hex (codes "86cd000caabbccdd11223344020000c82000000201f40000210000040000000a22000004000003e823000008000000000030d400") ∷ [])
+    ∷ step Tick (Burst 5 65546 500 ∷ [])
+    (hex (codes "80e301f40000000011223344000a00000000") ∷ [])
+    ∷ step Tick [] []
+    ∷ step (stop_request 5 (codes "0000000a")) (StopAt 5 65547 ∷ End 5 cause.Stopped ∷ [])
+    (hex (codes "86cd0003aabbccdd11223344020100c9") ∷ [])
+    ∷ step Tick (Forgot 5 ∷ []) []
+    ∷ [])
+    × IsAnswered (record channel { idle = 1; share = 6000; burst = 4500; minwire = 1500 }) (
+    took (packet 10 0 true 1458) 65546
+    ∷ took (packet 11 0 false 1458) 65547
+    ∷ took (packet 12 0 false 1458) 65548
+    ∷ took (packet 13 0 false 1458) 65549
+    ∷ took (packet 14 0 false 1458) 65550
+    ∷ took (packet 15 0 false 1458) 65551
+    ∷ step (plain_request 5) (Accept 5 65546 4500 4 ∷ [])
+    (hex (codes "86cd000caabbccdd11223344020000c82000000201f40000210000040000002822000004000003e823000008000000000036ee80") ∷ [])
+    ∷ step (nack 6 (codes "000f0000")) (Queued 6 65551 ∷ []) []
+    ∷ step (nack 7 (codes "000f0000")) (Queued 7 65551 ∷ []) []
+    ∷ step Tick (Burst 5 65546 500 ∷ Burst 5 65547 501 ∷ Burst 5 65548 502 ∷ Repair 6 65551 500 ∷ [])
+    ((hex (codes "80e301f40000000011223344000a") ++ replicate 1458 0) ∷ (hex (codes "806301f50000000011223344000b") ++ replicate 1458 0) ∷ (hex (codes "806301f60000000011223344000c") ++ replicate 1458 0) ∷ (hex (codes "806301f40000000011223344000f") ++ replicate 1458 0) ∷ [])
+    ∷ step Tick (Burst 5 65549 503 ∷ Burst 5 65550 504 ∷ Burst 5 65551 505 ∷ Repair 7 65551 500 ∷ Forgot 6 ∷ [])
+    ((hex (codes "806301f70000000011223344000d") ++ replicate 1458 0) ∷ (hex (codes "806301f80000000011223344000e") ++ replicate 1458 0) ∷ (hex (codes "806301f90000000011223344000f") ++ replicate 1458 0) ∷ (hex (codes "806301f40000000011223344000f") ++ replicate 1458 0) ∷ [])
+    ∷ step Tick (Forgot 7 ∷ []) []
+    ∷ [])
+
 -- an update keeps the first sequence number, tells what is left of the time, and numbers its message after the last; a refusal between changes nothing
 abbrev pub UpdatesInATrace : Type 0
 UpdatesInATrace =
