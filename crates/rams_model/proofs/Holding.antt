@@ -1,6 +1,6 @@
 -- What is held are packets whose numbers follow one another.
-use Rattle.std.proofs.Common.{◌≡◌, ℕ, zero, suc, ◌+◌, ◌-◌, ◌≤◌, true, List, [], ◌∷◌, length, drop, refl, ap, sym, ◌∙◌, subst, arith, eqb, leb}
-use Rattle.std.proofs.lemmas.Bool.{cond_both, cond-true, and_parts, eqb-true, le-leb, leb-true, leb-false}
+use Rattle.std.proofs.Common.{◌≡◌, ℕ, zero, suc, ◌+◌, ◌-◌, ◌≤◌, true, false, List, [], ◌∷◌, ◌++◌, length, drop, refl, ap, sym, ◌∙◌, subst, arith, eqb, leb}
+use Rattle.std.proofs.lemmas.Bool.{both_ways, cond_both, cond-true, and_parts, eqb-true, le-leb, leb-true, leb-false}
 use Rattle.rams_model.specs.declared.held.Held.{Held}
 use Rattle.rams_model.specs.Hold.{lo, hi, from_number}
 use Rattle.rams_model.specs.Source.{Stream, is_consecutive, consecutive_end, source}
@@ -8,7 +8,7 @@ use Rattle.rams_model.specs.Source as sources
 use Rattle.rams_model.specs.Settings.{Settings}
 use Rattle.rams_model.specs.History.{History, stream, hold}
 use Rattle.rams_model.specs.Source.{Follows}
-use Rattle.rams_model.specs.Laws.{Rises}
+use Rattle.rams_model.specs.Laws.{Rises, IsLongestEnd}
 
 follows_from : (hs : List Held) → is_consecutive hs ≡ true → Follows (lo hs) hs
 follows_from [] e = tt
@@ -77,3 +77,25 @@ held_from n (h ∷ hs) f le within =
 pub rises_from : (n : ℕ) (hs : List Held) → Follows n hs → Rises n hs
 rises_from n [] f = tt
 rises_from n (h ∷ hs) f = (omega (arith, f.0), subst (λ (m : ℕ). Rises (m + 1) hs) (sym f.0) (rises_from (n + 1) hs f.1))
+
+-- an end is no longer than the whole
+end_fits : (before other : List Held) → length other ≤ length (before ++ other)
+end_fits [] other = omega arith
+end_fits (b ∷ before) other = let le = end_fits before other in omega (arith, le)
+
+same_or_less : (hs before other : List Held) → hs ≡ before ++ other → length other ≤ length hs
+same_or_less hs before other e = subst (λ (l : List Held). length other ≤ length l) (sym e) (end_fits before other)
+
+pub longest_end : (hs : List Held) → IsLongestEnd hs (consecutive_end hs)
+unfolding consecutive_end
+longest_end [] = record { front = []; splits = refl; follows = refl; longest = λ before other e c. same_or_less [] before other e }
+longest_end (h ∷ hs) =
+    cond_both (is_consecutive (h ∷ hs)) (h ∷ hs) (consecutive_end hs) (IsLongestEnd (h ∷ hs))
+    (λ t. record { front = []; splits = refl; follows = t; longest = λ before other e c. same_or_less (h ∷ hs) before other e })
+    (λ f. let rest = longest_end hs in
+    record { front = h ∷ rest.front; splits = ap (λ (l : List Held). h ∷ l) rest.splits; follows = rest.follows; longest = λ before other e c. shorter f rest before other e c })
+  where
+    shorter : is_consecutive (h ∷ hs) ≡ false → IsLongestEnd hs (consecutive_end hs) → (before other : List Held) → h ∷ hs ≡ before ++ other
+        → is_consecutive other ≡ true → length other ≤ length (consecutive_end hs)
+    shorter f rest [] other e c = absurd (both_ways (is_consecutive (h ∷ hs)) f (subst (λ (l : List Held). is_consecutive l ≡ true) (sym e) c))
+    shorter f rest (b ∷ before) other e c = let later : hs ≡ before ++ other = cc in rest.longest before other later c

@@ -7,7 +7,7 @@ use Rattle.rams_model.specs.declared.note.Note.{Note}
 use Rattle.rams_model.specs.declared.note.Note.TheVariants as note
 use Rattle.rams_model.specs.Settings.{Settings}
 use Rattle.rams_model.specs.Hold.{lo, hi, wires, from_number}
-use Rattle.rams_model.specs.Source.{Arrival, Follows, awaited, is_missing, stream_of, source}
+use Rattle.rams_model.specs.Source.{Arrival, Follows, is_consecutive, consecutive_end, awaited, is_missing, stream_of, source}
 use Rattle.rams_model.specs.Access.{is_eligible, age, is_at_most, chosen}
 use Rattle.rams_model.specs.Rates.{stop_of}
 use Rattle.rams_model.specs.Heard.{tick}
@@ -42,6 +42,17 @@ TheSourceOnlyGrows = (window : ℕ) (a : Arrival) (arrivals : List Arrival)
 abbrev pub TheAwaitedIsTheLeast : Type 0
 TheAwaitedIsTheLeast = (window : ℕ) (h : Held) (hs : List Held) → Rises 0 (h ∷ hs) → let a = awaited window (h ∷ hs) in
     (h.n ≤ a) × IsTrue (is_missing window (h ∷ hs) a) × ((n : ℕ) → h.n ≤ n → IsTrue (is_missing window (h ∷ hs) n) → a ≤ n)
+
+-- The longest end of some packets whose numbers follow one another.
+pub record IsLongestEnd (hs end : List Held) : Type 0 where
+  pub front : List Held
+  pub splits : hs ≡ front ++ end
+  pub follows : IsTrue (is_consecutive end)
+  pub longest : (before other : List Held) → hs ≡ before ++ other → IsTrue (is_consecutive other) → length other ≤ length end
+
+-- The end of the source list of which the last packets are held is the longest whose numbers follow one another.
+abbrev pub TheEndIsTheLongest : Type 0
+TheEndIsTheLongest = (hs : List Held) → IsLongestEnd hs (consecutive_end hs)
 
 -- What is held are the numbers from lo up to hi, and what is held from one of them on, the numbers from it up to hi.
 abbrev pub HeldPacketsFollow : Type 0

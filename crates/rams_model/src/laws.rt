@@ -1,6 +1,6 @@
 //! Laws of the definitions: each is the contract of a function that does nothing.
 ghost use Rattle.rams_model.specs.CatchUp.{CatchingUpEnds};
-ghost use Rattle.rams_model.specs.Laws.{EachPacketStandsOnce, TheSourceOnlyGrows, TheAwaitedIsTheLeast, HeldPacketsFollow, TheRunIsTheLongest, TheChosenIsTheNewest, TheStopIsTheLeast, KnownIsSinceTheLastBye, OpenIsSinceTheLastEnd, PendingIsSinceTheLastRepair, StopIsOfTheLastStopAt, BurstIsSinceTheLastAccept, BurstIsOpenSinceTheLastEnd, ChannelHasLeft, BurstHasLeft, ExactlyOneBook};
+ghost use Rattle.rams_model.specs.Laws.{EachPacketStandsOnce, TheSourceOnlyGrows, TheAwaitedIsTheLeast, TheEndIsTheLongest, HeldPacketsFollow, TheRunIsTheLongest, TheChosenIsTheNewest, TheStopIsTheLeast, KnownIsSinceTheLastBye, OpenIsSinceTheLastEnd, PendingIsSinceTheLastRepair, StopIsOfTheLastStopAt, BurstIsSinceTheLastAccept, BurstIsOpenSinceTheLastEnd, ChannelHasLeft, BurstHasLeft, ExactlyOneBook};
 ghost use Rattle.rams_model.specs.PlainPackets.{PlainPacketsAreSpelledAgain};
 
 /// A packet with a fixed header alone is spelled again, byte for byte, from what is read of it
@@ -20,9 +20,11 @@ pub fn awaited_is_least()
     ensures { TheAwaitedIsTheLeast }
 {}
 
-/// What is held are the packets from one number up to another.
+/// What is held is the end of the longest end of the source without a gap: the packets from one
+/// number up to another.
 pub fn held_packets_follow()
-    ensures { HeldPacketsFollow }
+    ensures longest { TheEndIsTheLongest }
+    ensures follow { HeldPacketsFollow }
 {}
 
 /// A burst begins at the newest eligible access point that is old enough.
