@@ -96,6 +96,7 @@ pub data IsRefusedFor (c : Channel) (held : List Held) (least : ℕ) (most : Opt
   young : (k : Held) → IsAmong k held → IsTrue (is_eligible c held k) → NonePasses held (is_old_enough c held least) → IsRefusedFor c held least most 401
   old : (h : Held) → IsNewest held (is_old_enough c held least) h → IsFalse (is_at_most (age held h) most) → IsRefusedFor c held least most 402
 
+-- A chosen access point is the newest that is old enough, and not too old; a code is true.
 abbrev pub IsChoice : Channel → List Held → ℕ → Option ℕ → Result Held ℕ → Type 0
 IsChoice c held least most (Ok h) = IsNewest held (is_old_enough c held least) h × IsTrue (is_at_most (age held h) most)
 IsChoice c held least most (Err code) = IsRefusedFor c held least most code
@@ -130,11 +131,13 @@ pub record StandsWithout (makes ends : Item → Bool) (history : History) : Type
   pub made : IsTrue (makes item)
   pub stays : NoneIs ends later
 
+-- an Accept or Queued of the client
 abbrev pub makes_known : ℕ → Item → Bool
 makes_known k (noted (note.Accept client first rate join) packet) = client == k
 makes_known k (noted (note.Queued client n) packet) = client == k
 makes_known k _ = Bool.false
 
+-- a Bye or Forgot of it
 abbrev pub ends_known : ℕ → Item → Bool
 ends_known k (noted (note.Bye client) packet) = client == k
 ends_known k (noted (note.Forgot client) packet) = client == k
@@ -144,10 +147,12 @@ ends_known k _ = Bool.false
 abbrev pub KnownIsSinceTheLastBye : Type 0
 KnownIsSinceTheLastBye = (k : ℕ) (history : History) → IsTrue (is_among k (known history)) ↔ StandsWithout (makes_known k) (ends_known k) history
 
+-- an Accept of the client
 abbrev pub is_accept_of : ℕ → Item → Bool
 is_accept_of k (noted (note.Accept client first rate join) packet) = client == k
 is_accept_of k _ = Bool.false
 
+-- an End of it
 abbrev pub is_end_of : ℕ → Item → Bool
 is_end_of k (noted (note.End client cause) packet) = client == k
 is_end_of k _ = Bool.false
@@ -156,10 +161,12 @@ is_end_of k _ = Bool.false
 abbrev pub OpenIsSinceTheLastEnd : Type 0
 OpenIsSinceTheLastEnd = (k : ℕ) (history : History) → IsTrue (is_among k (opened history)) ↔ StandsWithout (is_accept_of k) (is_end_of k) history
 
+-- the Queued of this repair
 abbrev pub is_queued : ℕ → ℕ → Item → Bool
 is_queued k n (noted (note.Queued client m) packet) = client == k && m == n
 is_queued k n _ = Bool.false
 
+-- a Repair or Gone of it, or a Bye of its client
 abbrev pub ends_pending : ℕ → ℕ → Item → Bool
 ends_pending k n (noted (note.Repair client m sequence) packet) = client == k && m == n
 ends_pending k n (noted (note.Gone client m) packet) = client == k && m == n
@@ -170,6 +177,7 @@ ends_pending k n _ = Bool.false
 abbrev pub PendingIsSinceTheLastRepair : Type 0
 PendingIsSinceTheLastRepair = (k n : ℕ) (history : History) → IsTrue (is_pending k n history) ↔ StandsWithout (is_queued k n) (ends_pending k n) history
 
+-- a StopAt of the client with this number
 abbrev pub is_stop_at : ℕ → ℕ → Item → Bool
 is_stop_at k n (noted (note.StopAt client m) packet) = client == k && m == n
 is_stop_at k n _ = Bool.false
@@ -227,16 +235,18 @@ BurstIsSinceTheLastAccept = (s : Settings) (k first rate join : ℕ) (packet : O
 abbrev pub BurstIsOpenSinceTheLastEnd : Type 0
 BurstIsOpenSinceTheLastEnd = (s : Settings) (k : ℕ) (history : History) → IsTrue (has_open s k history) ↔ StandsWithout (is_accept_of k) (is_end_of k) history
 
+-- an event begins
 abbrev pub is_event : Item → Bool
 is_event (began heard) = Bool.true
 is_event _ = Bool.false
 
--- a note that sends a packet, and one that sends it to this client
+-- a note that sends a packet
 abbrev pub is_sending : Note → Bool
 is_sending (note.Burst client n sequence) = Bool.true
 is_sending (note.Repair client n sequence) = Bool.true
 is_sending _ = Bool.false
 
+-- a note that sends a packet to this client
 abbrev pub is_sending_to : ℕ → Note → Bool
 is_sending_to k (note.Burst client n sequence) = client == k
 is_sending_to k (note.Repair client n sequence) = client == k
