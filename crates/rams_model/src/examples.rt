@@ -3,7 +3,7 @@ ghost use Rattle.rams_model.specs.First.Examples as first;
 ghost use Rattle.rams_model.specs.Worked.Live.{LiveRefusals, WindowAndLate, RestartLosesTheBurst, PaddingAndExtension, EveryBadPacket, ReachOfNumbers, JumpIsKept, WindowAtARestart, WindowReleases, RandomAccessFlag};
 ghost use Rattle.rams_model.specs.Worked.Bursts.{OnePacketPerTick, NoEligibleAccessPoint, BurstLost, LimitAndIdle, ShareIsSpent, SlowClient, StatedJoinTimeIsKept, RingIsFilled, SourceSendsMoreThanDeclared, NotEligibleWithOneMore, BurstsInTheOrderOfClients, BurstWaitsForTheSource, RunStopsAtTheFirstThatDoesNotFit};
 ghost use Rattle.rams_model.specs.Worked.Stops.{StopAcrossTheWrap, StopAfterTheLast, StopAlreadyPassed, StopHighBits, StopIsKept, StopWithoutNumber};
-ghost use Rattle.rams_model.specs.Worked.Repairs.{RepairAcrossTheWrap, EarlyAndAlready, RepairWaitsForBudget, GoneFromTheRing, EarlyUpToTheStop, NacksWithoutNumbers, RepairsBehindTheRuns};
+ghost use Rattle.rams_model.specs.Worked.Repairs.{RepairAcrossTheWrap, EarlyAndAlready, RepairWaitsForBudget, GoneFromTheRing, EarlyUpToTheStop, EachNumberAfterTheOther, NacksWithoutNumbers, RepairsBehindTheRuns};
 ghost use Rattle.rams_model.specs.Worked.Requests.{CompoundFeedback, RequestRefusals, BufferFillBounds, FullTable, RateIsUpdated, UpdateFitsTheShare, EveryBadDatagram, PaddingIsAllowed, FirstRamsMessageCounts, MessagesInOrder, ByeOfAnother, SourceOfTheClient, RefusedOnAnOpenBurst, NamedSources, IdleIsCounted, BusyIsNotIdle, UpdatesInATrace, RefusalsInOrder};
 ghost use Rattle.rams_model.specs.Worked.Buckets.{BurstKeepsWhatItLeft, DepthIsReserved, ChannelKeepsWhatItLeft, RepairsLeaveTheDepth, EndedBurstLeavesAll, UpdateKeepsWhatIsKept};
 ghost use Rattle.rams_model.specs.Worked.Parts.{Numbers, Flags, FullRooms, LongTimes};
@@ -75,6 +75,7 @@ pub fn repairs_of_packets()
     ensures repair_waits_for_budget { RepairWaitsForBudget }
     ensures gone_from_the_ring { GoneFromTheRing }
     ensures early_up_to_the_stop { EarlyUpToTheStop }
+    ensures each_number_after_the_other { EachNumberAfterTheOther }
     ensures nacks_without_numbers { NacksWithoutNumbers }
     ensures repairs_behind_the_runs { RepairsBehindTheRuns }
 {}

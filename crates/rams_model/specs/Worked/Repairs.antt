@@ -2,7 +2,7 @@
 use Rattle.std.specs.Prelude.{true, false, [], ◌∷◌, ◌++◌, replicate, codes}
 use Rattle.rams_model.specs.declared.event.Event.TheVariants.{Tick}
 use Rattle.rams_model.specs.declared.note.Cause.TheVariants as cause
-use Rattle.rams_model.specs.declared.note.Note.TheVariants.{Accept, StopAt, Queued, Already, Unheld, Early, ForeignNack, Burst, Repair, Gone, End, Forgot}
+use Rattle.rams_model.specs.declared.note.Note.TheVariants.{Accept, StopAt, Queued, Already, Unheld, Early, TableFull, ForeignNack, Burst, Repair, Gone, End, Forgot}
 use Rattle.rams_model.specs.Worked.Setting.{channel, hex, packet, feedback, plain_request, stop_request, nack, step, took, IsAnswered}
 
 -- a held packet is sent again, one that is not held is not
@@ -75,6 +75,16 @@ EarlyUpToTheStop =
     ∷ step (nack 5 (codes "fffe0007")) (Early 5 131070 ∷ Early 5 131071 ∷ Queued 5 131072 ∷ Queued 5 131073 ∷ []) []
     ∷ step Tick (Burst 5 131070 500 ∷ Burst 5 131071 501 ∷ End 5 cause.Stopped ∷ Repair 5 131072 502 ∷ Repair 5 131073 503 ∷ [])
     (hex (codes "80e301f40000000011223344fffe00000000") ∷ hex (codes "806301f50000038411223344ffff00000000") ∷ hex (codes "86cd0003aabbccdd11223344020100c9") ∷ hex (codes "806301f60000070811223344000000000000") ∷ hex (codes "806301f700000a8c11223344000100000000") ∷ [])
+    ∷ [])
+
+-- each number of a NACK is answered on the notes of those before it: the same again is pending already, and the table that the first client fills is full for the next
+abbrev pub EachNumberAfterTheOther : Type 0
+EachNumberAfterTheOther =
+    IsAnswered (record channel { clients = 1 }) (
+    took (packet 10 0 false 4) 65546
+    ∷ took (packet 11 0 false 4) 65547
+    ∷ step (feedback 5 (codes "81cd00050000c00111223344000a0000000a0000000b0000")) (Queued 5 65546 ∷ Already 5 65546 ∷ Queued 5 65547 ∷ []) []
+    ∷ step (feedback 6 (codes "81cd00040000c00211223344000a0000000b0000")) (TableFull 6 65546 ∷ TableFull 6 65547 ∷ []) []
     ∷ [])
 
 -- a NACK without words names nothing; one about another source is refused as a whole, with words or without
