@@ -31,6 +31,7 @@ pub record Room : Type 0 where
   pub of_client : ℕ
   pub in_all : ℕ
 
+-- 256 of a client, and 4,096 in all
 abbrev pub room : Room
 room = record { of_client = 256; in_all = 4096 }
 
@@ -44,6 +45,7 @@ repair_note most s k history n =
     else if nat_le most.in_all (length (pending history)) then note.QueueFull k n
     else note.Queued k n
 
+-- the answer to a number, with the held packet that has these low 16 bits
 abbrev pub held_answer : Room → Settings → ℕ → History → ℕ → Option Held → Note
 held_answer most s k history low None = note.Unheld k low
 held_answer most s k history low (Some h) = repair_note most s k history h.n
@@ -72,6 +74,7 @@ abbrev pub on_stop : ℕ → Burst → Option ℕ → Option ℕ → History →
 on_stop k b named (Some stop) history = noted (note.StopKept k stop) None ∷ history
 on_stop k b named None history = stop_set k (next b) (stop_of b.first (next b) named) history
 
+-- a stop of the open burst, where there is one
 abbrev pub stop_burst : ℕ → Option ℕ → Option Burst → History → History
 stop_burst k named None history = noted (note.StopIdle k) None ∷ history
 stop_burst k named (Some b) history = on_stop k b named b.stop history

@@ -41,6 +41,7 @@ pub record Entry : Type 0 where
 abbrev pub Book : Type 0
 Book = List Entry
 
+-- the events of a book
 abbrev pub events_of : Book → List Event
 events_of entries = map (λ e. e.event) entries
 

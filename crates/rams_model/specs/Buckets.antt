@@ -32,11 +32,12 @@ channel_left s (began tick ∷ history) = s.channel.share + min s.channel.swell 
 channel_left s (noted note packet ∷ history) = after_sending note (size_of packet) (channel_left s history)
 channel_left s (_ ∷ history) = channel_left s history
 
--- a note that sends a packet to the client: of its burst, and of a repair
+-- a Burst note of the client
 abbrev pub is_burst_of : ℕ → Note → Bool
 is_burst_of k (BurstNote client n sequence) = client == k
 is_burst_of k _ = false
 
+-- a Repair note of the client
 abbrev pub is_repair_of : ℕ → Note → Bool
 is_repair_of k (Repair client n sequence) = client == k
 is_repair_of k _ = false

@@ -110,5 +110,6 @@ newest_open (b ∷ bs) = if_open b.ended b
 abbrev pub open_burst : Settings → ℕ → History → Option Burst
 open_burst s k history = newest_open (bursts s k history)
 
+-- the client has an open burst
 abbrev pub has_open : Settings → ℕ → History → Bool
 has_open s k history = is_some (open_burst s k history)

@@ -6,6 +6,7 @@ use Rattle.rams_model.specs.Settings.{Settings}
 use Rattle.rams_model.specs.Messages.{Message, nack, asks}
 use Rattle.rams_model.specs.History.{told, noted, History}
 
+-- the client is one of these
 abbrev pub is_among : ℕ → List ℕ → Bool
 is_among k ks = list_any (λ j. j == k) ks
 
@@ -63,6 +64,7 @@ newest_sender [] = None
 newest_sender (told client message ∷ history) = sender message
 newest_sender (_ ∷ history) = newest_sender history
 
+-- the first, or the other where there is none
 abbrev pub or_sender : Option ℕ → Option ℕ → Option ℕ
 or_sender (Some ssrc) other = Some ssrc
 or_sender None other = other

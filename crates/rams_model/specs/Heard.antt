@@ -14,6 +14,7 @@ use Rattle.rams_model.specs.Source.{Arrival}
 use Rattle.rams_model.specs.Access.{is_access_point}
 use Rattle.rams_model.specs.Messages.{Message, messages}
 
+-- What is heard of an event.
 pub data Heard : Type 0 where
   -- a live packet that passes the four tests
   live : Arrival → Heard

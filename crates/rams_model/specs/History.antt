@@ -8,6 +8,7 @@ use Rattle.rams_model.specs.Source as sources
 use Rattle.rams_model.specs.Messages.{Message}
 use Rattle.rams_model.specs.Heard.{Heard, live, tick}
 
+-- What a history is made of.
 pub data Item : Type 0 where
   -- an event began
   began : Heard → Item
@@ -16,6 +17,7 @@ pub data Item : Type 0 where
   -- a note was made, with the packet that it sends
   noted : Note → Option Held → Item
 
+-- A history: its items, the newest first.
 abbrev pub History : Type 0
 History = List Item
 

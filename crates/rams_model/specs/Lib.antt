@@ -25,10 +25,13 @@ pub mod Answers
 pub mod Tick
 pub mod Orders
 pub mod Book
+pub mod CatchUp
+pub mod Laws
 pub mod Worked
 pub mod Words
 pub mod TraceLine
 pub mod TraceOrder
 pub mod BookText
+pub mod BookLines
 pub mod First
 pub mod PlainPackets

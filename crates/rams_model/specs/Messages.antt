@@ -40,6 +40,7 @@ feedback_message (Some f) =
 unfoldable pub message_of : Framed → Option Message
 message_of p = if p.kind == 203 then Some (bye p) else feedback_message (feedback_of p)
 
+-- a RAMS-R or a RAMS-T
 abbrev pub is_rams : Message → Bool
 is_rams (asks sender request) = true
 is_rams (stops stop) = true

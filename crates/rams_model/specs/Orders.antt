@@ -18,6 +18,7 @@ use Rattle.rams_model.specs.History.{began, told, noted, History}
 use Rattle.rams_model.specs.Clients.{sequence}
 use Rattle.rams_model.specs.Bursts.{Burst, open_burst}
 
+-- a RAMS-I to the client
 abbrev pub info_order : ℕ → Info → Order
 info_order k info = InfoOrder k info
 

@@ -13,9 +13,11 @@ pub record Wanted : Type 0 where
   pub client : ℕ
   pub n : ℕ
 
+-- the repair of number n for a client
 abbrev pub wanted : ℕ → ℕ → Wanted
 wanted client n = record { client = client; n = n }
 
+-- it is the repair of number n for this client
 abbrev pub is_wanted : ℕ → ℕ → Wanted → Bool
 is_wanted client n w = w.client == client && w.n == n
 

@@ -1,5 +1,5 @@
 -- The packets of a channel that came in time, the number that is waited for, and the source list.
-use Rattle.std.specs.Prelude.{ℕ, zero, suc, ◌+◌, ◌-◌, Bool, ◌&&◌, ◌==◌, not, nat_le, nat_lt, if◌then◌else◌, List, [], ◌∷◌, ◌++◌, filter, Option, Some, None}
+use Rattle.std.specs.Prelude.{◌≡◌, ℕ, zero, suc, ◌+◌, ◌-◌, Bool, ◌&&◌, ◌==◌, not, nat_le, nat_lt, if◌then◌else◌, List, [], ◌∷◌, ◌++◌, filter, Option, Some, None}
 use Rattle.std.specs.List.{list_any}
 use Rattle.rams_model.specs.declared.held.Held.{Held}
 use Rattle.rams_model.specs.declared.note.LiveNote.{LiveNote}
@@ -100,6 +100,11 @@ abbrev pub is_consecutive : List Held → Bool
 is_consecutive [] = Bool.true
 is_consecutive (h ∷ []) = Bool.true
 is_consecutive (h ∷ k ∷ hs) = (k.n == h.n + 1) && is_consecutive (k ∷ hs)
+
+-- the numbers are n, n + 1 and so on
+abbrev pub Follows : ℕ → List Held → Type 0
+Follows n [] = Unit {0}
+Follows n (h ∷ hs) = (h.n ≡ n) × Follows (n + 1) hs
 
 -- the longest end of a list whose numbers follow one another
 unfoldable pub consecutive_end : List Held → List Held

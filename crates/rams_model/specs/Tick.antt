@@ -27,6 +27,7 @@ send s k (h ∷ hs) history = send s k hs (noted (BurstNote k h.n (sequence s k 
 abbrev pub is_lost : ℕ → List Held → Bool
 is_lost n held = not (has_number n held) && nat_lt n (hi held)
 
+-- the number is the stop
 abbrev pub is_stop : Option ℕ → ℕ → Bool
 is_stop None n = false
 is_stop (Some stop) n = n == stop
@@ -39,6 +40,7 @@ after_run s k (Some b) history =
     else if b.ticks == s.channel.limit then noted (End k Limit) None ∷ history
     else history
 
+-- the history after a run was sent, with the end that it may bring
 abbrev pub run_sent : Settings → ℕ → History → History
 run_sent s k history = after_run s k (open_burst s k history) history
 
@@ -72,12 +74,15 @@ unfoldable pub all_forgotten : Settings → List ℕ → History → History
 all_forgotten s [] history = history
 all_forgotten s (k ∷ ks) history = all_forgotten s ks (if idle s k history == s.channel.idle then noted (Forgot k) None ∷ history else history)
 
+-- the open bursts, by rising client
 abbrev pub bursts_served : Settings → History → History
 bursts_served s history = all_served s (hold s history) (opened history) history
 
+-- the pending repairs, from the oldest on
 abbrev pub repairs_sent : Settings → History → History
 repairs_sent s history = all_repaired s (hold s history) (pending history) history
 
+-- the known clients, by rising number
 abbrev pub idle_forgotten : Settings → History → History
 idle_forgotten s history = all_forgotten s (known history) history
 

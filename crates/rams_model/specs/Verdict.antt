@@ -53,6 +53,7 @@ abbrev pub on_burst : Settings → List Held → ℕ → ℕ → History → Bur
 on_burst s held k rate history b None = Again k
 on_burst s held k rate history b (Some bps) = if rate == b.rate then Again k else changes s held k rate history b
 
+-- A client with an open burst may change its rate; another may begin a burst, where it is known or can be.
 abbrev pub on_request : Settings → List Held → ℕ → Request → History → Option Burst → Note
 on_request s held k r history (Some b) = on_burst s held k (asked_rate s r) history b r.bps
 on_request s held k r history None =

@@ -21,12 +21,16 @@ pub use answer::{Answer, Order};
 pub use channel::{Access, Channel};
 pub use event::Event;
 pub use examples::{
-    budgets_of_ticks, bursts_in_ticks, live_packets, no_event, one_packet_per_tick, refusals,
-    repairs_of_packets, requests_of_clients, stops_of_bursts,
+    budgets_of_ticks, bursts_in_ticks, lines_of_notes, live_packets, no_event, one_packet_per_tick,
+    parts_of_answers, refusals, repairs_of_packets, requests_of_clients, stops_of_bursts,
 };
 pub use fault::{ConfigFault, FrameFault, LineFault, NackFault, RtpFault, TlvFault};
 pub use held::Held;
-pub use laws::plain_packets_are_spelled_again;
+pub use laws::{
+    awaited_is_least, budgets_have_left, bursts_are_since, catching_up_ends, chosen_is_newest,
+    clients_are_since, exactly_one_book, held_packets_follow, plain_packets_are_spelled_again,
+    run_is_longest, source_grows_in_order, stop_is_least,
+};
 pub use message::{Info, Stop};
 pub use mode::{LineKind, Mode};
 pub use note::{Cause, LiveNote, Note};

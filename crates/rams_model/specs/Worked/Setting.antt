@@ -64,9 +64,11 @@ packet sequence timestamp marker size = packet_of 0x11223344 33 sequence timesta
 abbrev pub hex : List ℕ → List ℕ
 hex digits = bytes_in digits
 
+-- a live packet
 abbrev pub live : List ℕ → Event
 live digits = Live (hex digits)
 
+-- a feedback datagram of a client
 abbrev pub feedback : ℕ → List ℕ → Event
 feedback client digits = Feedback client (hex digits)
 
@@ -92,6 +94,7 @@ pub record Step : Type 0 where
   pub notes : List Note
   pub datagrams : List (List ℕ)
 
+-- such a step
 abbrev pub step : Event → List Note → List (List ℕ) → Step
 step event notes datagrams = record { event = event; notes = notes; datagrams = datagrams }
 
