@@ -93,7 +93,7 @@ pub record IsWholePadding (bytes : List ℕ) : Type 0 where
   pub fits : length front < 255
   pub text : bytes ≡ front ++ (length front + 1) ∷ []
 
--- Fields that are a packet's: its text is their spelling.
+-- Fields that are a packet: its text is their spelling.
 pub record IsPacket (p : Packet) : Type 0 where
   pub payload_type : p.payload_type < 128
   pub sequence : p.sequence < 2 ^ 16
