@@ -54,7 +54,8 @@ pub fn append_rtp(text: &mut Vec<u8>, f: &RtpFields<'_>) -> Result<(), NoMemory>
     append_rtp_behind(text, f, &[])
 }
 
-/// `append_rtp` of a packet whose payload is `front` and that of the fields behind it.
+/// `append_rtp` of a packet whose payload is `front`, of at most 1,000 bytes, and behind it that of
+/// the fields.
 pub fn append_rtp_behind(
     text: &mut Vec<u8>,
     f: &RtpFields<'_>,
