@@ -1,5 +1,5 @@
 //! Originals out of retransmissions.
-ghost use Rattle.std.specs.Prelude.{◌≡◌, ◌<◌, ◌≤◌, ◌++◌, ◌↔◌, IfOk, OnOk, OnErr, length};
+ghost use Rattle.std.specs.Prelude.{◌≡◌, ◌<◌, ◌↔◌, IfOk, length};
 ghost use Rattle.rams_model.specs.Packet.{spelling};
 ghost use Rattle.rams_model.specs.Rtp.{original, original_number};
 ghost use Rattle.rtx_payload.specs.Restored.{RestoringGivesTheOriginal};
@@ -15,12 +15,6 @@ pub enum RtxFault {
     /// Its payload has fewer than the two bytes of the original number.
     Short,
     NoMemory,
-}
-
-impl From<NoMemory> for RtxFault {
-    fn from(_e: NoMemory) -> RtxFault {
-        RtxFault::NoMemory
-    }
 }
 
 /// The number and the bytes of the packet that a retransmission brings, whose payload type is `pt`;
