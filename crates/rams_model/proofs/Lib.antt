@@ -12,3 +12,4 @@ pub mod Growing
 pub mod Waiting
 pub mod Rising
 pub mod PlainPackets
+pub mod RtpPackets

@@ -13,7 +13,7 @@ first_byte : (bytes : List ℕ) → is_plain bytes ≡ true → get_or bytes 0 0
 first_byte bytes p = eqb-true (get_or bytes 0 0) 128 (and_parts (leb 12 (length bytes)) (eqb (get_or bytes 0 0) 128) p).1
 
 -- the marker and the payload type make the byte that they were read of
-marker_and_type : (b : ℕ) → b < 256 → (if b / 128 == 1 then 128 else 0) + b % 128 ≡ b
+pub marker_and_type : (b : ℕ) → b < 256 → (if b / 128 == 1 then 128 else 0) + b % 128 ≡ b
 marker_and_type b h = grind (arith, nat_tests)
 
 -- the bytes that stand in front of others
@@ -22,7 +22,7 @@ pair_below a b ha hb zero = ha
 pair_below a b ha hb (suc zero) = hb
 pair_below a b ha hb (suc (suc i)) = lit< tt
 
-two_again : (a b : ℕ) (rest : List ℕ) → a < 256 → b < 256 → to_be_bytes w16 (from_be_bytes w16 (a ∷ b ∷ rest)) ≡ a ∷ b ∷ []
+pub two_again : (a b : ℕ) (rest : List ℕ) → a < 256 → b < 256 → to_be_bytes w16 (from_be_bytes w16 (a ∷ b ∷ rest)) ≡ a ∷ b ∷ []
 two_again a b rest ha hb = be_bytes_2 (a ∷ b ∷ []) (from_be_bytes w16 (a ∷ b ∷ rest)) refl (pair_below a b ha hb) refl
 
 pub four_below : (a b c d : ℕ) → a < 256 → b < 256 → c < 256 → d < 256 → (i : ℕ) → get_or (a ∷ b ∷ c ∷ d ∷ []) i 0 < 256
@@ -30,7 +30,7 @@ four_below a b c d ha hb hc hd zero = ha
 four_below a b c d ha hb hc hd (suc zero) = hb
 four_below a b c d ha hb hc hd (suc (suc i)) = pair_below c d hc hd i
 
-four_again : (a b c d : ℕ) (rest : List ℕ) → a < 256 → b < 256 → c < 256 → d < 256
+pub four_again : (a b c d : ℕ) (rest : List ℕ) → a < 256 → b < 256 → c < 256 → d < 256
     → to_be_bytes w32 (from_be_bytes w32 (a ∷ b ∷ c ∷ d ∷ rest)) ≡ a ∷ b ∷ c ∷ d ∷ []
 four_again a b c d rest ha hb hc hd =
     be_bytes_4 (a ∷ b ∷ c ∷ d ∷ []) (from_be_bytes w32 (a ∷ b ∷ c ∷ d ∷ rest)) refl (four_below a b c d ha hb hc hd) refl

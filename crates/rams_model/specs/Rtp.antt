@@ -5,12 +5,15 @@ use Rattle.rams_model.specs.declared.fault.RtpFault.{RtpFault}
 use Rattle.rams_model.specs.declared.fault.RtpFault.TheVariants.{Short, Version, Csrc, Extension, Padding}
 use Rattle.rams_model.specs.Packet.{Packet, spelling}
 
+-- the two highest bits of the first byte
 abbrev pub version : List ℕ → ℕ
 version bytes = slice_index bytes 0 / 64
 
+-- bit 5 of the first byte, which announces padding
 abbrev pub has_padding : List ℕ → Bool
 has_padding bytes = slice_index bytes 0 / 32 % 2 == 1
 
+-- bit 4 of the first byte, which announces a header extension
 abbrev pub has_extension : List ℕ → Bool
 has_extension bytes = slice_index bytes 0 / 16 % 2 == 1
 
@@ -93,7 +96,7 @@ pub record IsWholePadding (bytes : List ℕ) : Type 0 where
   pub fits : length front < 255
   pub text : bytes ≡ front ++ (length front + 1) ∷ []
 
--- Fields that are a packet's: its text is their spelling.
+-- Fields that are a packet: its text is their spelling.
 pub record IsPacket (p : Packet) : Type 0 where
   pub payload_type : p.payload_type < 128
   pub sequence : p.sequence < 2 ^ 16

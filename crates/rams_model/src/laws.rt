@@ -2,6 +2,7 @@
 ghost use Rattle.rams_model.specs.CatchUp.{CatchingUpEnds};
 ghost use Rattle.rams_model.specs.Laws.{EachPacketStandsOnce, TheSourceOnlyGrows, TheAwaitedIsTheLeast, TheEndIsTheLongest, HeldPacketsFollow, TheRunIsTheLongest, TheChosenIsTheNewest, TheStopIsTheLeast, KnownIsSinceTheLastBye, OpenIsSinceTheLastEnd, PendingIsSinceTheLastRepair, StopIsOfTheLastStopAt, BurstIsSinceTheLastAccept, BurstIsOpenSinceTheLastEnd, ChannelHasLeft, BurstHasLeft, ExactlyOneBook};
 ghost use Rattle.rams_model.specs.PlainPackets.{PlainPacketsAreSpelledAgain};
+ghost use Rattle.rams_model.specs.Rtp.{WhatIsReadIsSpelledSo, WhatIsSpelledSoIsRead};
 
 /// A packet with a fixed header alone is spelled again, byte for byte, from what is read of it
 /// (RFC 3550, 5.1).
@@ -70,4 +71,15 @@ pub fn exactly_one_book()
 /// What catches up has caught up after as many steps as gain what stood before the first.
 pub fn catching_up_ends()
     ensures { CatchingUpEnds }
+{}
+
+/// What is read as an RTP packet is a packet, and the bytes are its spelling (RFC 3550, 5.1).
+pub fn what_is_read_is_spelled_so()
+    ensures { WhatIsReadIsSpelledSo }
+{}
+
+/// The spelling of an RTP packet is read as this packet, so no two packets have one spelling (RFC
+/// 3550, 5.1).
+pub fn what_is_spelled_so_is_read()
+    ensures { WhatIsSpelledSoIsRead }
 {}

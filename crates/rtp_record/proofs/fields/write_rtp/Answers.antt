@@ -1,0 +1,11 @@
+use Rattle.std.proofs.Common.{List, ℕ, ◌++◌, ap, ◌∙◌}
+use Rattle.rams_model.specs.Packet.{spelling}
+use Rattle.rams_model.specs.Rtp.{packet_at}
+use Rattle.rams_model.proofs.RtpPackets.{read_so}
+use Rattle.rtp_record.specs.Fields.{packet_of}
+use Rattle.rtp_record.proofs.fields.write_rtp.Goals as goal
+
+pub returns-clause-read : goal.returns-clause-read
+returns-clause-read c =
+    ap (λ (text : List ℕ). packet_at text) (c.in_ok-append_rtp.ensures.text ∙ ap (λ (text : List ℕ). text ++ spelling (packet_of c.args.f.now)) c.new-text.ensures.items)
+    ∙ read_so (packet_of c.args.f.now) c.in_ok-append_rtp.ensures.lawful

@@ -1,0 +1,15 @@
+//! Retransmission packets, written and read (RFC 4588, 4).
+//!
+//! A retransmission is the original packet under another payload type and sequence number, without
+//! padding, and with the original number in front of its payload.
+#![tactic(auto)]
+
+mod restoring;
+#[cfg(test)]
+mod tests;
+mod writing;
+
+pub use ram_io::NoMemory;
+pub use restoring::{RtxFault, restore, restoring_gives_the_original};
+pub use rtp_record::Rtp;
+pub use writing::{append_rtx, write_rtx};
