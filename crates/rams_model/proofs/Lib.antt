@@ -1,1 +1,2 @@
 pub mod PlainPackets
+pub mod Joined
