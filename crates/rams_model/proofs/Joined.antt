@@ -32,7 +32,7 @@ pieces_step f each (b ∷ bytes) h =
     let one : 1 ≤ size = each (b ∷ bytes) in
     let left : length (drop size (b ∷ bytes)) ≤ length bytes = omega (arith, length-drop size (b ∷ bytes)) in
     ap (λ r. unless_fault (onto (f.piece (b ∷ bytes)) r) (f.fault (b ∷ bytes)))
-        (bound_free f each (length bytes) (length (drop size (b ∷ bytes))) (drop size (b ∷ bytes)) (omega arith) (omega arith))
+    (bound_free f each (length bytes) (length (drop size (b ∷ bytes))) (drop size (b ∷ bytes)) (omega arith) (omega arith))
 
 -- where there are none, there are no pieces
 pub pieces_end : {Piece Fault : Type 0} (f : Format Piece Fault) (bytes : List ℕ) → length bytes ≡ 0 → pieces_of f bytes ≡ Ok []

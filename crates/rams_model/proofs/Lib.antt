@@ -1,2 +1,5 @@
 pub mod PlainPackets
 pub mod Joined
+pub mod JoinedLaws
+pub mod TlvLaws
+pub mod RamsLaws
