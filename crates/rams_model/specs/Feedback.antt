@@ -42,7 +42,7 @@ nack_numbers fci = if length fci == 0 then Err Empty else if length fci % 4 == 0
 
 -- how far a number lies behind another, modulo 65536
 abbrev pub distance : ℕ → ℕ → ℕ
-distance from number = (number + 65536 - from) % 65536
+distance from number = (number + (65536 - from)) % 65536
 
 -- The words for some numbers, the first of them begun: each number joins it that lies further behind PID than the last, 16 at most; another begins a new word.
 unfoldable pub words_from : ℕ → ℕ → ℕ → List ℕ → List ℕ
