@@ -3,3 +3,4 @@ pub mod Joined
 pub mod JoinedLaws
 pub mod TlvLaws
 pub mod RamsLaws
+pub mod PacketLaws

@@ -1,9 +1,11 @@
 //! Laws of the definitions: each is the contract of a function that does nothing.
-ghost use Rattle.std.specs.Prelude.{◌≡◌, ◌<◌, ℕ, Bool, List, Ok, All};
+ghost use Rattle.std.specs.Prelude.{◌≡◌, ◌%◌, ◌^◌, ◌<◌, ◌≤◌, ℕ, Bool, List, [], ◌∷◌, length, Ok, All};
 ghost use Rattle.rams_model.specs.declared.message.Info.{Info};
 ghost use Rattle.rams_model.specs.declared.message.Stop.{Stop};
 ghost use Rattle.rams_model.specs.PlainPackets.{PlainPacketsAreSpelledAgain};
 ghost use Rattle.rams_model.specs.RamsInfo.{info_fci};
+ghost use Rattle.rams_model.specs.Rtcp.{Framed, framed, IsCompound, packet_text, least_body};
+ghost use Rattle.rams_model.specs.Feedback.{FramesAs};
 ghost use Rattle.rams_model.specs.Rams.{Tlv, IsMessage, tlvs_at, Request, FitsRequest, request_at, request_fci, request_back, FitsInfo, info_at, FitsIn, stop_at, stop_fci};
 
 /// A packet with a fixed header alone is spelled again, byte for byte, from what is read of it
@@ -26,4 +28,21 @@ pub fn rams_messages_are_read_back()
     ensures request { (r : Request) → FitsRequest r → request_at (request_fci r) ≡ Ok (request_back r) }
     ensures info { (i : Info) → FitsInfo i → info_at (info_fci i) ≡ Ok i }
     ensures stop { (s : Stop) → FitsIn 32 s.first_multicast → stop_at (stop_fci s) ≡ Ok s }
+{}
+
+/// What is read of a datagram is spelled so, byte for byte, each packet with some padding; what is
+/// spelled so is read (RFC 3550, 6).
+pub fn datagrams_are_read_as_spelled()
+    ensures spelled { (datagram : List ℕ) (packets : List Framed) → All (λ b. b < 256) datagram
+        → framed datagram ≡ Ok packets → IsCompound datagram packets }
+    ensures read { (datagram : List ℕ) (packets : List Framed) → IsCompound datagram packets → framed datagram ≡ Ok packets }
+{}
+
+/// What is written of a packet without padding is read back, and so is a feedback message (RFC
+/// 4585, 6.1).
+pub fn packets_are_read_back()
+    ensures packet { (p : Framed) → p.count < 32 → length p.body % 4 ≡ 0 → length p.body < 262144
+        → least_body p.kind p.count ≤ length p.body → framed (packet_text p []) ≡ Ok (p ∷ []) }
+    ensures feedback { (format sender media : ℕ) (fci : List ℕ) → format < 32 → sender < 2 ^ 32 → media < 2 ^ 32
+        → length fci % 4 ≡ 0 → length fci < 262136 → FramesAs format sender media fci }
 {}
