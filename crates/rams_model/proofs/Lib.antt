@@ -4,3 +4,4 @@ pub mod JoinedLaws
 pub mod TlvLaws
 pub mod RamsLaws
 pub mod PacketLaws
+pub mod NackLaws

@@ -1,11 +1,12 @@
 //! Laws of the definitions: each is the contract of a function that does nothing.
 ghost use Rattle.std.specs.Prelude.{◌≡◌, ◌%◌, ◌^◌, ◌<◌, ◌≤◌, ℕ, Bool, List, [], ◌∷◌, length, Ok, All};
+ghost use Rattle.std.specs.List.{AllByRecursion};
 ghost use Rattle.rams_model.specs.declared.message.Info.{Info};
 ghost use Rattle.rams_model.specs.declared.message.Stop.{Stop};
 ghost use Rattle.rams_model.specs.PlainPackets.{PlainPacketsAreSpelledAgain};
 ghost use Rattle.rams_model.specs.RamsInfo.{info_fci};
 ghost use Rattle.rams_model.specs.Rtcp.{Framed, framed, IsCompound, packet_text, least_body};
-ghost use Rattle.rams_model.specs.Feedback.{FramesAs};
+ghost use Rattle.rams_model.specs.Feedback.{FramesAs, nack_numbers, nack_words};
 ghost use Rattle.rams_model.specs.Rams.{Tlv, IsMessage, tlvs_at, Request, FitsRequest, request_at, request_fci, request_back, FitsInfo, info_at, FitsIn, stop_at, stop_fci};
 
 /// A packet with a fixed header alone is spelled again, byte for byte, from what is read of it
@@ -45,4 +46,11 @@ pub fn packets_are_read_back()
         → least_body p.kind p.count ≤ length p.body → framed (packet_text p []) ≡ Ok (p ∷ []) }
     ensures feedback { (format sender media : ℕ) (fci : List ℕ) → format < 32 → sender < 2 ^ 32 → media < 2 ^ 32
         → length fci % 4 ≡ 0 → length fci < 262136 → FramesAs format sender media fci }
+{}
+
+/// Numbers that are packed into the words of a NACK are named by them, in their order (RFC 4585,
+/// 6.2.1).
+pub fn nacks_are_read_back()
+    ensures { (numbers : List ℕ) → 0 < length numbers → AllByRecursion (λ n. n < 65536) numbers
+        → nack_numbers (nack_words numbers) ≡ Ok numbers }
 {}

@@ -23,8 +23,9 @@ pub use examples::{no_event, one_packet_per_tick};
 pub use fault::{ConfigFault, FrameFault, LineFault, NackFault, RtpFault, TlvFault};
 pub use held::Held;
 pub use laws::{
-    datagrams_are_read_as_spelled, packets_are_read_back, plain_packets_are_spelled_again,
-    rams_messages_are_read_as_spelled, rams_messages_are_read_back,
+    datagrams_are_read_as_spelled, nacks_are_read_back, packets_are_read_back,
+    plain_packets_are_spelled_again, rams_messages_are_read_as_spelled,
+    rams_messages_are_read_back,
 };
 pub use message::{Info, Stop};
 pub use note::{Cause, LiveNote, Note};
