@@ -13,3 +13,9 @@ pub mod Waiting
 pub mod Rising
 pub mod PlainPackets
 pub mod RtpPackets
+pub mod Joined
+pub mod JoinedLaws
+pub mod TlvLaws
+pub mod RamsLaws
+pub mod PacketLaws
+pub mod NackLaws

@@ -1,9 +1,9 @@
 -- Transport layer feedback (RFC 4585, 6.1), and the generic NACK (RFC 4585, 6.2.1).
-use Rattle.std.specs.Prelude.{ℕ, ◌+◌, ◌-◌, ◌%◌, ◌^◌, ◌&&◌, ◌==◌, nat_lt, nat_le, if◌then◌else◌, zero, suc, List, [], ◌∷◌, ◌++◌, length, drop, map, filter, Option, None, Some, Result, Ok, Err}
+use Rattle.std.specs.Prelude.{◌≡◌, ℕ, ◌+◌, ◌-◌, ◌%◌, ◌^◌, ◌&&◌, ◌==◌, nat_lt, nat_le, if◌then◌else◌, zero, suc, List, [], ◌∷◌, ◌++◌, length, drop, map, filter, Option, None, Some, Result, Ok, Err}
 use Rattle.std.specs.Int.{w16, w32, to_be_bytes, from_be_bytes, bit_at}
 use Rattle.rams_model.specs.declared.fault.NackFault.{NackFault}
 use Rattle.rams_model.specs.declared.fault.NackFault.TheVariants.{Empty, Length}
-use Rattle.rams_model.specs.Rtcp.{Framed}
+use Rattle.rams_model.specs.Rtcp.{Framed, framed}
 use Rattle.rams_model.specs.RamsInfo.{transport_feedback}
 
 -- the SSRCs of the packet's sender and of the media source, the format, and the feedback control information
@@ -19,6 +19,12 @@ feedback_of p =
     if p.kind == 205 && nat_le 8 (length p.body)
     then Some (record { sender = from_be_bytes w32 p.body; media = from_be_bytes w32 (drop 4 p.body); format = p.count; fci = drop 8 p.body })
     else None
+
+-- A feedback message alone in a datagram is framed as one packet, which has its parts.
+pub record FramesAs (format sender media : ℕ) (fci : List ℕ) : Type 0 where
+  pub packet : Framed
+  pub framed : framed (transport_feedback format sender media fci) ≡ Ok (packet ∷ [])
+  pub feedback : feedback_of packet ≡ Some (record { sender = sender; media = media; format = format; fci = fci })
 
 -- n numbers, from one on
 abbrev pub counted_from : ℕ → ℕ → List ℕ
@@ -42,7 +48,7 @@ nack_numbers fci = if length fci == 0 then Err Empty else if length fci % 4 == 0
 
 -- how far a number lies behind another, modulo 65536
 abbrev pub distance : ℕ → ℕ → ℕ
-distance from number = (number + 65536 - from) % 65536
+distance from number = (number + (65536 - from)) % 65536
 
 -- The words for some numbers, the first of them begun: each number joins it that lies further behind PID than the last, 16 at most; another begins a new word.
 unfoldable pub words_from : ℕ → ℕ → ℕ → List ℕ → List ℕ

@@ -1,6 +1,6 @@
 -- The RAMS messages (RFC 6285, 7): a request, information, a termination.
-use Rattle.std.specs.Prelude.{◌≡◌, ℕ, ◌+◌, ◌-◌, ◌*◌, ◌/◌, ◌%◌, ◌<◌, Bool, true, false, ◌&&◌, ◌||◌, ◌==◌, nat_lt, nat_le, if◌then◌else◌, IsTrue, List, [], ◌∷◌, ◌++◌, length, drop, slice_index, slice_range, Option, None, Some, is_some, option_map, Result, Err}
-use Rattle.std.specs.List.{list_any, flat_map}
+use Rattle.std.specs.Prelude.{◌≡◌, ℕ, ◌+◌, ◌-◌, ◌*◌, ◌/◌, ◌%◌, ◌<◌, Bool, true, false, ◌&&◌, ◌||◌, ◌==◌, nat_lt, nat_le, if◌then◌else◌, IsTrue, IfSome, ◌≤◌, ◌^◌, List, [], ◌∷◌, ◌++◌, length, drop, slice_index, slice_range, Option, None, Some, is_some, option_map, Result, Err}
+use Rattle.std.specs.List.{list_any, flat_map, AllByRecursion}
 use Rattle.std.specs.Int.{Width, w16, w32, w64, to_be_bytes, from_be_bytes}
 use Rattle.rams_model.specs.declared.fault.TlvFault.{TlvFault}
 use Rattle.rams_model.specs.declared.fault.TlvFault.TheVariants.{Form, Short, Length}
@@ -101,6 +101,11 @@ ssrcs_in None = None
 ssrcs_in (Some []) = None
 ssrcs_in (Some (b ∷ bytes)) = Some (words32 (b ∷ bytes))
 
+abbrev pub ssrcs_back : Option (List ℕ) → Option (List ℕ)
+ssrcs_back None = None
+ssrcs_back (Some []) = None
+ssrcs_back (Some (s ∷ ssrcs)) = Some (s ∷ ssrcs)
+
 -- what the TLVs of a RAMS-R say: of a type that is repeated the first counts
 abbrev pub request_of : List Tlv → Request
 request_of ts = record {
@@ -162,6 +167,29 @@ request_fci r =
 -- SFMT 3, reserved bits, TLVs (RFC 6285, 7.4)
 abbrev pub stop_fci : Stop → List ℕ
 stop_fci s = 3 ∷ 0 ∷ 0 ∷ 0 ∷ optional_tlv 61 w32 s.first_multicast
+
+-- an optional number fits its width
+abbrev pub FitsIn : ℕ → Option ℕ → Type 0
+FitsIn n o = IfSome o (λ x. x < 2 ^ n)
+
+-- Each field of a request fits its bytes, and there are at most 64 SSRCs.
+pub record FitsRequest (r : Request) : Type 0 where
+  pub few : IfSome r.ssrcs (λ ssrcs. length ssrcs ≤ 64)
+  pub ssrcs : IfSome r.ssrcs (λ ssrcs. AllByRecursion (λ s. s < 2 ^ 32) ssrcs)
+  pub min_ms : FitsIn 32 r.min_ms
+  pub max_ms : FitsIn 32 r.max_ms
+  pub bps : FitsIn 64 r.bps
+
+-- a request as it is read back: an empty list of SSRCs is none
+abbrev pub request_back : Request → Request
+request_back r = record r { ssrcs = ssrcs_back r.ssrcs }
+
+pub record FitsInfo (i : Info) : Type 0 where
+  pub code : i.code < 2 ^ 16
+  pub first : FitsIn 16 i.first
+  pub join_ms : FitsIn 32 i.join_ms
+  pub length_ms : FitsIn 32 i.length_ms
+  pub bps : FitsIn 64 i.bps
 
 -- the whole messages
 unfoldable pub rams_request : ℕ → ℕ → Request → List ℕ

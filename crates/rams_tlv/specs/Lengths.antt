@@ -1,0 +1,17 @@
+-- Which lengths the types of a message have.
+use Rattle.std.specs.Prelude.{ℕ, Bool}
+use Rattle.rams_tlv.specs.declared.tlvs.Message.{Message}
+use Rattle.rams_tlv.specs.declared.tlvs.Message.TheVariants as message
+use Rattle.rams_model.specs.Rams.{request_length, info_length, stop_length}
+
+-- whether the value of a type that the message reads has its length
+abbrev pub lengths : Message → ℕ → ℕ → Bool
+lengths message.Request kind n = request_length kind n
+lengths message.Info kind n = info_length kind n
+lengths message.Stop kind n = stop_length kind n
+
+-- the message's first byte (RFC 6285, 7)
+abbrev pub sfmt : Message → ℕ
+sfmt message.Request = 1
+sfmt message.Info = 2
+sfmt message.Stop = 3

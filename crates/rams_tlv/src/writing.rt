@@ -1,0 +1,250 @@
+//! Whole RAMS messages as RTCP packets (RFC 4585, 6.1, and RFC 6285, 7).
+ghost use Rattle.std.specs.Prelude.{◌≡◌, ◌+◌, ◌*◌, ◌/◌, ◌%◌, ◌≤◌, ◌∷◌, ◌++◌, IfOk, OnOk, IfSome, is_some, if◌then◌else◌, length};
+ghost use Rattle.std.specs.Int.{w16, w32, w64, to_be_bytes};
+ghost use Rattle.std.specs.List.{flat_map};
+ghost use Rattle.rams_model.specs.Joined.{words32};
+ghost use Rattle.rams_model.specs.RamsInfo.{rams_info, info_fci, tlv, optional_tlv};
+ghost use Rattle.rams_model.specs.Rams.{rams_request, rams_stop, request_fci, stop_fci, preamble_tlv, ssrcs_tlv};
+ghost use Rattle.rams_tlv.specs.Shown.{shown_request, shown_ssrcs, IsWritable, HasSpelling};
+
+use crate::request::Request;
+use ram_io::NoMemory;
+use rams_model::{Info, Stop};
+use std::alloc::Global;
+
+/// A whole RAMS-R of this sender about this media source, its TLVs in rising type. The list of
+/// SSRCs has at most 64.
+pub fn write_request(
+    alloc: Global,
+    sender: u32,
+    media: u32,
+    r: &Request<'_>,
+) -> Result<Vec<u8>, NoMemory>
+    requires { HasSpelling r.now }
+    ensures { IfOk result (λ text. text.items ≡ rams_request sender media (shown_request r.now)) }
+{
+    let mut text = Vec::new(alloc);
+    append_request(&mut text, sender, media, r)?;
+    Ok(text)
+}
+
+/// `write_request`, behind what is there; an error may leave a part of the message.
+#[tactic(auto, unfolding(rams_model::specs::Rams::rams_request))]
+pub fn append_request(
+    text: &mut Vec<u8>,
+    sender: u32,
+    media: u32,
+    r: &Request<'_>,
+) -> Result<(), NoMemory>
+    requires { HasSpelling r.now }
+    ensures { OnOk result (text.new.items ≡ text.old.items ++ rams_request sender media (shown_request r.now)) }
+{
+    text.extend_from_slice(&header(request_words(r), sender, media))?;
+    append_request_fci(text, r)
+}
+
+/// A whole RAMS-I of this sender about this media source, its TLVs in rising type.
+pub fn write_info(alloc: Global, sender: u32, media: u32, i: &Info) -> Result<Vec<u8>, NoMemory>
+    ensures { IfOk result (λ text. text.items ≡ rams_info sender media i.now) }
+{
+    let mut text = Vec::new(alloc);
+    append_info(&mut text, sender, media, i)?;
+    Ok(text)
+}
+
+/// `write_info`, behind what is there; an error may leave a part of the message.
+#[tactic(auto, unfolding(rams_model::specs::RamsInfo::rams_info))]
+pub fn append_info(text: &mut Vec<u8>, sender: u32, media: u32, i: &Info) -> Result<(), NoMemory>
+    ensures { OnOk result (text.new.items ≡ text.old.items ++ rams_info sender media i.now) }
+{
+    text.extend_from_slice(&header(info_words(i), sender, media))?;
+    append_info_fci(text, i)
+}
+
+/// A whole RAMS-T of this sender about this media source.
+pub fn write_stop(alloc: Global, sender: u32, media: u32, s: &Stop) -> Result<Vec<u8>, NoMemory>
+    ensures { IfOk result (λ text. text.items ≡ rams_stop sender media s.now) }
+{
+    let mut text = Vec::new(alloc);
+    append_stop(&mut text, sender, media, s)?;
+    Ok(text)
+}
+
+/// `write_stop`, behind what is there; an error may leave a part of the message.
+#[tactic(auto, unfolding(rams_model::specs::Rams::rams_stop))]
+pub fn append_stop(text: &mut Vec<u8>, sender: u32, media: u32, s: &Stop) -> Result<(), NoMemory>
+    ensures { OnOk result (text.new.items ≡ text.old.items ++ rams_stop sender media s.now) }
+{
+    text.extend_from_slice(&header(stop_words(s), sender, media))?;
+    append_stop_fci(text, s)
+}
+
+/// The header of a RAMS message of so many words behind the first (RFC 4585, 6.1).
+fn header(words: u16, sender: u32, media: u32) -> [u8; 12]
+    ensures { result ≡ 134 ∷ 205 ∷ (to_be_bytes w16 words ++ to_be_bytes w32 sender ++ to_be_bytes w32 media) }
+{
+    let w = words.to_be_bytes();
+    let s = sender.to_be_bytes();
+    let m = media.to_be_bytes();
+    [
+        134, 205, w[0], w[1], s[0], s[1], s[2], s[3], m[0], m[1], m[2], m[3],
+    ]
+}
+
+/// The words behind the first of a RAMS-R.
+fn request_words(r: &Request<'_>) -> u16
+    requires { HasSpelling r.now }
+    ensures { result ≡ 2 + length (request_fci (shown_request r.now)) / 4 }
+{
+    3 + ssrcs_words(r.ssrcs)
+        + words(r.min_ms.is_some(), 2)
+        + words(r.max_ms.is_some(), 2)
+        + words(r.bps.is_some(), 3)
+        + words(r.preamble, 1)
+}
+
+/// The words of the TLV of the SSRCs.
+fn ssrcs_words(ssrcs: Option<&[u8]>) -> u16
+    requires { IsWritable ssrcs }
+    ensures words { 4 * result ≡ length (ssrcs_tlv (shown_ssrcs ssrcs.entry)) }
+    ensures few { result ≤ 65 }
+{
+    match ssrcs {
+        None => 0,
+        Some(list) => list_words(list),
+    }
+}
+
+/// The words of a TLV of these SSRCs.
+fn list_words(list: &[u8]) -> u16
+    requires short { length list.now ≤ 256 }
+    requires whole { length list.now % 4 ≡ 0 }
+    ensures words { 4 * result ≡ length (tlv 1 (flat_map (to_be_bytes w32) (words32 list.now))) }
+    ensures few { result ≤ 65 }
+{
+    1 + (list.len() / 4) as u16
+}
+
+/// The words behind the first of a RAMS-I.
+fn info_words(i: &Info) -> u16
+    ensures { result ≡ 2 + length (info_fci i.now) / 4 }
+{
+    3 + words(i.first.is_some(), 2)
+        + words(i.join_ms.is_some(), 2)
+        + words(i.length_ms.is_some(), 2)
+        + words(i.bps.is_some(), 3)
+}
+
+/// The words behind the first of a RAMS-T.
+fn stop_words(s: &Stop) -> u16
+    ensures { result ≡ 2 + length (stop_fci s.now) / 4 }
+{
+    3 + words(s.first_multicast.is_some(), 2)
+}
+
+/// So many words, or none.
+fn words(is_there: bool, count: u16) -> u16
+    ensures { result ≡ (if is_there then count else 0) }
+{
+    if is_there { count } else { 0 }
+}
+
+/// The feedback control information of a RAMS-R.
+fn append_request_fci(text: &mut Vec<u8>, r: &Request<'_>) -> Result<(), NoMemory>
+    requires { HasSpelling r.now }
+    ensures { OnOk result (text.new.items ≡ text.old.items ++ request_fci (shown_request r.now)) }
+{
+    text.extend_from_slice(&[1, 0, 0, 0])?;
+    append_ssrcs(text, r.ssrcs)?;
+    append_word(text, 2, r.min_ms)?;
+    append_word(text, 3, r.max_ms)?;
+    append_long(text, 4, r.bps)?;
+    append_preamble(text, r.preamble)
+}
+
+/// The feedback control information of a RAMS-I.
+fn append_info_fci(text: &mut Vec<u8>, i: &Info) -> Result<(), NoMemory>
+    ensures { OnOk result (text.new.items ≡ text.old.items ++ info_fci i.now) }
+{
+    text.extend_from_slice(&[2, i.msn])?;
+    text.extend_from_slice(&i.code.to_be_bytes())?;
+    append_short(text, 32, i.first)?;
+    append_word(text, 33, i.join_ms)?;
+    append_word(text, 34, i.length_ms)?;
+    append_long(text, 35, i.bps)
+}
+
+/// The feedback control information of a RAMS-T.
+fn append_stop_fci(text: &mut Vec<u8>, s: &Stop) -> Result<(), NoMemory>
+    ensures { OnOk result (text.new.items ≡ text.old.items ++ stop_fci s.now) }
+{
+    text.extend_from_slice(&[3, 0, 0, 0])?;
+    append_word(text, 61, s.first_multicast)
+}
+
+/// The TLV of the SSRCs, where there is a list.
+fn append_ssrcs(text: &mut Vec<u8>, ssrcs: Option<&[u8]>) -> Result<(), NoMemory>
+    requires { IsWritable ssrcs }
+    ensures { OnOk result (text.new.items ≡ text.old.items ++ ssrcs_tlv (shown_ssrcs ssrcs.entry)) }
+{
+    match ssrcs {
+        None => Ok(()),
+        Some(list) => append_list(text, list),
+    }
+}
+
+/// A TLV of these SSRCs.
+fn append_list(text: &mut Vec<u8>, list: &[u8]) -> Result<(), NoMemory>
+    requires short { length list.now ≤ 256 }
+    requires whole { length list.now % 4 ≡ 0 }
+    ensures { OnOk result (text.new.items ≡ text.old.items ++ tlv 1 (flat_map (to_be_bytes w32) (words32 list.now))) }
+{
+    text.extend_from_slice(&[1, 0])?;
+    text.extend_from_slice(&(list.len() as u16).to_be_bytes())?;
+    text.extend_from_slice(list)?;
+    Ok(())
+}
+
+/// The TLV of the preamble, which has no value, where it is set.
+fn append_preamble(text: &mut Vec<u8>, is_set: bool) -> Result<(), NoMemory>
+    ensures { OnOk result (text.new.items ≡ text.old.items ++ preamble_tlv is_set) }
+{
+    if is_set {
+        text.extend_from_slice(&[5, 0, 0, 0])?;
+    }
+    Ok(())
+}
+
+/// A TLV of 16 bits, where there is a value: two zeros fill its last word (RFC 6285, 7.1).
+fn append_short(text: &mut Vec<u8>, kind: u8, value: Option<u16>) -> Result<(), NoMemory>
+    ensures { OnOk result (text.new.items ≡ text.old.items ++ optional_tlv kind w16 value) }
+{
+    if let Some(n) = value {
+        text.extend_from_slice(&[kind, 0, 0, 2])?;
+        text.extend_from_slice(&n.to_be_bytes())?;
+        text.extend_from_slice(&[0, 0])?;
+    }
+    Ok(())
+}
+
+/// A TLV of 32 bits, where there is a value.
+fn append_word(text: &mut Vec<u8>, kind: u8, value: Option<u32>) -> Result<(), NoMemory>
+    ensures { OnOk result (text.new.items ≡ text.old.items ++ optional_tlv kind w32 value) }
+{
+    if let Some(n) = value {
+        text.extend_from_slice(&[kind, 0, 0, 4])?;
+        text.extend_from_slice(&n.to_be_bytes())?;
+    }
+    Ok(())
+}
+
+/// A TLV of 64 bits, where there is a value.
+fn append_long(text: &mut Vec<u8>, kind: u8, value: Option<u64>) -> Result<(), NoMemory>
+    ensures { OnOk result (text.new.items ≡ text.old.items ++ optional_tlv kind w64 value) }
+{
+    if let Some(n) = value {
+        text.extend_from_slice(&[kind, 0, 0, 8])?;
+        text.extend_from_slice(&n.to_be_bytes())?;
+    }
+    Ok(())
+}

@@ -1,0 +1,7 @@
+-- A feedback message as code has it.
+use Rattle.rams_model.specs.Feedback as model
+use Rattle.rtcp_feedback.specs.declared.message.Feedback.{Feedback}
+
+-- a message without where it lies in memory
+abbrev pub shown_feedback : Feedback → model.Feedback
+shown_feedback f = record { sender = f.sender; media = f.media; format = f.fmt; fci = f.fci.now }

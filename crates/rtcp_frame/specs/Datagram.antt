@@ -1,0 +1,9 @@
+-- The packets of a datagram.
+use Rattle.std.specs.Prelude.{ℕ, List, Result}
+use Rattle.rams_model.specs.declared.fault.FrameFault.{FrameFault}
+use Rattle.rams_model.specs.Joined.{pieces_of}
+use Rattle.rams_model.specs.Rtcp.{Framed, packet_format}
+
+-- the packets that the bytes are, none of them too
+unfoldable pub packets_in : List ℕ → Result (List Framed) FrameFault
+packets_in bytes = pieces_of packet_format bytes
