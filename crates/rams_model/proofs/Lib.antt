@@ -1,1 +1,12 @@
+pub mod Holding
+pub mod OneBook
+pub mod Catching
+pub mod LastStop
+pub mod Stopping
+pub mod Since
+pub mod Running
+pub mod Choosing
+pub mod Growing
+pub mod Waiting
+pub mod Rising
 pub mod PlainPackets

@@ -25,6 +25,8 @@ pub mod Answers
 pub mod Tick
 pub mod Orders
 pub mod Book
+pub mod CatchUp
+pub mod Laws
 pub mod Worked
 pub mod Words
 pub mod TraceLine

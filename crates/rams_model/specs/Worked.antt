@@ -6,3 +6,4 @@ pub mod Stops
 pub mod Repairs
 pub mod Requests
 pub mod Buckets
+pub mod Parts

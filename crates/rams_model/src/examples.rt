@@ -1,11 +1,12 @@
 //! Worked examples, which the checker computes.
 ghost use Rattle.rams_model.specs.First.Examples as first;
-ghost use Rattle.rams_model.specs.Worked.Live.{LiveRefusals, WindowAndLate, RestartLosesTheBurst, PaddingAndExtension};
-ghost use Rattle.rams_model.specs.Worked.Bursts.{OnePacketPerTick, NoEligibleAccessPoint, BurstLost, LimitAndIdle, ShareIsSpent, SlowClient, StatedJoinTimeIsKept, RingIsFilled, SourceSendsMoreThanDeclared, NotEligibleWithOneMore};
-ghost use Rattle.rams_model.specs.Worked.Stops.{StopAcrossTheWrap, StopAfterTheLast, StopAlreadyPassed, StopHighBits};
-ghost use Rattle.rams_model.specs.Worked.Repairs.{RepairAcrossTheWrap, EarlyAndAlready, RepairWaitsForBudget};
-ghost use Rattle.rams_model.specs.Worked.Requests.{CompoundFeedback, RequestRefusals, BufferFillBounds, FullTable, RateIsUpdated, UpdateFitsTheShare};
-ghost use Rattle.rams_model.specs.Worked.Buckets.{BurstKeepsWhatItLeft, DepthIsReserved, ChannelKeepsWhatItLeft};
+ghost use Rattle.rams_model.specs.Worked.Live.{LiveRefusals, WindowAndLate, RestartLosesTheBurst, PaddingAndExtension, EveryBadPacket, ReachOfNumbers, JumpIsKept, WindowAtARestart, WindowReleases, RandomAccessFlag};
+ghost use Rattle.rams_model.specs.Worked.Bursts.{OnePacketPerTick, NoEligibleAccessPoint, BurstLost, LimitAndIdle, ShareIsSpent, SlowClient, StatedJoinTimeIsKept, RingIsFilled, SourceSendsMoreThanDeclared, NotEligibleWithOneMore, BurstsInTheOrderOfClients, BurstWaitsForTheSource, RunStopsAtTheFirstThatDoesNotFit};
+ghost use Rattle.rams_model.specs.Worked.Stops.{StopAcrossTheWrap, StopAfterTheLast, StopAlreadyPassed, StopHighBits, StopIsKept, StopWithoutNumber};
+ghost use Rattle.rams_model.specs.Worked.Repairs.{RepairAcrossTheWrap, EarlyAndAlready, RepairWaitsForBudget, GoneFromTheRing, EarlyUpToTheStop, NacksWithoutNumbers, RepairsBehindTheRuns};
+ghost use Rattle.rams_model.specs.Worked.Requests.{CompoundFeedback, RequestRefusals, BufferFillBounds, FullTable, RateIsUpdated, UpdateFitsTheShare, EveryBadDatagram, PaddingIsAllowed, FirstRamsMessageCounts, MessagesInOrder, ByeOfAnother, SourceOfTheClient, RefusedOnAnOpenBurst, NamedSources, IdleIsCounted, UpdatesInATrace, RefusalsInOrder};
+ghost use Rattle.rams_model.specs.Worked.Buckets.{BurstKeepsWhatItLeft, DepthIsReserved, ChannelKeepsWhatItLeft, RepairsLeaveTheDepth, EndedBurstLeavesAll, UpdateKeepsWhatIsKept};
+ghost use Rattle.rams_model.specs.Worked.Parts.{Numbers, Flags, FullRooms, LongTimes};
 
 /// A trace without events.
 pub fn no_event()
@@ -17,12 +18,26 @@ pub fn one_packet_per_tick()
     ensures { first.OnePacketPerTick }
 {}
 
+/// Numbers, access points, rates and codes by themselves.
+pub fn parts_of_answers()
+    ensures numbers { Numbers }
+    ensures flags { Flags }
+    ensures rooms { FullRooms }
+    ensures times { LongTimes }
+{}
+
 /// Live packets: numbers, the reordering window, restarts.
 pub fn live_packets()
     ensures live_refusals { LiveRefusals }
     ensures window_and_late { WindowAndLate }
     ensures restart_loses_the_burst { RestartLosesTheBurst }
     ensures padding_and_extension { PaddingAndExtension }
+    ensures every_bad_packet { EveryBadPacket }
+    ensures reach_of_numbers { ReachOfNumbers }
+    ensures jump_is_kept { JumpIsKept }
+    ensures window_at_a_restart { WindowAtARestart }
+    ensures window_releases { WindowReleases }
+    ensures random_access_flag { RandomAccessFlag }
 {}
 
 /// Where bursts begin, what they send, how they end.
@@ -37,6 +52,9 @@ pub fn bursts_in_ticks()
     ensures ring_is_filled { RingIsFilled }
     ensures source_sends_more_than_declared { SourceSendsMoreThanDeclared }
     ensures not_eligible_with_one_more { NotEligibleWithOneMore }
+    ensures bursts_in_the_order_of_clients { BurstsInTheOrderOfClients }
+    ensures burst_waits_for_the_source { BurstWaitsForTheSource }
+    ensures run_stops_at_the_first_that_does_not_fit { RunStopsAtTheFirstThatDoesNotFit }
 {}
 
 /// Where a RAMS-T stops a burst (RFC 6285, 7.4).
@@ -45,6 +63,8 @@ pub fn stops_of_bursts()
     ensures stop_after_the_last { StopAfterTheLast }
     ensures stop_already_passed { StopAlreadyPassed }
     ensures stop_high_bits { StopHighBits }
+    ensures stop_is_kept { StopIsKept }
+    ensures stop_without_number { StopWithoutNumber }
 {}
 
 /// Repairs that generic NACKs ask for (RFC 4585, 6.2.1).
@@ -52,6 +72,10 @@ pub fn repairs_of_packets()
     ensures repair_across_the_wrap { RepairAcrossTheWrap }
     ensures early_and_already { EarlyAndAlready }
     ensures repair_waits_for_budget { RepairWaitsForBudget }
+    ensures gone_from_the_ring { GoneFromTheRing }
+    ensures early_up_to_the_stop { EarlyUpToTheStop }
+    ensures nacks_without_numbers { NacksWithoutNumbers }
+    ensures repairs_behind_the_runs { RepairsBehindTheRuns }
 {}
 
 /// Which RAMS-R are refused, and what a client is told (RFC 6285, 7.2).
@@ -62,6 +86,17 @@ pub fn requests_of_clients()
     ensures full_table { FullTable }
     ensures rate_is_updated { RateIsUpdated }
     ensures update_fits_the_share { UpdateFitsTheShare }
+    ensures every_bad_datagram { EveryBadDatagram }
+    ensures padding_is_allowed { PaddingIsAllowed }
+    ensures first_rams_message_counts { FirstRamsMessageCounts }
+    ensures messages_in_order { MessagesInOrder }
+    ensures bye_of_another { ByeOfAnother }
+    ensures source_of_the_client { SourceOfTheClient }
+    ensures refused_on_an_open_burst { RefusedOnAnOpenBurst }
+    ensures named_sources { NamedSources }
+    ensures idle_is_counted { IdleIsCounted }
+    ensures updates_in_a_trace { UpdatesInATrace }
+    ensures refusals_in_order { RefusalsInOrder }
 {}
 
 /// What bursts and the channel keep from tick to tick.
@@ -69,4 +104,7 @@ pub fn budgets_of_ticks()
     ensures burst_keeps_what_it_left { BurstKeepsWhatItLeft }
     ensures depth_is_reserved { DepthIsReserved }
     ensures channel_keeps_what_it_left { ChannelKeepsWhatItLeft }
+    ensures repairs_leave_the_depth { RepairsLeaveTheDepth }
+    ensures ended_burst_leaves_all { EndedBurstLeavesAll }
+    ensures update_keeps_what_is_kept { UpdateKeepsWhatIsKept }
 {}

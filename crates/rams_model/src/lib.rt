@@ -26,7 +26,11 @@ pub use examples::{
 };
 pub use fault::{ConfigFault, FrameFault, LineFault, NackFault, RtpFault, TlvFault};
 pub use held::Held;
-pub use laws::plain_packets_are_spelled_again;
+pub use laws::{
+    awaited_is_least, catching_up_ends, chosen_is_newest, exactly_one_book, held_packets_follow,
+    notes_say, plain_packets_are_spelled_again, run_is_longest, source_grows_in_order,
+    stop_is_least,
+};
 pub use message::{Info, Stop};
 pub use mode::{LineKind, Mode};
 pub use note::{Cause, LiveNote, Note};

@@ -157,3 +157,47 @@ NotEligibleWithOneMore =
     ∷ step (plain_request 5) (Refuse 5 507 ∷ [])
     (hex (codes "86cd0003aabbccdd11223344020001fb") ∷ [])
     ∷ [])
+
+-- bursts are served by rising client, whatever order they began in, and each client has its own sequence numbers
+abbrev pub BurstsInTheOrderOfClients : Type 0
+BurstsInTheOrderOfClients =
+    IsAnswered (record channel { share = 20000 }) (
+    took (packet 10 0 true 4) 65546
+    ∷ took (packet 11 0 false 4) 65547
+    ∷ step (plain_request 9) (Accept 9 65546 4000 1 ∷ [])
+    (hex (codes "86cd000caabbccdd11223344020000c82000000201f40000210000040000000a22000004000003e823000008000000000030d400") ∷ [])
+    ∷ step (plain_request 2) (Accept 2 65546 4000 1 ∷ [])
+    (hex (codes "86cd000caabbccdd11223344020000c82000000201f40000210000040000000a22000004000003e823000008000000000030d400") ∷ [])
+    ∷ step Tick (Burst 2 65546 500 ∷ Burst 2 65547 501 ∷ Burst 9 65546 500 ∷ Burst 9 65547 501 ∷ [])
+    (hex (codes "80e301f40000000011223344000a00000000") ∷ hex (codes "806301f50000000011223344000b00000000") ∷ hex (codes "80e301f40000000011223344000a00000000") ∷ hex (codes "806301f50000000011223344000b00000000") ∷ [])
+    ∷ [])
+
+-- a burst that has caught up is sent each packet in the tick after it came
+abbrev pub BurstWaitsForTheSource : Type 0
+BurstWaitsForTheSource =
+    IsAnswered channel (
+    took (packet 10 0 true 4) 65546
+    ∷ step (plain_request 5) (Accept 5 65546 4000 1 ∷ [])
+    (hex (codes "86cd000caabbccdd11223344020000c82000000201f40000210000040000000a22000004000003e823000008000000000030d400") ∷ [])
+    ∷ step Tick (Burst 5 65546 500 ∷ [])
+    (hex (codes "80e301f40000000011223344000a00000000") ∷ [])
+    ∷ step Tick [] []
+    ∷ took (packet 11 0 false 4) 65547
+    ∷ step Tick (Burst 5 65547 501 ∷ [])
+    (hex (codes "806301f50000000011223344000b00000000") ∷ [])
+    ∷ [])
+
+-- a packet that does not fit is not skipped for a smaller one behind it
+abbrev pub RunStopsAtTheFirstThatDoesNotFit : Type 0
+RunStopsAtTheFirstThatDoesNotFit =
+    IsAnswered (record channel { burst = 1600; minwire = 1500 }) (
+    took (packet 10 0 true 1400) 65546
+    ∷ took (packet 11 0 false 1400) 65547
+    ∷ took (packet 12 0 false 4) 65548
+    ∷ step (plain_request 5) (Accept 5 65546 1600 2930 ∷ [])
+    (hex (codes "86cd000caabbccdd11223344020000c82000000201f40000210000040000727422000004000003e8230000080000000000138800") ∷ [])
+    ∷ step Tick (Burst 5 65546 500 ∷ [])
+    ((hex (codes "80e301f40000000011223344000a") ++ replicate 1400 0) ∷ [])
+    ∷ step Tick (Burst 5 65547 501 ∷ Burst 5 65548 502 ∷ [])
+    ((hex (codes "806301f50000000011223344000b") ++ replicate 1400 0) ∷ hex (codes "806301f60000000011223344000c00000000") ∷ [])
+    ∷ [])

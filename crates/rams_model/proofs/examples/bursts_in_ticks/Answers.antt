@@ -24,12 +24,12 @@ use Rattle.rams_model.specs.Answers.{number_answer, after_numbers, after_message
 use Rattle.rams_model.specs.Tick.{run, send, all_served, all_repaired, all_forgotten, after_tick}
 use Rattle.rams_model.specs.Orders.{order_of, newest_notes, newest_orders, datagram}
 use Rattle.rams_model.specs.Book.{after_hearing, history_of, book}
-use Rattle.rams_model.specs.Worked.Bursts.{OnePacketPerTick, NoEligibleAccessPoint, BurstLost, LimitAndIdle, ShareIsSpent, SlowClient, StatedJoinTimeIsKept, RingIsFilled, SourceSendsMoreThanDeclared, NotEligibleWithOneMore}
+use Rattle.rams_model.specs.Worked.Bursts.{OnePacketPerTick, NoEligibleAccessPoint, BurstLost, LimitAndIdle, ShareIsSpent, SlowClient, StatedJoinTimeIsKept, RingIsFilled, SourceSendsMoreThanDeclared, NotEligibleWithOneMore, BurstsInTheOrderOfClients, BurstWaitsForTheSource, RunStopsAtTheFirstThatDoesNotFit}
 use Rattle.rams_model.proofs.examples.bursts_in_ticks.Goals as goal
 
-computed : OnePacketPerTick × NoEligibleAccessPoint × BurstLost × LimitAndIdle × ShareIsSpent × SlowClient × StatedJoinTimeIsKept × RingIsFilled × SourceSendsMoreThanDeclared × NotEligibleWithOneMore
+computed : OnePacketPerTick × NoEligibleAccessPoint × BurstLost × LimitAndIdle × ShareIsSpent × SlowClient × StatedJoinTimeIsKept × RingIsFilled × SourceSendsMoreThanDeclared × NotEligibleWithOneMore × BurstsInTheOrderOfClients × BurstWaitsForTheSource × RunStopsAtTheFirstThatDoesNotFit
 unfolding digits encode_with decode_pairs header spelling fields_of packet_at rams_info pieces_from words32 word_numbers numbers_of first_value hi numbered awaited live_note stream_of source consecutive_end hold has_access chosen message_of messages heard_of arrivals as_tick_began known opened sendings newest_sender ssrc bursts pending quiet_ticks channel_left sent_now verdict number_answer after_numbers after_messages run send all_served all_repaired all_forgotten after_tick order_of newest_notes newest_orders datagram after_hearing history_of book
-computed = (refl, (refl, refl, refl), refl, refl, (refl, refl), (refl, refl), refl, refl, refl, refl)
+computed = (refl, (refl, refl, refl), refl, refl, (refl, refl), (refl, refl), refl, refl, refl, refl, refl, refl, refl)
 
 pub returns-clause-one_packet_per_tick : goal.returns-clause-one_packet_per_tick
 returns-clause-one_packet_per_tick c = computed.0
@@ -60,3 +60,12 @@ returns-clause-source_sends_more_than_declared c = computed.8
 
 pub returns-clause-not_eligible_with_one_more : goal.returns-clause-not_eligible_with_one_more
 returns-clause-not_eligible_with_one_more c = computed.9
+
+pub returns-clause-bursts_in_the_order_of_clients : goal.returns-clause-bursts_in_the_order_of_clients
+returns-clause-bursts_in_the_order_of_clients c = computed.10
+
+pub returns-clause-burst_waits_for_the_source : goal.returns-clause-burst_waits_for_the_source
+returns-clause-burst_waits_for_the_source c = computed.11
+
+pub returns-clause-run_stops_at_the_first_that_does_not_fit : goal.returns-clause-run_stops_at_the_first_that_does_not_fit
+returns-clause-run_stops_at_the_first_that_does_not_fit c = computed.12

@@ -24,12 +24,12 @@ use Rattle.rams_model.specs.Answers.{number_answer, after_numbers, after_message
 use Rattle.rams_model.specs.Tick.{run, send, all_served, all_repaired, all_forgotten, after_tick}
 use Rattle.rams_model.specs.Orders.{order_of, newest_notes, newest_orders, datagram}
 use Rattle.rams_model.specs.Book.{after_hearing, history_of, book}
-use Rattle.rams_model.specs.Worked.Stops.{StopAcrossTheWrap, StopAfterTheLast, StopAlreadyPassed, StopHighBits}
+use Rattle.rams_model.specs.Worked.Stops.{StopAcrossTheWrap, StopAfterTheLast, StopAlreadyPassed, StopHighBits, StopIsKept, StopWithoutNumber}
 use Rattle.rams_model.proofs.examples.stops_of_bursts.Goals as goal
 
-computed : StopAcrossTheWrap × StopAfterTheLast × StopAlreadyPassed × StopHighBits
+computed : StopAcrossTheWrap × StopAfterTheLast × StopAlreadyPassed × StopHighBits × StopIsKept × StopWithoutNumber
 unfolding digits encode_with decode_pairs header spelling fields_of packet_at rams_info pieces_from words32 word_numbers numbers_of first_value hi numbered awaited live_note stream_of source consecutive_end hold has_access chosen message_of messages heard_of arrivals as_tick_began known opened sendings newest_sender ssrc bursts pending quiet_ticks channel_left sent_now verdict number_answer after_numbers after_messages run send all_served all_repaired all_forgotten after_tick order_of newest_notes newest_orders datagram after_hearing history_of book
-computed = (refl, refl, refl, refl)
+computed = (refl, refl, refl, refl, refl, refl)
 
 pub returns-clause-stop_across_the_wrap : goal.returns-clause-stop_across_the_wrap
 returns-clause-stop_across_the_wrap c = computed.0
@@ -42,3 +42,9 @@ returns-clause-stop_already_passed c = computed.2
 
 pub returns-clause-stop_high_bits : goal.returns-clause-stop_high_bits
 returns-clause-stop_high_bits c = computed.3
+
+pub returns-clause-stop_is_kept : goal.returns-clause-stop_is_kept
+returns-clause-stop_is_kept c = computed.4
+
+pub returns-clause-stop_without_number : goal.returns-clause-stop_without_number
+returns-clause-stop_without_number c = computed.5
