@@ -1,0 +1,2 @@
+pub mod JoinTimes
+pub mod Running

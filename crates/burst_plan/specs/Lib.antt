@@ -1,0 +1,2 @@
+pub mod QuietTick
+pub mod JoinTime

@@ -1,0 +1,15 @@
+//! The plan of a burst: its rate, the time until it has caught up with the multicast, and the packet
+//! before which it stops (RFC 6285, 6.2 and 7).
+//!
+//! `laws` says why a burst keeps the join time that its client is told.
+#![tactic(auto)]
+
+mod laws;
+mod rate;
+mod stop;
+#[cfg(test)]
+mod tests;
+
+pub use laws::{a_quiet_tick_comes_nearer, catching_up_ends, the_join_time_is_kept};
+pub use rate::{bits_of, join_ticks, rate_of};
+pub use stop::stop_of;
