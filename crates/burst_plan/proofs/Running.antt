@@ -1,6 +1,6 @@
--- What the run of a tick leaves, and that a quiet tick comes nearer.
-use Rattle.std.proofs.Common.{◌≡◌, ℕ, ◌+◌, ◌-◌, ◌<◌, ◌≤◌, min, ◌⊎◌, inl, inr, Bool, true, false, ◌&&◌, List, [], ◌∷◌, length, drop, Option, Some, None, refl, subst, arith, eqb, leb}
-use Rattle.std.proofs.lemmas.List.Sums.{sum_by-cons}
+-- What the run of a tick leaves, and that quiet ticks come nearer.
+use Rattle.std.proofs.Common.{◌≡◌, ℕ, ◌+◌, ◌-◌, ◌<◌, ◌≤◌, min, ◌⊎◌, inl, inr, Bool, true, false, ◌&&◌, List, [], ◌∷◌, ◌++◌, length, drop, Option, Some, None, refl, subst, arith, eqb, leb}
+use Rattle.std.proofs.lemmas.List.Sums.{sum_by-cons, sum_by-append}
 use Rattle.std.proofs.lemmas.Bool.{cond_both, both_ways, lt-ltb, ltb-true, leb-true, eq-eqb, eqb-false, and_parts, and_from}
 use Rattle.std.proofs.lemmas.Bool.Decides.{leb_tells}
 use Rattle.rams_model.specs.declared.held.Held.{Held}
@@ -9,8 +9,10 @@ use Rattle.rams_model.specs.Answers.{is_before}
 use Rattle.rams_model.specs.Rates.{waste}
 use Rattle.rams_model.specs.Tick.{run, is_stop}
 use Rattle.rams_model.specs.Laws.{Follows, IsByStop}
-use Rattle.rams_model.specs.CatchUp.{ComesNearer}
-use Rattle.burst_plan.specs.QuietTick.{AreAtMost, sent, unsent, QuietTicksComeNearer}
+use Rattle.rams_model.specs.CatchUp.{ComesNearer, CatchesUp}
+use Rattle.burst_plan.specs.JoinTime.{gain}
+use Rattle.burst_plan.specs.QuietTicks.{Burst, Tick, AreAtMost, sent, unsent, after, IsLawful, AreQuiet, pair, pairs_after, AreWithin, QuietTicksComeNearer, QuietBurstsKeepTheirJoinTime, QuietBurstsFallBackNoFurther}
+use Rattle.burst_plan.proofs.JoinTimes.{kept_join}
 
 wires-cons : (h : Held) (hs : List Held) → wires (h ∷ hs) ≡ h.wire + wires hs
 wires-cons h hs = sum_by-cons (λ (x : Held). x.wire) h hs
@@ -29,9 +31,9 @@ before : (stop : Option ℕ) (n : ℕ) → IsByStop stop n → is_stop stop n �
 before None n by e = refl
 before (Some m) n by e = let other : n ≡ m → ⊥ = eqb-false n m e in lt-ltb n m (omega (arith, by, other))
 
-after : (stop : Option ℕ) (n : ℕ) → is_before stop n ≡ true → IsByStop stop (n + 1)
-after None n e = tt
-after (Some m) n e = let lt = ltb-true n m e in omega (arith, lt)
+by_after : (stop : Option ℕ) (n : ℕ) → is_before stop n ≡ true → IsByStop stop (n + 1)
+by_after None n e = tt
+by_after (Some m) n e = let lt = ltb-true n m e in omega (arith, lt)
 
 at_end : (stop : Option ℕ) (n m : ℕ) → n ≡ m → is_stop stop n ≡ false → is_stop stop m ≡ false
 at_end stop n m e = subst (λ k. is_stop stop k ≡ false) e
@@ -46,7 +48,7 @@ leaves stop n left (h ∷ hs) follows sizes by end =
     let tests = and_parts (eqb h.n n && is_before stop n) (leb h.wire left) t in
     let on = and_parts (eqb h.n n) (is_before stop n) tests.0 in
     one_more (run stop (n + 1) (left - h.wire) hs) (leb-true h.wire left tests.1)
-    (leaves stop (n + 1) (left - h.wire) hs follows.1 sizes.1 (after stop n on.1) (at_end stop _ _ (omega arith) end)))
+    (leaves stop (n + 1) (left - h.wire) hs follows.1 sizes.1 (by_after stop n on.1) (at_end stop _ _ (omega arith) end)))
     (λ f end. none f (at_end stop (n + 0) n (omega arith) end))
     end
   where
@@ -80,10 +82,37 @@ nearer rate depth declared behind kept left sent rest all suffices keeps joins s
     let back = leaves (omega arith) in inr (omega arith, omega arith, omega arith)
 
 pub quiet_tick : QuietTicksComeNearer
-quiet_tick b behind declared left q =
-    let r = leaves b.stop b.next (b.rate + b.kept) b.packets q.follows q.sizes q.stops q.is_open in
+quiet_tick declared b t lawful q =
+    let sum = sum_by-append (λ (h : Held). h.wire) b.packets t.joined in
+    let r = leaves t.stop b.next (b.rate + b.kept) (b.packets ++ t.joined) q.follows q.sizes q.stops q.is_open in
     elim r.spare [
       | inl z ↦ inl z
       | inr s ↦
-          nearer b.rate b.depth declared behind b.kept left (wires (sent b)) (wires (unsent b)) (wires b.packets) q.suffices q.keeps q.joins r.splits s.0 s.1 r.fits q.within q.leaves
+          nearer b.rate b.depth declared (wires b.packets) b.kept t.left (wires (sent b t)) (wires (unsent b t)) (wires (b.packets ++ t.joined)) lawful.suffices lawful.keeps (omega (arith, sum, q.joins)) r.splits s.0 s.1 r.fits q.within q.leaves
     ]
+
+still_lawful : (declared : ℕ) (b : Burst) (t : Tick) → IsLawful declared b → IsLawful declared (after b t)
+still_lawful declared b t lawful = record { suffices = lawful.suffices; keeps = omega arith }
+
+catches_up : (declared : ℕ) (b : Burst) (ts : List Tick) → IsLawful declared b → AreQuiet declared b ts → CatchesUp (gain b.rate declared b.depth) (pair b ∷ pairs_after b ts)
+catches_up declared b [] lawful quiet = tt
+catches_up declared b (t ∷ ts) lawful quiet =
+    (quiet_tick declared b t lawful quiet.0, catches_up declared (after b t) ts (still_lawful declared b t lawful) quiet.1)
+
+pub quiet_bursts : QuietBurstsKeepTheirJoinTime
+quiet_bursts declared b ts lawful quiet =
+    kept_join (wires b.packets) b.kept b.rate declared b.depth (pairs_after b ts) lawful.suffices (catches_up declared b ts lawful quiet)
+
+within_most : (declared most : ℕ) (b : Burst) (ts : List Tick) → wires b.packets + declared ≤ most → IsLawful declared b → AreQuiet declared b ts → AreWithin most b ts
+within_most declared most b [] le lawful quiet = tt
+within_most declared most b (t ∷ ts) le lawful quiet =
+    let sum = sum_by-append (λ (h : Held). h.wire) b.packets t.joined in (
+      omega (arith, sum, quiet.0.joins, le),
+      within_most declared most (after b t) ts (no_more (quiet_tick declared b t lawful quiet.0)) (still_lawful declared b t lawful) quiet.1,
+    )
+  where
+    no_more : ComesNearer (gain b.rate declared b.depth) (pair b) (pair (after b t)) → wires (unsent b t) + declared ≤ most
+    no_more step = elim step [ inl z ↦ omega (arith, z, le) | inr n ↦ omega (arith, n.0, le) ]
+
+pub no_further : QuietBurstsFallBackNoFurther
+no_further declared b ts lawful quiet = within_most declared (wires b.packets + declared) b ts (omega arith) lawful quiet

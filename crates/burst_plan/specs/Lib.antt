@@ -1,2 +1,2 @@
-pub mod QuietTick
 pub mod JoinTime
+pub mod QuietTicks

@@ -10,6 +10,6 @@ mod stop;
 #[cfg(test)]
 mod tests;
 
-pub use laws::{a_quiet_tick_comes_nearer, catching_up_ends, the_join_time_is_kept};
+pub use laws::{catching_up_ends, join_times_are_kept, quiet_bursts_catch_up};
 pub use rate::{bits_of, join_ticks, rate_of};
 pub use stop::stop_of;

@@ -1,6 +1,6 @@
 use crate::{
-    a_quiet_tick_comes_nearer, bits_of, catching_up_ends, join_ticks, rate_of, stop_of,
-    the_join_time_is_kept,
+    bits_of, catching_up_ends, join_ticks, join_times_are_kept, quiet_bursts_catch_up, rate_of,
+    stop_of,
 };
 
 #[test]
@@ -52,9 +52,9 @@ fn bit_rates(rt: HostRuntime) {
 
 #[test]
 fn join_times(rt: HostRuntime) {
-    the_join_time_is_kept();
+    join_times_are_kept();
     catching_up_ends();
-    a_quiet_tick_comes_nearer();
+    quiet_bursts_catch_up();
     let joins = [
         // one byte is gained in a tick: a slow client, and one packet per tick
         (46, 1600, 100, 0, 46),
