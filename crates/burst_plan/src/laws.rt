@@ -4,6 +4,7 @@
 //! that catch up, in the definitions of the channel.
 ghost use Rattle.rams_model.specs.CatchUp.{CatchingUpEnds};
 ghost use Rattle.burst_plan.specs.JoinTime.{JoinTimesAreLeast, JoinTimesAreKept};
+ghost use Rattle.burst_plan.specs.Example.{CatchesUpInThreeTicks};
 ghost use Rattle.burst_plan.specs.QuietTicks.{QuietTicksComeNearer, QuietBurstsKeepTheirJoinTime, QuietBurstsFallBackNoFurther};
 
 /// Of a list of pairs, bytes behind and bytes kept, that catches up by a gain, nothing is left after
@@ -28,4 +29,10 @@ pub fn quiet_bursts_catch_up()
     ensures nearer { QuietTicksComeNearer }
     ensures kept { QuietBurstsKeepTheirJoinTime }
     ensures within { QuietBurstsFallBackNoFurther }
+{}
+
+/// A worked example: five packets of 1,500 bytes at a rate of 2,999 bytes are sent in three ticks,
+/// where the burst may keep what one packet doesn't fill.
+pub fn five_packets_in_three_ticks()
+    ensures { CatchesUpInThreeTicks }
 {}

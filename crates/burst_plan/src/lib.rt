@@ -10,6 +10,8 @@ mod stop;
 #[cfg(test)]
 mod tests;
 
-pub use laws::{catching_up_ends, join_times_are_kept, quiet_bursts_catch_up};
+pub use laws::{
+    catching_up_ends, five_packets_in_three_ticks, join_times_are_kept, quiet_bursts_catch_up,
+};
 pub use rate::{bits_of, join_ticks, rate_of};
 pub use stop::stop_of;

@@ -1,6 +1,6 @@
 use crate::{
-    bits_of, catching_up_ends, join_ticks, join_times_are_kept, quiet_bursts_catch_up, rate_of,
-    stop_of,
+    bits_of, catching_up_ends, five_packets_in_three_ticks, join_ticks, join_times_are_kept,
+    quiet_bursts_catch_up, rate_of, stop_of,
 };
 
 #[test]
@@ -55,6 +55,7 @@ fn join_times(rt: HostRuntime) {
     join_times_are_kept();
     catching_up_ends();
     quiet_bursts_catch_up();
+    five_packets_in_three_ticks();
     let joins = [
         // one byte is gained in a tick: a slow client, and one packet per tick
         (46, 1600, 100, 0, 46),
