@@ -1,0 +1,3 @@
+pub mod FivePackets
+pub mod JoinTimes
+pub mod Running

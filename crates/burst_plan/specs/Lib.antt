@@ -1,0 +1,3 @@
+pub mod JoinTime
+pub mod QuietTicks
+pub mod Example
