@@ -1,0 +1,15 @@
+//! Extended sequence numbers, and the age of a timestamp.
+//!
+//! A sequence number of RTP has 16 bits. The numbering of a channel extends it by how often it went
+//! around (RFC 3550, A.1), and what later names a packet by its low 16 bits is resolved here.
+#![tactic(auto)]
+
+mod distance;
+mod low_bits;
+mod numbering;
+#[cfg(test)]
+mod tests;
+
+pub use distance::age_ms;
+pub use low_bits::{least_from, resolve_in};
+pub use numbering::{Noted, Numbering};
