@@ -1,13 +1,11 @@
 -- What one more pair does to the index.
 use Rattle.std.proofs.Common.{◌≡◌, ℕ, ◌+◌, ◌<◌, ◌≤◌, Bool, true, false, cond, ◌||◌, ◌&&◌, nat_eq, List, [], ◌∷◌, ◌++◌, length, refl, arith, length-append, Result, Ok, Err, IsOk, OnOk}
-use Rattle.std.specs.List.{list_any}
-use Rattle.std.specs.HashSet.{contains, hash_set_len, spare as set_spare, Updates}
+use Rattle.std.specs.HashSet.{contains, hash_set_len, spare as set_spare}
 use Rattle.std.specs.HashMap.{hash_map_len, spare as map_spare}
-use Rattle.std.proofs.lemmas.Bool.Decides.{nat_tests}
 use Rattle.std.proofs.lemmas.List.Folds.{list_any-append}
 use Rattle.rams_model.specs.Pending.{Wanted, wanted, is_wanted}
 use Rattle.repair_queue.specs.declared.index.Index.{Index}
-use Rattle.repair_queue.specs.Queue.{count_of, is_of}
+use Rattle.repair_queue.specs.Queue.{is_of}
 use Rattle.repair_queue.specs.Index.{Indexes, HasPlace, counted, same_pair}
 use Rattle.repair_queue.proofs.Pending.{filter_push, length-filter-le}
 

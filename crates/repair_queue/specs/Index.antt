@@ -1,5 +1,5 @@
 -- What the index beside the list says of it.
-use Rattle.std.specs.Prelude.{◌≡◌, ℕ, ◌+◌, ◌<◌, ◌≤◌, Bool, ◌==◌, ◌&&◌, nat_eq, List, length, unwrap_or}
+use Rattle.std.specs.Prelude.{◌≡◌, ℕ, ◌+◌, ◌<◌, ◌≤◌, Bool, ◌&&◌, nat_eq, List, length, unwrap_or}
 use Rattle.std.specs.List.{list_any}
 use Rattle.std.specs.HashSet.{contains, hash_set_len, spare as set_spare}
 use Rattle.std.specs.HashMap.{HashMap, get, hash_map_len, spare as map_spare}

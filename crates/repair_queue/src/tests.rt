@@ -74,6 +74,7 @@ fn settled_repairs_go(rt: HostRuntime) -> Result<(), Fail> {
     ];
     for (done, left) in cases {
         let mut queue = queue_of(&rt, rt.alloc(), &pairs)?;
+        assert_eq!(rt; queue.pending().len(), done.len());
         queue.settle(&done);
         expect_pending(&rt, &queue, left);
         for ((client, n), is_done) in pairs.iter().zip(&done) {
