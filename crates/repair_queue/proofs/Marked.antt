@@ -1,0 +1,63 @@
+-- Dropping what is marked, in place.
+use Rattle.std.proofs.Common.{◌≡◌, ℕ, ◌+◌, ◌<◌, ◌≤◌, Bool, true, false, cond, List, [], ◌∷◌, ◌++◌, length, take, drop, get_or, set, refl, ap, sym, ◌∙◌, arith, length-set, append-nil}
+use Rattle.std.proofs.lemmas.List.{take_more, take_more_set, drop_more, drop-set-lt, length-take-le, take_all, get_or_default}
+use Rattle.std.proofs.lemmas.Grind.{drop_more_same}
+use Rattle.rams_model.specs.Pending.{Wanted, wanted}
+use Rattle.repair_queue.specs.Queue.{unmarked}
+
+-- The unmarked ones of the first i stand in front, and from there on all is as it was.
+pub record MarkedInPlace (ws now : List Wanted) (done : List Bool) (kept i : ℕ) : Type 0 where
+  pub front : take kept now ≡ unmarked (take i ws) (take i done)
+  pub rest : drop i now ≡ drop i ws
+  pub behind : kept ≤ i
+  pub long : length now ≡ length ws
+  pub flags : length done ≡ length ws
+
+unmarked_push : (ws : List Wanted) (done : List Bool) (w : Wanted) (is_done : Bool) → length done ≡ length ws → unmarked (ws ++ w ∷ []) (done ++ is_done ∷ []) ≡ unmarked ws done ++ cond is_done [] (w ∷ [])
+unmarked_push [] [] w true h = refl
+unmarked_push [] [] w false h = refl
+unmarked_push [] (d ∷ done) w is_done h = absurd (omega arith)
+unmarked_push (v ∷ ws) [] w is_done h = absurd (omega arith)
+unmarked_push (v ∷ ws) (true ∷ done) w is_done h = unmarked_push ws done w is_done (omega arith)
+unmarked_push (v ∷ ws) (false ∷ done) w is_done h = ap (λ (vs : List Wanted). v ∷ vs) (unmarked_push ws done w is_done (omega arith))
+
+-- the first i + 1, where the repair and the flag at i are these
+unmarked_more : (ws : List Wanted) (done : List Bool) (i : ℕ) (w : Wanted) (is_done : Bool) → i < length ws → i < length done → get_or ws i w ≡ w → get_or done i false ≡ is_done
+    → unmarked (take (i + 1) ws) (take (i + 1) done) ≡ unmarked (take i ws) (take i done) ++ cond is_done [] (w ∷ [])
+unmarked_more ws done i w is_done short short_flags at flag =
+    let long : length (take i done) ≡ length (take i ws) = length-take-le i done (omega arith) ∙ sym (length-take-le i ws (omega arith)) in
+    rw (take_more ws i w short, take_more done i false short_flags, at, flag) (unmarked_push (take i ws) (take i done) w is_done long)
+
+-- a repair that stands in a place of the rest
+same_place : (ws now : List Wanted) (i : ℕ) (w : Wanted) → drop i now ≡ drop i ws → i < length ws → length now ≡ length ws → get_or now i w ≡ get_or ws i w
+same_place ws now i w rest short long =
+    let was = drop_more ws i w short in
+    let is = drop_more now i w (omega arith) in
+    cc
+
+pub marked_start : (ws : List Wanted) (done : List Bool) → length done ≡ length ws → MarkedInPlace ws ws done 0 0
+marked_start ws done flags = record { front = refl; rest = refl; behind = omega arith; long = refl; flags = flags }
+
+pub marked_all : (ws now : List Wanted) (done : List Bool) (kept i : ℕ) → MarkedInPlace ws now done kept i → length ws ≤ i → take kept now ≡ unmarked ws done
+marked_all ws now done kept i so_far end =
+    so_far.front ∙ (rw (take_all i ws end, take_all i done (omega arith)))
+
+pub marked_more_done : (ws now : List Wanted) (done : List Bool) (kept i : ℕ) → MarkedInPlace ws now done kept i → i < length done → get_or done i false ≡ true → MarkedInPlace ws now done kept (i + 1)
+marked_more_done ws now done kept i so_far short flag = record {
+  front = so_far.front ∙ (sym (append-nil _) ∙ sym (unmarked_more ws done i (get_or ws i (wanted 0 0)) true (omega arith) short (get_or_default ws i _ _ (omega arith)) flag));
+  rest = drop_more_same now ws i so_far.rest;
+  behind = omega arith;
+  long = so_far.long;
+  flags = so_far.flags;
+}
+
+pub marked_more_kept : (ws now : List Wanted) (done : List Bool) (kept i : ℕ) (w : Wanted) → MarkedInPlace ws now done kept i → i < length done → get_or done i false ≡ false → w ≡ get_or now i w → MarkedInPlace ws (set now kept w) done (kept + 1) (i + 1)
+marked_more_kept ws now done kept i w so_far short flag at =
+    let stands : get_or ws i w ≡ w = sym (at ∙ same_place ws now i w so_far.rest (omega arith) so_far.long) in
+    record {
+      front = take_more_set now kept w (omega arith) ∙ (ap (λ (vs : List Wanted). vs ++ w ∷ []) so_far.front ∙ sym (unmarked_more ws done i w false (omega arith) (omega arith) stands flag));
+      rest = drop-set-lt (i + 1) now kept w (omega arith) ∙ drop_more_same now ws i so_far.rest;
+      behind = omega arith;
+      long = length-set now kept w ∙ so_far.long;
+      flags = so_far.flags;
+    }

@@ -1,0 +1,159 @@
+//! The queue of pending repairs.
+use crate::index::Index;
+use crate::wanted::{Asked, Wanted};
+use ram_io::NoMemory;
+use std::alloc::Global;
+use std::marker::Model;
+
+/// Most repairs of a channel that are pending at once.
+const MOST_PENDING: usize = 4096;
+
+/// Most repairs of one client that are pending at once.
+const MOST_OF_CLIENT: u32 = 256;
+
+/// The pending repairs, the oldest first. An index beside them answers an ask without going through
+/// them.
+#[derive(Drop)]
+pub struct Queue {
+    pending: Vec<Wanted>,
+    index: Index,
+}
+
+impl Model for Queue {
+    ghost use Rattle.std.specs.Prelude.{◌≤◌, List, vec_capacity};
+    ghost use Rattle.rams_model.specs.Pending.{Wanted as Repair};
+
+    ghost Value = { List Repair };
+
+    ghost use Rattle.repair_queue.specs.Queue.{IsWithinLimits};
+    ghost use Rattle.repair_queue.specs.Index.{Indexes};
+
+    ghost view = { λ q. q.pending.items };
+
+    ghost invariant = { λ q. record {
+      limits : IsWithinLimits q.pending.items;
+      indexed : Indexes q.index q.pending.items;
+      room : 4096 ≤ vec_capacity q.pending;
+    } };
+}
+
+impl Queue {
+    ghost use Rattle.std.specs.Prelude.{◌≡◌, ◌<◌, [], length, nat_lt, IfOk};
+    ghost use Rattle.repair_queue.specs.Queue.{asked_of, answered, unmarked, without, count_of, IsWithinLimits};
+
+    /// A queue in which nothing is pending. It takes room for 4,096 repairs, so that no other call takes
+    /// memory.
+    pub fn new(alloc: Global) -> Result<Queue, NoMemory>
+        ensures { IfOk result (λ queue. queue ≡ []) }
+    {
+        Ok(Queue {
+            pending: Vec::with_capacity(alloc, MOST_PENDING)?,
+            index: Index::new(alloc, MOST_PENDING)?,
+        })
+    }
+
+    /// A client asks for the repair of a packet: the answer is the first true one of `Already`,
+    /// `ClientFull`, `QueueFull` and `Queued`, and only `Queued` makes the repair pending, behind all
+    /// others.
+    pub fn ask(&mut self, client: u64, n: u64) -> Asked
+        ensures answer { result ≡ asked_of self.old client n }
+        ensures pending { self.new ≡ answered result self.old client n }
+    {
+        if self.index.has(client, n) {
+            return Asked::Already;
+        }
+        if self.index.count(client) >= MOST_OF_CLIENT {
+            return Asked::ClientFull;
+        }
+        if self.pending.len() >= MOST_PENDING {
+            return Asked::QueueFull;
+        }
+        self.pending.push_reserved(Wanted { client, n });
+        self.index.add(client, n);
+        Asked::Queued
+    }
+
+    /// The pending repairs, the oldest first.
+    pub fn pending(&self) -> &[Wanted]
+        ensures value { result.now ≡ self.now }
+        ensures limits { IsWithinLimits self.now }
+    {
+        &self.pending
+    }
+
+    /// Whether a repair is pending for this client.
+    pub fn has(&self, client: u64) -> bool
+        ensures { result ≡ nat_lt 0 (count_of client self.now) }
+    {
+        self.index.count(client) > 0
+    }
+
+    /// The repairs whose flag is set are no longer pending; the others keep their order. There is one
+    /// flag for each pending repair.
+    pub fn settle(&mut self, done: &[bool])
+        requires one_each { length done.now ≡ length self.old }
+        ensures { self.new ≡ unmarked self.old done.now }
+    {
+        if !is_any_set(done) {
+            return;
+        }
+        drop_marked(&mut self.pending, done);
+        self.index.rebuild(&self.pending);
+    }
+
+    /// Nothing is pending for this client any more; the repairs of the others keep their order.
+    pub fn forget(&mut self, client: u64)
+        ensures { self.new ≡ without client self.old }
+    {
+        if self.index.count(client) == 0 {
+            return;
+        }
+        drop_client(&mut self.pending, client);
+        self.index.rebuild(&self.pending);
+    }
+}
+
+ghost use Rattle.std.specs.Prelude.{◌≡◌, length, vec_len, vec_capacity};
+ghost use Rattle.std.specs.List.{list_any};
+ghost use Rattle.repair_queue.specs.Queue.{unmarked, without};
+
+// Whether a flag is set.
+fn is_any_set(done: &[bool]) -> bool
+    ensures { result ≡ list_any (λ is_done. is_done) done.now }
+{
+    done.iter().any(|is_done| *is_done)
+}
+
+// Moves the unmarked ones to the front, and drops the rest.
+fn drop_marked(pending: &mut Vec<Wanted>, done: &[bool])
+    requires { length done.now ≡ vec_len pending.old }
+    ensures items { pending.new.items ≡ unmarked pending.old.items done.now }
+    ensures capacity { vec_capacity pending.new ≡ vec_capacity pending.old }
+{
+    let mut kept = 0;
+    for (i, is_done) in done.iter().enumerate() {
+        if *is_done {
+            continue;
+        }
+        pending[kept] = pending[i];
+        kept += 1;
+    }
+    pending.truncate(kept);
+}
+
+// Moves the other clients' repairs to the front, and drops the rest.
+fn drop_client(pending: &mut Vec<Wanted>, client: u64)
+    ensures items { pending.new.items ≡ without client pending.old.items }
+    ensures capacity { vec_capacity pending.new ≡ vec_capacity pending.old }
+{
+    let mut kept = 0;
+    for i in 0..pending.len() {
+        let w = pending[i];
+        if w.client == client {
+            continue;
+        }
+        pending[kept] = w;
+        kept += 1;
+    }
+    pending.truncate(kept);
+}
