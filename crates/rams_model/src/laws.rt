@@ -7,7 +7,6 @@ ghost use Rattle.std.specs.Prelude.{◌≡◌, ◌%◌, ◌^◌, ◌<◌, ◌≤
 ghost use Rattle.std.specs.List.{AllByRecursion};
 ghost use Rattle.rams_model.specs.declared.message.Info.{Info};
 ghost use Rattle.rams_model.specs.declared.message.Stop.{Stop};
-ghost use Rattle.rams_model.specs.PlainPackets.{PlainPacketsAreSpelledAgain};
 ghost use Rattle.rams_model.specs.RamsInfo.{info_fci};
 ghost use Rattle.rams_model.specs.Rtcp.{Framed, framed, IsCompound, packet_text, least_body};
 ghost use Rattle.rams_model.specs.Feedback.{FramesAs, nack_numbers, nack_words};
