@@ -8,7 +8,8 @@ use Rattle.rams_model.specs.Hold.{wires}
 use Rattle.rams_model.specs.Answers.{is_before}
 use Rattle.rams_model.specs.Rates.{waste}
 use Rattle.rams_model.specs.Tick.{run, is_stop}
-use Rattle.rams_model.specs.Laws.{Follows, IsByStop}
+use Rattle.rams_model.specs.Laws.{IsByStop}
+use Rattle.rams_model.specs.Source.{Follows}
 use Rattle.rams_model.specs.CatchUp.{ComesNearer, CatchesUp}
 use Rattle.burst_plan.specs.JoinTime.{gain}
 use Rattle.burst_plan.specs.QuietTicks.{Burst, Tick, AreAtMost, sent, unsent, after, IsLawful, AreQuiet, pair, pairs_after, AreWithin, QuietTicksComeNearer, QuietBurstsKeepTheirJoinTime, QuietBurstsFallBackNoFurther}

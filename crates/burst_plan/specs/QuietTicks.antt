@@ -4,7 +4,8 @@ use Rattle.rams_model.specs.declared.held.Held.{Held}
 use Rattle.rams_model.specs.Hold.{wires}
 use Rattle.rams_model.specs.Rates.{join_ticks}
 use Rattle.rams_model.specs.Tick.{run, is_stop}
-use Rattle.rams_model.specs.Laws.{Follows, IsByStop}
+use Rattle.rams_model.specs.Laws.{IsByStop}
+use Rattle.rams_model.specs.Source.{Follows}
 use Rattle.rams_model.specs.CatchUp.{ComesNearer, NothingIsLeft}
 use Rattle.burst_plan.specs.JoinTime.{gain}
 
