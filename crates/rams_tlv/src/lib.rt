@@ -6,6 +6,8 @@
 
 mod message;
 mod request;
+#[cfg(test)]
+mod tests;
 mod tlvs;
 mod writing;
 

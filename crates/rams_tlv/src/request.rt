@@ -10,7 +10,7 @@ use byteorder::{BigEndian, ByteOrder};
 use rams_model::TlvFault;
 
 /// The fields of a RAMS-R. Those that are `None` aren't sent.
-#[derive(Clone, Copy, Debug)]
+#[derive(Clone, Copy, Debug, PartialEq, Eq)]
 pub struct Request<'a> {
     /// The media sources that are asked for, an SSRC of four bytes each; all of them where there is
     /// no list or an empty one.
