@@ -1,0 +1,3 @@
+pub mod Clients
+pub mod Joined
+pub mod Lends

@@ -1,0 +1,14 @@
+//! The known clients of a channel: a finite map from clients to what the server keeps of each.
+//!
+//! A client is its IPv4 address times 65536, plus its port.
+#![tactic(auto)]
+
+mod entry;
+mod table;
+#[cfg(test)]
+mod tests;
+
+pub use entry::{AdmitFault, Burst, Entry};
+pub use ram_io::NoMemory;
+pub use rams_model::Info;
+pub use table::Table;
