@@ -1,0 +1,5 @@
+pub mod Keeping
+pub mod PacketLemmas
+pub mod Rising
+pub mod Searches
+pub mod Standing

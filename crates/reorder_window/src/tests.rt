@@ -1,0 +1,1 @@
+//! Items out of order.
