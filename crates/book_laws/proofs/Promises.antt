@@ -1,20 +1,22 @@
 -- What every history that is legal promises.
-use Rattle.std.proofs.Common.{◌≡◌, ℕ, ◌+◌, ◌≤◌, [], ◌∷◌, ◌++◌, sym, subst, arith, Option}
+use Rattle.std.proofs.Common.{◌≡◌, ℕ, List, ◌+◌, ◌≤◌, [], ◌∷◌, ◌++◌, sym, subst, arith, Option}
 use Rattle.std.specs.Prelude.{All}
 use Rattle.rams_model.specs.declared.event.Event.TheVariants.{Tick}
 use Rattle.rams_model.specs.declared.held.Held.{Held}
 use Rattle.rams_model.specs.declared.note.Note.TheVariants.{Refuse}
 use Rattle.rams_model.specs.Settings.{Settings}
 use Rattle.rams_model.specs.First.History.{began, noted, History, source, hold}
+use Rattle.rams_model.specs.First.TraceText.{served_by}
+use Rattle.rams_model.specs.Words.{lines_of}
 use Rattle.book_laws.specs.Sent.{first_sendings, bytes_to, bytes_sent, events_of}
 use Rattle.book_laws.specs.Moments.{LastAccept}
 use Rattle.book_laws.specs.Bursts.{AreNumberedFrom, IsPacketOf, NoneEligible, BeginsAtNewest}
-use Rattle.book_laws.specs.Traces.{KeepsPromises}
+use Rattle.book_laws.specs.Traces.{KeepsPromises, IfServed}
 use Rattle.book_laws.proofs.Legal.{IsLegal, Accepts, legal_part, legal_book}
 use Rattle.book_laws.proofs.Following.{follows}
 use Rattle.book_laws.proofs.Starts.{none_eligible, newest_start_begins}
 use Rattle.book_laws.proofs.Budgets.{client_bytes, all_bytes}
-use Rattle.book_laws.proofs.Served.{IsSound}
+use Rattle.book_laws.proofs.Served.{IsSound, sound_trace, if_served}
 
 pub consecutive : (s : Settings) (history : History) → IsLegal s history → (client : ℕ) (a : LastAccept history client)
     → AreNumberedFrom a.first (first_sendings client a.since) × All (IsPacketOf (source history)) (first_sendings client a.since)
@@ -61,3 +63,7 @@ promises s history sound =
       };
       refusals = λ client code packet later before e. refused_truly s client code packet before (part later _ e);
     }
+
+-- the channel of any trace
+pub traces_served : (trace : List ℕ) → IfServed (served_by trace) KeepsPromises
+traces_served trace = if_served (served_by trace) IsSound KeepsPromises promises (sound_trace (lines_of trace))
