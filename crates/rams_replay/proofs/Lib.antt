@@ -4,3 +4,4 @@ pub mod LongLines
 pub mod FirstTurn
 pub mod Running
 pub mod Booking
+pub mod Lawful

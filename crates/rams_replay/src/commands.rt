@@ -1,7 +1,8 @@
 //! The commands.
 ghost use Rattle.std.specs.Prelude.{◌≡◌, false, true, not, ℕ, List, length};
 ghost use Rattle.line_io.specs.Passes.{Passes};
-ghost use Rattle.rams_model.specs.First.TraceText.{trace_text};
+ghost use Rattle.book_laws.specs.Traces.{IfServed, KeepsPromises};
+ghost use Rattle.rams_model.specs.First.TraceText.{served_by, trace_text};
 ghost use Rattle.rams_replay.specs.CommandWords.{is_run, begins_with_run};
 ghost use Rattle.rams_replay.specs.Statuses.{status_of, is_words, HasText, IsCaused, IsOrLacksMemory};
 ghost use Rattle.rams_replay.specs.Told.{IfTold};
@@ -15,6 +16,7 @@ use std::alloc::Global;
 use std::sync::Wait;
 use std::thread::Threads;
 
+#[tactic(auto, using(crate::proofs::Lawful::lawful))]
 /// Runs a command over whatever it reads from, writes to, sends through and tells the time by.
 ///
 /// `words` are those of the command line behind the program's name. `run` reads a trace and writes
@@ -33,6 +35,7 @@ pub fn run<R: Threads + Wait + Sync, S: Source, K: Sink, W: Wire, C: Clock, G: G
     ensures refused { is_run words.now ≡ false → (source.new ≡ source.old) × (sink.new ≡ sink.old) }
     ensures text { is_run words.now ≡ true → IfTold (S.left source.old) (λ xs. HasText (K.held sink.old) (K.held sink.new) (trace_text xs) result) }
     ensures front { IfTold (S.left source.old) (λ xs. (rest : List ℕ) × Passes (K.held sink.old) (K.held sink.new) (trace_text xs).text rest) }
+    ensures lawful { IfTold (S.left source.old) (λ xs. IfServed (served_by xs) KeepsPromises) }
     ensures cause { IsCaused (S.faults source.old) (S.faults source.new) (K.faults sink.old) (K.faults sink.new) result }
     ensures whole { is_run words.now ≡ true → S.is_steady source.old → IfTold (S.left source.old)
         (λ xs. K.is_steady sink.old (length (trace_text xs).text) → IsOrLacksMemory (trace_text xs).status result) }
@@ -46,6 +49,7 @@ pub fn run<R: Threads + Wait + Sync, S: Source, K: Sink, W: Wire, C: Clock, G: G
     }
 }
 
+#[tactic(auto, using(crate::proofs::Lawful::lawful))]
 /// Runs a command that waits for nobody: the first word is `run`.
 pub fn plain<S: Source, K: Sink>(
     alloc: Global,
@@ -58,6 +62,7 @@ pub fn plain<S: Source, K: Sink>(
     ensures refused { is_run words.now ≡ false → (source.new ≡ source.old) × (sink.new ≡ sink.old) }
     ensures text { is_run words.now ≡ true → IfTold (S.left source.old) (λ xs. HasText (K.held sink.old) (K.held sink.new) (trace_text xs) result) }
     ensures front { IfTold (S.left source.old) (λ xs. (rest : List ℕ) × Passes (K.held sink.old) (K.held sink.new) (trace_text xs).text rest) }
+    ensures lawful { IfTold (S.left source.old) (λ xs. IfServed (served_by xs) KeepsPromises) }
     ensures cause { IsCaused (S.faults source.old) (S.faults source.new) (K.faults sink.old) (K.faults sink.new) result }
     ensures whole { is_run words.now ≡ true → S.is_steady source.old → IfTold (S.left source.old)
         (λ xs. K.is_steady sink.old (length (trace_text xs).text) → IsOrLacksMemory (trace_text xs).status result) }
