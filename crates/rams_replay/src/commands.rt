@@ -1,10 +1,11 @@
 //! The commands.
 ghost use Rattle.std.specs.Prelude.{◌≡◌, false, true, not, ℕ, List, length};
 ghost use Rattle.line_io.specs.Passes.{Passes};
+ghost use Rattle.rams_model.specs.declared.status.Status.TheVariants.{ReadFault};
 ghost use Rattle.rams_model.specs.First.TraceText.{trace_text};
 ghost use Rattle.rams_replay.specs.CommandWords.{is_run, begins_with_run};
 ghost use Rattle.rams_replay.specs.Statuses.{status_of, is_words, HasText, IsCaused, IsOrLacksMemory};
-ghost use Rattle.rams_replay.specs.Told.{IfTold};
+ghost use Rattle.rams_replay.specs.Told.{IfTold, IfBothTold, HasReadText};
 
 use crate::book::write_book;
 use crate::stop::Stop;
@@ -33,6 +34,7 @@ pub fn run<R: Threads + Wait + Sync, S: Source, K: Sink, W: Wire, C: Clock, G: G
     ensures refused { is_run words.now ≡ false → (source.new ≡ source.old) × (sink.new ≡ sink.old) }
     ensures text { is_run words.now ≡ true → IfTold (S.left source.old) (λ xs. HasText (K.held sink.old) (K.held sink.new) (trace_text xs) result) }
     ensures front { IfTold (S.left source.old) (λ xs. (rest : List ℕ) × Passes (K.held sink.old) (K.held sink.new) (trace_text xs).text rest) }
+    ensures read { result ≡ ReadFault → IfBothTold (S.left source.old) (S.left source.new) (HasReadText (K.held sink.old) (K.held sink.new)) }
     ensures cause { IsCaused (S.faults source.old) (S.faults source.new) (K.faults sink.old) (K.faults sink.new) result }
     ensures whole { is_run words.now ≡ true → S.is_steady source.old → IfTold (S.left source.old)
         (λ xs. K.is_steady sink.old (length (trace_text xs).text) → IsOrLacksMemory (trace_text xs).status result) }
@@ -58,6 +60,7 @@ pub fn plain<S: Source, K: Sink>(
     ensures refused { is_run words.now ≡ false → (source.new ≡ source.old) × (sink.new ≡ sink.old) }
     ensures text { is_run words.now ≡ true → IfTold (S.left source.old) (λ xs. HasText (K.held sink.old) (K.held sink.new) (trace_text xs) result) }
     ensures front { IfTold (S.left source.old) (λ xs. (rest : List ℕ) × Passes (K.held sink.old) (K.held sink.new) (trace_text xs).text rest) }
+    ensures read { result ≡ ReadFault → IfBothTold (S.left source.old) (S.left source.new) (HasReadText (K.held sink.old) (K.held sink.new)) }
     ensures cause { IsCaused (S.faults source.old) (S.faults source.new) (K.faults sink.old) (K.faults sink.new) result }
     ensures whole { is_run words.now ≡ true → S.is_steady source.old → IfTold (S.left source.old)
         (λ xs. K.is_steady sink.old (length (trace_text xs).text) → IsOrLacksMemory (trace_text xs).status result) }
@@ -74,6 +77,7 @@ fn write_status<S: Source, K: Sink>(alloc: Global, source: &mut S, sink: &mut K)
     ensures words { is_words result ≡ false }
     ensures text { IfTold (S.left source.old) (λ xs. HasText (K.held sink.old) (K.held sink.new) (trace_text xs) result) }
     ensures front { IfTold (S.left source.old) (λ xs. (rest : List ℕ) × Passes (K.held sink.old) (K.held sink.new) (trace_text xs).text rest) }
+    ensures read { result ≡ ReadFault → IfBothTold (S.left source.old) (S.left source.new) (HasReadText (K.held sink.old) (K.held sink.new)) }
     ensures cause { IsCaused (S.faults source.old) (S.faults source.new) (K.faults sink.old) (K.faults sink.new) result }
     ensures whole { S.is_steady source.old → IfTold (S.left source.old)
         (λ xs. K.is_steady sink.old (length (trace_text xs).text) → IsOrLacksMemory (trace_text xs).status result) }
