@@ -2,7 +2,7 @@
 use Rattle.std.proofs.Common.{◌≡◌, ℕ, zero, suc, ◌+◌, ◌<◌, ◌≤◌, ◌==◌, Bool, true, false, List, [], ◌∷◌, ◌++◌, length, get_or, take, drop, refl, sym, ap, subst, ◌∙◌, arith, take-append-drop, take-add, drop-drop, get_or-take, length-take, length-drop}
 use Rattle.std.proofs.lemmas.Bool.{eqb-true, eq-eqb}
 use Rattle.std.proofs.lemmas.List.{drop_more}
-use Rattle.rams_model.specs.Words.{lines_of, onto_first}
+use Rattle.rams_model.specs.Words.{lines_of, whole_lines, lines_read, onto_first}
 use Rattle.memchr.specs.Find.{is_byte, Nowhere, NoneBefore, Passes}
 use Rattle.line_io.specs.Feeds.{HasNoFeed, IsCutAt}
 
@@ -58,6 +58,15 @@ pub lines_of-cut : (front rest : List ℕ) → HasNoFeed front → lines_of (fro
 unfolding lines_of
 lines_of-cut [] rest clean = refl
 lines_of-cut (b ∷ front) rest clean = rw (clean.0, lines_of-cut front rest clean.1) refl
+
+pub whole_lines-cut : (front rest : List ℕ) → HasNoFeed front → whole_lines (front ++ 10 ∷ rest) ≡ front ∷ whole_lines rest
+unfolding whole_lines
+whole_lines-cut [] rest clean = refl
+whole_lines-cut (b ∷ front) rest clean = rw (clean.0, whole_lines-cut front rest clean.1) refl
+
+pub lines_read-cut : (front rest left : List ℕ) → HasNoFeed front → lines_read (front ++ 10 ∷ rest) left ≡ front ∷ lines_read rest left
+lines_read-cut front rest [] clean = lines_of-cut front rest clean
+lines_read-cut front rest (b ∷ left) clean = whole_lines-cut front rest clean
 
 -- bytes with no feed are one line
 pub lines_of-all : (xs : List ℕ) → HasNoFeed xs → 0 < length xs → lines_of xs ≡ xs ∷ []

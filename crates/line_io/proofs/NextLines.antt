@@ -1,18 +1,23 @@
 -- The next line of what is kept and what the source has left.
-use Rattle.std.proofs.Common.{◌≡◌, ℕ, ◌+◌, ◌<◌, ◌≤◌, List, [], ◌∷◌, ◌++◌, length, take, drop, Option, Some, None, refl, sym, ap, ◌∙◌, arith, append_assoc, append-nil, length-take, length-append, take-append-drop}
+use Rattle.std.proofs.Common.{◌≡◌, ℕ, ◌+◌, ◌<◌, ◌≤◌, List, [], ◌∷◌, ◌++◌, length, take, drop, Option, Some, None, refl, sym, ap, ◌∙◌, arith, append_assoc, append-nil, length-take, length-append, take-append-drop, inl, inr}
 use Rattle.std.proofs.lemmas.List.{take-append-le}
 use Rattle.std.specs.Io.KnownBytes.{Keeps, Consumes, IsAtEnd, prepend_known}
 use Rattle.rams_model.specs.Words.{lines_of}
 use Rattle.line_io.specs.declared.reader.Next.TheVariants.{Line, Long, End}
 use Rattle.line_io.specs.Feeds.{HasNoFeed, IsCutAt}
-use Rattle.line_io.specs.Lines.{TakesNext}
+use Rattle.line_io.specs.Lines.{IsCutOff, TakesNext}
 use Rattle.line_io.proofs.LineFeeds.{lines_of-cut, lines_of-all, lines_of-begins}
+
+in_front_of_feed : (kept : List ℕ) (at : ℕ) (xs ys : List ℕ) → IsCutAt kept at → kept ++ ys ≡ xs → xs ≡ take at kept ++ (10 ∷ (drop (at + 1) kept ++ ys))
+in_front_of_feed kept at xs ys cut all =
+    sym all ∙ ap (λ (t : List ℕ). t ++ ys) cut.whole ∙ append_assoc (take at kept) (10 ∷ drop (at + 1) kept) ys
 
 first_line : (kept : List ℕ) (at : ℕ) (xs ys : List ℕ) → IsCutAt kept at → kept ++ ys ≡ xs → lines_of xs ≡ take at kept ∷ lines_of (drop (at + 1) kept ++ ys)
 first_line kept at xs ys cut all =
-    let front = take at kept in
-    let behind = drop (at + 1) kept in
-    ap lines_of (sym all ∙ ap (λ (t : List ℕ). t ++ ys) cut.whole ∙ append_assoc front (10 ∷ behind) ys) ∙ lines_of-cut front (behind ++ ys) cut.front
+    ap lines_of (in_front_of_feed kept at xs ys cut all) ∙ lines_of-cut (take at kept) (drop (at + 1) kept ++ ys) cut.front
+
+cut_off_by_feed : (kept : List ℕ) (at : ℕ) (xs ys : List ℕ) → IsCutAt kept at → kept ++ ys ≡ xs → IsCutOff xs (drop (at + 1) kept ++ ys) (take at kept)
+cut_off_by_feed kept at xs ys cut all = record { clean = cut.front; whole = inl (in_front_of_feed kept at xs ys cut all) }
 
 -- a line that its feed ends
 pub TakesNext-cut : (kept now line : List ℕ) (at : ℕ) → IsCutAt kept at → at ≤ 4096 → line ≡ take at kept → now ≡ drop (at + 1) kept
@@ -20,7 +25,7 @@ pub TakesNext-cut : (kept now line : List ℕ) (at : ℕ) → IsCutAt kept at �
 TakesNext-cut kept now line at cut small is rest None b same = tt
 TakesNext-cut kept now line at cut small is rest (Some xs) None same = absurd same
 TakesNext-cut kept now line at cut small is rest (Some xs) (Some ys) same =
-    rw (is, rest) (first_line kept at xs ys cut same, omega (arith, length-take at kept))
+    rw (is, rest) (first_line kept at xs ys cut same, omega (arith, length-take at kept), cut_off_by_feed kept at xs ys cut same)
 
 -- a line that its feed ends too late
 pub TakesNext-cut_late : (kept now line : List ℕ) (at : ℕ) → IsCutAt kept at → 4096 < at → line ≡ take 4097 kept
@@ -53,7 +58,7 @@ TakesNext-last kept now line clean some small is none None b same end = tt
 TakesNext-last kept now line clean some small is none (Some xs) None same end = absurd same
 TakesNext-last kept now line clean some small is none (Some xs) (Some ys) same end =
     let whole : xs ≡ kept = sym same ∙ ap (λ (t : List ℕ). kept ++ t) end ∙ append-nil kept in
-    rw (is, none, end, whole) (lines_of-all kept clean some, small)
+    rw (is, none, end, whole) (lines_of-all kept clean some, small, record { clean = clean; whole = inr (refl, refl) })
 
 -- nothing is left
 pub TakesNext-end : (kept line : List ℕ) → kept ≡ []

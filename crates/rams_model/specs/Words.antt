@@ -16,6 +16,21 @@ unfoldable pub lines_of : List ℕ → List (List ℕ)
 lines_of [] = []
 lines_of (b ∷ bytes) = if b == 10 then [] ∷ lines_of bytes else onto_first b (lines_of bytes)
 
+-- a byte in front of the first of some pieces, and in none where there are none
+abbrev pub into_first : ℕ → List (List ℕ) → List (List ℕ)
+into_first b [] = []
+into_first b (piece ∷ pieces) = (b ∷ piece) ∷ pieces
+
+-- the pieces that line feeds end, without a last one that lacks its line feed
+unfoldable pub whole_lines : List ℕ → List (List ℕ)
+whole_lines [] = []
+whole_lines (b ∷ bytes) = if b == 10 then [] ∷ whole_lines bytes else into_first b (whole_lines bytes)
+
+-- The lines of bytes that were taken, by what is left behind them: where nothing is, a last line may lack its line feed.
+abbrev pub lines_read : List ℕ → List ℕ → List (List ℕ)
+lines_read taken [] = lines_of taken
+lines_read taken (b ∷ left) = whole_lines taken
+
 -- the pieces between single spaces
 unfoldable pub words_of : List ℕ → List (List ℕ)
 words_of [] = [] ∷ []

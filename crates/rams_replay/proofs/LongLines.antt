@@ -1,11 +1,10 @@
 -- A line that is too long does what its front does.
-use Rattle.std.proofs.Common.{◌≡◌, ℕ, zero, suc, ◌+◌, ◌<◌, ◌≤◌, ◌==◌, Bool, true, false, nat_lt, if◌then◌else◌, List, [], ◌∷◌, length, take, Option, None, Some, Result, Err, refl, sym, ap, ◌∙◌, subst, arith, length-take, codes}
+use Rattle.std.proofs.Common.{◌≡◌, ℕ, zero, suc, ◌<◌, ◌==◌, Bool, true, false, if◌then◌else◌, List, [], ◌∷◌, length, take, Option, Err, refl, sym, ap, ◌∙◌, arith, length-take, codes}
 use Rattle.std.specs.Prelude.{bytes_eq}
 use Rattle.std.proofs.lemmas.Bool.{lt-ltb}
 use Rattle.rams_model.specs.declared.fault.LineFault.{LineFault}
 use Rattle.rams_model.specs.declared.fault.LineFault.TheVariants.{Form}
 use Rattle.rams_model.specs.declared.mode.LineKind.{LineKind}
-use Rattle.rams_model.specs.TraceLine.{TraceLine, line_of}
 use Rattle.rams_model.specs.TraceOrder.{Reached, kind_named, judged}
 use Rattle.rams_model.specs.First.TraceText.{Stage, Outcome, ends, refused, not_built, is_unbuilt, after_judging, turn}
 use Rattle.rams_model.specs.Words.{words_of, onto_first, front, first_word}

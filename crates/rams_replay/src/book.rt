@@ -1,12 +1,12 @@
 //! The book of a trace, from the source's bytes to the sink's.
 ghost use Rattle.std.specs.Prelude.{◌≡◌, ◌≤◌, Err, List, ℕ, ◌+◌, ◌++◌, IfOk, IfErr, IfSome, OnOk, length, [], Some};
-ghost use Rattle.std.specs.Io.KnownBytes.{Appends, prepend_known};
+ghost use Rattle.std.specs.Io.KnownBytes.{Appends, Keeps, prepend_known};
 ghost use Rattle.line_io.specs.Passes.{Passes};
-ghost use Rattle.rams_replay.specs.declared.stop.Stop.TheVariants.{Write};
+ghost use Rattle.rams_replay.specs.declared.stop.Stop.TheVariants.{Read, Write};
 ghost use Rattle.rams_model.specs.Words.{lines_of};
 ghost use Rattle.rams_model.specs.First.TraceText.{Stage, opening, text_from, trace_text};
 ghost use Rattle.rams_replay.specs.Stops.{IsStopped, IsStoppedByRead, OnlyMemoryStops, StopsIn, EndsAs};
-ghost use Rattle.rams_replay.specs.Told.{IfTold, IfBothTold, IsFirstTurn, Ends};
+ghost use Rattle.rams_replay.specs.Told.{IfTold, IfBothTold, IsFirstTurn, Ends, HasLinesText, HasReadText};
 ghost use Rattle.rams_replay.specs.Turns.{Stands, CanWrite, IsEnd, ending};
 
 use crate::replay::{Replay, Turn, new_replay, take_line};
@@ -27,7 +27,10 @@ fn next_turn<S: Source>(
 ) -> Result<Turn, Stop>
     ensures turn { IfOk result (λ t. (stage : Stage) (number : ℕ) → Stands replay.old.core replay.old.events replay.old.state stage
         → IfBothTold (prepend_known reader.old.kept (S.left source.old)) (prepend_known reader.new.kept (S.left source.new))
-        (λ xs ys. IsFirstTurn (text_from stage number (lines_of xs)) replay.new.core replay.new.events replay.new.state number t ys)) }
+        (λ xs ys. IsFirstTurn stage number xs replay.new.core replay.new.events replay.new.state t ys)) }
+    ensures same { result ≡ Err Read → Keeps
+        (prepend_known reader.old.kept (S.left source.old))
+        (prepend_known reader.new.kept (S.left source.new)) }
     ensures write { IfOk result CanWrite }
     ensures cause { IsStoppedByRead (S.faults source.old) (S.faults source.new) result }
     ensures steady { S.is_steady source.old → OnlyMemoryStops result (S.is_steady source.new) }
@@ -66,6 +69,8 @@ fn write_lines<S: Source, K: Sink>(
         (λ xs. Ends (K.held sink.old) (K.held sink.new) writer.old.gather writer.new.gather (text_from opening 1 (lines_of xs)) status)) }
     ensures front { IfErr result (λ stop. IfTold (S.left source.old)
         (λ xs. StopsIn (K.held sink.old) (K.held sink.new) (writer.old.gather ++ (text_from opening 1 (lines_of xs)).text) writer.new.gather stop)) }
+    ensures read { result ≡ Err Read → IfBothTold (S.left source.old) (S.left source.new)
+        (HasLinesText (K.held sink.old) (K.held sink.new) writer.old.gather writer.new.gather) }
     ensures cause { IsStopped (S.faults source.old) (S.faults source.new) (K.faults sink.old) (K.faults sink.new) result }
     ensures steady { S.is_steady source.old → IfTold (S.left source.old)
         (λ xs. (room : ℕ) → K.is_steady sink.old (length (writer.old.gather ++ (text_from opening 1 (lines_of xs)).text) + room)
@@ -122,6 +127,7 @@ pub fn write_book<S: Source, K: Sink>(
         (λ xs. (status ≡ (trace_text xs).status) × Appends (K.held sink.old) (K.held sink.new) (trace_text xs).text)) }
     ensures front { IfTold (S.left source.old)
         (λ xs. (rest : List ℕ) × Passes (K.held sink.old) (K.held sink.new) (trace_text xs).text rest) }
+    ensures read { result ≡ Err Read → IfBothTold (S.left source.old) (S.left source.new) (HasReadText (K.held sink.old) (K.held sink.new)) }
     ensures cause { IsStopped (S.faults source.old) (S.faults source.new) (K.faults sink.old) (K.faults sink.new) result }
     ensures steady { S.is_steady source.old → IfTold (S.left source.old)
         (λ xs. K.is_steady sink.old (length (trace_text xs).text) → OnlyMemoryStops result (Unit {0})) }

@@ -3,9 +3,10 @@ ghost use Rattle.std.specs.Prelude.{◌≡◌, false, true, not, ℕ, List, leng
 ghost use Rattle.line_io.specs.Passes.{Passes};
 ghost use Rattle.book_laws.specs.Traces.{IfServed, KeepsPromises};
 ghost use Rattle.rams_model.specs.First.TraceText.{served_by, trace_text};
+ghost use Rattle.rams_model.specs.declared.status.Status.TheVariants.{ReadFault};
 ghost use Rattle.rams_replay.specs.CommandWords.{is_run, begins_with_run};
 ghost use Rattle.rams_replay.specs.Statuses.{status_of, is_words, HasText, IsCaused, IsOrLacksMemory};
-ghost use Rattle.rams_replay.specs.Told.{IfTold};
+ghost use Rattle.rams_replay.specs.Told.{IfTold, IfBothTold, HasReadText};
 
 use crate::book::write_book;
 use crate::stop::Stop;
@@ -36,6 +37,9 @@ pub fn run<R: Threads + Wait + Sync, S: Source, K: Sink, W: Wire, C: Clock, G: G
     ensures text { is_run words.now ≡ true → IfTold (S.left source.old) (λ xs. HasText (K.held sink.old) (K.held sink.new) (trace_text xs) result) }
     ensures front { IfTold (S.left source.old) (λ xs. (rest : List ℕ) × Passes (K.held sink.old) (K.held sink.new) (trace_text xs).text rest) }
     ensures lawful { IfTold (S.left source.old) (λ xs. IfServed (served_by xs) KeepsPromises) }
+{}
+
+    ensures read { result ≡ ReadFault → IfBothTold (S.left source.old) (S.left source.new) (HasReadText (K.held sink.old) (K.held sink.new)) }
     ensures cause { IsCaused (S.faults source.old) (S.faults source.new) (K.faults sink.old) (K.faults sink.new) result }
     ensures whole { is_run words.now ≡ true → S.is_steady source.old → IfTold (S.left source.old)
         (λ xs. K.is_steady sink.old (length (trace_text xs).text) → IsOrLacksMemory (trace_text xs).status result) }
@@ -63,6 +67,9 @@ pub fn plain<S: Source, K: Sink>(
     ensures text { is_run words.now ≡ true → IfTold (S.left source.old) (λ xs. HasText (K.held sink.old) (K.held sink.new) (trace_text xs) result) }
     ensures front { IfTold (S.left source.old) (λ xs. (rest : List ℕ) × Passes (K.held sink.old) (K.held sink.new) (trace_text xs).text rest) }
     ensures lawful { IfTold (S.left source.old) (λ xs. IfServed (served_by xs) KeepsPromises) }
+{}
+
+    ensures read { result ≡ ReadFault → IfBothTold (S.left source.old) (S.left source.new) (HasReadText (K.held sink.old) (K.held sink.new)) }
     ensures cause { IsCaused (S.faults source.old) (S.faults source.new) (K.faults sink.old) (K.faults sink.new) result }
     ensures whole { is_run words.now ≡ true → S.is_steady source.old → IfTold (S.left source.old)
         (λ xs. K.is_steady sink.old (length (trace_text xs).text) → IsOrLacksMemory (trace_text xs).status result) }
@@ -79,6 +86,7 @@ fn write_status<S: Source, K: Sink>(alloc: Global, source: &mut S, sink: &mut K)
     ensures words { is_words result ≡ false }
     ensures text { IfTold (S.left source.old) (λ xs. HasText (K.held sink.old) (K.held sink.new) (trace_text xs) result) }
     ensures front { IfTold (S.left source.old) (λ xs. (rest : List ℕ) × Passes (K.held sink.old) (K.held sink.new) (trace_text xs).text rest) }
+    ensures read { result ≡ ReadFault → IfBothTold (S.left source.old) (S.left source.new) (HasReadText (K.held sink.old) (K.held sink.new)) }
     ensures cause { IsCaused (S.faults source.old) (S.faults source.new) (K.faults sink.old) (K.faults sink.new) result }
     ensures whole { S.is_steady source.old → IfTold (S.left source.old)
         (λ xs. K.is_steady sink.old (length (trace_text xs).text) → IsOrLacksMemory (trace_text xs).status result) }

@@ -15,7 +15,7 @@ use Rattle.rams_model.specs.First.History.{History}
 use Rattle.rams_model.specs.First.Lawful.{after}
 use Rattle.rams_model.specs.First.Orders.{answer}
 use Rattle.rams_model.specs.First.Built.{is_built_channel, is_built}
-use Rattle.rams_model.specs.Words.{lines_of, first_word, bytes_in}
+use Rattle.rams_model.specs.Words.{lines_of, lines_read, first_word, bytes_in}
 use Rattle.rams_model.specs.TraceLine.{TraceLine, head_line, channel_line, live_line, feedback_line, tick_line, end_line}
 use Rattle.rams_model.specs.TraceOrder.{Reached, nothing_reached, tick_of, has_channel, kind_named, judged}
 use Rattle.rams_model.specs.BookText.{spaced, refused_line}
@@ -152,3 +152,17 @@ served_by trace = served_from opening 1 (lines_of trace)
 -- how the trace ends, and its book
 unfoldable pub trace_text : List ℕ → Outcome
 trace_text trace = after_text first_line (text_from opening 1 (lines_of trace))
+
+-- the text of a turn, with that of the lines behind it where it goes on
+abbrev pub text_after : Turn → (Stage → List ℕ) → List ℕ
+text_after (goes_on later text) rest = text ++ rest later
+text_after (ends o) rest = o.text
+
+-- The text of these lines, the first of which is line number `number`; of those that are still to come it has nothing.
+unfoldable pub lines_text : Stage → ℕ → List (List ℕ) → List ℕ
+lines_text stage number [] = []
+lines_text stage number (bytes ∷ lines) = text_after (turn stage number bytes) (λ later. lines_text later (number + 1) lines)
+
+-- the book of the lines that were read, where these bytes of a trace were taken and those are left
+abbrev pub read_text : List ℕ → List ℕ → List ℕ
+read_text taken left = first_line ++ lines_text opening 1 (lines_read taken left)

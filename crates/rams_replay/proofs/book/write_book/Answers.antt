@@ -4,6 +4,7 @@ use Rattle.rams_model.specs.declared.status.Status.{Status}
 use Rattle.rams_model.specs.First.TraceText.{first_line}
 use Rattle.rams_replay.specs.declared.stop.Stop.{Stop}
 use Rattle.rams_replay.specs.Stops.{OnlyMemoryStops}
+use Rattle.rams_replay.proofs.Reading.{not_by_source, ended_by_source, lines_then_all}
 use Rattle.rams_replay.proofs.Running.{outcome, told_gives}
 use Rattle.rams_replay.proofs.Booking.{told_all, none_of, stops_in_front, part_of_first, part_of_front, first_goes, book_has_text, book_has_front, room_of}
 use Rattle.rams_replay.proofs.book.write_book.Goals as goal
@@ -17,6 +18,11 @@ returns-in_err-put-clause-front g c =
     let holds = g.K.Sink.held c.put.new.sink in
     let waiting = c.in_ok-writer.writer.gather in
     part_of_first held holds waiting (g.S.Source.left c.args.source.now) c.in_ok-writer.ensures (stops_in_front held holds (waiting ++ first_line) c.put.new.gather c.in_err-put.field-0.0 c.in_err-put.ensures.front)
+
+pub returns-in_err-put-clause-read : goal.returns-in_err-put-clause-read
+returns-in_err-put-clause-read g c = λ e.
+    let p = err_from_is_err_and c.from_residual-in_err-put.result c.from_residual-in_err-put.ensures.1 in
+    absurd (not_by_source _ _ c.from_residual-in_err-put.result p.0 c.in_err-put.field-0.0 p.1 p.2 c.in_err-put.ensures.cause.cause e)
 
 pub returns-in_err-put-clause-steady : goal.returns-in_err-put-clause-steady
 returns-in_err-put-clause-steady g c = λ calm.
@@ -35,6 +41,11 @@ returns-in_err-flush-clause-front g c =
     let holds = g.K.Sink.held c.flush.new.sink in
     let p = c.flush.ensures.prefix in
     part_of_front a holds (g.S.Source.left c.args.source.now) (p.0, first_goes a b holds c.in_ok-writer.writer.gather c.put.new.gather p.0 c.in_ok-writer.ensures c.in_ok-put.ensures.all p.1)
+
+pub returns-in_err-flush-clause-read : goal.returns-in_err-flush-clause-read
+returns-in_err-flush-clause-read g c = λ e.
+    let p = err_from_is_err_and c.from_residual-in_err-flush.result c.from_residual-in_err-flush.ensures.1 in
+    absurd (not_by_source _ _ c.from_residual-in_err-flush.result p.0 c.in_err-flush.field-0.0 p.1 p.2 c.in_err-flush.ensures.cause.cause e)
 
 pub returns-in_err-flush-clause-steady : goal.returns-in_err-flush-clause-steady
 returns-in_err-flush-clause-steady g c = λ calm.
@@ -62,6 +73,15 @@ returns-clause-front g c =
     let first = first_goes a (g.K.Sink.held c.put.new.sink) b c.in_ok-writer.writer.gather c.put.new.gather [] c.in_ok-writer.ensures c.in_ok-put.ensures.all c.in_ok-flush.ensures.all in
     book_has_front a b (g.K.Sink.held c.write_lines-ended.new.sink) (g.K.Sink.held c.close.new.sink) (g.S.Source.left c.args.source.now) c.flush.new.gather c.write_lines-ended.new.writer.gather c.write_lines-ended.result
     c.in_ok-flush.ensures.empty first c.write_lines-ended.ensures.text c.write_lines-ended.ensures.front (λ e. ap g.K.Sink.held (c.close.ensures.untouched e)) c.close.ensures.prefix
+
+pub returns-clause-read : goal.returns-clause-read
+returns-clause-read g c = λ e.
+    let a = g.K.Sink.held c.args.sink.now in
+    let b = g.K.Sink.held c.flush.new.sink in
+    let first = first_goes a (g.K.Sink.held c.put.new.sink) b c.in_ok-writer.writer.gather c.put.new.gather [] c.in_ok-writer.ensures c.in_ok-put.ensures.all c.in_ok-flush.ensures.all in
+    let lines = c.write_lines-ended.ensures.read (ended_by_source _ _ c.write_lines-ended.result c.close.result c.close.ensures.ends e) in
+    lines_then_all a b (g.K.Sink.held c.write_lines-ended.new.sink) (g.K.Sink.held c.close.new.sink) c.flush.new.gather c.write_lines-ended.new.writer.gather c.close.ensures.prefix.0
+    (g.S.Source.left c.args.source.now) (g.S.Source.left c.write_lines-ended.new.source) c.in_ok-flush.ensures.empty first lines c.close.ensures.prefix.1
 
 pub returns-clause-steady : goal.returns-clause-steady
 returns-clause-steady g c = λ calm.

@@ -1,12 +1,13 @@
-use Rattle.std.proofs.Common.{IfErr, ◌++◌, ◌+◌, ◌++◌, length, Result, refl, sym, ◌∙◌, subst, arith}
+use Rattle.std.proofs.Common.{◌≡◌, IfErr, ◌++◌, ◌+◌, ◌++◌, length, Result, Err, refl, sym, ap, ◌∙◌, subst, arith}
 use Rattle.std.proofs.lemmas.Result.{err_from_is_err_and}
 use Rattle.std.specs.Io.KnownBytes.{prepend_known}
 use Rattle.rams_model.specs.declared.status.Status.{Status}
 use Rattle.rams_replay.specs.declared.stop.Stop.{Stop}
 use Rattle.rams_replay.specs.Stops.{OnlyMemoryStops, StopsIn}
 use Rattle.rams_replay.specs.Told.{IfTold}
-use Rattle.rams_replay.specs.declared.stop.Stop.TheVariants.{Memory}
-use Rattle.rams_replay.proofs.Running.{outcome, unstarted, told_gives, running_begins, running_breaks, running_stops, running_has_room, running_goes_on, running_ends, running_ends_steadily}
+use Rattle.rams_replay.specs.declared.stop.Stop.TheVariants.{Memory, Read}
+use Rattle.rams_replay.proofs.Reading.{not_by_source}
+use Rattle.rams_replay.proofs.Running.{outcome, unstarted, told_gives, running_begins, running_breaks, running_reads, running_stops, running_has_room, running_goes_on, running_ends, running_ends_steadily}
 use Rattle.rams_replay.proofs.book.write_lines.Goals as goal
 
 pub returns-in_err-reader-clause-front : goal.returns-in_err-reader-clause-front
@@ -30,6 +31,19 @@ returns-in_err-turn-clause-front g c =
     let stops = running_breaks _ _ _ _ _ _ _ _ _ _ _ (g.S.Source.left c.args.source.now) leaves c.loop-number.number p.0 c.loop-number.invariant.0 in
     subst (λ (r : Result Status Stop). IfErr r (λ stop. IfTold (g.S.Source.left c.args.source.now)
     (λ xs. StopsIn (g.K.Sink.held c.args.sink.now) (g.K.Sink.held c.loop-number.sink) (c.args.writer.now.gather ++ (outcome xs).text) c.loop-number.writer.gather stop))) (sym p.1) stops
+
+pub returns-in_err-turn-clause-read : goal.returns-in_err-turn-clause-read
+returns-in_err-turn-clause-read g c = λ e.
+    let leaves = prepend_known c.loop-number.reader.kept (g.S.Source.left c.loop-number.source) in
+    let p = err_from_is_err_and c.from_residual-in_err-turn.result c.from_residual-in_err-turn.ensures.1 in
+    let read : p.0 ≡ Read = cc in
+    let same = c.in_err-turn.ensures.same (ap Err (sym p.2 ∙ read)) in
+    running_reads _ _ _ _ _ _ _ _ _ _ _ (g.S.Source.left c.args.source.now) leaves c.loop-number.number c.next_turn.new.reader.kept (g.S.Source.left c.next_turn.new.source) c.loop-number.invariant.0 same
+
+pub returns-in_err-write_turn-clause-read : goal.returns-in_err-write_turn-clause-read
+returns-in_err-write_turn-clause-read g c = λ e.
+    let p = err_from_is_err_and c.from_residual-in_err-write_turn.result c.from_residual-in_err-write_turn.ensures.1 in
+    absurd (not_by_source _ _ c.from_residual-in_err-write_turn.result p.0 c.in_err-write_turn.field-0.0 p.1 p.2 c.in_err-write_turn.ensures.cause.cause e)
 
 pub returns-in_err-write_turn-clause-front : goal.returns-in_err-write_turn-clause-front
 returns-in_err-write_turn-clause-front g c =
