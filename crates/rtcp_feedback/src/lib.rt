@@ -6,6 +6,8 @@ mod iter;
 mod message;
 mod nack;
 mod reading;
+#[cfg(test)]
+mod tests;
 mod writing;
 
 pub use iter::NackIter;

@@ -7,6 +7,8 @@ mod framing;
 mod front;
 mod iter;
 mod packet;
+#[cfg(test)]
+mod tests;
 mod writing;
 
 pub use framing::packets;
