@@ -1,12 +1,12 @@
 -- What is true of every window stays true.
-use Rattle.std.proofs.Common.{◌≡◌, ℕ, zero, suc, ◌+◌, ◌-◌, ◌<◌, ◌≤◌, ◌^◌, ◌⊎◌, max, Bool, true, false, ◌==◌, ◌||◌, nat_lt, if◌then◌else◌, List, [], ◌∷◌, ◌++◌, length, drop, Option, Some, None, refl, sym, ◌∙◌, ap, inl, inr, subst, arith}
+use Rattle.std.proofs.Common.{◌≡◌, ℕ, ◌+◌, ◌-◌, ◌<◌, ◌≤◌, ◌^◌, ◌⊎◌, max, Bool, true, false, ◌==◌, nat_lt, if◌then◌else◌, List, [], ◌∷◌, length, Some, None, refl, ◌∙◌, ap, inl, inr, arith}
 use Rattle.std.proofs.lemmas.Bool.{cases_lt}
 use Rattle.std.proofs.lemmas.Bool.Decides.{nat_tests}
 use Rattle.std.specs.Prelude.{insert}
 use Rattle.std.specs.List.{position_or_len}
 use Rattle.reorder_window.specs.Starts.{has_number, with_item}
 use Rattle.reorder_window.specs.Seen.{Seen, seen_of, next_missing, keeping, is_free, free_of, first_free, RisesIn, IsWindow}
-use Rattle.reorder_window.proofs.Rising.{false_first, false_second, differs, rises_up, rises-wider, rises-length, rises-with_item, length-with_item}
+use Rattle.reorder_window.proofs.Rising.{false_first, false_second, differs, rises-wider, rises-length, rises-with_item, length-with_item}
 use Rattle.reorder_window.proofs.Searches.{next-from, next-none, next-end, insert-is}
 
 -- an item that can't be released is not below the awaited number

@@ -1,5 +1,5 @@
 -- The searches for the least number: that of the definitions, and that of the window.
-use Rattle.std.proofs.Common.{◌≡◌, ℕ, zero, suc, ◌+◌, ◌-◌, ◌<◌, ◌≤◌, ◌⊎◌, Bool, true, false, ◌==◌, ◌||◌, not, nat_lt, if◌then◌else◌, List, [], ◌∷◌, ◌++◌, length, refl, sym, ◌∙◌, ap, inl, inr, subst, arith}
+use Rattle.std.proofs.Common.{◌≡◌, ℕ, zero, suc, ◌+◌, ◌<◌, ◌≤◌, ◌⊎◌, Bool, true, false, ◌==◌, ◌||◌, not, nat_lt, if◌then◌else◌, List, [], ◌∷◌, refl, ◌∙◌, ap, inl, inr, subst, arith}
 use Rattle.std.proofs.lemmas.Bool.{cases_lt}
 use Rattle.std.proofs.lemmas.Bool.Decides.{nat_tests}
 use Rattle.std.specs.Prelude.{insert}
@@ -7,7 +7,7 @@ use Rattle.std.specs.List.{position_or_len}
 use Rattle.rams_model.specs.Source.{least}
 use Rattle.reorder_window.specs.Starts.{has_number, with_item}
 use Rattle.reorder_window.specs.Seen.{RisesIn, next_missing}
-use Rattle.reorder_window.proofs.Rising.{or_true_right, or_false, has-lower, rises_up}
+use Rattle.reorder_window.proofs.Rising.{or_true_right, or_false, rises_up}
 
 -- ---- the least number that passes a test
 pub least-from : (test : ℕ → Bool) (n count : ℕ) → n ≤ least test n count

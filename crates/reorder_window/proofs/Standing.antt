@@ -1,15 +1,13 @@
 -- A window goes on to stand for the items in time.
-use Rattle.std.proofs.Common.{◌≡◌, ℕ, zero, suc, ◌+◌, ◌-◌, ◌<◌, ◌≤◌, ◌^◌, ◌⊎◌, max, Bool, true, false, ◌==◌, ◌||◌, ◌&&◌, not, nat_lt, nat_le, if◌then◌else◌, List, [], ◌∷◌, ◌++◌, length, drop, filter, Option, Some, None, refl, sym, ◌∙◌, ap, inl, inr, subst, append_assoc, append-nil, arith}
+use Rattle.std.proofs.Common.{◌≡◌, ℕ, ◌+◌, ◌-◌, ◌<◌, ◌≤◌, ◌⊎◌, max, Bool, true, false, ◌==◌, ◌||◌, ◌&&◌, not, nat_lt, nat_le, if◌then◌else◌, List, [], ◌∷◌, ◌++◌, drop, filter, Some, None, refl, sym, ◌∙◌, ap, inl, inr, subst, append_assoc, append-nil, arith}
 use Rattle.std.specs.Prelude.{MatchOption}
 use Rattle.std.proofs.lemmas.Bool.{cases_lt}
 use Rattle.std.proofs.lemmas.Bool.Decides.{nat_tests}
-use Rattle.reorder_window.specs.declared.window.Came.{Came}
 use Rattle.reorder_window.specs.declared.window.Came.TheVariants.{Kept, Late, Twice}
-use Rattle.rams_model.specs.Source.{least}
 use Rattle.reorder_window.specs.Starts.{Start, has_number, with_item, last_number, is_missing, awaited, came, start_after, released}
 use Rattle.reorder_window.specs.Seen.{Seen, begun, next_missing, keeping, came_of, arrived, is_free, free_of, first_free, without, after_release, RisesIn, IsWindow, StandsFor}
-use Rattle.reorder_window.proofs.Rising.{false_second, rises_up, rises-wider, rises-append, rises_front, rises_end, rises_before, rises-with_item, or_true_right, or_false, has-higher, has-append, has-with_item, with_item-append, last-with_item}
-use Rattle.reorder_window.proofs.Searches.{least-from, least-below, least-is, next-from, next-has, next-none, next-end}
+use Rattle.reorder_window.proofs.Rising.{rises_up, rises-wider, rises-append, rises_front, rises_end, rises_before, rises-with_item, or_true_right, or_false, has-higher, has-append, has-with_item, with_item-append, last-with_item}
+use Rattle.reorder_window.proofs.Searches.{least-below, least-is, next-from, next-has, next-none, next-end}
 use Rattle.reorder_window.proofs.Keeping.{not_free_step, rises_settled}
 
 -- ---- the two halves of `is_missing`

@@ -1,0 +1,7 @@
+use Rattle.std.proofs.Common.{◌≡◌, false, None}
+use Rattle.reorder_window.specs.Seen.{first_free}
+use Rattle.reorder_window.proofs.tests.a_full_window_lets_all_go.Given as goal
+
+-- the start goes on, and nothing can be released
+abbrev pub invariant-loop-n : goal.invariant-loop-n
+invariant-loop-n g l = (l.window.ended ≡ false) × (first_free l.window ≡ None)
