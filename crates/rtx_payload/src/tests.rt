@@ -29,16 +29,16 @@ fn padding_and_extension(rt: HostRuntime) -> Result<(), Fail> {
     Ok(())
 }
 
-// A row has the packet's header, its count of zero bytes, and the header of its retransmission
-// under type 99 and number 500, with the original number.
+// A row has the packet's header, its payload, and the header of its retransmission under type 99
+// and number 500 with the original number.
 #[test]
 fn plain_packets(rt: HostRuntime) -> Result<(), Fail> {
     let alloc = rt.alloc();
-    let cases: [([u8; 12], usize, [u8; 14]); 2] = [
+    let cases: [([u8; 12], &[u8], [u8; 14]); 2] = [
         // one_packet_per_tick: number 11, timestamp 900, with the marker
         (
             [0x80, 0xa1, 0, 11, 0, 0, 3, 0x84, 0x11, 0x22, 0x33, 0x44],
-            1458,
+            &[0; 1458],
             [
                 0x80, 0xe3, 1, 0xf4, 0, 0, 3, 0x84, 0x11, 0x22, 0x33, 0x44, 0, 11,
             ],
@@ -48,25 +48,24 @@ fn plain_packets(rt: HostRuntime) -> Result<(), Fail> {
             [
                 0x80, 0x21, 0xff, 0xff, 0, 0, 3, 0x84, 0x11, 0x22, 0x33, 0x44,
             ],
-            4,
+            &[0; 4],
             [
                 0x80, 0x63, 1, 0xf4, 0, 0, 3, 0x84, 0x11, 0x22, 0x33, 0x44, 0xff, 0xff,
             ],
         ),
     ];
-    let zeros = [0; 1458];
-    let mut text = Vec::new(alloc);
-    for (header, count, front) in cases {
+    for (header, payload, front) in cases {
         let mut packet = Vec::from_slice(alloc, &header)?;
-        packet.extend_from_slice(&zeros[..count])?;
-        text.clear();
-        text.push(0xee)?;
+        packet.extend_from_slice(payload)?;
+        let mut again = Vec::from_slice(alloc, &[0xee])?;
+        again.extend_from_slice(&front)?;
+        again.extend_from_slice(payload)?;
         let original = Rtp::read(&packet).expect(&rt, "a packet");
+        let mut text = Vec::from_slice(alloc, &[0xee])?;
         append_rtx(&mut text, &original, 99, 500)?;
-        assert_eq!(rt; text[0], 0xee);
-        assert_eq!(rt; &text[1..15], front.as_slice());
-        assert_eq!(rt; &text[15..], &zeros[..count]);
-        let came = Rtp::read(&text[1..]).expect(&rt, "a retransmission");
+        assert_eq!(rt; text.as_slice(), again.as_slice());
+        let written = write_rtx(alloc, &original, 99, 500)?;
+        let came = Rtp::read(&written).expect(&rt, "a retransmission");
         let (_, restored) = restore(alloc, &came, 33).expect(&rt, "an original");
         assert_eq!(rt; restored.as_slice(), packet.as_slice());
     }
