@@ -27,7 +27,11 @@ pub use examples::{
 pub use fault::{ConfigFault, FrameFault, LineFault, NackFault, RtpFault, TlvFault};
 pub use held::Held;
 pub use laws::{
-    awaited_is_least, budgets_have_left, bursts_are_since, catching_up_ends, chosen_is_newest, clients_are_since, datagrams_are_read_as_spelled, exactly_one_book, held_packets_follow, nacks_are_read_back, packets_are_read_back, plain_packets_are_spelled_again, rams_messages_are_read_as_spelled, rams_messages_are_read_back, run_is_longest, source_grows_in_order, stop_is_least, what_is_read_is_spelled_so, what_is_spelled_so_is_read,
+    awaited_is_least, budgets_have_left, bursts_are_since, catching_up_ends, chosen_is_newest,
+    clients_are_since, datagrams_are_read_as_spelled, exactly_one_book, held_packets_follow,
+    nacks_are_read_back, packets_are_read_back, plain_packets_are_spelled_again,
+    rams_messages_are_read_as_spelled, rams_messages_are_read_back, run_is_longest,
+    source_grows_in_order, stop_is_least, what_is_read_is_spelled_so, what_is_spelled_so_is_read,
 };
 pub use message::{Info, Stop};
 pub use mode::{LineKind, Mode};

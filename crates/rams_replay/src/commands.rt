@@ -37,8 +37,6 @@ pub fn run<R: Threads + Wait + Sync, S: Source, K: Sink, W: Wire, C: Clock, G: G
     ensures text { is_run words.now ≡ true → IfTold (S.left source.old) (λ xs. HasText (K.held sink.old) (K.held sink.new) (trace_text xs) result) }
     ensures front { IfTold (S.left source.old) (λ xs. (rest : List ℕ) × Passes (K.held sink.old) (K.held sink.new) (trace_text xs).text rest) }
     ensures lawful { IfTold (S.left source.old) (λ xs. IfServed (served_by xs) KeepsPromises) }
-{}
-
     ensures read { result ≡ ReadFault → IfBothTold (S.left source.old) (S.left source.new) (HasReadText (K.held sink.old) (K.held sink.new)) }
     ensures cause { IsCaused (S.faults source.old) (S.faults source.new) (K.faults sink.old) (K.faults sink.new) result }
     ensures whole { is_run words.now ≡ true → S.is_steady source.old → IfTold (S.left source.old)
@@ -67,8 +65,6 @@ pub fn plain<S: Source, K: Sink>(
     ensures text { is_run words.now ≡ true → IfTold (S.left source.old) (λ xs. HasText (K.held sink.old) (K.held sink.new) (trace_text xs) result) }
     ensures front { IfTold (S.left source.old) (λ xs. (rest : List ℕ) × Passes (K.held sink.old) (K.held sink.new) (trace_text xs).text rest) }
     ensures lawful { IfTold (S.left source.old) (λ xs. IfServed (served_by xs) KeepsPromises) }
-{}
-
     ensures read { result ≡ ReadFault → IfBothTold (S.left source.old) (S.left source.new) (HasReadText (K.held sink.old) (K.held sink.new)) }
     ensures cause { IsCaused (S.faults source.old) (S.faults source.new) (K.faults sink.old) (K.faults sink.new) result }
     ensures whole { is_run words.now ≡ true → S.is_steady source.old → IfTold (S.left source.old)
