@@ -112,7 +112,8 @@ fn gives(
         }
         assert_eq!(rt; reader.advance(&mut source)?, last);
         if last == Next::Long {
-            assert_eq!(rt; reader.line(), &bytes[..4097]);
+            assert_eq!(rt; reader.line().len(), 4097);
+            assert!(rt; bytes.starts_with(reader.line()));
         }
         assert_eq!(rt; reader.advance(&mut source)?, last);
     }
