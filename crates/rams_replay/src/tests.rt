@@ -60,6 +60,18 @@ fn sink_for(alloc: Global, fails: &[u64]) -> Result<MemSink, Fail> {
     Ok(sink.ok().ok_or("memory")?)
 }
 
+/// How the run of what the source has ends.
+fn status_from(
+    rt: &impl Abort,
+    alloc: Global,
+    source: &mut MemSource,
+    sink: &mut MemSink,
+) -> Result<Status, Fail> {
+    let words = words_of(alloc, &["run"])?;
+    assert!(rt; begins_with_run(&words));
+    Ok(plain(alloc, &words, source, sink))
+}
+
 /// The run of a trace ends so, and the sink then holds this. These calls of the source and these of
 /// the sink fail.
 fn ends(
@@ -70,11 +82,9 @@ fn ends(
     status: Status,
     held: &str,
 ) -> Result<(), Fail> {
-    let words = words_of(alloc, &["run"])?;
     let mut source = source_of(alloc, trace, fails.0)?;
     let mut sink = sink_for(alloc, fails.1)?;
-    assert!(rt; begins_with_run(&words));
-    let got = plain(alloc, &words, &mut source, &mut sink);
+    let got = status_from(rt, alloc, &mut source, &mut sink)?;
     assert_eq!(rt; got, status, "{trace}");
     assert_eq!(rt; sink.held(), held.as_bytes(), "{trace}");
     Ok(())
@@ -196,11 +206,12 @@ fn fronts_of_a_trace(rt: HostRuntime) -> Result<(), Fail> {
     let alloc = rt.alloc();
     let opening = opening(alloc)?;
     let trace = format!(in alloc; "{opening}live 7 80a1000a0000000011223344\ntick\nend")?;
-    let words = words_of(alloc, &["run"])?;
-    for length in 0..trace.len() {
-        let mut source = source_of(alloc, &trace[..length], &[])?;
+    let bytes = trace.as_bytes();
+    for length in 0..bytes.len() {
+        let front = bytes[..length].to_vec(alloc)?;
+        let mut source = MemSource::new(front, 10_000, Vec::new(alloc));
         let mut sink = sink_for(alloc, &[])?;
-        let got = plain(alloc, &words, &mut source, &mut sink);
+        let got = status_from(&rt, alloc, &mut source, &mut sink)?;
         assert!(rt;
             matches!(got, Status::BadTrace | Status::NotBuilt),
             "{length}"

@@ -1,9 +1,9 @@
 //! What is left in the sink when the source or the sink fails, and how pieces are read.
 use super::{
     HEAD, NO_EVENT, channel, ends, one_packet_per_tick, one_packet_per_tick_book, sink_for,
-    words_of,
+    status_from,
 };
-use crate::{Status, plain};
+use crate::Status;
 use ram_io::MemSource;
 use std::alloc::Global;
 use std::test::Fail;
@@ -35,13 +35,12 @@ fn a_source_fails_at_each_call(rt: HostRuntime) -> Result<(), Fail> {
     let line = channel(alloc, 7, 2, "window 0 access marker", 3)?;
     let lines = format!(in alloc; "{HEAD}{line}live 7 80a1000a0000000011223344\n")?;
     let trace = format!(in alloc; "{lines}tick\nend\n")?;
-    let words = words_of(alloc, &["run"])?;
     let calls = trace.len() as u64;
     for call in 0..calls {
         let bytes = trace.as_bytes().to_vec(alloc)?;
         let mut source = MemSource::new(bytes, 1, [call].to_vec(alloc)?);
         let mut sink = sink_for(alloc, &[])?;
-        let got = plain(alloc, &words, &mut source, &mut sink);
+        let got = status_from(&rt, alloc, &mut source, &mut sink)?;
         assert_eq!(rt; got, Status::ReadFault, "{call}");
         let book = if call < lines.len() as u64 {
             "rams-book 1\n"
@@ -59,12 +58,11 @@ fn pieces_of_any_size(rt: HostRuntime) -> Result<(), Fail> {
     let alloc = rt.alloc();
     let trace = one_packet_per_tick(alloc)?;
     let book = one_packet_per_tick_book(alloc)?;
-    let words = words_of(alloc, &["run"])?;
     for most in [1, 2, 3, 7, 4_096] {
         let bytes = trace.as_bytes().to_vec(alloc)?;
-        let mut source = MemSource::new(bytes, most, [].to_vec(alloc)?);
+        let mut source = MemSource::new(bytes, most.max(1), Vec::new(alloc));
         let mut sink = sink_for(alloc, &[])?;
-        let got = plain(alloc, &words, &mut source, &mut sink);
+        let got = status_from(&rt, alloc, &mut source, &mut sink)?;
         assert_eq!(rt; got, Status::Done, "{most}");
         assert_eq!(rt; sink.held(), book.as_bytes(), "{most}");
     }
