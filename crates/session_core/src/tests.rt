@@ -421,6 +421,7 @@ fn requests_are_accepted_or_refused(rt: HostRuntime) -> Result<(), Fail> {
     ];
     for (name, settings, packets, note) in cases {
         let mut core = core_with(&rt, alloc, settings, packets)?;
+        assert!(rt; core.built_feedback(&REQUEST), "{name}");
         let answer = core.feedback(alloc, 6, &REQUEST)?;
         assert_eq!(rt; answer.notes.as_slice(), [note].as_slice(), "{name}");
         assert!(rt; !core.built_feedback(&REQUEST), "a second request");
