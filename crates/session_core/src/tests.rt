@@ -393,13 +393,13 @@ fn requests_are_accepted_or_refused(rt: HostRuntime) -> Result<(), Fail> {
         ..channel()
     };
     let accept = Note::Accept {
-        client: 6,
+        client: 5,
         first: 65546,
         rate: 4000,
         join: 1,
     };
     let refuse = Note::Refuse {
-        client: 6,
+        client: 5,
         code: 507,
     };
     let cases = [
@@ -421,8 +421,7 @@ fn requests_are_accepted_or_refused(rt: HostRuntime) -> Result<(), Fail> {
     ];
     for (name, settings, packets, note) in cases {
         let mut core = core_with(&rt, alloc, settings, packets)?;
-        assert!(rt; core.built_feedback(&REQUEST), "{name}");
-        let answer = core.feedback(alloc, 6, &REQUEST)?;
+        let answer = feedback(&rt, alloc, &mut core, &REQUEST)?;
         assert_eq!(rt; answer.notes.as_slice(), [note].as_slice(), "{name}");
         assert!(rt; !core.built_feedback(&REQUEST), "a second request");
     }
