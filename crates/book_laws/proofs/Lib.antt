@@ -15,3 +15,4 @@ pub mod Counts
 pub mod TickRuns
 pub mod Served
 pub mod Promises
+pub mod Links

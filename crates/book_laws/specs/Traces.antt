@@ -1,5 +1,5 @@
 -- What holds of the channel that a trace is served by.
-use Rattle.std.specs.Prelude.{◌≡◌, ℕ, ◌≤◌, List, [], ◌∷◌, ◌++◌, Option, Some, None, All}
+use Rattle.std.specs.Prelude.{◌≡◌, ℕ, ◌+◌, ◌≤◌, List, [], ◌∷◌, ◌++◌, Option, Some, None, All}
 use Rattle.rams_model.specs.declared.event.Event.{Event}
 use Rattle.rams_model.specs.declared.event.Event.TheVariants.{Tick}
 use Rattle.rams_model.specs.declared.held.Held.{Held}
@@ -7,7 +7,9 @@ use Rattle.rams_model.specs.declared.note.Note.TheVariants.{Refuse}
 use Rattle.rams_model.specs.Settings.{Settings}
 use Rattle.rams_model.specs.First.History.{began, noted, History, source, hold}
 use Rattle.rams_model.specs.First.Lawful.{book}
-use Rattle.rams_model.specs.First.TraceText.{served_by}
+use Rattle.rams_model.specs.TraceOrder.{Head}
+use Rattle.rams_model.specs.Words.{lines_of}
+use Rattle.rams_model.specs.First.TraceText.{Stage, Turn, goes_on, ends, turn, opening, served_by}
 use Rattle.book_laws.specs.Sent.{first_sendings, bytes_to, bytes_sent, events_of}
 use Rattle.book_laws.specs.Moments.{LastAccept}
 use Rattle.book_laws.specs.Bursts.{AreNumberedFrom, IsPacketOf, NoneEligible, BeginsAtNewest}
@@ -51,6 +53,28 @@ pub record KeepsPromises (s : Settings) (history : History) : Type 0 where
 abbrev pub IfServed : Option (Settings × History) → (Settings → History → Type 0) → Type 0
 IfServed None P = Unit {0}
 IfServed (Some channel) P = P channel.0 channel.1
+
+-- the head line that has come by the end of the rest of a trace
+abbrev pub head_after : Option Head → Turn → (Stage → Option Head) → Option Head
+head_after head (goes_on later text) rest = rest later
+head_after head (ends o) rest = head
+
+unfoldable pub head_from : Stage → ℕ → List (List ℕ) → Option Head
+head_from stage number [] = stage.reached.head
+head_from stage number (bytes ∷ lines) = head_after stage.reached.head (turn stage number bytes) (λ later. head_from later (number + 1) lines)
+
+-- the head line of a trace
+abbrev pub head_of : List ℕ → Option Head
+head_of trace = head_from opening 1 (lines_of trace)
+
+-- what the channel may send in a tick is at most what the head line gives all channels together
+abbrev pub FitsLink : Option Head → Settings → History → Type 0
+FitsLink None s history = ⊥
+FitsLink (Some head) s history = s.channel.share ≤ head.link
+
+-- Whatever the trace, its channel's share is at most the link's bytes.
+abbrev pub SharesFitTheLink : Type 0
+SharesFitTheLink = (trace : List ℕ) → IfServed (served_by trace) (FitsLink (head_of trace))
 
 -- Whatever the trace, the channel that it is served by keeps its promises.
 abbrev pub TracesAreServedLawfully : Type 0

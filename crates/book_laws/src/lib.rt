@@ -7,7 +7,7 @@ ghost use Rattle.book_laws.specs.Bursts.{FirstSendingsAreConsecutive, WhatIsSent
 ghost use Rattle.book_laws.specs.Ticks.{ClientBudgetsAreKept, SharesAreKept, OnlyTicksSend, SizesAreThoseOnTheWire, ARunIsTheLongestThatFits, ATickSendsAllThatFits};
 ghost use Rattle.book_laws.specs.Retransmitted.{EachDatagramIsTheRetransmissionOfASourcePacket};
 ghost use Rattle.book_laws.specs.OneBook.{OneBook};
-ghost use Rattle.book_laws.specs.Traces.{TracesAreServedLawfully};
+ghost use Rattle.book_laws.specs.Traces.{SharesFitTheLink, TracesAreServedLawfully};
 ghost use Rattle.book_laws.specs.Worked.{OneOfEach, NoRoom, ThreeTicks, TheNewerOne};
 
 /// The packets sent of a burst are numbered from the one that its Accept named, without a gap, and
@@ -62,6 +62,11 @@ pub fn one_book()
 /// What the channel of a trace promises: consecutive sendings, budgets, true refusals.
 pub fn traces_are_served_lawfully()
     ensures { TracesAreServedLawfully }
+{}
+
+/// What the channel of a trace may send in a tick is at most what its head line gives the link.
+pub fn shares_fit_the_link()
+    ensures { SharesFitTheLink }
 {}
 
 /// A book of one access point, one request and one tick.

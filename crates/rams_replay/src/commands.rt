@@ -1,7 +1,7 @@
 //! The commands.
 ghost use Rattle.std.specs.Prelude.{◌≡◌, false, true, not, ℕ, List, length};
 ghost use Rattle.line_io.specs.Passes.{Passes};
-ghost use Rattle.book_laws.specs.Traces.{IfServed, KeepsPromises};
+ghost use Rattle.book_laws.specs.Traces.{IfServed, KeepsPromises, FitsLink, head_of};
 ghost use Rattle.rams_model.specs.First.TraceText.{served_by, trace_text};
 ghost use Rattle.rams_model.specs.declared.status.Status.TheVariants.{ReadFault};
 ghost use Rattle.rams_replay.specs.CommandWords.{is_run, begins_with_run};
@@ -17,7 +17,7 @@ use std::alloc::Global;
 use std::sync::Wait;
 use std::thread::Threads;
 
-#[tactic(auto, using(crate::proofs::Lawful::lawful))]
+#[tactic(auto, using(crate::proofs::Lawful::lawful, crate::proofs::Lawful::linked))]
 /// Runs a command over whatever it reads from, writes to, sends through and tells the time by.
 ///
 /// `words` are those of the command line behind the program's name. `run` reads a trace and writes
@@ -37,6 +37,7 @@ pub fn run<R: Threads + Wait + Sync, S: Source, K: Sink, W: Wire, C: Clock, G: G
     ensures text { is_run words.now ≡ true → IfTold (S.left source.old) (λ xs. HasText (K.held sink.old) (K.held sink.new) (trace_text xs) result) }
     ensures front { IfTold (S.left source.old) (λ xs. (rest : List ℕ) × Passes (K.held sink.old) (K.held sink.new) (trace_text xs).text rest) }
     ensures lawful { IfTold (S.left source.old) (λ xs. IfServed (served_by xs) KeepsPromises) }
+    ensures link { IfTold (S.left source.old) (λ xs. IfServed (served_by xs) (FitsLink (head_of xs))) }
     ensures read { result ≡ ReadFault → IfBothTold (S.left source.old) (S.left source.new) (HasReadText (K.held sink.old) (K.held sink.new)) }
     ensures cause { IsCaused (S.faults source.old) (S.faults source.new) (K.faults sink.old) (K.faults sink.new) result }
     ensures whole { is_run words.now ≡ true → S.is_steady source.old → IfTold (S.left source.old)
@@ -51,7 +52,7 @@ pub fn run<R: Threads + Wait + Sync, S: Source, K: Sink, W: Wire, C: Clock, G: G
     }
 }
 
-#[tactic(auto, using(crate::proofs::Lawful::lawful))]
+#[tactic(auto, using(crate::proofs::Lawful::lawful, crate::proofs::Lawful::linked))]
 /// Runs a command that waits for nobody: the first word is `run`.
 pub fn plain<S: Source, K: Sink>(
     alloc: Global,
@@ -65,6 +66,7 @@ pub fn plain<S: Source, K: Sink>(
     ensures text { is_run words.now ≡ true → IfTold (S.left source.old) (λ xs. HasText (K.held sink.old) (K.held sink.new) (trace_text xs) result) }
     ensures front { IfTold (S.left source.old) (λ xs. (rest : List ℕ) × Passes (K.held sink.old) (K.held sink.new) (trace_text xs).text rest) }
     ensures lawful { IfTold (S.left source.old) (λ xs. IfServed (served_by xs) KeepsPromises) }
+    ensures link { IfTold (S.left source.old) (λ xs. IfServed (served_by xs) (FitsLink (head_of xs))) }
     ensures read { result ≡ ReadFault → IfBothTold (S.left source.old) (S.left source.new) (HasReadText (K.held sink.old) (K.held sink.new)) }
     ensures cause { IsCaused (S.faults source.old) (S.faults source.new) (K.faults sink.old) (K.faults sink.new) result }
     ensures whole { is_run words.now ≡ true → S.is_steady source.old → IfTold (S.left source.old)
