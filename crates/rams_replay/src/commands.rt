@@ -17,11 +17,11 @@ use std::alloc::Global;
 use std::sync::Wait;
 use std::thread::Threads;
 
-#[tactic(auto, using(crate::proofs::Lawful::lawful, crate::proofs::Lawful::linked))]
 /// Runs a command over whatever it reads from, writes to, sends through and tells the time by.
 ///
 /// `words` are those of the command line behind the program's name. `run` reads a trace and writes
 /// its book. Any other words are refused, and nothing is read or written.
+#[tactic(auto, using(crate::proofs::Lawful::lawful, crate::proofs::Lawful::linked))]
 pub fn run<R: Threads + Wait + Sync, S: Source, K: Sink, W: Wire, C: Clock, G: Gate + Sync>(
     _rt: &R,
     alloc: Global,
@@ -52,8 +52,8 @@ pub fn run<R: Threads + Wait + Sync, S: Source, K: Sink, W: Wire, C: Clock, G: G
     }
 }
 
-#[tactic(auto, using(crate::proofs::Lawful::lawful, crate::proofs::Lawful::linked))]
 /// Runs a command that waits for nobody: the first word is `run`.
+#[tactic(auto, using(crate::proofs::Lawful::lawful, crate::proofs::Lawful::linked))]
 pub fn plain<S: Source, K: Sink>(
     alloc: Global,
     words: &[Octets],
