@@ -1,140 +1,209 @@
--- What a note asks of the history in front of it, and that each note of a book does.
-use Rattle.std.proofs.Common.{◌≡◌, ℕ, ◌+◌, ◌≤◌, Bool, true, false, List, [], ◌∷◌, ◌++◌, refl, ap, subst, arith, add_assoc, Option, Some, None}
-use Rattle.std.specs.Prelude.{nat_le, option_map, Contains}
-use Rattle.std.specs.List.{AllByRecursion as Each}
-use Rattle.std.proofs.lemmas.List.Elements.{All-contains_itself, recursion_from_All}
-use Rattle.rams_model.specs.declared.event.Event.{Event}
-use Rattle.rams_model.specs.declared.event.Event.TheVariants.{Live, Feedback, Tick}
+-- What each kind of note asks of the history in front of it. Each note of a channel's history does so: `Legality` proves it. The laws stand on this alone.
+use Rattle.std.proofs.Common.{◌≡◌, ℕ, ◌≤◌, Bool, true, false, List, [], ◌∷◌, ◌++◌, Option, Some, None}
+use Rattle.std.specs.Prelude.{◌==◌, ◌&&◌, if◌then◌else◌, Result, Ok, Err, ◌⊎◌, Contains, find}
+use Rattle.rams_model.specs.declared.fault.TlvFault.{TlvFault}
 use Rattle.rams_model.specs.declared.held.Held.{Held}
+use Rattle.rams_model.specs.declared.message.Stop.{Stop}
+use Rattle.rams_model.specs.declared.note.Cause.{Cause}
+use Rattle.rams_model.specs.declared.note.Cause.TheVariants as cause
 use Rattle.rams_model.specs.declared.note.Note.{Note}
-use Rattle.rams_model.specs.declared.note.Note.TheVariants.{Accept, Refuse, Burst as BurstNote}
+use Rattle.rams_model.specs.declared.note.Note.TheVariants as note
 use Rattle.rams_model.specs.Settings.{Settings}
-use Rattle.rams_model.specs.Hold.{Start, newest_start, wires, from_number}
-use Rattle.rams_model.specs.First.History.{began, noted, History, source, hold}
-use Rattle.rams_model.specs.First.Standing.{Burst, next, sent_one, burst, sequence}
-use Rattle.rams_model.specs.First.Run.{run, send}
-use Rattle.rams_model.specs.First.Verdict.{no_start, answers}
-use Rattle.rams_model.specs.First.Lawful.{served, after, book}
-use Rattle.book_laws.specs.Sent.{size_of}
-use Rattle.book_laws.specs.Moments.{IsMoment}
-use Rattle.book_laws.proofs.Runs.{Rises, wires-cons, run_rises, run_fits, run_each, each_filter}
+use Rattle.rams_model.specs.Rtcp.{Framed}
+use Rattle.rams_model.specs.Rams.{Request}
+use Rattle.rams_model.specs.Rates.{stop_of}
+use Rattle.rams_model.specs.Messages.{Message, bye, nack, asks, stops}
+use Rattle.rams_model.specs.Heard.{Heard, tick}
+use Rattle.rams_model.specs.History.{began, told, noted, History, hold}
+use Rattle.rams_model.specs.Clients.{known, is_among, sequence, ssrc}
+use Rattle.rams_model.specs.Bursts.{Burst, next, open_burst}
+use Rattle.rams_model.specs.Pending.{wanted, pending, idle}
+use Rattle.rams_model.specs.Buckets.{channel_left, may_take}
+use Rattle.rams_model.specs.Verdict.{verdict}
+use Rattle.rams_model.specs.Answers.{is_before, is_bye_of, room, number_answer}
+use Rattle.rams_model.specs.Tick.{is_lost}
 
--- the bytes that were sent since the last event began
-abbrev pub sent_now : History → ℕ
-sent_now [] = 0
-sent_now (began event ∷ history) = 0
-sent_now (noted (BurstNote who n sequence) packet ∷ history) = sent_now history + size_of packet
-sent_now (noted note packet ∷ history) = sent_now history
+-- the message that is answered, with its client; none where the event isn't a datagram
+abbrev pub newest_told : History → Option (ℕ × Message)
+newest_told [] = None
+newest_told (began heard ∷ history) = None
+newest_told (told client message ∷ history) = Some (client, message)
+newest_told (noted note packet ∷ history) = newest_told history
 
-abbrev pub is_tick : Event → Bool
-is_tick Tick = true
-is_tick event = false
+-- this message of the client is answered
+abbrev pub Answers : History → ℕ → Message → Type 0
+Answers history k message = newest_told history ≡ Some (k, message)
 
--- whether the last event that began is a tick
+abbrev pub is_tick : Heard → Bool
+is_tick tick = true
+is_tick heard = false
+
+-- the last event that began is a tick
 abbrev pub in_tick : History → Bool
 in_tick [] = false
-in_tick (began event ∷ history) = is_tick event
+in_tick (began heard ∷ history) = is_tick heard
+in_tick (told client message ∷ history) = false
 in_tick (noted note packet ∷ history) = in_tick history
 
--- a request is accepted at the newest eligible access point
-pub record Accepts (s : Settings) (history : History) (first rate : ℕ) : Type 0 where
-  pub start : Start
-  pub found : newest_start s.channel (hold s.channel.ring history) ≡ Some start
-  pub first_is : first ≡ start.n
-  pub rate_is : rate ≡ s.channel.burst
-  pub asked : in_tick history ≡ false
+-- a note of the runs of a tick
+abbrev pub is_of_runs : Note → Bool
+is_of_runs (note.Burst client n sequence) = true
+is_of_runs (note.End client cause) = true
+is_of_runs _ = false
 
--- the open burst is sent the packet that is next, which is held and fits
-pub record Sends (s : Settings) (history : History) (client n number : ℕ) (packet : Option Held) : Type 0 where
-  pub opened : Burst
-  pub is_open : burst history ≡ Some opened
-  pub client_is : client ≡ opened.client
-  pub n_is : n ≡ next opened
-  pub number_is : number ≡ sequence s history
+-- a tick began, and only runs were noted since
+abbrev pub in_runs : History → Bool
+in_runs [] = false
+in_runs (began heard ∷ history) = is_tick heard
+in_runs (told client message ∷ history) = false
+in_runs (noted note packet ∷ history) = if is_of_runs note then in_runs history else false
+
+-- the client's open burst
+pub record Open (s : Settings) (history : History) (k : ℕ) : Type 0 where
+  pub burst : Burst
+  pub is_open : open_burst s k history ≡ Some burst
+
+-- a request is answered by its verdict
+pub record IsVerdict (s : Settings) (history : History) (k : ℕ) (note : Note) : Type 0 where
+  pub sender : ℕ
+  pub request : Result Request TlvFault
+  pub is_answer : Answers history k (asks sender request)
+  pub is_verdict : verdict s k history request ≡ note
+
+-- a RAMS-T that doesn't read is refused
+pub record IsUnread (history : History) (k code : ℕ) : Type 0 where
+  pub fault : TlvFault
+  pub is_answer : Answers history k (stops (Err fault))
+  pub code_is : code ≡ 404
+
+-- a number that a NACK names is answered
+pub record IsNumberAnswer (s : Settings) (history : History) (k : ℕ) (note : Note) : Type 0 where
+  pub sender : ℕ
+  pub numbers : List ℕ
+  pub low : ℕ
+  pub is_answer : Answers history k (nack s.channel.ssrc sender numbers)
+  pub among : Contains numbers low
+  pub is_number : number_answer room s (hold s history) k history low ≡ note
+
+-- a NACK of another media source
+pub record IsForeign (s : Settings) (history : History) (k : ℕ) : Type 0 where
+  pub media : ℕ
+  pub sender : ℕ
+  pub numbers : List ℕ
+  pub is_answer : Answers history k (nack media sender numbers)
+  pub foreign : (media == s.channel.ssrc) ≡ false
+
+-- the first stop of an open burst is set
+pub record Stops (s : Settings) (history : History) (k n : ℕ) : Type 0 where
+  pub opened : Open s history k
+  pub unset : opened.burst.stop ≡ None
+  pub stop : Stop
+  pub is_answer : Answers history k (stops (Ok stop))
+  pub n_is : n ≡ stop_of opened.burst.first (next opened.burst) stop.first_multicast
+
+-- a stop stays as it is
+pub record KeepsStop (s : Settings) (history : History) (k n : ℕ) : Type 0 where
+  pub opened : Open s history k
+  pub is_set : opened.burst.stop ≡ Some n
+  pub stop : Stop
+  pub is_answer : Answers history k (stops (Ok stop))
+
+-- there is no burst to stop
+pub record FindsNone (s : Settings) (history : History) (k : ℕ) : Type 0 where
+  pub none : open_burst s k history ≡ None
+  pub stop : Stop
+  pub is_answer : Answers history k (stops (Ok stop))
+
+-- a BYE names the source that the client is known by, or doesn't
+pub record IsBye (s : Settings) (history : History) (k : ℕ) (known_by : Bool) : Type 0 where
+  pub packet : Framed
+  pub is_answer : Answers history k (bye packet)
+  pub is_known : (is_among k (known history) && is_bye_of packet (ssrc k history)) ≡ known_by
+
+-- the open burst is sent its next packet, which is held, stands before the stop, and fits
+pub record Sends (s : Settings) (history : History) (k n number : ℕ) (packet : Option Held) : Type 0 where
+  pub opened : Open s history k
+  pub n_is : n ≡ next opened.burst
+  pub number_is : number ≡ sequence s k history
+  pub before : is_before opened.burst.stop n ≡ true
   pub h : Held
   pub packet_is : packet ≡ Some h
   pub h_is : h.n ≡ n
-  pub held : Contains (hold s.channel.ring history) h
-  pub fits : sent_now history + h.wire ≤ opened.rate
+  pub held : Contains (hold s history) h
+  pub fits : h.wire ≤ opened.burst.left
+  pub running : in_runs history ≡ true
+
+-- a pending repair is sent, which fits into what its client may take and what the channel has left
+pub record Repairs (s : Settings) (history : History) (k n number : ℕ) (packet : Option Held) : Type 0 where
+  pub waits : Contains (pending history) (wanted k n)
+  pub number_is : number ≡ sequence s k history
+  pub h : Held
+  pub packet_is : packet ≡ Some h
+  pub h_is : h.n ≡ n
+  pub held : Contains (hold s history) h
+  pub fits : h.wire ≤ may_take s (hold s history) k history
+  pub fits_channel : h.wire ≤ channel_left s history
   pub ticking : in_tick history ≡ true
 
--- a request is refused where there is no eligible access point
-pub record Refuses (s : Settings) (history : History) (code : ℕ) : Type 0 where
-  pub code_is : code ≡ no_start
-  pub none : newest_start s.channel (hold s.channel.ring history) ≡ None
+-- a pending repair isn't held
+pub record IsGone (s : Settings) (history : History) (k n : ℕ) : Type 0 where
+  pub waits : Contains (pending history) (wanted k n)
+  pub unheld : find (λ h. h.n == n) (hold s history) ≡ None
+  pub ticking : in_tick history ≡ true
 
+-- a burst ends: as it has sent all up to its stop, in its run or as the stop is set; as its next packet is lost; after `limit` ticks; or as its client leaves
+abbrev pub EndsFor : Settings → History → ℕ → Burst → Cause → Type 0
+EndsFor s history k b cause.Stopped = b.stop ≡ Some (next b)
+EndsFor s history k b cause.Lost = (is_lost (next b) (hold s history) ≡ true) × (in_runs history ≡ true)
+EndsFor s history k b cause.Limit = (b.ticks ≡ s.channel.limit) × (in_runs history ≡ true)
+EndsFor s history k b cause.Bye = (before : History) × (packet : Option Held) × (history ≡ noted (note.Bye k) packet ∷ before)
+
+pub record Ends (s : Settings) (history : History) (k : ℕ) (why : Cause) : Type 0 where
+  pub opened : Open s history k
+  pub ends : EndsFor s history k opened.burst why
+
+-- a known client that was idle for long enough
+pub record IsForgotten (s : Settings) (history : History) (k : ℕ) : Type 0 where
+  pub is_known : is_among k (known history) ≡ true
+  pub is_idle : idle s k history ≡ s.channel.idle
+  pub ticking : in_tick history ≡ true
+
+-- What a note asks of the history in front of it.
 abbrev pub Allows : Settings → History → Note → Option Held → Type 0
-Allows s history (Accept client first rate join) packet = Accepts s history first rate
-Allows s history (BurstNote client n number) packet = Sends s history client n number packet
-Allows s history (Refuse client code) packet = Refuses s history code
-Allows s history note packet = Unit {0}
+Allows s history (note.Accept k first rate join) packet = IsVerdict s history k (note.Accept k first rate join)
+Allows s history (note.Update k rate join) packet = IsVerdict s history k (note.Update k rate join)
+Allows s history (note.Again k) packet = IsVerdict s history k (note.Again k)
+Allows s history (note.Refuse k code) packet = IsVerdict s history k (note.Refuse k code) ⊎ IsUnread history k code
+Allows s history (note.StopAt k n) packet = Stops s history k n
+Allows s history (note.StopKept k n) packet = KeepsStop s history k n
+Allows s history (note.StopIdle k) packet = FindsNone s history k
+Allows s history (note.Queued k n) packet = IsNumberAnswer s history k (note.Queued k n)
+Allows s history (note.Already k n) packet = IsNumberAnswer s history k (note.Already k n)
+Allows s history (note.Unheld k low) packet = IsNumberAnswer s history k (note.Unheld k low)
+Allows s history (note.Early k n) packet = IsNumberAnswer s history k (note.Early k n)
+Allows s history (note.TableFull k n) packet = IsNumberAnswer s history k (note.TableFull k n)
+Allows s history (note.ClientFull k n) packet = IsNumberAnswer s history k (note.ClientFull k n)
+Allows s history (note.QueueFull k n) packet = IsNumberAnswer s history k (note.QueueFull k n)
+Allows s history (note.ForeignNack k) packet = IsForeign s history k
+Allows s history (note.Bye k) packet = IsBye s history k true
+Allows s history (note.ByeIdle k) packet = IsBye s history k false
+Allows s history (note.Burst k n number) packet = Sends s history k n number packet
+Allows s history (note.Repair k n number) packet = Repairs s history k n number packet
+Allows s history (note.Gone k n) packet = IsGone s history k n
+Allows s history (note.End k why) packet = Ends s history k why
+Allows s history (note.Forgot k) packet = IsForgotten s history k
+Allows s history _ packet = Unit {0}
 
--- each note was allowed by what stands before it
+-- Each note was allowed by what stands in front of it.
 abbrev pub IsLegal : Settings → History → Type 0
 IsLegal s [] = Unit {0}
-IsLegal s (began event ∷ history) = IsLegal s history
 IsLegal s (noted note packet ∷ history) = Allows s history note packet × IsLegal s history
+IsLegal s (began heard ∷ history) = IsLegal s history
+IsLegal s (told client message ∷ history) = IsLegal s history
 
-pub legal_part : (s : Settings) (newer history : History) → IsLegal s (newer ++ history) → IsLegal s history
+-- an earlier part of a legal history is legal
+pub legal_part : (s : Settings) (later history : History) → IsLegal s (later ++ history) → IsLegal s history
 legal_part s [] history l = l
-legal_part s (began event ∷ newer) history l = legal_part s newer history l
-legal_part s (noted note packet ∷ newer) history l = legal_part s newer history l.1
-
-legal_send : (s : Settings) (o : Burst) (hs : List Held) (history : History) → burst history ≡ Some o → Rises (next o) hs
-    → Each (Contains (hold s.channel.ring history)) hs → sent_now history + wires hs ≤ o.rate → in_tick history ≡ true → IsLegal s history
-    → IsLegal s (send s o.client hs history)
-unfolding send burst source
-legal_send s o [] history e r c f t l = l
-legal_send s o (h ∷ hs) history e r c f t l =
-    let sum = wires-cons h hs in
-    let fits : sent_now history + h.wire ≤ o.rate = omega arith in
-    let rest : sent_now history + h.wire + wires hs ≤ o.rate = omega arith in
-    let up : Rises (next (sent_one o)) hs = subst (λ (n : ℕ). Rises n hs) (add_assoc o.first o.sent 1) r.1 in
-    legal_send s (sent_one o) hs (noted (BurstNote o.client h.n (sequence s history)) (Some h) ∷ history) (ap (option_map sent_one) e) up c.1 rest t (
-      record {
-        opened = o;
-        is_open = e;
-        client_is = refl;
-        n_is = r.0;
-        number_is = refl;
-        h = h;
-        packet_is = refl;
-        h_is = refl;
-        held = c.0;
-        fits = fits;
-        ticking = t;
-      },
-      l,
-    )
-
-legal_served : (s : Settings) (history : History) (o : Option Burst) → burst history ≡ o → IsLegal s history
-    → IsLegal s (served s o (hold s.channel.ring history) (began Tick ∷ history))
-unfolding burst source
-legal_served s history None e l = l
-legal_served s history (Some o) e l =
-    let held = hold s.channel.ring history in
-    let due = from_number (next o) held in
-    let itself : Each (Contains held) held = recursion_from_All (Contains held) held (All-contains_itself held) in
-    let each = run_each (Contains held) (next o) o.rate due (each_filter (Contains held) (λ h. nat_le (next o) h.n) held itself) in
-    let fits = run_fits (next o) o.rate due in
-    legal_send s o (run (next o) o.rate due) (began Tick ∷ history) e (run_rises (next o) o.rate due) each (omega arith) refl l
-
-legal_answers : (s : Settings) (client : ℕ) (history : History) (o : Option Start) → newest_start s.channel (hold s.channel.ring history) ≡ o
-    → in_tick history ≡ false → IsLegal s history → IsLegal s (answers s.channel client o history)
-legal_answers s client history None e a l = (record { code_is = refl; none = e }, l)
-legal_answers s client history (Some start) e a l = (record { start = start; found = e; first_is = refl; rate_is = refl; asked = a }, l)
-
-legal_after : (s : Settings) (event : Event) (history : History) → IsLegal s history → IsLegal s (after s event history)
-unfolding after
-legal_after s (Live bytes) history l = (tt, l)
-legal_after s (Feedback client bytes) history l =
-    legal_answers s client (began (Feedback client bytes) ∷ history) (newest_start s.channel (hold s.channel.ring (began (Feedback client bytes) ∷ history))) refl refl l
-legal_after s Tick history l = legal_served s history (burst history) refl l
-
-pub legal_book : (s : Settings) (events : List Event) → IsLegal s (book s events)
-unfolding book
-legal_book s [] = tt
-legal_book s (event ∷ events) = legal_after s event (book s events) (legal_book s events)
-
-pub legal_moment : (s : Settings) (history : History) → IsMoment s history → IsLegal s history
-legal_moment s history m = legal_part s m.newer history (subst (IsLegal s) m.splits (legal_book s m.events))
+legal_part s (noted note packet ∷ later) history l = legal_part s later history l.1
+legal_part s (began heard ∷ later) history l = legal_part s later history l
+legal_part s (told client message ∷ later) history l = legal_part s later history l

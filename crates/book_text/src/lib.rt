@@ -6,9 +6,9 @@
 
 mod line;
 mod note;
+mod tail;
 #[cfg(test)]
 mod tests;
-mod words;
 
-pub use line::{append_count, append_refused, append_send};
+pub use line::{append_count, append_no_channel, append_refused, append_send};
 pub use note::append_note;

@@ -1,19 +1,23 @@
-//! A line's beginning and end, and the lines that are no notes.
-ghost use Rattle.std.specs.Prelude.{◌≡◌, ◌++◌, OnOk, codes, decimal};
+//! A line's beginning, and the lines that are no notes.
+ghost use Rattle.std.specs.Prelude.{◌≡◌, ◌+◌, ◌≤◌, ◌++◌, OnOk, codes, decimal, length};
+ghost use Rattle.book_text.specs.NoChannel.{no_channel_line};
 ghost use Rattle.rams_model.specs.BookText.{spaced, send_line, line_fault_word, refused_line};
+ghost use Rattle.rams_model.specs.Words.{hex_word};
 
-use crate::words::{hex, named, number, spaced, word};
+use crate::tail::Tail;
+use hex_text::append_encoded;
 use ram_io::NoMemory;
 use rams_model::LineFault;
 
-/// The number of the event, that of the channel, and a space.
-pub fn begin(text: &mut Vec<u8>, event: u64, id: u16) -> Result<(), NoMemory>
-    ensures { OnOk result (text.new.items ≡ text.old.items ++ (decimal event ++ spaced id ++ codes " ")) }
+/// The number of the event, that of the channel, and a space, in front.
+#[inline]
+pub fn begin(line: &mut Tail, event: u64, id: u16)
+    requires { length line.old + 42 ≤ 160 }
+    ensures { line.new ≡ decimal event ++ spaced id ++ codes " " ++ line.old }
 {
-    number(text, event)?;
-    spaced(text, u64::from(id))?;
-    text.push(b' ')?;
-    Ok(())
+    line.byte(b' ');
+    line.spaced(u64::from(id));
+    line.number(event);
 }
 
 /// The line of a datagram to a client: `EVENT ID send CLIENT HEX`, with `-` for no bytes.
@@ -27,36 +31,63 @@ pub fn append_send(
 ) -> Result<(), NoMemory>
     ensures { OnOk result (text.new.items ≡ text.old.items ++ send_line event id client bytes.now) }
 {
-    begin(text, event, id)?;
-    named(text, b"send", client)?;
-    text.push(b' ')?;
+    let mut line = Tail::new();
+    line.byte(b' ');
+    line.named(b"send", client);
+    begin(&mut line, event, id);
+    line.append_to(text)?;
     hex(text, bytes)?;
     text.push(b'\n')?;
     Ok(())
+}
+
+/// Bytes in hexadecimal digits, whose letters are small; `-` for none.
+fn hex(text: &mut Vec<u8>, bytes: &[u8]) -> Result<(), NoMemory>
+    ensures { OnOk result (text.new.items ≡ text.old.items ++ hex_word bytes.now) }
+{
+    if bytes.is_empty() {
+        text.push(b'-')?;
+        return Ok(());
+    }
+    append_encoded(text, bytes)?;
+    Ok(())
+}
+
+/// The line of an event of a channel that isn't there: `EVENT ID no-channel`.
+pub fn append_no_channel(text: &mut Vec<u8>, event: u64, id: u16) -> Result<(), NoMemory>
+    ensures { OnOk result (text.new.items ≡ text.old.items ++ no_channel_line event id) }
+{
+    let mut line = Tail::new();
+    line.word(b"no-channel\n");
+    begin(&mut line, event, id);
+    line.append_to(text)
 }
 
 /// The line of a trace's line that is refused: `refused NUMBER WORD`, as `refused 4 form`.
 pub fn append_refused(text: &mut Vec<u8>, line: u64, fault: LineFault) -> Result<(), NoMemory>
     ensures { OnOk result (text.new.items ≡ text.old.items ++ refused_line line fault) }
 {
-    named(text, b"refused", line)?;
-    text.push(b' ')?;
-    fault_word(text, fault)?;
-    text.push(b'\n')?;
-    Ok(())
+    let mut tail = Tail::new();
+    tail.byte(b'\n');
+    fault_word(&mut tail, fault);
+    tail.byte(b' ');
+    tail.named(b"refused", line);
+    tail.append_to(text)
 }
 
-fn fault_word(text: &mut Vec<u8>, fault: LineFault) -> Result<(), NoMemory>
-    ensures { OnOk result (text.new.items ≡ text.old.items ++ line_fault_word fault) }
+fn fault_word(tail: &mut Tail, fault: LineFault)
+    requires { length tail.old + 25 ≤ 160 }
+    ensures tail { tail.new ≡ line_fault_word fault ++ tail.old }
+    ensures few { length tail.new ≤ length tail.old + 25 }
 {
     match fault {
-        LineFault::Form => word(text, b"form"),
-        LineFault::Order => word(text, b"order"),
-        LineFault::Range => word(text, b"range"),
-        LineFault::Twice => word(text, b"twice"),
+        LineFault::Form => tail.word(b"form"),
+        LineFault::Order => tail.word(b"order"),
+        LineFault::Range => tail.word(b"range"),
+        LineFault::Twice => tail.word(b"twice"),
         LineFault::Rule(rule) => {
-            word(text, b"rule-")?;
-            number(text, u64::from(rule))
+            tail.number(u64::from(rule));
+            tail.word(b"rule-");
         }
     }
 }
@@ -65,7 +96,9 @@ fn fault_word(text: &mut Vec<u8>, fault: LineFault) -> Result<(), NoMemory>
 pub fn append_count(text: &mut Vec<u8>, word: &[u8], n: u64) -> Result<(), NoMemory>
     ensures { OnOk result (text.new.items ≡ text.old.items ++ (word.now ++ spaced n ++ codes "\n")) }
 {
-    named(text, word, n)?;
-    text.push(b'\n')?;
-    Ok(())
+    text.extend_from_slice(word)?;
+    let mut line = Tail::new();
+    line.byte(b'\n');
+    line.spaced(n);
+    line.append_to(text)
 }

@@ -1,9 +1,9 @@
 //! The lines of notes.
-ghost use Rattle.std.specs.Prelude.{◌≡◌, ◌∷◌, ◌++◌, OnOk, codes};
+ghost use Rattle.std.specs.Prelude.{◌≡◌, ◌∷◌, ◌++◌, ◌+◌, ◌≤◌, OnOk, codes, length};
 ghost use Rattle.rams_model.specs.BookText.{spaced, of_number, of_word, live_words, note_words, note_line, rtp_fault_word, frame_fault_word, cause_word};
 
 use crate::line::begin;
-use crate::words::{named, numbered, spaced, word};
+use crate::tail::Tail;
 use ram_io::NoMemory;
 use rams_model::{Cause, FrameFault, LiveNote, Note, RtpFault};
 
@@ -12,68 +12,75 @@ use rams_model::{Cause, FrameFault, LiveNote, Note, RtpFault};
 pub fn append_note(text: &mut Vec<u8>, event: u64, id: u16, note: &Note) -> Result<(), NoMemory>
     ensures { OnOk result (text.new.items ≡ text.old.items ++ note_line event id note.now) }
 {
-    begin(text, event, id)?;
-    words(text, note)?;
-    text.push(b'\n')?;
-    Ok(())
+    let mut line = Tail::new();
+    line.byte(b'\n');
+    words(&mut line, note);
+    begin(&mut line, event, id);
+    line.append_to(text)
 }
 
 /// The words of a note, without a space in front.
-fn words(text: &mut Vec<u8>, note: &Note) -> Result<(), NoMemory>
-    ensures { OnOk result (text.new.items ≡ text.old.items ++ note_words note.now) }
+fn words(line: &mut Tail, note: &Note)
+    requires { length line.old + 110 ≤ 160 }
+    ensures line { line.new ≡ note_words note.now ++ line.old }
+    ensures few { length line.new ≤ length line.old + 110 }
 {
     match note {
-        Note::Live(live) => live_words(text, live),
+        Note::Live(live) => live_words(line, live),
         Note::Accept {
             client,
             first,
             rate,
             join,
-        } => accept(text, *client, *first, *rate, *join),
-        Note::Update { client, rate, join } => update(text, *client, *rate, *join),
-        Note::Again { client } => named(text, b"again", *client),
-        Note::Refuse { client, code } => numbered(text, b"refuse", *client, u64::from(*code)),
-        Note::StopAt { client, n } => numbered(text, b"stop", *client, *n),
-        Note::StopKept { client, n } => numbered(text, b"stop-kept", *client, *n),
-        Note::StopIdle { client } => named(text, b"stop-idle", *client),
-        Note::Queued { client, n } => numbered(text, b"queued", *client, *n),
-        Note::Already { client, n } => numbered(text, b"already", *client, *n),
-        Note::Unheld { client, low } => numbered(text, b"unheld", *client, u64::from(*low)),
-        Note::Early { client, n } => numbered(text, b"early", *client, *n),
-        Note::TableFull { client, n } => numbered(text, b"table-full", *client, *n),
-        Note::ClientFull { client, n } => numbered(text, b"client-full", *client, *n),
-        Note::QueueFull { client, n } => numbered(text, b"queue-full", *client, *n),
-        Note::ForeignNack { client } => named(text, b"foreign-nack", *client),
-        Note::BadFeedback { client, fault } => bad_feedback(text, *client, *fault),
-        Note::Bye { client } => named(text, b"bye", *client),
-        Note::ByeIdle { client } => named(text, b"bye-idle", *client),
-        Note::Burst { client, n, seq } => sent(text, b"burst", *client, *n, *seq),
-        Note::Repair { client, n, seq } => sent(text, b"repair", *client, *n, *seq),
-        Note::Gone { client, n } => numbered(text, b"gone", *client, *n),
-        Note::End { client, cause } => end(text, *client, *cause),
-        Note::Forgot { client } => named(text, b"forgot", *client),
+        } => accept(line, *client, *first, *rate, *join),
+        Note::Update { client, rate, join } => update(line, *client, *rate, *join),
+        Note::Again { client } => line.named(b"again", *client),
+        Note::Refuse { client, code } => line.numbered(b"refuse", *client, u64::from(*code)),
+        Note::StopAt { client, n } => line.numbered(b"stop", *client, *n),
+        Note::StopKept { client, n } => line.numbered(b"stop-kept", *client, *n),
+        Note::StopIdle { client } => line.named(b"stop-idle", *client),
+        Note::Queued { client, n } => line.numbered(b"queued", *client, *n),
+        Note::Already { client, n } => line.numbered(b"already", *client, *n),
+        Note::Unheld { client, low } => line.numbered(b"unheld", *client, u64::from(*low)),
+        Note::Early { client, n } => line.numbered(b"early", *client, *n),
+        Note::TableFull { client, n } => line.numbered(b"table-full", *client, *n),
+        Note::ClientFull { client, n } => line.numbered(b"client-full", *client, *n),
+        Note::QueueFull { client, n } => line.numbered(b"queue-full", *client, *n),
+        Note::ForeignNack { client } => line.named(b"foreign-nack", *client),
+        Note::BadFeedback { client, fault } => bad_feedback(line, *client, *fault),
+        Note::Bye { client } => line.named(b"bye", *client),
+        Note::ByeIdle { client } => line.named(b"bye-idle", *client),
+        Note::Burst { client, n, seq } => sent(line, b"burst", *client, *n, *seq),
+        Note::Repair { client, n, seq } => sent(line, b"repair", *client, *n, *seq),
+        Note::Gone { client, n } => line.numbered(b"gone", *client, *n),
+        Note::End { client, cause } => end(line, *client, *cause),
+        Note::Forgot { client } => line.named(b"forgot", *client),
     }
 }
 
 /// What became of a live packet.
-fn live_words(text: &mut Vec<u8>, note: &LiveNote) -> Result<(), NoMemory>
-    ensures { OnOk result (text.new.items ≡ text.old.items ++ live_words note.now) }
+fn live_words(line: &mut Tail, note: &LiveNote)
+    requires { length line.old + 34 ≤ 160 }
+    ensures line { line.new ≡ live_words note.now ++ line.old }
+    ensures few { length line.new ≤ length line.old + 34 }
 {
     match note {
-        LiveNote::Took(n) => named(text, b"took", *n),
-        LiveNote::Restart(n) => named(text, b"restart", *n),
-        LiveNote::Late => word(text, b"late"),
-        LiveNote::Twice => word(text, b"twice"),
-        LiveNote::Jump => word(text, b"jump"),
-        LiveNote::ForeignSsrc => word(text, b"foreign-ssrc"),
-        LiveNote::ForeignType => word(text, b"foreign-type"),
-        LiveNote::TooBig => word(text, b"too-big"),
-        LiveNote::Bad(fault) => bad(text, *fault),
+        LiveNote::Took(n) => line.named(b"took", *n),
+        LiveNote::Restart(n) => line.named(b"restart", *n),
+        LiveNote::Late => line.word(b"late"),
+        LiveNote::Twice => line.word(b"twice"),
+        LiveNote::Jump => line.word(b"jump"),
+        LiveNote::ForeignSsrc => line.word(b"foreign-ssrc"),
+        LiveNote::ForeignType => line.word(b"foreign-type"),
+        LiveNote::TooBig => line.word(b"too-big"),
+        LiveNote::Bad(fault) => bad(line, *fault),
     }
 }
 
-fn bad(text: &mut Vec<u8>, fault: RtpFault) -> Result<(), NoMemory>
-    ensures { OnOk result (text.new.items ≡ text.old.items ++ (codes "bad " ++ rtp_fault_word fault)) }
+fn bad(line: &mut Tail, fault: RtpFault)
+    requires { length line.old + 16 ≤ 160 }
+    ensures line { line.new ≡ codes "bad " ++ rtp_fault_word fault ++ line.old }
+    ensures few { length line.new ≤ length line.old + 16 }
 {
     let name = match fault {
         RtpFault::Short => b"bad short".as_slice(),
@@ -82,14 +89,15 @@ fn bad(text: &mut Vec<u8>, fault: RtpFault) -> Result<(), NoMemory>
         RtpFault::Extension => b"bad extension",
         RtpFault::Padding => b"bad padding",
     };
-    word(text, name)
+    line.word(name)
 }
 
-fn bad_feedback(text: &mut Vec<u8>, client: u64, fault: FrameFault) -> Result<(), NoMemory>
-    ensures { OnOk result (text.new.items ≡ text.old.items ++ of_word (codes "bad-feedback") client (frame_fault_word fault)) }
+fn bad_feedback(line: &mut Tail, client: u64, fault: FrameFault)
+    requires { length line.old + 41 ≤ 160 }
+    ensures line { line.new ≡ of_word (codes "bad-feedback") client (frame_fault_word fault) ++ line.old }
+    ensures few { length line.new ≤ length line.old + 41 }
 {
-    told(text, b"bad-feedback", client, frame_fault(fault))?;
-    Ok(())
+    told(line, b"bad-feedback", client, frame_fault(fault));
 }
 
 fn frame_fault(fault: FrameFault) -> &'static [u8]
@@ -105,8 +113,10 @@ fn frame_fault(fault: FrameFault) -> &'static [u8]
     }
 }
 
-fn end(text: &mut Vec<u8>, client: u64, cause: Cause) -> Result<(), NoMemory>
-    ensures { OnOk result (text.new.items ≡ text.old.items ++ of_word (codes "end") client (cause_word cause)) }
+fn end(line: &mut Tail, client: u64, cause: Cause)
+    requires { length line.old + 32 ≤ 160 }
+    ensures line { line.new ≡ of_word (codes "end") client (cause_word cause) ++ line.old }
+    ensures few { length line.new ≤ length line.old + 32 }
 {
     let name = match cause {
         Cause::Stopped => b" stopped".as_slice(),
@@ -114,38 +124,46 @@ fn end(text: &mut Vec<u8>, client: u64, cause: Cause) -> Result<(), NoMemory>
         Cause::Limit => b" limit",
         Cause::Bye => b" bye",
     };
-    told(text, b"end", client, name)
+    told(line, b"end", client, name)
 }
 
 /// A word, a client, and what was told of it.
-fn told(text: &mut Vec<u8>, name: &[u8], client: u64, what: &[u8]) -> Result<(), NoMemory>
-    ensures { OnOk result (text.new.items ≡ text.old.items ++ (name.now ++ spaced client ++ what.now)) }
+fn told(line: &mut Tail, name: &[u8], client: u64, what: &[u8])
+    requires { length name.now + length what.now + length line.old + 21 ≤ 160 }
+    ensures line { line.new ≡ name.now ++ spaced client ++ what.now ++ line.old }
+    ensures few { length line.new ≤ length name.now + length what.now + length line.old + 21 }
 {
-    named(text, name, client)?;
-    word(text, what)
+    line.word(what);
+    line.named(name, client);
 }
 
-fn accept(text: &mut Vec<u8>, client: u64, first: u64, rate: u64, join: u64) -> Result<(), NoMemory>
-    ensures { OnOk result (text.new.items ≡ text.old.items ++ (codes "accept" ++ spaced client ++ codes " first" ++ spaced first ++ codes " rate" ++ spaced rate ++ codes " join" ++ spaced join)) }
+fn accept(line: &mut Tail, client: u64, first: u64, rate: u64, join: u64)
+    requires { length line.old + 106 ≤ 160 }
+    ensures line { line.new ≡ codes "accept" ++ spaced client ++ codes " first" ++ spaced first ++ codes " rate" ++ spaced rate ++ codes " join" ++ spaced join ++ line.old }
+    ensures few { length line.new ≤ length line.old + 106 }
 {
-    named(text, b"accept", client)?;
-    named(text, b" first", first)?;
-    named(text, b" rate", rate)?;
-    named(text, b" join", join)
+    line.named(b" join", join);
+    line.named(b" rate", rate);
+    line.named(b" first", first);
+    line.named(b"accept", client);
 }
 
-fn update(text: &mut Vec<u8>, client: u64, rate: u64, join: u64) -> Result<(), NoMemory>
-    ensures { OnOk result (text.new.items ≡ text.old.items ++ (codes "update" ++ spaced client ++ codes " rate" ++ spaced rate ++ codes " join" ++ spaced join)) }
+fn update(line: &mut Tail, client: u64, rate: u64, join: u64)
+    requires { length line.old + 80 ≤ 160 }
+    ensures line { line.new ≡ codes "update" ++ spaced client ++ codes " rate" ++ spaced rate ++ codes " join" ++ spaced join ++ line.old }
+    ensures few { length line.new ≤ length line.old + 80 }
 {
-    named(text, b"update", client)?;
-    named(text, b" rate", rate)?;
-    named(text, b" join", join)
+    line.named(b" join", join);
+    line.named(b" rate", rate);
+    line.named(b"update", client);
 }
 
 /// A packet that is sent, under its number and its retransmission's.
-fn sent(text: &mut Vec<u8>, name: &[u8], client: u64, n: u64, seq: u16) -> Result<(), NoMemory>
-    ensures { OnOk result (text.new.items ≡ text.old.items ++ (name.now ++ spaced client ++ spaced n ++ spaced seq)) }
+fn sent(line: &mut Tail, name: &[u8], client: u64, n: u64, seq: u16)
+    requires { length name.now + length line.old + 63 ≤ 160 }
+    ensures line { line.new ≡ name.now ++ spaced client ++ spaced n ++ spaced seq ++ line.old }
+    ensures few { length line.new ≤ length name.now + length line.old + 63 }
 {
-    numbered(text, name, client, n)?;
-    spaced(text, u64::from(seq))
+    line.spaced(u64::from(seq));
+    line.numbered(name, client, n);
 }

@@ -1,6 +1,6 @@
 //! Lines behind a text, written by hand.
-use crate::{append_count, append_note, append_send};
-use rams_model::{Cause, FrameFault, LiveNote, Note, RtpFault};
+use crate::{append_count, append_note, append_refused, append_send};
+use rams_model::{Cause, FrameFault, LineFault, LiveNote, Note, RtpFault};
 use std::test::Fail;
 
 #[test]
@@ -51,7 +51,7 @@ fn notes_are_lines(rt: HostRuntime) -> Result<(), Fail> {
 }
 
 #[test]
-fn datagrams_and_counts_are_lines(rt: HostRuntime) -> Result<(), Fail> {
+fn datagrams_refusals_and_counts_are_lines(rt: HostRuntime) -> Result<(), Fail> {
     let sends = [
         ([].as_slice(), b"a\n4 7 send 5 -\n".as_slice()),
         (&[0x0a], b"a\n4 7 send 5 0a\n"),
@@ -63,6 +63,15 @@ fn datagrams_and_counts_are_lines(rt: HostRuntime) -> Result<(), Fail> {
     for (bytes, line) in sends {
         let mut text = b"a\n".to_vec(rt.alloc())?;
         append_send(&mut text, 4, 7, 5, bytes)?;
+        assert_eq!(rt; text.as_slice(), line);
+    }
+    let refused = [
+        (4, LineFault::Form, b"a\nrefused 4 form\n".as_slice()),
+        (2, LineFault::Rule(3), b"a\nrefused 2 rule-3\n"),
+    ];
+    for (number, fault, line) in refused {
+        let mut text = b"a\n".to_vec(rt.alloc())?;
+        append_refused(&mut text, number, fault)?;
         assert_eq!(rt; text.as_slice(), line);
     }
     let counts = [

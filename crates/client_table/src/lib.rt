@@ -7,8 +7,10 @@ mod entry;
 mod table;
 #[cfg(test)]
 mod tests;
+mod walk;
 
 pub use entry::{AdmitFault, Burst, Entry};
 pub use ram_io::NoMemory;
 pub use rams_model::Info;
 pub use table::Table;
+pub use walk::KnownClients;

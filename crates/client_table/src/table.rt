@@ -1,5 +1,6 @@
 //! The table of the known clients.
 use crate::entry::{AdmitFault, Entry};
+use crate::walk::KnownClients;
 use ram_io::NoMemory;
 use slab::Slab;
 use std::alloc::Global;
@@ -36,11 +37,13 @@ impl Model for Table {
 }
 
 impl Table {
-    ghost use Rattle.std.specs.Prelude.{◌≡◌, ◌≤◌, ◌↔◌, None, Err, length, option_copied, IfOk, OnOk, OnErr};
+    ghost use Rattle.std.specs.Prelude.{◌≡◌, ◌≤◌, ◌↔◌, Some, None, Err, All, length, option_copied, IfOk, OnOk, OnErr};
     ghost use Rattle.std.specs.Option.{option_copied_mut};
     ghost use Rattle.std.specs.Borrow.{sem};
     ghost use Rattle.client_table.specs.Clients.{Clients, nobody, clients_of, AreRising, entry_of, new_entry, with_client, without, next_of, IsLeastAbove};
     ghost use Rattle.client_table.specs.Lends.{LendsEntry};
+    ghost use Rattle.client_table.specs.Left.{clients_left};
+    ghost use Rattle.client_table.specs.Changes.{AreAll, AreChanged};
     ghost use Rattle.client_table.specs.declared.entry.AdmitFault.TheVariants.{Full};
 
     /// A table in which nobody is known, for at most so many clients. It takes the room of their entries.
@@ -117,6 +120,25 @@ impl Table {
         }
     }
 
+    /// The known clients by rising number, each with what is kept of it.
+    pub fn iter(&self) -> KnownClients<'_>
+        ensures clients { clients_left result ≡ self.now.known }
+        ensures found { All (λ e. entry_of self.now e.0 ≡ Some e.1) self.now.known }
+    {
+        KnownClients {
+            index: self.index.iter(),
+            entries: &self.entries,
+        }
+    }
+
+    /// Changes what is kept of each known client, by rising number.
+    pub fn change_all<F: Fn(u64, Entry) -> Entry>(&mut self, change: F)
+        requires { AreAll (F.pre change) self.old }
+        ensures { AreChanged (F.post change) self.old self.new }
+    {
+        change_each(&self.index, &mut self.entries, change);
+    }
+
     /// How many clients are known.
     pub fn count(&self) -> u32
         ensures value { result ≡ length self.now.known }
@@ -132,12 +154,29 @@ ghost use Rattle.std.specs.Ordering.{nat_cmp};
 ghost use Rattle.std.specs.Map.{lookup};
 ghost use Rattle.std.specs.BTreeMap.{is_at, keys};
 ghost use Rattle.std.specs.BTreeMap.Range.{is_from_start};
+ghost use Rattle.client_table.specs.Joined.{entry_at, AreReady, AreSlotsChanged};
 
 // The key of a client.
 fn key_of(index: &BTreeMap<u64, usize>, client: u64) -> Option<usize>
     ensures { result ≡ lookup (is_at (nat_cmp client)) index.now.entries }
 {
     index.get(&client).copied()
+}
+
+// Changes the entry of each client.
+fn change_each<F: Fn(u64, Entry) -> Entry>(
+    index: &BTreeMap<u64, usize>,
+    entries: &mut Slab<Entry>,
+    change: F,
+)
+    requires { AreReady (F.pre change) (entry_at entries.old.slots) index.now.entries }
+    ensures { AreSlotsChanged (F.post change) (entry_at entries.old.slots) (entry_at entries.new.slots) index.now.entries }
+{
+    for (client, key) in index {
+        if let Some(entry) = entries.get_mut(*key) {
+            *entry = change(*client, *entry);
+        }
+    }
 }
 
 // The first client from a bound on.

@@ -42,7 +42,7 @@ fn admitted(ssrc: u32) -> Entry {
     }
 }
 
-/// Each known client, by `next_after` from none on, and its entry.
+/// Each known client, by `next_after` from none on and by `iter`, and its entry.
 fn expect_admitted(rt: &impl Abort, table: &Table, clients: &[u32]) {
     let mut last = None;
     for client in clients {
@@ -55,6 +55,10 @@ fn expect_admitted(rt: &impl Abort, table: &Table, clients: &[u32]) {
     }
     assert_eq!(rt; table.next_after(last), None);
     assert_eq!(rt; table.count() as usize, clients.len());
+    for (expected, (client, entry)) in clients.iter().zip(table.iter()) {
+        assert_eq!(rt; client, u64::from(*expected));
+        assert_eq!(rt; *entry, admitted(*expected));
+    }
 }
 
 // A table for so many clients takes no more: the one that came too late changes nothing, and comes in
@@ -136,5 +140,26 @@ fn written_entries(rt: HostRuntime) -> Result<(), Fail> {
         rouse(&mut table, u64::from(written));
         assert_eq!(rt; table.count(), 0);
     }
+    Ok(())
+}
+
+// Each entry is changed once, by its own client and by what it was.
+#[test]
+fn changed_entries(rt: HostRuntime) -> Result<(), Fail> {
+    let mut table = table_of(&rt, rt.alloc(), 3, &[9, 2, 5])?;
+    table.change_all(|client, entry| Entry {
+        seq: entry.seq.wrapping_add(1),
+        idle: if client == 5 { 7 } else { entry.idle },
+        ..entry
+    });
+    for (client, idle) in [(2u32, 0), (5, 7), (9, 0)] {
+        let expected = Entry {
+            seq: 501,
+            idle,
+            ..admitted(client)
+        };
+        assert_eq!(rt; table.find(u64::from(client)).copied(), Some(expected));
+    }
+    assert_eq!(rt; table.count(), 3);
     Ok(())
 }

@@ -33,5 +33,4 @@ pub mod TraceLine
 pub mod TraceOrder
 pub mod BookText
 pub mod BookLines
-pub mod First
 pub mod PlainPackets

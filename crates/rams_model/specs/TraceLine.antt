@@ -1,5 +1,5 @@
 -- The lines of a trace.
-use Rattle.std.specs.Prelude.{ℕ, ◌^◌, Bool, ◌&&◌, ◌==◌, nat_lt, nat_le, if◌then◌else◌, List, [], ◌∷◌, length, Option, Some, None, Result, Ok, Err, option_and_then, option_map, codes, bytes_eq, decimal}
+use Rattle.std.specs.Prelude.{ℕ, ◌^◌, Bool, ◌&&◌, ◌||◌, ◌==◌, nat_lt, nat_le, if◌then◌else◌, List, [], ◌∷◌, length, Option, Some, None, Result, Ok, Err, option_and_then, option_map, codes, bytes_eq, decimal}
 use Rattle.std.specs.Int.{is_in_range}
 use Rattle.rams_model.specs.declared.channel.Access.{Access}
 use Rattle.rams_model.specs.declared.channel.Access.TheVariants.{Marker, Ts}
@@ -10,9 +10,10 @@ use Rattle.rams_model.specs.Settings.{most_bytes, tick_in_range, channel_in_rang
 use Rattle.rams_model.specs.Words.{words_of, text_of, number_in, word32_in, word32, is_hex}
 
 pub data TraceLine : Type 0 where
-  -- the tick in ms, and the bytes per tick of the link
-  head_line : ℕ → ℕ → TraceLine
-  channel_line : Channel → TraceLine
+  -- the version of the text, the tick in ms, and the bytes per tick of the link
+  head_line : ℕ → ℕ → ℕ → TraceLine
+  -- the version that it is spelled in
+  channel_line : ℕ → Channel → TraceLine
   -- the channel's number, and the packet in hexadecimal digits
   live_line : ℕ → List ℕ → TraceLine
   -- the channel's number, the client, and the datagram in hexadecimal digits
@@ -59,14 +60,26 @@ abbrev pub access_in : List ℕ → Option Access
 access_in word = if bytes_eq word (codes "marker") then Some Marker else if bytes_eq word (codes "ts") then Some Ts else None
 
 abbrev pub version_in : List ℕ → Option ℕ
-version_in word = if bytes_eq word (codes "1") then Some 1 else None
+version_in word = if bytes_eq word (codes "1") then Some 1 else if bytes_eq word (codes "2") then Some 2 else None
 
 unfoldable pub head_in : Words → Option TraceLine
 head_in words = do
   version ← field (codes "rams-trace") version_in words
   tick ← field (codes "tick") number_in version.1
   link ← field (codes "link") number_in tick.1
-  whole (head_line tick.0 link.0) link.1
+  whole (head_line version.0 tick.0 link.0) link.1
+
+-- what a channel keeps from tick to tick, behind the fields that every version has
+unfoldable pub kept_in : Channel → Words → Option TraceLine
+kept_in c words = do
+  depth ← field (codes "depth") number_in words
+  swell ← field (codes "swell") number_in depth.1
+  whole (channel_line 2 (record c { depth = depth.0; swell = swell.0 })) swell.1
+
+-- the rest of a channel line: version 1 says nothing of what is kept, which is nothing then
+abbrev pub rest_in : Channel → Words → Option TraceLine
+rest_in c [] = Some (channel_line 1 c)
+rest_in c (word ∷ rest) = kept_in c (word ∷ rest)
 
 unfoldable pub channel_in : Words → Option TraceLine
 channel_in words = do
@@ -87,7 +100,7 @@ channel_in words = do
   limit ← field (codes "limit") number_in minwire.1
   idle ← field (codes "idle") number_in limit.1
   clients ← field (codes "clients") number_in idle.1
-  whole (channel_line (record {
+  rest_in (record {
     id = id.0;
     ssrc = ssrc.0;
     pt = pt.0;
@@ -107,7 +120,7 @@ channel_in words = do
     clients = clients.0;
     depth = 0;
     swell = 0;
-  })) clients.1
+  }) clients.1
 
 unfoldable pub live_in : Words → Option TraceLine
 live_in words = do
@@ -188,8 +201,8 @@ abbrev pub client_in_range : ℕ → Bool
 client_in_range client = nat_lt client (2 ^ 48)
 
 abbrev pub line_in_range : TraceLine → Bool
-line_in_range (head_line tick link) = tick_in_range tick && is_in_range 1500 most_bytes link
-line_in_range (channel_line c) = channel_in_range c
+line_in_range (head_line version tick link) = tick_in_range tick && is_in_range 1500 most_bytes link
+line_in_range (channel_line version c) = channel_in_range c
 line_in_range (live_line id hex) = id_in_range id
 line_in_range (feedback_line id client hex) = id_in_range id && client_in_range client
 line_in_range tick_line = Bool.true
@@ -212,19 +225,25 @@ abbrev pub access_word : Access → List ℕ
 access_word Marker = codes "marker"
 access_word Ts = codes "ts"
 
-abbrev pub channel_words : Channel → Words
-channel_words c =
+-- the words of the fields that a version has alone
+abbrev pub kept_words : ℕ → Channel → Words
+kept_words version c =
+    if version == 1 then [] else codes "depth" ∷ decimal c.depth ∷ codes "swell" ∷ decimal c.swell ∷ []
+
+abbrev pub channel_words : ℕ → Channel → Words
+channel_words version c =
     codes "channel" ∷ decimal c.id ∷ codes "ssrc" ∷ word32 c.ssrc ∷ codes "pt" ∷ decimal c.pt ∷ codes "rtx" ∷ decimal c.rtx
     ∷ codes "server" ∷ word32 c.server ∷ codes "seq0" ∷ decimal c.seq0 ∷ codes "ring" ∷ decimal c.ring
     ∷ codes "window" ∷ decimal c.window ∷ codes "access" ∷ access_word c.access ∷ codes "share" ∷ decimal c.share
     ∷ codes "reserve" ∷ decimal c.reserve ∷ codes "burst" ∷ decimal c.burst ∷ codes "declared" ∷ decimal c.declared
     ∷ codes "minwire" ∷ decimal c.minwire ∷ codes "limit" ∷ decimal c.limit ∷ codes "idle" ∷ decimal c.idle
-    ∷ codes "clients" ∷ decimal c.clients ∷ []
+    ∷ codes "clients" ∷ decimal c.clients ∷ kept_words version c
 
 -- the words of a line
 abbrev pub line_words : TraceLine → Words
-line_words (head_line tick link) = codes "rams-trace" ∷ codes "1" ∷ codes "tick" ∷ decimal tick ∷ codes "link" ∷ decimal link ∷ []
-line_words (channel_line c) = channel_words c
+line_words (head_line version tick link) =
+    codes "rams-trace" ∷ decimal version ∷ codes "tick" ∷ decimal tick ∷ codes "link" ∷ decimal link ∷ []
+line_words (channel_line version c) = channel_words version c
 line_words (live_line id hex) = codes "live" ∷ decimal id ∷ hex ∷ []
 line_words (feedback_line id client hex) = codes "fb" ∷ decimal id ∷ decimal client ∷ hex ∷ []
 line_words tick_line = codes "tick" ∷ []
@@ -246,18 +265,26 @@ is_short n = nat_lt n (10 ^ 15)
 abbrev pub is_word32 : ℕ → Bool
 is_word32 n = nat_lt n (2 ^ 32)
 
--- a channel whose numbers can be spelled; a line of a trace has no place for what is kept from tick to tick
+-- a version of the text
+abbrev pub is_version : ℕ → Bool
+is_version version = version == 1 || version == 2
+
+-- the text of this version can say what the channel keeps from tick to tick
+abbrev pub version_says : ℕ → Channel → Bool
+version_says version c = version == 2 || c.depth == 0 && c.swell == 0
+
+-- a channel whose numbers can be spelled
 abbrev pub channel_has_form : Channel → Bool
 channel_has_form c =
     is_short c.id && is_word32 c.ssrc && is_short c.pt && is_short c.rtx && is_word32 c.server && is_short c.seq0
     && is_short c.ring && is_short c.window && is_short c.share && is_short c.reserve && is_short c.burst
     && is_short c.declared && is_short c.minwire && is_short c.limit && is_short c.idle && is_short c.clients
-    && c.depth == 0 && c.swell == 0
+    && is_short c.depth && is_short c.swell
 
 -- a line whose words are of the form that a trace's words have
 abbrev pub line_has_form : TraceLine → Bool
-line_has_form (head_line tick link) = is_short tick && is_short link
-line_has_form (channel_line c) = channel_has_form c
+line_has_form (head_line version tick link) = is_version version && is_short tick && is_short link
+line_has_form (channel_line version c) = is_version version && channel_has_form c && version_says version c
 line_has_form (live_line id hex) = is_short id && is_hex hex
 line_has_form (feedback_line id client hex) = is_short id && is_short client && is_hex hex
 line_has_form tick_line = Bool.true

@@ -11,10 +11,12 @@ use Rattle.rams_model.specs.declared.mode.LineKind.TheVariants as kind
 use Rattle.rams_model.specs.declared.mode.Mode.{Mode}
 use Rattle.rams_model.specs.declared.mode.Mode.TheVariants.{Meet, Threads, Serve}
 use Rattle.rams_model.specs.Settings.{Settings, settings, checked}
-use Rattle.rams_model.specs.TraceLine.{TraceLine, head_line, channel_line, live_line, feedback_line, tick_line, end_line, tune_line, give_line, mcast_line, ask_line, drop_line, line_in_range, line_of}
-use Rattle.rams_model.specs.Words.{first_word}
+use Rattle.rams_model.specs.TraceLine.{TraceLine, Words, head_line, channel_line, live_line, feedback_line, tick_line, end_line, tune_line, give_line, mcast_line, ask_line, drop_line, line_in_range, line_of}
+use Rattle.rams_model.specs.Words.{first_word, words_of}
 
 pub record Head : Type 0 where
+  -- of the text
+  pub version : ℕ
   -- in ms
   pub tick : ℕ
   -- bytes per tick of all channels together
@@ -43,6 +45,10 @@ nothing_reached mode = record { mode = mode; head = None; channels = []; begun =
 abbrev pub tick_of : Option Head → ℕ
 tick_of None = 0
 tick_of (Some head) = head.tick
+
+abbrev pub version_of : Option Head → ℕ
+version_of None = 0
+version_of (Some head) = head.version
 
 abbrev pub has_channel : Reached → Bool
 has_channel r = nat_lt 0 (length r.channels)
@@ -73,8 +79,8 @@ abbrev pub kind_may_come : Reached → LineKind → Bool
 kind_may_come r k = not r.ended && may_come_next r k
 
 abbrev pub kind_of : TraceLine → LineKind
-kind_of (head_line tick link) = kind.Head
-kind_of (channel_line c) = kind.Channel
+kind_of (head_line version tick link) = kind.Head
+kind_of (channel_line version c) = kind.Channel
 kind_of (live_line id hex) = kind.Event
 kind_of (feedback_line id client hex) = kind.Event
 kind_of tick_line = kind.Event
@@ -85,9 +91,14 @@ kind_of (mcast_line id client n) = kind.ReceiverEvent
 kind_of (ask_line id client) = kind.ReceiverEvent
 kind_of (drop_line id client) = kind.ReceiverEvent
 
+-- a channel line is spelled in the version of the trace
+abbrev pub has_version : Reached → TraceLine → Bool
+has_version r (channel_line version c) = version_of r.head == version
+has_version r _ = true
+
 -- this line may come next
 abbrev pub may_come : Reached → TraceLine → Bool
-may_come r line = kind_may_come r (kind_of line)
+may_come r line = kind_may_come r (kind_of line) && has_version r line
 
 abbrev pub is_event_word : List ℕ → Bool
 is_event_word word = bytes_eq word (codes "live") || bytes_eq word (codes "fb") || bytes_eq word (codes "tick")
@@ -107,13 +118,22 @@ kind_named word =
     else if is_receiver_word word then Some kind.ReceiverEvent
     else None
 
-abbrev pub named_may_come : Reached → Option LineKind → Bool
-named_may_come r None = false
-named_may_come r (Some k) = kind_may_come r k
+-- the version that a channel line of these words is spelled in: one of version 1 has 34 words, one of version 2 has more
+abbrev pub version_spelled : Words → ℕ
+version_spelled words = if nat_le (length words) 34 then 1 else 2
 
--- a line with the first word of these bytes may come next
+-- a channel line of these words is spelled in the version of the trace
+abbrev pub spells_version : Reached → LineKind → Words → Bool
+spells_version r kind.Channel words = version_of r.head == version_spelled words
+spells_version r _ words = true
+
+abbrev pub named_may_come : Reached → Option LineKind → Words → Bool
+named_may_come r None words = false
+named_may_come r (Some k) words = kind_may_come r k && spells_version r k words
+
+-- a line with the first word of these bytes, and for a channel line with as many words, may come next
 unfoldable pub expected : Reached → List ℕ → Bool
-expected r bytes = named_may_come r (kind_named (first_word bytes))
+expected r bytes = named_may_come r (kind_named (first_word bytes)) (words_of bytes)
 
 -- in threads an event is of the one channel
 abbrev pub is_served : Reached → ℕ → Bool
@@ -143,8 +163,8 @@ with_channel r (Some head) c =
     if list_any (λ k. k.id == c.id) r.channels then Err Twice else joined r head c (checked (settings c head.tick))
 
 abbrev pub with_line : Reached → TraceLine → Result Reached LineFault
-with_line r (head_line tick link) = Ok (record r { head = Some (record { tick = tick; link = link }) })
-with_line r (channel_line c) = with_channel r r.head c
+with_line r (head_line version tick link) = Ok (record r { head = Some (record { version = version; tick = tick; link = link }) })
+with_line r (channel_line version c) = with_channel r r.head c
 with_line r end_line = Ok (record r { ended = true })
 with_line r _ = Ok (record r { begun = true })
 

@@ -1,5 +1,4 @@
 //! Worked examples, which the checker computes.
-ghost use Rattle.rams_model.specs.First.Examples as first;
 ghost use Rattle.rams_model.specs.Worked.Live.{LiveRefusals, WindowAndLate, RestartLosesTheBurst, PaddingAndExtension, EveryBadPacket, ReachOfNumbers, JumpIsKept, WindowAtARestart, WindowReleases, RandomAccessFlag};
 ghost use Rattle.rams_model.specs.Worked.Bursts.{OnePacketPerTick, NoEligibleAccessPoint, BurstLost, LimitAndIdle, ShareIsSpent, SlowClient, StatedJoinTimeIsKept, RingIsFilled, SourceSendsMoreThanDeclared, NotEligibleWithOneMore, BurstsInTheOrderOfClients, BurstWaitsForTheSource, RunStopsAtTheFirstThatDoesNotFit};
 ghost use Rattle.rams_model.specs.Worked.Stops.{StopAcrossTheWrap, StopAfterTheLast, StopAlreadyPassed, StopHighBits, StopIsKept, StopWithoutNumber};
@@ -8,22 +7,6 @@ ghost use Rattle.rams_model.specs.Worked.Requests.{CompoundFeedback, RequestRefu
 ghost use Rattle.rams_model.specs.Worked.Buckets.{BurstKeepsWhatItLeft, DepthIsReserved, ChannelKeepsWhatItLeft, RepairsLeaveTheDepth, EndedBurstLeavesAll, UpdateKeepsWhatIsKept};
 ghost use Rattle.rams_model.specs.Worked.Parts.{Numbers, Flags, FullRooms, LongTimes};
 ghost use Rattle.rams_model.specs.Worked.Texts.{LiveNoteLines, MessageNoteLines, RepairNoteLines, LinesOfABook};
-
-/// A trace without events.
-pub fn no_event()
-    ensures { first.NoEvent }
-{}
-
-/// A burst that sends one packet in each tick.
-pub fn one_packet_per_tick()
-    ensures { first.OnePacketPerTick }
-{}
-
-/// Requests that find no eligible access point, and lines that are refused, as whole texts.
-pub fn refusals()
-    ensures requests { first.NoStart }
-    ensures lines { first.RefusedLines }
-{}
 
 /// Numbers, access points, rates and codes by themselves.
 pub fn parts_of_answers()

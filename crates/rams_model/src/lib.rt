@@ -21,8 +21,8 @@ pub use answer::{Answer, Order};
 pub use channel::{Access, Channel};
 pub use event::Event;
 pub use examples::{
-    budgets_of_ticks, bursts_in_ticks, lines_of_notes, live_packets, no_event, one_packet_per_tick,
-    parts_of_answers, refusals, repairs_of_packets, requests_of_clients, stops_of_bursts,
+    budgets_of_ticks, bursts_in_ticks, lines_of_notes, live_packets, parts_of_answers,
+    repairs_of_packets, requests_of_clients, stops_of_bursts,
 };
 pub use fault::{ConfigFault, FrameFault, LineFault, NackFault, RtpFault, TlvFault};
 pub use held::Held;

@@ -11,5 +11,4 @@ pub enum Status {
     BadTrace,
     WireFault,
     TooLong,
-    NotBuilt,
 }

@@ -80,6 +80,5 @@ fn number(status: Status) -> u8
         Status::BadTrace => 5,
         Status::WireFault => 6,
         Status::TooLong => 7,
-        Status::NotBuilt => 8,
     }
 }

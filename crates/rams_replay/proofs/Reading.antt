@@ -7,10 +7,10 @@ use Rattle.line_io.proofs.Passing.{Passes-none, Passes-put, Passes-more, Passes-
 use Rattle.rams_model.specs.declared.status.Status.{Status}
 use Rattle.rams_model.specs.declared.status.Status.TheVariants.{ReadFault}
 use Rattle.rams_model.specs.TraceOrder.{Reached}
-use Rattle.rams_model.specs.First.TraceText as trace
-use Rattle.rams_model.specs.First.TraceText.{Stage, opening, goes_on, turn, text_after, lines_text, first_line}
+use Rattle.trace_book.specs.TraceText as trace
+use Rattle.trace_book.specs.TraceText.{Stage, opening, goes_on, turn, text_after, lines_text, first_line}
 use Rattle.rams_model.specs.Words.{lines_of, lines_read}
-use Rattle.session_core.specs.Seen.{Seen}
+use Rattle.server_hub.specs.Seen.{Seen}
 use Rattle.rams_replay.specs.declared.stop.Stop.{Stop}
 use Rattle.rams_replay.specs.declared.stop.Stop.TheVariants.{Memory, Read, Write}
 use Rattle.rams_replay.specs.Statuses.{status_of}
@@ -47,9 +47,9 @@ no_bytes_left : (zs left : List ℕ) → [] ≡ zs ++ left → (zs ≡ []) × (l
 no_bytes_left [] left e = (refl, sym e)
 no_bytes_left (z ∷ zs) left e = cc
 
-module _ (a b c : Option (List ℕ)) (begun waiting waits : List ℕ) (stage : Stage) (number : ℕ) (xs ys : List ℕ) (core : Option Seen) (events : ℕ) (reached : Reached) (piece rest : List ℕ) where
+module _ (a b c : Option (List ℕ)) (begun waiting waits : List ℕ) (stage : Stage) (number : ℕ) (xs ys : List ℕ) (hub : Option Seen) (events : ℕ) (reached : Reached) (piece rest : List ℕ) where
   -- the text of what is read, with one line more
-  text_goes_on : (r : HasRead a b begun waiting stage number xs ys) (g : GoesOnAfter stage number ys core events reached piece rest) (zs more left : List ℕ)
+  text_goes_on : (r : HasRead a b begun waiting stage number xs ys) (g : GoesOnAfter stage number ys hub events reached piece rest) (zs more left : List ℕ)
       → ys ≡ zs ++ left → lines_read zs left ≡ g.line ∷ lines_read more left
       → lines_text opening 1 (lines_read (r.taken ++ zs) left) ≡ (r.said ++ piece) ++ lines_text g.later (number + 1) (lines_read more left)
   text_goes_on r g zs more left e lines =
@@ -58,7 +58,7 @@ module _ (a b c : Option (List ℕ)) (begun waiting waits : List ℕ) (stage : S
       ∙ sym (append_assoc r.said piece (lines_text g.later (number + 1) (lines_read more left)))
 
   -- one line is read and answered
-  pub reading_goes_on : HasRead a b begun waiting stage number xs ys → (g : GoesOnAfter stage number ys core events reached piece rest) → Passes b c (waiting ++ piece) waits
+  pub reading_goes_on : HasRead a b begun waiting stage number xs ys → (g : GoesOnAfter stage number ys hub events reached piece rest) → Passes b c (waiting ++ piece) waits
       → HasRead a c begun waits g.later (number + 1) xs rest
   reading_goes_on r g p =
       elim g.cut.whole as (λ _. HasRead a c begun waits g.later (number + 1) xs rest) [

@@ -1,92 +1,214 @@
 -- The turns of lines.
-use Rattle.std.proofs.Common.{◌≡◌, ℕ, Bool, true, false, cond, ◌<◌, List, [], Option, None, Some, Result, Ok, Err, is_some, refl, sym, subst, arith}
-use Rattle.std.proofs.lemmas.Bool.{lt-ltb}
+use Rattle.std.proofs.Common.{◌≡◌, ℕ, ◌+◌, ◌<◌, ◌≤◌, Bool, true, false, not, ◌&&◌, cond, if◌then◌else◌, List, [], ◌∷◌, ◌++◌, map, Option, None, Some, Result, Ok, Err, is_some, refl, sym, subst, ap, ◌∙◌, arith, eqb, ltb, length, ◌⊎◌, inl, inr}
+use Rattle.std.proofs.lemmas.Bool.{and_parts, lt-ltb}
 use Rattle.rams_model.specs.declared.event.Event.{Event}
-use Rattle.rams_model.specs.Settings.{Settings}
-use Rattle.rams_model.specs.First.Built.{is_built_channel}
-use Rattle.rams_model.specs.First.History.{History, source}
-use Rattle.rams_model.specs.First.Standing.{burst, sendings, was_asked, ticks}
-use Rattle.rams_model.specs.TraceOrder.{Reached, kind_named, judged}
-use Rattle.rams_model.specs.First.TraceText.{Stage, goes_on, ends, not_built, most_events, opened, counted, on_channel, after_refusal, after_judging, turn}
-use Rattle.rams_model.specs.First.TraceText as text
 use Rattle.rams_model.specs.declared.fault.LineFault.{LineFault}
+use Rattle.rams_model.specs.declared.fault.LineFault.TheVariants.{Order, Range}
+use Rattle.rams_model.specs.TraceLine.{TraceLine, line_in_range}
+use Rattle.rams_model.specs.TraceOrder.{Claim, Head, Reached, accepted, has_channel, judged, judged_line, kind_of, kind_may_come, may_come, with_line, with_reached, line_is_served}
 use Rattle.rams_model.specs.declared.mode.LineKind.{LineKind}
-use Rattle.rams_model.specs.TraceLine.{TraceLine}
-use Rattle.rams_model.specs.Words.{first_word}
-use Rattle.session_core.specs.Seen.{Seen, StandsFor, new_core}
+use Rattle.rams_model.specs.declared.mode.LineKind.TheVariants as kind
+use Rattle.server_hub.specs.declared.event.At.{At}
+use Rattle.server_hub.specs.declared.event.HubEvent.{HubEvent}
+use Rattle.server_hub.specs.declared.event.HubEvent.TheVariants.{Live, Feedback, Tick}
+use Rattle.server_hub.specs.Seen.{Seen, StandsFor}
+use Rattle.server_hub.specs.Served.{Served, id_of, with_event, after_event, after_event_of, after_tick}
+use Rattle.trace_book.specs.TraceText.{Stage, goes_on, ends, too_long, most_events, after_judging, after_line, counted, event_text, turn}
+use Rattle.trace_book.specs.TraceText.{event_of as brought}
 use Rattle.rams_replay.specs.declared.replay.Turn.{Turn}
-use Rattle.rams_replay.specs.declared.replay.Turn.TheVariants.{GoesOn, Answered as AnsweredTurn, Refused, TooLong, NotBuilt, Done}
-use Rattle.rams_model.specs.Answered.{Answered}
-use Rattle.rams_replay.specs.Turns.{ServesChannel, Took, last_line, written}
+use Rattle.rams_replay.specs.declared.replay.Turn.TheVariants.{GoesOn, Answered as AnsweredTurn, NoChannel, Ticked, Refused, TooLong, Done}
+use Rattle.trace_book.specs.TraceText as text
+use Rattle.trace_text.specs.declared.line.Line.{Line}
+use Rattle.trace_text.specs.declared.line.Line.TheVariants.{Tune, Give, Mcast, Ask, Drop}
+use Rattle.trace_text.specs.Shown.{shown}
+use Rattle.rams_replay.specs.Turns.{Comes, HubServes, Stands, StandsSomewhere, CountsOne, Tells, Took, claim_of, ending, last_line, written}
 
--- an event of a channel that has a core
-pub at_channel : (core : Option Seen) (v new : Seen) (counted counts : ℕ) (is_its : Settings → Bool) (event : Event) (t : Turn) → core ≡ Some v
-    → ((stage : Stage) (reached : Reached) (number : ℕ) (channel : Settings × History) → v.settings ≡ channel.0 → StandsFor v channel.1 → counted ≡ stage.events
-    → Took (on_channel stage reached number is_its event (Some channel)) (Some new) counts reached number t)
-    → (stage : Stage) (reached : Reached) (number : ℕ) (o : Option (Settings × History)) → ServesChannel core o → counted ≡ stage.events
-    → Took (on_channel stage reached number is_its event o) (Some new) counts reached number t
-at_channel None v new counted counts is_its event t e took stage reached number o serves same = cc
-at_channel (Some w) v new counted counts is_its event t e took stage reached number None serves same = absurd serves
-at_channel (Some w) v new counted counts is_its event t e took stage reached number (Some channel) serves same =
-    let is : w ≡ v = cc in
-    let stands = subst (λ (x : Seen). (x.settings ≡ channel.0) × StandsFor x channel.1) is serves in
-    took stage reached number channel stands.0 stands.1 same
+-- What an accepted line says of the lines before it, and of those with it.
+pub record Accepted (r later : Reached) (line : TraceLine) : Type 0 where
+  pub may : may_come r line ≡ true
+  pub in_range : line_in_range line ≡ true
+  pub does : with_line r line ≡ Ok later
 
--- a channel that comes second
-pub not_opened_twice : (stage : Stage) (reached : Reached) (number : ℕ) (s : Settings) (core : Option Seen) (o : Option (Settings × History)) → is_some core ≡ true
-    → ServesChannel core o → Took (opened stage reached number (Ok s) o) core stage.events reached number NotBuilt
-not_opened_twice stage reached number s core (Some channel) e serves = (refl, refl)
-not_opened_twice stage reached number s (Some v) None e serves = absurd serves
-not_opened_twice stage reached number s None None e serves = cc
+tests : (m g s : Bool) (w : Result Reached LineFault) (later : Reached) → (if not m then Err Order else if not (g && s) then Err Range else w) ≡ Ok later → (m ≡ true) × (g ≡ true) × (w ≡ Ok later)
+tests true true true w later h = (refl, refl, h)
+tests true true false w later h = absurd cc
+tests true false s w later h = absurd cc
+tests false g s w later h = absurd cc
 
--- a channel that isn't built
-refused_by : (stage later : Stage) (reached : Reached) (number : ℕ) (core : Option Seen) (built : Bool) → built ≡ false
-    → Took (cond built (goes_on later []) (ends (not_built number))) core stage.events reached number NotBuilt
-refused_by stage later reached number core true e = cc
-refused_by stage later reached number core false e = (refl, refl)
+pub accepted_parts : (r later : Reached) (line : TraceLine) → accepted r line ≡ Ok later → Accepted r later line
+unfolding accepted
+accepted_parts r later line h =
+    let parts = tests (may_come r line) (line_in_range line) (line_is_served r line) (with_line r line) later h in
+    record { may = parts.0; in_range = parts.1; does = parts.2 }
 
-pub not_opened : (stage : Stage) (reached : Reached) (number : ℕ) (s : Settings) (core : Option Seen) (o : Option (Settings × History)) → is_built_channel s.channel ≡ false
-    → ServesChannel core o → Took (opened stage reached number (Ok s) o) core stage.events reached number NotBuilt
-not_opened stage reached number s core (Some channel) e serves = (refl, refl)
-not_opened stage reached number s core None e serves = refused_by stage _ reached number core (is_built_channel s.channel) e
+-- what is judged well was accepted
+accepts : (line : TraceLine) (o : Result Reached LineFault) (read : TraceLine) (later : Reached) → with_reached line o ≡ Ok (read, later) → (line ≡ read) × (o ≡ Ok later)
+accepts line (Ok r) read later h = (ap first h, ap second h)
+  where
+    first : Result (TraceLine × Reached) LineFault → TraceLine
+    first (Ok both) = both.0
+    first (Err fault) = line
+    second : Result (TraceLine × Reached) LineFault → Result Reached LineFault
+    second (Ok both) = Ok both.1
+    second (Err fault) = Err fault
+accepts line (Err fault) read later h = absurd cc
 
--- a core that has seen nothing stands for the history in which nothing came
-new_core_stands : (s : Settings) → StandsFor (new_core s) []
-unfolding source burst sendings was_asked ticks
-new_core_stands s = record { held = refl; room = omega arith; burst = refl; sent = refl; asked = refl; ticks = refl }
+read_accepts : (r : Reached) (o : Option TraceLine) (read : TraceLine) (later : Reached) → judged_line r o ≡ Ok (read, later) → accepted r read ≡ Ok later
+read_accepts r None read later h = absurd cc
+read_accepts r (Some line) read later h =
+    let parts = accepts line (accepted r line) read later h in subst (λ (l : TraceLine). accepted r l ≡ Ok later) parts.0 parts.1
 
-opened_by : (stage : Stage) (reached : Reached) (number : ℕ) (s : Settings) (built : Bool) → built ≡ true
-    → Took (cond built (goes_on (record { reached = reached; channel = Some (s, []); events = stage.events }) []) (ends (not_built number))) (Some (new_core s)) stage.events reached number GoesOn
-opened_by stage reached number s true e = (record { channel = (refl, new_core_stands s); counted = refl; lines = refl }, refl, refl)
-opened_by stage reached number s false e = cc
+pub judged_accepts : (r : Reached) (bytes : List ℕ) (read : TraceLine) (later : Reached) → judged r bytes ≡ Ok (read, later) → accepted r read ≡ Ok later
+unfolding judged
+judged_accepts r bytes read later h = read_accepts r _ read later h
 
--- the first channel that is built
-pub is_opened : (stage : Stage) (reached : Reached) (number : ℕ) (s : Settings) (core : Option Seen) (o : Option (Settings × History)) → is_some core ≡ false → is_built_channel s.channel ≡ true
-    → ServesChannel core o → Took (opened stage reached number (Ok s) o) (Some (new_core s)) stage.events reached number GoesOn
-is_opened stage reached number s (Some v) o none built serves = cc
-is_opened stage reached number s None (Some channel) none built serves = absurd serves
-is_opened stage reached number s None None none built serves = opened_by stage reached number s (is_built_channel s.channel) built
+-- the line that was read comes behind the stage
+pub comes_next : (hub : Option Seen) (events : ℕ) (reached later : Reached) (bytes : List ℕ) (read : TraceLine) (stage : Stage) → Stands hub events reached stage
+    → judged reached bytes ≡ Ok (read, later) → Comes hub events later read stage
+comes_next hub events reached later bytes read stage stands h = record {
+  before = record { served = stands.served; claims = stands.claims; counted = stands.counted; lines = refl };
+  comes = judged_accepts stage.reached bytes read later (subst (λ (r : Reached). judged r bytes ≡ Ok (read, later)) stands.lines h);
+}
 
--- what is written for a turn that isn't an answer
-pub written_last : (core : Option Seen) (events number : ℕ) (t : Turn) → ((a : Answered) → t ≡ AnsweredTurn a → ⊥) → last_line events number t ≡ written core events number t
-written_last core events number (AnsweredTurn a) other = absurd (other a refl)
-written_last core events number GoesOn other = refl
-written_last core events number (Refused fault) other = refl
-written_last core events number TooLong other = refl
-written_last core events number NotBuilt other = refl
-written_last core events number Done other = refl
+-- its turn is that of the line
+pub judged_turn : (stage : Stage) (number : ℕ) (bytes : List ℕ) (read : TraceLine) (later now : Reached) (hub : Option Seen) (events : ℕ) (t : Turn) → judged stage.reached bytes ≡ Ok (read, later)
+    → Took (after_line stage later read (brought read)) hub events now number t → Took (turn stage number bytes) hub events now number t
+unfolding turn
+judged_turn stage number bytes read later now hub events t h took =
+    subst (λ (o : Result (TraceLine × Reached) LineFault). Took (after_judging stage number o) hub events now number t) (sym h) took
 
 -- a line that is refused
-pub refused_turn : (stage : Stage) (number : ℕ) (bytes : List ℕ) (named : Option LineKind) (fault : LineFault) (core : Option Seen) (events : ℕ) (reached : Reached) (t : Turn)
-    → judged stage.reached bytes ≡ Err fault → named ≡ kind_named (first_word bytes) → events ≡ stage.events
-    → Took (after_refusal stage number named fault) core stage.events reached number t → Took (turn stage number bytes) core events reached number t
+pub refused_turn : (stage : Stage) (number : ℕ) (bytes : List ℕ) (fault : LineFault) (hub : Option Seen) (events : ℕ) (reached : Reached) → judged stage.reached bytes ≡ Err fault
+    → Took (turn stage number bytes) hub events reached number (Refused fault)
 unfolding turn
-refused_turn stage number bytes named fault core events reached t judges is counted took =
-    subst (λ (k : Option LineKind). Took (after_judging stage number k (judged stage.reached bytes)) core events reached number t) is
-    (subst (λ (r : Result (TraceLine × Reached) LineFault). Took (after_judging stage number named r) core events reached number t) (sym judges)
-    (subst (λ n. Took (after_refusal stage number named fault) core n reached number t) (sym counted) took))
+refused_turn stage number bytes fault hub events reached h =
+    subst (λ (o : Result (TraceLine × Reached) LineFault). Took (after_judging stage number o) hub events reached number (Refused fault)) (sym h) (refl, refl)
 
--- an event that is counted, and one that is one too many
-pub counted_turn : (stage : Stage) (number events counts : ℕ) (core : Option Seen) (reached : Reached) (t : Turn) (was : text.Turn) → events < 1000000 → events ≡ stage.events
-    → Took was core counts reached number t → Took (counted stage was) core counts reached number t
-counted_turn stage number events counts core reached t was few same took = rw (lt-ltb stage.events most_events (omega arith)) took
+-- an event changes no channel's number and share
+claim_kept : (b : Bool) (e : Event) (c : Served) → claim_of (cond b (with_event e c) c) ≡ claim_of c
+claim_kept true e c = refl
+claim_kept false e c = refl
+
+one_kept : (id : ℕ) (e : Event) (channels : List Served) → map claim_of (after_event_of id e channels) ≡ map claim_of channels
+one_kept id e [] = refl
+one_kept id e (c ∷ channels) =
+    ap (λ x. x ∷ map claim_of (after_event_of id e channels)) (claim_kept (eqb (id_of c) id) e c) ∙ ap (λ l. claim_of c ∷ l) (one_kept id e channels)
+
+tick_kept : (channels : List Served) → map claim_of (after_tick channels) ≡ map claim_of channels
+tick_kept [] = refl
+tick_kept (c ∷ channels) = ap (λ l. claim_of c ∷ l) (tick_kept channels)
+
+claims_kept : (e : HubEvent) (channels : List Served) → map claim_of (after_event e channels) ≡ map claim_of channels
+claims_kept (Live id bytes) channels = one_kept id _ channels
+claims_kept (Feedback id client bytes) channels = one_kept id _ channels
+claims_kept Tick channels = tick_kept channels
+
+-- an event line begins the events
+abbrev pub begun : Reached → Reached
+begun r = record r { begun = true }
+
+pub stands_begun : (hub : Option Seen) (events : ℕ) (stage : Stage) (later : Reached) → begun stage.reached ≡ later → Stands hub events stage.reached stage
+    → Stands hub events later (record stage { reached = later })
+stands_begun hub events stage later e stands =
+    subst (λ (r : Reached). Stands hub events r (record stage { reached = r })) e
+    (record { served = stands.served; claims = stands.claims; counted = stands.counted; lines = refl })
+
+-- what stands behind an event line, but for the event
+pub event_stage : (hub : Option Seen) (events : ℕ) (later : Reached) (line : TraceLine) (stage : Stage) → Comes hub events later line stage → with_line stage.reached line ≡ Ok (begun stage.reached)
+    → Stands hub events later (record stage { reached = later })
+event_stage hub events later line stage comes is =
+    let does : Ok (begun stage.reached) ≡ Ok later = sym is ∙ (accepted_parts stage.reached later line comes.comes).does in
+    stands_begun hub events stage later (cc does) comes.before
+
+-- a line of a receiver, which no trace of `run` has
+abbrev pub IsReceiver : Line → Type 0
+IsReceiver l =
+    ((x : ℕ) × (y : ℕ) × (z : ℕ) × (l ≡ Tune x y z)) ⊎ (((x : ℕ) × (l ≡ Give x)) ⊎ (((x : ℕ) × (y : ℕ) × (z : ℕ) × (l ≡ Mcast x y z))
+    ⊎ (((x : ℕ) × (y : ℕ) × (l ≡ Ask x y)) ⊎ ((x : ℕ) × (y : ℕ) × (l ≡ Drop x y)))))
+
+silent_turn : (hub : Option Seen) (events number : ℕ) (later : Reached) (stage : Stage) (line : TraceLine) → Comes hub events later line stage → with_line stage.reached line ≡ Ok (begun stage.reached)
+    → after_line stage later line (brought line) ≡ goes_on (record { reached = later; channels = stage.channels; events = stage.events }) []
+    → Took (after_line stage later line (brought line)) hub events later number GoesOn
+silent_turn hub events number later stage line comes does is =
+    subst (λ (was : text.Turn). Took was hub events later number GoesOn) (sym is) (event_stage hub events later line stage comes does, refl, refl)
+
+module _ (hub : Option Seen) (events number : ℕ) (later : Reached) (stage : Stage) (l : Line) (comes : Comes hub events later (shown l) stage) where
+  as_line : (k : Line) → l ≡ k → with_line stage.reached (shown k) ≡ Ok (begun stage.reached)
+      → after_line stage later (shown k) (brought (shown k)) ≡ goes_on (record { reached = later; channels = stage.channels; events = stage.events }) []
+      → Took (after_line stage later (shown l) (brought (shown l))) hub events later number GoesOn
+  as_line k is does silent =
+      subst (λ (x : Line). Took (after_line stage later (shown x) (brought (shown x))) hub events later number GoesOn) (sym is)
+      (silent_turn hub events number later stage (shown k) (subst (λ (x : Line). Comes hub events later (shown x) stage) is comes) does silent)
+
+  pub receiver_turn : IsReceiver l → Took (after_line stage later (shown l) (brought (shown l))) hub events later number GoesOn
+  receiver_turn (inl p) = as_line (Tune p.0 p.1 p.2) p.3 refl refl
+  receiver_turn (inr (inl p)) = as_line (Give p.0) p.1 refl refl
+  receiver_turn (inr (inr (inl p))) = as_line (Mcast p.0 p.1 p.2) p.3 refl refl
+  receiver_turn (inr (inr (inr (inl p)))) = as_line (Ask p.0 p.1) p.2 refl refl
+  receiver_turn (inr (inr (inr (inr p)))) = as_line (Drop p.0 p.1) p.2 refl refl
+
+-- an event comes behind a channel line, so there is a hub
+no_channel : (r : Reached) (channels : List Served) → r.channels ≡ map claim_of channels → channels ≡ [] → has_channel r ≡ false
+no_channel r channels claims none = ap (λ (l : List Claim). ltb 0 (length l)) (claims ∙ ap (map claim_of) none)
+
+pub has_hub : (hub : Option Seen) (events : ℕ) (r : Reached) (stage : Stage) → Stands hub events r stage → has_channel stage.reached ≡ true → is_some hub ≡ true
+has_hub hub events r stage stands has = by hub stage.reached.head stands.served
+  where
+    by : (o : Option Seen) (h : Option Head) → HubServes o h stage.channels stage.events → is_some o ≡ true
+    by (Some v) h serves = refl
+    by None (Some head) serves = absurd serves
+    by None None serves = let none = no_channel stage.reached stage.channels stands.claims serves.0 in absurd cc
+
+pub event_has_hub : (hub : Option Seen) (events : ℕ) (later : Reached) (line : TraceLine) (stage : Stage) → Comes hub events later line stage → kind_of line ≡ kind.Event → is_some hub ≡ true
+event_has_hub hub events later line stage comes is =
+    let may = (and_parts _ _ (accepted_parts stage.reached later line comes.comes).may).0 in
+    let event : kind_may_come stage.reached kind.Event ≡ true = subst (λ (k : LineKind). kind_may_come stage.reached k ≡ true) is may in
+    has_hub hub events stage.reached stage comes.before ((and_parts _ _ (and_parts _ _ event).1).0)
+
+-- an event that is one too many
+pub too_long_turn : (hub : Option Seen) (events : ℕ) (e : HubEvent) → 1000000 ≤ events → (stage : Stage) (number : ℕ) → Stands hub events stage.reached stage
+    → Took (counted stage stage.reached e) hub events stage.reached number TooLong
+too_long_turn hub events e many stage number stands =
+    by (ltb-not stage.events most_events (omega (arith, stands.counted)))
+  where
+    ltb-not : (a b : ℕ) → b ≤ a → ltb a b ≡ false
+    ltb-not a b h = grind arith
+    by : ltb stage.events most_events ≡ false → Took (counted stage stage.reached e) hub events stage.reached number TooLong
+    by e = rw e (refl, refl)
+
+-- an event that is served
+pub served_turn : (v w : Seen) (events : ℕ) (e : HubEvent) (t : Turn) → events < 1000000 → CountsOne v w
+    → ((channels : List Served) → StandsFor v channels → Tells e channels w t)
+    → (stage : Stage) (number : ℕ) → Stands (Some v) events stage.reached stage → Took (counted stage stage.reached e) (Some w) (events + 1) stage.reached number t
+served_turn v w events e t few counts tells stage number stands = by_head stage.reached.head refl stands.served
+  where
+    by_head : (h : Option Head) → stage.reached.head ≡ h → HubServes (Some v) h stage.channels stage.events
+        → Took (counted stage stage.reached e) (Some w) (events + 1) stage.reached number t
+    by_head None is serves = absurd serves
+    by_head (Some head) is serves =
+        let told = tells stage.channels serves.stands in
+        rw (lt-ltb stage.events most_events (omega (arith, stands.counted)))
+        (record {
+          served = subst (λ (h : Option Head). HubServes (Some w) h (after_event e stage.channels) (stage.events + 1)) (sym is)
+              (record { stands = told.stands; tick = counts.tick ∙ serves.tick; link = counts.link ∙ serves.link; calls = counts.calls ∙ ap (λ n. n + 1) serves.calls });
+          claims = stands.claims ∙ sym (claims_kept e stage.channels);
+          counted = ap (λ n. n + 1) stands.counted;
+          lines = refl;
+        }, told.goes_on, told.text (events + 1) number ∙ ap (λ n. event_text (n + 1) e stage.channels) stands.counted)
+
+-- where a turn goes on, the hub stands for the stage behind it
+pub goes_somewhere : (was : text.Turn) (hub : Option Seen) (events : ℕ) (reached : Reached) (number : ℕ) (t : Turn) → Took was hub events reached number t → ending t ≡ None
+    → StandsSomewhere hub events reached
+goes_somewhere (goes_on later bytes) hub events reached number t took none = (later, took.0)
+goes_somewhere (ends o) hub events reached number t took none = absurd cc
+
+-- what is written for a turn that answers nothing
+pub written_last : (hub : Option Seen) (events number : ℕ) (t : Turn) → ((at : At) → t ≡ AnsweredTurn at → ⊥) → ((id : ℕ) → t ≡ NoChannel id → ⊥) → ((all : _) → t ≡ Ticked all → ⊥)
+    → last_line events number t ≡ written hub events number t
+written_last hub events number (AnsweredTurn at) one none all = absurd (one at refl)
+written_last hub events number (NoChannel id) one none all = absurd (none id refl)
+written_last hub events number (Ticked answers) one none all = absurd (all answers refl)
+written_last hub events number GoesOn one none all = refl
+written_last hub events number (Refused fault) one none all = refl
+written_last hub events number TooLong one none all = refl
+written_last hub events number Done one none all = refl

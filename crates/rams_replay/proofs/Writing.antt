@@ -7,11 +7,15 @@ use Rattle.rams_model.specs.declared.answer.Order.{Order}
 use Rattle.rams_model.specs.declared.note.Note.{Note}
 use Rattle.rams_model.specs.Settings.{Settings}
 use Rattle.rams_model.specs.BookText.{order_count}
-use Rattle.rams_model.specs.First.BookText.{notes_text}
+use Rattle.rams_model.specs.BookLines.{notes_text}
 use Rattle.rams_replay.specs.declared.stop.Stop.{Stop}
 use Rattle.rams_replay.specs.declared.stop.Stop.TheVariants.{Memory, Read, Write}
 use Rattle.rams_replay.specs.Stops.{StopsIn}
+use Rattle.server_hub.specs.declared.event.At.{At}
+use Rattle.server_hub.specs.Seen.{Seen}
+use Rattle.std.specs.List.{flat_map}
 use Rattle.rams_replay.specs.Entries.{entry_text}
+use Rattle.rams_replay.specs.Turns.{at_text}
 
 -- the call stops where the rest waits, or would
 pub stops_before : (a b : Option (List ℕ)) (text waits more : List ℕ) (stop : Stop) → Passes a b text (waits ++ more) → StopsIn a b text waits stop
@@ -107,3 +111,12 @@ notes_text-step s event notes orders rest i d below e =
 pub notes_text-past : (s : Settings) (event : ℕ) (notes : List Note) (orders : List Order) (i : ℕ) → length notes ≤ i → notes_text s event (drop i notes) orders ≡ []
 unfolding notes_text
 notes_text-past s event notes orders i end = ap (λ (l : List Note). notes_text s event l orders) (drop_all i notes end)
+
+-- the text of the answers from one on
+pub answers_text-more : (hub : Option Seen) (event : ℕ) (all : List At) (i : ℕ) (at : At) → i < length all → at ≡ get_or all i at
+    → flat_map (at_text hub event) (drop i all) ≡ at_text hub event at ++ flat_map (at_text hub event) (drop (i + 1) all)
+answers_text-more hub event all i at below is =
+    ap (flat_map (at_text hub event)) (drop_more all i at below) ∙ ap (λ x. at_text hub event x ++ flat_map (at_text hub event) (drop (i + 1) all)) (sym is)
+
+pub answers_text-past : (hub : Option Seen) (event : ℕ) (all : List At) (i : ℕ) → length all ≤ i → flat_map (at_text hub event) (drop i all) ≡ []
+answers_text-past hub event all i end = ap (flat_map (at_text hub event)) (drop_all i all end)

@@ -5,7 +5,7 @@ use Rattle.rams_model.specs.declared.answer.Order.{Order}
 use Rattle.rams_model.specs.declared.note.Note.{Note}
 use Rattle.rams_model.specs.Settings.{Settings}
 use Rattle.rams_model.specs.BookText.{note_line, order_count}
-use Rattle.rams_model.specs.First.BookText.{order_line}
+use Rattle.rams_model.specs.BookLines.{order_line}
 
 abbrev pub entry_text : Settings → ℕ → Note → List Order → List ℕ
 entry_text s event note orders = note_line event s.channel.id note ++ flat_map (order_line s event) (take (order_count note) orders)

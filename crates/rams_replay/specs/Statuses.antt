@@ -3,8 +3,8 @@ use Rattle.std.specs.Prelude.{◌≡◌, ℕ, ◌≤◌, Bool, true, false, List
 use Rattle.std.specs.Io.KnownBytes.{Appends}
 use Rattle.ram_io.specs.Faults.{Rose}
 use Rattle.rams_model.specs.declared.status.Status.{Status}
-use Rattle.rams_model.specs.declared.status.Status.TheVariants.{Done, NoMemory, Words, ReadFault, WriteFault, BadTrace, WireFault, TooLong, NotBuilt}
-use Rattle.rams_model.specs.First.TraceText.{Outcome}
+use Rattle.rams_model.specs.declared.status.Status.TheVariants.{Done, NoMemory, Words, ReadFault, WriteFault, BadTrace, WireFault, TooLong}
+use Rattle.trace_book.specs.TraceText.{Outcome}
 use Rattle.rams_replay.specs.declared.stop.Stop.{Stop}
 use Rattle.rams_replay.specs.declared.stop.Stop.TheVariants.{Memory, Read, Write}
 
@@ -25,7 +25,6 @@ abbrev pub HasText : Option (List ℕ) → Option (List ℕ) → Outcome → Sta
 HasText held holds o Done = (o.status ≡ Done) × Appends held holds o.text
 HasText held holds o BadTrace = (o.status ≡ BadTrace) × Appends held holds o.text
 HasText held holds o TooLong = (o.status ≡ TooLong) × Appends held holds o.text
-HasText held holds o NotBuilt = (o.status ≡ NotBuilt) × Appends held holds o.text
 HasText held holds o _ = Unit {0}
 
 -- the object's faults rose where the status names it; a run has no wire

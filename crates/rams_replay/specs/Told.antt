@@ -5,9 +5,9 @@ use Rattle.line_io.specs.Passes.{Passes}
 use Rattle.rams_model.specs.declared.status.Status.{Status}
 use Rattle.rams_model.specs.Words.{lines_of, lines_read}
 use Rattle.rams_model.specs.TraceOrder.{Reached}
-use Rattle.rams_model.specs.First.TraceText.{Stage, Outcome, opening, goes_on, turn, text_from, lines_text, read_text}
-use Rattle.session_core.specs.Seen.{Seen}
+use Rattle.trace_book.specs.TraceText.{Stage, Outcome, opening, goes_on, turn, text_from, lines_text, read_text}
 use Rattle.rams_replay.specs.declared.replay.Turn.{Turn}
+use Rattle.server_hub.specs.Seen.{Seen}
 use Rattle.rams_replay.specs.Turns.{Stands, ending, written}
 
 -- P of the bytes, where they are told
@@ -21,14 +21,14 @@ IfBothTold None now P = Unit {0}
 IfBothTold (Some old) None P = ⊥
 IfBothTold (Some old) (Some new) P = P old new
 
--- The first line of xs is cut off, this text is what it is answered with, the core stands for the stage behind it, and the rest is left.
-pub record GoesOnAfter (stage : Stage) (number : ℕ) (xs : List ℕ) (core : Option Seen) (events : ℕ) (reached : Reached) (text rest : List ℕ) : Type 0 where
+-- The first line of xs is cut off, this text is what it is answered with, the hub stands for the stage behind it, and the rest is left.
+pub record GoesOnAfter (stage : Stage) (number : ℕ) (xs : List ℕ) (hub : Option Seen) (events : ℕ) (reached : Reached) (text rest : List ℕ) : Type 0 where
   pub line : List ℕ
   pub cut : IsCutOff xs rest line
   pub lines : lines_of xs ≡ line ∷ lines_of rest
   pub later : Stage
   pub does : turn stage number line ≡ goes_on later text
-  pub stands : Stands core events reached later
+  pub stands : Stands hub events reached later
 
 -- the outcome has this status and no more than this text
 abbrev pub EndsIn : Outcome → List ℕ → Status → Type 0
@@ -36,10 +36,10 @@ EndsIn o text status = (o.status ≡ status) × (o.text ≡ text)
 
 -- the turn is the first of what is still to come of the trace xs, from this stage and line number on, and the rest comes after it
 abbrev pub IsFirstTurn : Stage → ℕ → List ℕ → Option Seen → ℕ → Reached → Turn → List ℕ → Type 0
-IsFirstTurn stage number xs core events reached t rest =
+IsFirstTurn stage number xs hub events reached t rest =
     MatchOption (ending t)
-    (GoesOnAfter stage number xs core events reached (written core events number t) rest)
-    (EndsIn (text_from stage number (lines_of xs)) (written core events number t))
+    (GoesOnAfter stage number xs hub events reached (written hub events number t) rest)
+    (EndsIn (text_from stage number (lines_of xs)) (written hub events number t))
 
 -- the whole text of the outcome is written, and the run ends so
 abbrev pub Ends : Option (List ℕ) → Option (List ℕ) → List ℕ → List ℕ → Outcome → Status → Type 0

@@ -1,59 +1,71 @@
 -- What a line of a trace does, as code has it.
-use Rattle.std.specs.Prelude.{◌≡◌, ℕ, Bool, true, false, ◌==◌, List, [], Option, Some, None}
-use Rattle.rams_model.specs.declared.event.Event.{Event}
-use Rattle.rams_model.specs.declared.event.Event.TheVariants as events
+use Rattle.std.specs.Prelude.{◌≡◌, ℕ, ◌+◌, ◌==◌, List, [], ◌∷◌, ◌++◌, map, find, Option, Some, None, Ok, All}
+use Rattle.std.specs.List.{flat_map}
+use Rattle.rams_model.specs.declared.channel.Channel.{Channel}
 use Rattle.rams_model.specs.declared.status.Status.{Status}
 use Rattle.rams_model.specs.declared.status.Status.TheVariants as statuses
 use Rattle.rams_model.specs.Answered.{Answered}
-use Rattle.rams_model.specs.Settings.{Settings}
-use Rattle.rams_model.specs.First.History.{History}
-use Rattle.rams_model.specs.First.BookText.{answer_text}
-use Rattle.rams_model.specs.TraceOrder.{Reached}
-use Rattle.rams_model.specs.First.TraceText.{Stage, Outcome, goes_on, ends, refused, too_long, not_built, done}
-use Rattle.rams_model.specs.First.TraceText as text
-use Rattle.session_core.specs.Render.{AllRender}
-use Rattle.session_core.specs.Seen.{Seen, StandsFor, Answers, serves}
-use Rattle.rams_replay.specs.declared.heard.Heard.{Heard}
-use Rattle.rams_replay.specs.declared.heard.Heard.TheVariants.{Live, Feedback, Tick}
+use Rattle.rams_model.specs.Settings.{Settings, settings, checked}
+use Rattle.rams_model.specs.BookLines.{answer_text}
+use Rattle.rams_model.specs.TraceLine.{TraceLine}
+use Rattle.rams_model.specs.TraceOrder.{Claim, Head, Reached, accepted}
+use Rattle.book_text.specs.NoChannel.{no_channel_line}
+use Rattle.order_datagrams.specs.Rendering.{Renders}
+use Rattle.server_hub.specs.declared.event.At.{At}
+use Rattle.server_hub.specs.declared.event.HubEvent.{HubEvent}
+use Rattle.server_hub.specs.declared.event.HubEvent.TheVariants as events
+use Rattle.server_hub.specs.Seen.{Seen, StandsFor, settings_of}
+use Rattle.server_hub.specs.Seen.{refused as refused_add}
+use Rattle.server_hub.specs.Served.{Served, served, after_event}
+use Rattle.rams_replay.specs.declared.replay.Heard.{Heard}
+use Rattle.rams_replay.specs.declared.replay.Heard.TheVariants.{Live, Feedback, Tick}
 use Rattle.rams_replay.specs.declared.replay.Turn.{Turn}
-use Rattle.rams_replay.specs.declared.replay.Turn.TheVariants.{GoesOn, Answered as AnsweredTurn, Refused, TooLong, NotBuilt, Done}
+use Rattle.rams_replay.specs.declared.replay.Turn.TheVariants.{GoesOn, Answered as AnsweredTurn, NoChannel, Ticked, Refused, TooLong, Done}
+use Rattle.trace_book.specs.TraceText.{Stage, Outcome, goes_on, ends, refused, too_long, done, event_text}
+use Rattle.trace_book.specs.TraceText as text
 
 -- the event that is heard
-abbrev pub event_of : Heard → Event
-event_of (Live bytes) = events.Live bytes.now
-event_of (Feedback client bytes) = events.Feedback client bytes.now
+abbrev pub event_of : Heard → HubEvent
+event_of (Live id bytes) = events.Live id bytes.now
+event_of (Feedback id client bytes) = events.Feedback id client bytes.now
 event_of Tick = events.Tick
 
--- there is an answer exactly where the event is built, and it is the core's
-abbrev pub IsAnswered : Seen → Seen → Event → Option Answered → Type 0
-IsAnswered old new event None = (serves old event ≡ false) × (new ≡ old)
-IsAnswered old new event (Some a) = (serves old event ≡ true) × Answers old new event a × AllRender a.orders
+-- what a trace's lines keep of a channel
+abbrev pub claim_of : Served → Claim
+claim_of c = record { id = c.settings.channel.id; share = c.settings.channel.share }
 
--- the core stands for the channel's history
-abbrev pub ServesChannel : Option Seen → Option (Settings × History) → Type 0
-ServesChannel None None = Unit {0}
-ServesChannel None (Some channel) = ⊥
-ServesChannel (Some v) None = ⊥
-ServesChannel (Some v) (Some channel) = (v.settings ≡ channel.0) × StandsFor v channel.1
+-- The hub of this head line stands for the channels, and counts their events.
+pub record Serves (v : Seen) (head : Head) (channels : List Served) (events : ℕ) : Type 0 where
+  pub stands : StandsFor v channels
+  pub tick : v.tick ≡ head.tick
+  pub link : v.link ≡ head.link
+  pub calls : v.calls ≡ events
 
--- What stands before a line: a core for the channel's history, so many events, and these lines.
-pub record Stands (core : Option Seen) (events : ℕ) (reached : Reached) (stage : Stage) : Type 0 where
-  pub channel : ServesChannel core stage.channel
+-- there is a hub exactly where a head line came
+abbrev pub HubServes : Option Seen → Option Head → List Served → ℕ → Type 0
+HubServes None None channels events = (channels ≡ []) × (events ≡ 0)
+HubServes (Some v) (Some head) channels events = Serves v head channels events
+HubServes _ _ channels events = ⊥
+
+-- What stands before a line: a hub for the channels, so many events, and these lines.
+pub record Stands (hub : Option Seen) (events : ℕ) (reached : Reached) (stage : Stage) : Type 0 where
+  pub served : HubServes hub stage.reached.head stage.channels stage.events
+  pub claims : stage.reached.channels ≡ map claim_of stage.channels
   pub counted : events ≡ stage.events
   pub lines : reached ≡ stage.reached
 
--- whether the event is this channel's: a tick is every channel's
-abbrev pub is_its : Option ℕ → Settings → Bool
-is_its None s = true
-is_its (Some id) s = s.channel.id == id
+-- some stage stands there
+abbrev pub StandsSomewhere : Option Seen → ℕ → Reached → Type 0
+StandsSomewhere hub events reached = (stage : Stage) × Stands hub events reached stage
 
 -- how a turn ends the run, if it does
 abbrev pub ending : Turn → Option Status
 ending GoesOn = None
-ending (AnsweredTurn a) = None
+ending (AnsweredTurn at) = None
+ending (NoChannel id) = None
+ending (Ticked all) = None
 ending (Refused fault) = Some statuses.BadTrace
 ending TooLong = Some statuses.TooLong
-ending NotBuilt = Some statuses.NotBuilt
 ending Done = Some statuses.Done
 
 -- a status with which a trace ends
@@ -61,36 +73,82 @@ abbrev pub IsEnd : Status → Type 0
 IsEnd statuses.Done = Unit {0}
 IsEnd statuses.BadTrace = Unit {0}
 IsEnd statuses.TooLong = Unit {0}
-IsEnd statuses.NotBuilt = Unit {0}
 IsEnd _ = ⊥
 
-abbrev pub answered_text : Option Seen → ℕ → Answered → List ℕ
-answered_text None event a = []
-answered_text (Some v) event a = answer_text v.settings event a
+-- the lines of an answer, where the channel's settings are there
+abbrev pub settled_text : ℕ → Answered → Option Settings → List ℕ
+settled_text event a None = []
+settled_text event a (Some s) = answer_text s event a
+
+-- the lines of what one channel answers
+abbrev pub at_text : Option Seen → ℕ → At → List ℕ
+at_text None event at = []
+at_text (Some v) event at = settled_text event at.answer (find (λ s. s.channel.id == at.id) (settings_of v))
 
 -- the line with which a turn ends the run, after so many events and at the line of this number
 abbrev pub last_line : ℕ → ℕ → Turn → List ℕ
 last_line events number (Refused fault) = (refused number fault).text
 last_line events number TooLong = too_long.text
-last_line events number NotBuilt = (not_built number).text
 last_line events number Done = (done events).text
 last_line events number _ = []
 
 -- what is written for a turn, at the line of this number
 abbrev pub written : Option Seen → ℕ → ℕ → Turn → List ℕ
-written core events number (AnsweredTurn a) = answered_text core events a
-written core events number t = last_line events number t
+written hub events number (AnsweredTurn at) = at_text hub events at
+written hub events number (Ticked all) = flat_map (at_text hub events) all.items
+written hub events number (NoChannel id) = no_channel_line events id
+written hub events number t = last_line events number t
 
 -- the orders of an answer can be rendered
+abbrev pub AllRender : At → Type 0
+AllRender at = All Renders at.answer.orders
+
 abbrev pub CanWrite : Turn → Type 0
-CanWrite GoesOn = Unit {0}
-CanWrite (AnsweredTurn a) = AllRender a.orders
-CanWrite (Refused fault) = Unit {0}
-CanWrite TooLong = Unit {0}
-CanWrite NotBuilt = Unit {0}
-CanWrite Done = Unit {0}
+CanWrite (AnsweredTurn at) = AllRender at
+CanWrite (Ticked all) = All AllRender all.items
+CanWrite _ = Unit {0}
+
+-- the turn of an event of this channel, where there may be none of its number
+abbrev pub turn_named : ℕ → Option Answered → Turn
+turn_named id None = NoChannel id
+turn_named id (Some a) = AnsweredTurn (record { id = id; answer = a })
+
+-- The turn tells what the server answers to an event after what came to its channels, and the hub has served it.
+pub record Tells (e : HubEvent) (channels : List Served) (v : Seen) (t : Turn) : Type 0 where
+  pub stands : StandsFor v (after_event e channels)
+  pub goes_on : ending t ≡ None
+  pub text : (event number : ℕ) → written (Some v) event number t ≡ event_text event e channels
+  pub renders : CanWrite t
+
+-- The hub is of the same head line, and counts one more event.
+pub record CountsOne (old new : Seen) : Type 0 where
+  pub tick : new.tick ≡ old.tick
+  pub link : new.link ≡ old.link
+  pub calls : new.calls ≡ old.calls + 1
+
+-- a channel with these settings can be opened: they are lawful, and it fits the link beside the others
+pub record CanOpen (v : Seen) (c : Channel) : Type 0 where
+  pub lawful : checked (settings c v.tick) ≡ Ok (settings c v.tick)
+  pub fits : refused_add v (settings c v.tick) ≡ None
+
+-- the channel was opened, beside the others
+pub record Opens (c : Channel) (old new : Seen) : Type 0 where
+  pub stands : (channels : List Served) → StandsFor old channels → StandsFor new (channels ++ served (settings c old.tick) [] ∷ [])
+  pub tick : new.tick ≡ old.tick
+  pub link : new.link ≡ old.link
+  pub calls : new.calls ≡ old.calls
+
+-- the same of a hub that is there
+abbrev pub OpensIn : Channel → Option Seen → Option Seen → Type 0
+OpensIn c (Some old) (Some new) = Opens c old new
+OpensIn c _ _ = ⊥
+
+-- this line was accepted behind those of the stage
+pub record Comes (hub : Option Seen) (events : ℕ) (reached : Reached) (line : TraceLine) (stage : Stage) : Type 0 where
+  pub before : Stands hub events stage.reached stage
+  pub comes : accepted stage.reached line ≡ Ok reached
 
 -- the line's turn was taken
 abbrev pub Took : text.Turn → Option Seen → ℕ → Reached → ℕ → Turn → Type 0
-Took (goes_on later text) core events reached number t = Stands core events reached later × (ending t ≡ None) × (written core events number t ≡ text)
-Took (ends o) core events reached number t = (ending t ≡ Some o.status) × (written core events number t ≡ o.text)
+Took (goes_on later text) hub events reached number t = Stands hub events reached later × (ending t ≡ None) × (written hub events number t ≡ text)
+Took (ends o) hub events reached number t = (ending t ≡ Some o.status) × (written hub events number t ≡ o.text)

@@ -1,13 +1,13 @@
 //! The book of a trace, from the source's bytes to the sink's.
-ghost use Rattle.std.specs.Prelude.{◌≡◌, ◌≤◌, Err, List, ℕ, ◌+◌, ◌++◌, IfOk, IfErr, IfSome, OnOk, length, [], Some};
+ghost use Rattle.std.specs.Prelude.{◌≡◌, ◌≤◌, Err, List, ℕ, ◌+◌, ◌++◌, IfOk, IfErr, IfSome, OnOk, length, [], None, Some};
 ghost use Rattle.std.specs.Io.KnownBytes.{Appends, Keeps, prepend_known};
 ghost use Rattle.line_io.specs.Passes.{Passes};
 ghost use Rattle.rams_replay.specs.declared.stop.Stop.TheVariants.{Read, Write};
 ghost use Rattle.rams_model.specs.Words.{lines_of};
-ghost use Rattle.rams_model.specs.First.TraceText.{Stage, opening, text_from, trace_text};
+ghost use Rattle.trace_book.specs.TraceText.{Stage, opening, text_from, trace_text};
 ghost use Rattle.rams_replay.specs.Stops.{IsStopped, IsStoppedByRead, OnlyMemoryStops, StopsIn, EndsAs};
 ghost use Rattle.rams_replay.specs.Told.{IfTold, IfBothTold, IsFirstTurn, Ends, HasLinesText, HasReadText};
-ghost use Rattle.rams_replay.specs.Turns.{Stands, CanWrite, IsEnd, ending};
+ghost use Rattle.rams_replay.specs.Turns.{Stands, StandsSomewhere, CanWrite, IsEnd, ending};
 
 use crate::replay::{Replay, Turn, new_replay, take_line};
 use crate::stop::Stop;
@@ -25,9 +25,11 @@ fn next_turn<S: Source>(
     replay: &mut Replay,
     source: &mut S,
 ) -> Result<Turn, Stop>
-    ensures turn { IfOk result (λ t. (stage : Stage) (number : ℕ) → Stands replay.old.core replay.old.events replay.old.state stage
+    requires { StandsSomewhere replay.old.hub replay.old.events replay.old.state }
+    ensures turn { IfOk result (λ t. (stage : Stage) (number : ℕ) → Stands replay.old.hub replay.old.events replay.old.state stage
         → IfBothTold (prepend_known reader.old.kept (S.left source.old)) (prepend_known reader.new.kept (S.left source.new))
-        (λ xs ys. IsFirstTurn stage number xs replay.new.core replay.new.events replay.new.state t ys)) }
+        (λ xs ys. IsFirstTurn stage number xs replay.new.hub replay.new.events replay.new.state t ys)) }
+    ensures stands { IfOk result (λ t. ending t ≡ None → StandsSomewhere replay.new.hub replay.new.events replay.new.state) }
     ensures same { result ≡ Err Read → Keeps
         (prepend_known reader.old.kept (S.left source.old))
         (prepend_known reader.new.kept (S.left source.new)) }
@@ -49,10 +51,9 @@ fn ending(turn: &Turn) -> Option<Status>
     ensures end { IfSome result IsEnd }
 {
     match turn {
-        Turn::GoesOn | Turn::Answered(_) => None,
+        Turn::GoesOn | Turn::Answered(_) | Turn::NoChannel(_) | Turn::Ticked(_) => None,
         Turn::Refused(_) => Some(Status::BadTrace),
         Turn::TooLong => Some(Status::TooLong),
-        Turn::NotBuilt => Some(Status::NotBuilt),
         Turn::Done => Some(Status::Done),
     }
 }
@@ -80,7 +81,7 @@ fn write_lines<S: Source, K: Sink>(
     let mut replay = new_replay(alloc);
     for number in 1..u64::MAX {
         let turn = next_turn(alloc, &mut reader, &mut replay, source)?;
-        write_turn(alloc, writer, sink, &replay, number, &turn)?;
+        write_turn(writer, sink, &replay, number, &turn)?;
         if let Some(status) = ending(&turn) {
             return Ok(status);
         }

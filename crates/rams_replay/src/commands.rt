@@ -1,8 +1,9 @@
 //! The commands.
-ghost use Rattle.std.specs.Prelude.{◌≡◌, false, true, not, ℕ, List, length};
+ghost use Rattle.std.specs.Prelude.{◌≡◌, false, true, not, ℕ, All, List, length};
 ghost use Rattle.line_io.specs.Passes.{Passes};
-ghost use Rattle.book_laws.specs.Traces.{IfServed, KeepsPromises, FitsLink, head_of};
-ghost use Rattle.rams_model.specs.First.TraceText.{served_by, trace_text};
+ghost use Rattle.trace_book.specs.Links.{KeepsTheLink};
+ghost use Rattle.trace_book.specs.Promises.{KeepsPromises};
+ghost use Rattle.trace_book.specs.TraceText.{served_by, trace_text};
 ghost use Rattle.rams_model.specs.declared.status.Status.TheVariants.{ReadFault};
 ghost use Rattle.rams_replay.specs.CommandWords.{is_run, begins_with_run};
 ghost use Rattle.rams_replay.specs.Statuses.{status_of, is_words, HasText, IsCaused, IsOrLacksMemory};
@@ -16,12 +17,12 @@ use rams_model::Status;
 use std::alloc::Global;
 use std::sync::Wait;
 use std::thread::Threads;
+use trace_book::laws::{traces_are_served_lawfully, traces_stay_within_the_link};
 
 /// Runs a command over whatever it reads from, writes to, sends through and tells the time by.
 ///
 /// `words` are those of the command line behind the program's name. `run` reads a trace and writes
 /// its book. Any other words are refused, and nothing is read or written.
-#[tactic(auto, using(crate::proofs::Lawful::lawful, crate::proofs::Lawful::linked))]
 pub fn run<R: Threads + Wait + Sync, S: Source, K: Sink, W: Wire, C: Clock, G: Gate + Sync>(
     _rt: &R,
     alloc: Global,
@@ -36,8 +37,8 @@ pub fn run<R: Threads + Wait + Sync, S: Source, K: Sink, W: Wire, C: Clock, G: G
     ensures refused { is_run words.now ≡ false → (source.new ≡ source.old) × (sink.new ≡ sink.old) }
     ensures text { is_run words.now ≡ true → IfTold (S.left source.old) (λ xs. HasText (K.held sink.old) (K.held sink.new) (trace_text xs) result) }
     ensures front { IfTold (S.left source.old) (λ xs. (rest : List ℕ) × Passes (K.held sink.old) (K.held sink.new) (trace_text xs).text rest) }
-    ensures lawful { IfTold (S.left source.old) (λ xs. IfServed (served_by xs) KeepsPromises) }
-    ensures link { IfTold (S.left source.old) (λ xs. IfServed (served_by xs) (FitsLink (head_of xs))) }
+    ensures lawful { IfTold (S.left source.old) (λ xs. All KeepsPromises (served_by xs)) }
+    ensures link { IfTold (S.left source.old) KeepsTheLink }
     ensures read { result ≡ ReadFault → IfBothTold (S.left source.old) (S.left source.new) (HasReadText (K.held sink.old) (K.held sink.new)) }
     ensures cause { IsCaused (S.faults source.old) (S.faults source.new) (K.faults sink.old) (K.faults sink.new) result }
     ensures whole { is_run words.now ≡ true → S.is_steady source.old → IfTold (S.left source.old)
@@ -45,6 +46,8 @@ pub fn run<R: Threads + Wait + Sync, S: Source, K: Sink, W: Wire, C: Clock, G: G
     ensures wire { wire.new ≡ wire.old }
     ensures clock { clock.new ≡ clock.old }
 {
+    traces_are_served_lawfully();
+    traces_stay_within_the_link();
     if is_run(words) {
         write_status(alloc, source, sink)
     } else {
@@ -53,7 +56,6 @@ pub fn run<R: Threads + Wait + Sync, S: Source, K: Sink, W: Wire, C: Clock, G: G
 }
 
 /// Runs a command that waits for nobody: the first word is `run`.
-#[tactic(auto, using(crate::proofs::Lawful::lawful, crate::proofs::Lawful::linked))]
 pub fn plain<S: Source, K: Sink>(
     alloc: Global,
     words: &[Octets],
@@ -65,13 +67,15 @@ pub fn plain<S: Source, K: Sink>(
     ensures refused { is_run words.now ≡ false → (source.new ≡ source.old) × (sink.new ≡ sink.old) }
     ensures text { is_run words.now ≡ true → IfTold (S.left source.old) (λ xs. HasText (K.held sink.old) (K.held sink.new) (trace_text xs) result) }
     ensures front { IfTold (S.left source.old) (λ xs. (rest : List ℕ) × Passes (K.held sink.old) (K.held sink.new) (trace_text xs).text rest) }
-    ensures lawful { IfTold (S.left source.old) (λ xs. IfServed (served_by xs) KeepsPromises) }
-    ensures link { IfTold (S.left source.old) (λ xs. IfServed (served_by xs) (FitsLink (head_of xs))) }
+    ensures lawful { IfTold (S.left source.old) (λ xs. All KeepsPromises (served_by xs)) }
+    ensures link { IfTold (S.left source.old) KeepsTheLink }
     ensures read { result ≡ ReadFault → IfBothTold (S.left source.old) (S.left source.new) (HasReadText (K.held sink.old) (K.held sink.new)) }
     ensures cause { IsCaused (S.faults source.old) (S.faults source.new) (K.faults sink.old) (K.faults sink.new) result }
     ensures whole { is_run words.now ≡ true → S.is_steady source.old → IfTold (S.left source.old)
         (λ xs. K.is_steady sink.old (length (trace_text xs).text) → IsOrLacksMemory (trace_text xs).status result) }
 {
+    traces_are_served_lawfully();
+    traces_stay_within_the_link();
     if is_run(words) {
         write_status(alloc, source, sink)
     } else {

@@ -1,22 +1,21 @@
 //! The lines of one note: its own, and that of the datagram that it asks for.
-ghost use Rattle.std.specs.Prelude.{◌≡◌, ◌∷◌, ◌++◌, [], MatchOption, OnOk, drop, if◌then◌else◌, take};
+ghost use Rattle.std.specs.Prelude.{All, ◌≡◌, ◌∷◌, ◌++◌, [], MatchOption, OnOk, drop, if◌then◌else◌, take};
 ghost use Rattle.std.specs.List.{flat_map};
 ghost use Rattle.rams_model.specs.BookText.{order_count};
-ghost use Rattle.rams_model.specs.First.BookText.{order_line};
-ghost use Rattle.rams_model.specs.First.Orders.{client_of};
-ghost use Rattle.session_core.specs.Render.{CanRender, AllRender};
+ghost use Rattle.rams_model.specs.BookLines.{order_line};
+ghost use Rattle.rams_model.specs.Orders.{client_of};
+ghost use Rattle.order_datagrams.specs.Rendering.{Renders};
 ghost use Rattle.rams_replay.specs.Entries.{entry_text};
 
 use book_text::{append_note, append_send};
+use order_datagrams::{Config, append_order};
 use ram_io::NoMemory;
 use rams_model::{Cause, Note, Order};
-use session_core::{Config, append_order};
-use std::alloc::Global;
+
 
 /// Appends the lines of a note; `orders` are those of this note and of the notes after it. The
 /// datagram is made in `room`.
 pub fn append_entry(
-    alloc: Global,
     text: &mut Vec<u8>,
     room: &mut Vec<u8>,
     config: &Config,
@@ -24,21 +23,21 @@ pub fn append_entry(
     note: &Note,
     orders: &[Order],
 ) -> Result<(), NoMemory>
-    requires { AllRender orders.now }
+    requires { All Renders orders.now }
     ensures { OnOk result (text.new.items ≡ text.old.items ++ entry_text config.now event note.now orders.now) }
 {
     append_note(text, event, config.channel().id, note)?;
     if let Some(order) = asked(note, orders) {
-        append_datagram(alloc, text, room, config, event, order)?;
+        append_datagram(text, room, config, event, order)?;
     }
     Ok(())
 }
 
 /// The order that a note asks for.
 fn asked<'a>(note: &Note, orders: &'a [Order]) -> Option<&'a Order>
-    requires { AllRender orders.now }
+    requires { All Renders orders.now }
     ensures asked { MatchOption result (take (order_count note.now) orders.now ≡ [])
-        (λ order. (take (order_count note.now) orders.now ≡ order.now ∷ []) × CanRender order.now) }
+        (λ order. (take (order_count note.now) orders.now ≡ order.now ∷ []) × Renders order.now) }
 {
     match (asks(note), orders) {
         (true, [order, ..]) => Some(order),
@@ -49,7 +48,7 @@ fn asked<'a>(note: &Note, orders: &'a [Order]) -> Option<&'a Order>
 /// The orders of the notes behind this one.
 pub fn after<'a>(note: &Note, orders: &'a [Order]) -> &'a [Order]
     ensures after { result.now ≡ drop (order_count note.now) orders.now }
-    ensures render { AllRender orders.now → AllRender result.now }
+    ensures render { All Renders orders.now → All Renders result.now }
 {
     match (asks(note), orders) {
         (true, [_, rest @ ..]) => rest,
@@ -91,18 +90,17 @@ fn asks(note: &Note) -> bool
 
 /// Appends the line of an order's datagram, which is made in `room`.
 fn append_datagram(
-    alloc: Global,
     text: &mut Vec<u8>,
     room: &mut Vec<u8>,
     config: &Config,
     event: u64,
     order: &Order,
 ) -> Result<(), NoMemory>
-    requires { CanRender order.now }
+    requires { Renders order.now }
     ensures { OnOk result (text.new.items ≡ text.old.items ++ order_line config.now event order.now) }
 {
     room.clear();
-    append_order(alloc, room, config, order)?;
+    append_order(room, config, order)?;
     append_send(text, event, config.channel().id, client_of(order), room)
 }
 

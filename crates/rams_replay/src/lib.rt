@@ -4,7 +4,6 @@
 mod book;
 mod commands;
 mod entry;
-mod heard;
 mod replay;
 mod stop;
 mod words;
@@ -14,6 +13,3 @@ pub use commands::{plain, run};
 pub use ram_io::{NoMemory, Octets, Sink, Source};
 pub use rams_model::Status;
 pub use words::begins_with_run;
-
-#[cfg(test)]
-mod tests;

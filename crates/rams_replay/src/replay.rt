@@ -1,46 +1,55 @@
 //! A trace, line by line.
-ghost use Rattle.std.specs.Prelude.{◌≡◌, ◌<◌, ℕ, IfOk, Option, Some};
-ghost use Rattle.rams_model.specs.First.Built.{is_built_channel};
-ghost use Rattle.rams_model.specs.First.History.{History};
-ghost use Rattle.rams_model.specs.Settings.{Settings, settings, checked};
-ghost use Rattle.rams_model.specs.TraceOrder.{Reached};
-ghost use Rattle.rams_model.specs.First.TraceText.{Stage, opening, turn, after_line, after_refusal, is_unbuilt, counted, opened, on_channel};
-ghost use Rattle.session_core.specs.Seen.{Seen, StandsFor};
+ghost use Rattle.std.specs.Prelude.{◌≡◌, ◌<◌, ◌^◌, ℕ, true, IfOk, OnOk, IsSomeAnd, None, is_some, List};
+ghost use Rattle.server_hub.specs.Seen.{StandsFor};
+ghost use Rattle.server_hub.specs.Served.{Served};
 ghost use Rattle.trace_text.specs.Shown.{shown, HasDigits};
-ghost use Rattle.rams_replay.specs.Turns.{Stands, ServesChannel, Took, CanWrite, event_of, is_its};
+ghost use Rattle.trace_book.specs.TraceText.{Stage, opening, turn, after_line, counted};
+ghost use Rattle.trace_book.specs.TraceText.{event_of as brought};
+ghost use Rattle.rams_replay.specs.Turns.{Stands, StandsSomewhere, Comes, CanOpen, OpensIn, CountsOne, Tells, Took, CanWrite, ending, event_of, turn_named};
 
-use crate::heard::{Heard, serve};
 use channel_config::Config;
 use ram_io::NoMemory;
-use rams_model::{Access, Answer, Channel, LineFault, LineKind};
-use session_core::Core;
+use rams_model::{Answer, Channel, LineFault};
+use server_hub::{AddFault, At, Hub};
 use std::alloc::Global;
-use trace_text::{Line, Mode, State, decode_to, kind_of_first_word};
+use trace_text::{Line, Mode, State, decode_to};
 
 /// Most events of a trace.
 const MOST_EVENTS: u64 = 1_000_000;
+
+/// What comes to the server, with its bytes borrowed.
+#[derive(Clone, Copy)]
+pub enum Heard<'a> {
+    /// A packet of the multicast of this channel.
+    Live(u16, &'a [u8]),
+    /// A datagram to the feedback target of this channel, from this client.
+    Feedback(u16, u64, &'a [u8]),
+    Tick,
+}
 
 /// What a line does.
 #[derive(Drop)]
 pub enum Turn {
     /// Nothing is written.
     GoesOn,
-    /// Its event is answered.
-    Answered(Answer),
+    /// A channel answers its event.
+    Answered(At),
+    /// Its event is of a channel that isn't there.
+    NoChannel(u16),
+    /// Every channel answers the tick.
+    Ticked(Vec<At>),
     /// It is refused for this fault, and the run ends.
     Refused(LineFault),
     /// Its event is one too many, and the run ends.
     TooLong,
-    /// It isn't built, and the run ends.
-    NotBuilt,
     /// It is the end of the trace.
     Done,
 }
 
-/// What stands before a line: the channel's core, how many events there were, and the lines.
+/// What stands before a line: the channels, how many events there were, and the lines.
 #[derive(Drop)]
 pub struct Replay {
-    pub core: Option<Core>,
+    pub hub: Option<Hub>,
     pub events: u64,
     state: State,
     bytes: Vec<u8>,
@@ -48,10 +57,10 @@ pub struct Replay {
 
 /// Before the first line.
 pub fn new_replay(alloc: Global) -> Replay
-    ensures { Stands result.core result.events result.state opening }
+    ensures { Stands result.hub result.events result.state opening }
 {
     Replay {
-        core: None,
+        hub: None,
         events: 0,
         state: State::new(Mode::Run),
         bytes: Vec::new(alloc),
@@ -59,162 +68,121 @@ pub fn new_replay(alloc: Global) -> Replay
 }
 
 /// What the next line does.
-#[tactic(auto, unfolding(rams_model::specs::First::TraceText::turn))]
 pub fn take_line(alloc: Global, replay: &mut Replay, line: &[u8]) -> Result<Turn, NoMemory>
-    ensures turn { IfOk result (λ t. (stage : Stage) (number : ℕ) → Stands replay.old.core replay.old.events replay.old.state stage
-        → Took (turn stage number line.now) replay.new.core replay.new.events replay.new.state number t) }
+    requires { StandsSomewhere replay.old.hub replay.old.events replay.old.state }
+    ensures turn { IfOk result (λ t. (stage : Stage) (number : ℕ) → Stands replay.old.hub replay.old.events replay.old.state stage
+        → Took (turn stage number line.now) replay.new.hub replay.new.events replay.new.state number t) }
+    ensures stands { IfOk result (λ t. ending t ≡ None → StandsSomewhere replay.new.hub replay.new.events replay.new.state) }
     ensures write { IfOk result CanWrite }
 {
     match replay.state.judge(line) {
         Ok(read) => after_line(alloc, replay, read),
-        Err(fault) => Ok(refuse(&replay.state, kind_of_first_word(line), fault)),
-    }
-}
-
-/// What a line does that is refused, with the kind that its first word names.
-fn refuse(state: &State, named: Option<LineKind>, fault: LineFault) -> Turn
-    ensures turn { (core : Option Seen) (stage : Stage) (number : ℕ) → state.now ≡ stage.reached
-        → Took (after_refusal stage number named fault) core stage.events state.now number result }
-    ensures write { CanWrite result }
-{
-    if is_unbuilt(state, named) {
-        Turn::NotBuilt
-    } else {
-        Turn::Refused(fault)
-    }
-}
-
-fn is_unbuilt(state: &State, named: Option<LineKind>) -> bool
-    ensures { result ≡ is_unbuilt state.now named }
-{
-    match named {
-        Some(LineKind::ReceiverEvent) => true,
-        Some(LineKind::Channel) => state.has_channel(),
-        _ => false,
+        Err(fault) => Ok(Turn::Refused(fault)),
     }
 }
 
 /// What a line does that may come.
 fn after_line(alloc: Global, replay: &mut Replay, line: Line<'_>) -> Result<Turn, NoMemory>
-    requires { HasDigits line }
-    ensures turn { IfOk result (λ t. (stage : Stage) (number : ℕ) → ServesChannel replay.old.core stage.channel → replay.old.events ≡ stage.events
-        → Took (after_line stage replay.old.state number (shown line.entry)) replay.new.core replay.new.events replay.new.state number t) }
+    requires digits { HasDigits line }
+    requires comes { (stage : Stage) × Comes replay.old.hub replay.old.events replay.old.state (shown line) stage }
+    ensures turn { IfOk result (λ t. (stage : Stage) (number : ℕ) → Comes replay.old.hub replay.old.events replay.old.state (shown line.entry) stage
+        → Took (after_line stage replay.old.state (shown line.entry) (brought (shown line.entry))) replay.new.hub replay.new.events replay.new.state number t) }
     ensures write { IfOk result CanWrite }
 {
     match line {
-        Line::Head { .. } => Ok(Turn::GoesOn),
-        Line::Channel(channel) => open(alloc, &mut replay.core, replay.state.tick_ms(), channel),
+        Line::Head { tick_ms, link, .. } => {
+            replay.hub = Some(Hub::new(alloc, tick_ms, link)?);
+            Ok(Turn::GoesOn)
+        }
+        Line::Channel { channel, .. } => {
+            open(alloc, &mut replay.hub, channel)?;
+            Ok(Turn::GoesOn)
+        }
         Line::Live { id, hex } => {
             decode_to(hex, &mut replay.bytes)?;
-            let heard = Heard::Live(&replay.bytes);
-            serve_event(alloc, &mut replay.core, &mut replay.events, Some(id), heard)
+            let heard = Heard::Live(id, &replay.bytes);
+            serve(alloc, &mut replay.hub, &mut replay.events, heard)
         }
         Line::Feedback { id, client, hex } => {
             decode_to(hex, &mut replay.bytes)?;
-            let heard = Heard::Feedback(client, &replay.bytes);
-            serve_event(alloc, &mut replay.core, &mut replay.events, Some(id), heard)
+            let heard = Heard::Feedback(id, client, &replay.bytes);
+            serve(alloc, &mut replay.hub, &mut replay.events, heard)
         }
-        Line::Tick => serve_event(
+        Line::Tick => serve(
             alloc,
-            &mut replay.core,
+            &mut replay.hub,
             &mut replay.events,
-            None,
             Heard::Tick,
         ),
         Line::End => Ok(Turn::Done),
+        // No trace of `run` has these.
         Line::Tune { .. }
         | Line::Give { .. }
         | Line::Mcast { .. }
         | Line::Ask { .. }
-        | Line::Drop { .. } => Ok(Turn::NotBuilt),
+        | Line::Drop { .. } => Ok(Turn::GoesOn),
     }
 }
 
-/// A channel line gives the channel its core.
-fn open(
-    alloc: Global,
-    core: &mut Option<Core>,
-    tick_ms: u32,
-    channel: Channel,
-) -> Result<Turn, NoMemory>
-    ensures turn { IfOk result (λ t. (stage : Stage) (reached : Reached) (number : ℕ) → ServesChannel core.old stage.channel
-        → Took (opened stage reached number (checked (settings channel tick_ms)) stage.channel) core.new stage.events reached number t) }
-    ensures write { IfOk result CanWrite }
+/// A channel line opens its channel. The lines before it have shown that it may stand there.
+fn open(alloc: Global, hub: &mut Option<Hub>, channel: Channel) -> Result<(), NoMemory>
+    requires { IsSomeAnd hub.old (λ v. CanOpen v channel) }
+    ensures { OnOk result (OpensIn channel hub.old hub.new) }
 {
-    let Ok(config) = Config::check(channel, tick_ms) else {
-        return Ok(Turn::NotBuilt);
+    let Some(hub) = hub else { unreachable!() };
+    let Ok(config) = Config::check(channel, hub.tick_ms()) else {
+        unreachable!()
     };
-    if core.is_some() {
-        return Ok(Turn::NotBuilt);
+    match hub.add(alloc, config) {
+        Ok(()) => Ok(()),
+        Err(AddFault::NoMemory) => Err(NoMemory),
+        Err(_) => unreachable!(),
     }
-    if !is_built_channel(config.channel()) {
-        return Ok(Turn::NotBuilt);
-    }
-    *core = Some(Core::new(alloc, &config)?);
-    Ok(Turn::GoesOn)
 }
 
-fn is_built_channel(channel: &Channel) -> bool
-    ensures { result ≡ is_built_channel channel.now }
-{
-    matches!(channel.access, Access::Marker)
-        && channel.window == 0
-        && channel.depth == 0
-        && channel.swell == 0
-}
-
-/// An event of the channel with this number, or of every channel.
-fn serve_event(
+/// An event of the server, unless it is one too many.
+fn serve(
     alloc: Global,
-    core: &mut Option<Core>,
+    hub: &mut Option<Hub>,
     events: &mut u64,
-    id: Option<u16>,
     heard: Heard<'_>,
 ) -> Result<Turn, NoMemory>
-    ensures turn { IfOk result (λ t. (stage : Stage) (reached : Reached) (number : ℕ) → ServesChannel core.old stage.channel → events.old ≡ stage.events
-        → Took (counted stage (on_channel stage reached number (is_its id) (event_of heard.entry) stage.channel)) core.new events.new reached number t) }
+    requires stands { (stage : Stage) × Stands hub.old events.old stage.reached stage }
+    requires there { is_some hub.old ≡ true }
+    ensures turn { IfOk result (λ t. (stage : Stage) (number : ℕ) → Stands hub.old events.old stage.reached stage
+        → Took (counted stage stage.reached (event_of heard.entry)) hub.new events.new stage.reached number t) }
     ensures write { IfOk result CanWrite }
 {
     if *events >= MOST_EVENTS {
         return Ok(Turn::TooLong);
     }
-    match core {
-        None => Ok(Turn::NotBuilt),
-        Some(core) => serve_channel(alloc, core, events, id, heard),
-    }
+    let Some(hub) = hub else { unreachable!() };
+    let turn = answer(alloc, hub, heard)?;
+    *events += 1;
+    Ok(turn)
 }
 
-/// The same, where there is a channel.
-fn serve_channel(
-    alloc: Global,
-    core: &mut Core,
-    events: &mut u64,
-    id: Option<u16>,
-    heard: Heard<'_>,
-) -> Result<Turn, NoMemory>
-    requires { events.old < 1000000 }
-    ensures turn { IfOk result (λ t. (stage : Stage) (reached : Reached) (number : ℕ) (channel : Settings × History)
-        → core.old.settings ≡ channel.0 → StandsFor core.old channel.1 → events.old ≡ stage.events
-        → Took (on_channel stage reached number (is_its id) (event_of heard.entry) (Some channel)) (Some core.new) events.new reached number t) }
-    ensures write { IfOk result CanWrite }
+/// What the channels answer.
+fn answer(alloc: Global, hub: &mut Hub, heard: Heard<'_>) -> Result<Turn, NoMemory>
+    requires { hub.old.calls < 2 ^ 40 }
+    ensures tells { IfOk result (λ t. (channels : List Served) → StandsFor hub.old channels → Tells (event_of heard.entry) channels hub.new t) }
+    ensures counts { OnOk result (CountsOne hub.old hub.new) }
 {
-    if !is_its(core, id) {
-        return Ok(Turn::NotBuilt);
-    }
-    match serve(alloc, core, heard)? {
-        None => Ok(Turn::NotBuilt),
-        Some(answer) => {
-            *events += 1;
-            Ok(Turn::Answered(answer))
+    match heard {
+        Heard::Live(id, bytes) => Ok(turn_of(id, hub.live(alloc, id, bytes)?)),
+        Heard::Feedback(id, client, bytes) => {
+            Ok(turn_of(id, hub.feedback(alloc, id, client, bytes)?))
         }
+        Heard::Tick => Ok(Turn::Ticked(hub.tick(alloc)?)),
     }
 }
 
-fn is_its(core: &Core, id: Option<u16>) -> bool
-    ensures { result ≡ is_its id core.now.settings }
+/// The turn of an event of this channel.
+fn turn_of(id: u16, answer: Option<Answer>) -> Turn
+    ensures { result ≡ turn_named id answer }
 {
-    match id {
-        None => true,
-        Some(id) => core.config().channel().id == id,
+    match answer {
+        Some(answer) => Turn::Answered(At { id, answer }),
+        None => Turn::NoChannel(id),
     }
 }

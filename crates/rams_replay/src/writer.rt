@@ -1,20 +1,22 @@
 //! The text of a book on its way to the sink.
-ghost use Rattle.std.specs.Prelude.{◌≡◌, ℕ, ◌+◌, ◌++◌, IfOk, IfErr, OnOk, List, [], codes, length};
+ghost use Rattle.std.specs.Prelude.{All, ◌≡◌, ℕ, ◌+◌, ◌++◌, IfOk, IfErr, OnOk, List, [], codes, length};
+ghost use Rattle.std.specs.List.{flat_map};
 ghost use Rattle.line_io.specs.Passes.{Passes};
-ghost use Rattle.rams_model.specs.First.BookText.{answer_text};
-ghost use Rattle.session_core.specs.Render.{AllRender};
+ghost use Rattle.rams_model.specs.BookLines.{answer_text};
+ghost use Rattle.order_datagrams.specs.Rendering.{Renders};
+ghost use Rattle.book_text.specs.NoChannel.{no_channel_line};
 ghost use Rattle.rams_replay.specs.Entries.{entry_text};
-ghost use Rattle.rams_replay.specs.Turns.{last_line, written, CanWrite};
+ghost use Rattle.rams_replay.specs.Turns.{last_line, written, at_text, AllRender, CanWrite};
 ghost use Rattle.rams_replay.specs.Stops.{IsStoppedByWrite, OnlyMemoryStops, StopsIn};
 
 use crate::entry::{after, append_entry};
 use crate::replay::{Replay, Turn};
 use crate::stop::Stop;
-use book_text::{append_count, append_refused};
+use book_text::{append_count, append_no_channel, append_refused};
 use line_io::Gather;
 use ram_io::{NoMemory, Sink};
 use rams_model::{Answer, Note, Order};
-use session_core::Config;
+use server_hub::{At, Config, Hub};
 use std::alloc::Global;
 
 /// The text that waits for the sink, and room for some lines and a datagram.
@@ -90,27 +92,25 @@ fn append_last(text: &mut Vec<u8>, events: u64, number: u64, turn: &Turn) -> Res
     ensures { OnOk result (text.new.items ≡ text.old.items ++ last_line events number turn.now) }
 {
     match turn {
-        Turn::GoesOn | Turn::Answered(_) => Ok(()),
+        Turn::GoesOn | Turn::Answered(_) | Turn::NoChannel(_) | Turn::Ticked(_) => Ok(()),
         Turn::Refused(fault) => append_refused(text, number, *fault),
         Turn::TooLong => {
             text.extend_from_slice(b"too-long\n")?;
             Ok(())
         }
-        Turn::NotBuilt => append_count(text, b"not-built", number),
         Turn::Done => append_count(text, b"done", events),
     }
 }
 
 /// Adds the lines of an answer: each note, followed at once by the datagram that it asks for.
 pub fn write_answer<K: Sink>(
-    alloc: Global,
     writer: &mut Writer,
     sink: &mut K,
     config: &Config,
     event: u64,
     answer: &Answer,
 ) -> Result<(), Stop>
-    requires { AllRender answer.now.orders }
+    requires { All Renders answer.now.orders }
     ensures all { OnOk result (Passes (K.held sink.old) (K.held sink.new) (writer.old.gather ++ answer_text config.now event answer.now) writer.new.gather) }
     ensures front { IfErr result (StopsIn (K.held sink.old) (K.held sink.new) (writer.old.gather ++ answer_text config.now event answer.now) writer.new.gather) }
     ensures cause { IsStoppedByWrite (K.faults sink.old) (K.faults sink.new) result }
@@ -119,7 +119,7 @@ pub fn write_answer<K: Sink>(
 {
     let mut orders = answer.orders.as_slice();
     for note in answer.notes.iter() {
-        write_entry(alloc, writer, sink, config, event, note, orders)?;
+        write_entry(writer, sink, config, event, note, orders)?;
         orders = after(note, orders);
     }
     Ok(())
@@ -127,7 +127,6 @@ pub fn write_answer<K: Sink>(
 
 /// Adds the lines of one note; `orders` are those of this note and of the notes after it.
 fn write_entry<K: Sink>(
-    alloc: Global,
     writer: &mut Writer,
     sink: &mut K,
     config: &Config,
@@ -135,7 +134,7 @@ fn write_entry<K: Sink>(
     note: &Note,
     orders: &[Order],
 ) -> Result<(), Stop>
-    requires { AllRender orders.now }
+    requires { All Renders orders.now }
     ensures all { OnOk result (Passes (K.held sink.old) (K.held sink.new) (writer.old.gather ++ entry_text config.now event note.now orders.now) writer.new.gather) }
     ensures front { IfErr result (StopsIn (K.held sink.old) (K.held sink.new) (writer.old.gather ++ entry_text config.now event note.now orders.now) writer.new.gather) }
     ensures cause { IsStoppedByWrite (K.faults sink.old) (K.faults sink.new) result }
@@ -144,7 +143,6 @@ fn write_entry<K: Sink>(
 {
     writer.lines.clear();
     append_entry(
-        alloc,
         &mut writer.lines,
         &mut writer.datagram,
         config,
@@ -155,9 +153,69 @@ fn write_entry<K: Sink>(
     put(&mut writer.gather, sink, &writer.lines)
 }
 
+/// Adds the lines of what one channel answers.
+fn write_at<K: Sink>(
+    writer: &mut Writer,
+    sink: &mut K,
+    hub: &Option<Hub>,
+    event: u64,
+    at: &At,
+) -> Result<(), Stop>
+    requires { AllRender at.now }
+    ensures all { OnOk result (Passes (K.held sink.old) (K.held sink.new) (writer.old.gather ++ at_text hub.now event at.now) writer.new.gather) }
+    ensures front { IfErr result (StopsIn (K.held sink.old) (K.held sink.new) (writer.old.gather ++ at_text hub.now event at.now) writer.new.gather) }
+    ensures cause { IsStoppedByWrite (K.faults sink.old) (K.faults sink.new) result }
+    ensures steady { (room : ℕ) → K.is_steady sink.old (length writer.old.gather + length (at_text hub.now event at.now) + room)
+        → OnlyMemoryStops result (K.is_steady sink.new (length writer.new.gather + room)) }
+{
+    let Some(hub) = hub else { return Ok(()) };
+    match hub.config(at.id) {
+        Some(config) => write_answer(writer, sink, config, event, &at.answer),
+        None => Ok(()),
+    }
+}
+
+/// Adds the lines of what the channels answer, one after another.
+fn write_all<K: Sink>(
+    writer: &mut Writer,
+    sink: &mut K,
+    hub: &Option<Hub>,
+    event: u64,
+    all: &[At],
+) -> Result<(), Stop>
+    requires { All AllRender all.now }
+    ensures all { OnOk result (Passes (K.held sink.old) (K.held sink.new) (writer.old.gather ++ flat_map (at_text hub.now event) all.now) writer.new.gather) }
+    ensures front { IfErr result (StopsIn (K.held sink.old) (K.held sink.new) (writer.old.gather ++ flat_map (at_text hub.now event) all.now) writer.new.gather) }
+    ensures cause { IsStoppedByWrite (K.faults sink.old) (K.faults sink.new) result }
+    ensures steady { (room : ℕ) → K.is_steady sink.old (length writer.old.gather + length (flat_map (at_text hub.now event) all.now) + room)
+        → OnlyMemoryStops result (K.is_steady sink.new (length writer.new.gather + room)) }
+{
+    for at in all.iter() {
+        write_at(writer, sink, hub, event, at)?;
+    }
+    Ok(())
+}
+
+/// Adds the line of an event of a channel that isn't there.
+fn write_no_channel<K: Sink>(
+    writer: &mut Writer,
+    sink: &mut K,
+    event: u64,
+    id: u16,
+) -> Result<(), Stop>
+    ensures all { OnOk result (Passes (K.held sink.old) (K.held sink.new) (writer.old.gather ++ no_channel_line event id) writer.new.gather) }
+    ensures front { IfErr result (StopsIn (K.held sink.old) (K.held sink.new) (writer.old.gather ++ no_channel_line event id) writer.new.gather) }
+    ensures cause { IsStoppedByWrite (K.faults sink.old) (K.faults sink.new) result }
+    ensures steady { (room : ℕ) → K.is_steady sink.old (length writer.old.gather + length (no_channel_line event id) + room)
+        → OnlyMemoryStops result (K.is_steady sink.new (length writer.new.gather + room)) }
+{
+    writer.lines.clear();
+    append_no_channel(&mut writer.lines, event, id)?;
+    put(&mut writer.gather, sink, &writer.lines)
+}
+
 /// Adds what is written for a turn at the line of this number.
 pub fn write_turn<K: Sink>(
-    alloc: Global,
     writer: &mut Writer,
     sink: &mut K,
     replay: &Replay,
@@ -165,17 +223,16 @@ pub fn write_turn<K: Sink>(
     turn: &Turn,
 ) -> Result<(), Stop>
     requires { CanWrite turn.now }
-    ensures all { OnOk result (Passes (K.held sink.old) (K.held sink.new) (writer.old.gather ++ written replay.now.core replay.now.events number turn.now) writer.new.gather) }
-    ensures front { IfErr result (StopsIn (K.held sink.old) (K.held sink.new) (writer.old.gather ++ written replay.now.core replay.now.events number turn.now) writer.new.gather) }
+    ensures all { OnOk result (Passes (K.held sink.old) (K.held sink.new) (writer.old.gather ++ written replay.now.hub replay.now.events number turn.now) writer.new.gather) }
+    ensures front { IfErr result (StopsIn (K.held sink.old) (K.held sink.new) (writer.old.gather ++ written replay.now.hub replay.now.events number turn.now) writer.new.gather) }
     ensures cause { IsStoppedByWrite (K.faults sink.old) (K.faults sink.new) result }
-    ensures steady { (room : ℕ) → K.is_steady sink.old (length writer.old.gather + length (written replay.now.core replay.now.events number turn.now) + room)
+    ensures steady { (room : ℕ) → K.is_steady sink.old (length writer.old.gather + length (written replay.now.hub replay.now.events number turn.now) + room)
         → OnlyMemoryStops result (K.is_steady sink.new (length writer.new.gather + room)) }
 {
     match turn {
-        Turn::Answered(answer) => match &replay.core {
-            Some(core) => write_answer(alloc, writer, sink, core.config(), replay.events, answer),
-            None => Ok(()),
-        },
+        Turn::Answered(at) => write_at(writer, sink, &replay.hub, replay.events, at),
+        Turn::Ticked(all) => write_all(writer, sink, &replay.hub, replay.events, all),
+        Turn::NoChannel(id) => write_no_channel(writer, sink, replay.events, *id),
         _ => write_last(writer, sink, replay.events, number, turn),
     }
 }

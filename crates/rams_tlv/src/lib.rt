@@ -6,6 +6,7 @@
 
 mod message;
 mod request;
+mod room;
 #[cfg(test)]
 mod tests;
 mod tlvs;

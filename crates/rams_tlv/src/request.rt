@@ -1,5 +1,5 @@
 //! What a RAMS-R asks for (RFC 6285, 7.2).
-ghost use Rattle.std.specs.Prelude.{◌≡◌, ◌==◌};
+ghost use Rattle.std.specs.Prelude.{◌≡◌, ◌%◌, ◌==◌, IfOk, IfSome, length};
 ghost use Rattle.std.specs.List.{list_any};
 ghost use Rattle.rams_model.specs.Joined.{map_ok, words32};
 ghost use Rattle.rams_model.specs.Rams as rams;
@@ -29,6 +29,8 @@ pub struct Request<'a> {
 /// type that isn't of this message is passed over.
 pub fn read_request(fci: &[u8]) -> Result<Request<'_>, TlvFault>
     ensures exact { map_ok shown_request result ≡ rams.request_at fci.now }
+    // The list of SSRCs is whole words.
+    ensures whole { IfOk result (λ r. IfSome r.ssrcs (λ list. length list.now % 4 ≡ 0)) }
 {
     let tlvs = Tlvs::of(Message::Request, fci)?;
     Ok(Request {

@@ -1,5 +1,5 @@
 //! Whole RAMS messages as RTCP packets (RFC 4585, 6.1, and RFC 6285, 7).
-ghost use Rattle.std.specs.Prelude.{◌≡◌, ◌+◌, ◌*◌, ◌/◌, ◌%◌, ◌≤◌, ◌∷◌, ◌++◌, IfOk, OnOk, IfSome, is_some, if◌then◌else◌, length};
+ghost use Rattle.std.specs.Prelude.{◌≡◌, ◌+◌, ◌*◌, ◌/◌, ◌%◌, ◌<◌, ◌≤◌, ◌∷◌, ◌++◌, IfOk, OnOk, OnErr, IfSome, is_some, if◌then◌else◌, length, vec_len, vec_capacity};
 ghost use Rattle.std.specs.Int.{w16, w32, w64, to_be_bytes};
 ghost use Rattle.std.specs.List.{flat_map};
 ghost use Rattle.rams_model.specs.Joined.{words32};
@@ -8,6 +8,7 @@ ghost use Rattle.rams_model.specs.Rams.{rams_request, rams_stop, request_fci, st
 ghost use Rattle.rams_tlv.specs.Shown.{shown_request, shown_ssrcs, IsWritable, HasSpelling};
 
 use crate::request::Request;
+use crate::room::put;
 use ram_io::NoMemory;
 use rams_model::{Info, Stop};
 use std::alloc::Global;
@@ -28,7 +29,8 @@ pub fn write_request(
     Ok(text)
 }
 
-/// `write_request`, behind what is there; an error may leave a part of the message.
+/// `write_request`, behind what is there. An error changes nothing, and comes only where the vector
+/// lacks the room.
 #[tactic(auto, unfolding(rams_model::specs::Rams::rams_request))]
 pub fn append_request(
     text: &mut Vec<u8>,
@@ -37,10 +39,13 @@ pub fn append_request(
     r: &Request<'_>,
 ) -> Result<(), NoMemory>
     requires { HasSpelling r.now }
-    ensures { OnOk result (text.new.items ≡ text.old.items ++ rams_request sender media (shown_request r.now)) }
+    ensures text { OnOk result (text.new.items ≡ text.old.items ++ rams_request sender media (shown_request r.now)) }
+    ensures same { OnErr result (text.new.items ≡ text.old.items) }
+    ensures full { OnErr result (vec_capacity text.old < vec_len text.old + length (rams_request sender media (shown_request r.now))) }
 {
-    text.extend_from_slice(&header(request_words(r), sender, media))?;
-    append_request_fci(text, r)
+    begin(text, request_words(r), sender, media)?;
+    put_request_fci(text, r);
+    Ok(())
 }
 
 /// A whole RAMS-I of this sender about this media source, its TLVs in rising type.
@@ -52,13 +57,17 @@ pub fn write_info(alloc: Global, sender: u32, media: u32, i: &Info) -> Result<Ve
     Ok(text)
 }
 
-/// `write_info`, behind what is there; an error may leave a part of the message.
+/// `write_info`, behind what is there. An error changes nothing, and comes only where the vector
+/// lacks the room.
 #[tactic(auto, unfolding(rams_model::specs::RamsInfo::rams_info))]
 pub fn append_info(text: &mut Vec<u8>, sender: u32, media: u32, i: &Info) -> Result<(), NoMemory>
-    ensures { OnOk result (text.new.items ≡ text.old.items ++ rams_info sender media i.now) }
+    ensures text { OnOk result (text.new.items ≡ text.old.items ++ rams_info sender media i.now) }
+    ensures same { OnErr result (text.new.items ≡ text.old.items) }
+    ensures full { OnErr result (vec_capacity text.old < vec_len text.old + length (rams_info sender media i.now)) }
 {
-    text.extend_from_slice(&header(info_words(i), sender, media))?;
-    append_info_fci(text, i)
+    begin(text, info_words(i), sender, media)?;
+    put_info_fci(text, i);
+    Ok(())
 }
 
 /// A whole RAMS-T of this sender about this media source.
@@ -70,13 +79,31 @@ pub fn write_stop(alloc: Global, sender: u32, media: u32, s: &Stop) -> Result<Ve
     Ok(text)
 }
 
-/// `write_stop`, behind what is there; an error may leave a part of the message.
+/// `write_stop`, behind what is there. An error changes nothing, and comes only where the vector
+/// lacks the room.
 #[tactic(auto, unfolding(rams_model::specs::Rams::rams_stop))]
 pub fn append_stop(text: &mut Vec<u8>, sender: u32, media: u32, s: &Stop) -> Result<(), NoMemory>
-    ensures { OnOk result (text.new.items ≡ text.old.items ++ rams_stop sender media s.now) }
+    ensures text { OnOk result (text.new.items ≡ text.old.items ++ rams_stop sender media s.now) }
+    ensures same { OnErr result (text.new.items ≡ text.old.items) }
+    ensures full { OnErr result (vec_capacity text.old < vec_len text.old + length (rams_stop sender media s.now)) }
 {
-    text.extend_from_slice(&header(stop_words(s), sender, media))?;
-    append_stop_fci(text, s)
+    begin(text, stop_words(s), sender, media)?;
+    put_stop_fci(text, s);
+    Ok(())
+}
+
+/// Takes the room of a whole RAMS message of so many words behind the first, and puts its header.
+fn begin(text: &mut Vec<u8>, words: u16, sender: u32, media: u32) -> Result<(), NoMemory>
+    requires { 2 ≤ words }
+    ensures header { OnOk result (text.new.items ≡ text.old.items ++ 134 ∷ 205 ∷ (to_be_bytes w16 words ++ to_be_bytes w32 sender ++ to_be_bytes w32 media)) }
+    ensures len { OnOk result (vec_len text.new ≡ vec_len text.old + 12) }
+    ensures room { OnOk result (vec_len text.old + (4 + 4 * words) ≤ vec_capacity text.new) }
+    ensures same { OnErr result (text.new.items ≡ text.old.items) }
+    ensures full { OnErr result (vec_capacity text.old < vec_len text.old + (4 + 4 * words)) }
+{
+    text.reserve(4 + 4 * usize::from(words))?;
+    put(text, &header(words, sender, media));
+    Ok(())
 }
 
 /// The header of a RAMS message of so many words behind the first (RFC 4585, 6.1).
@@ -94,7 +121,8 @@ fn header(words: u16, sender: u32, media: u32) -> [u8; 12]
 /// The words behind the first of a RAMS-R.
 fn request_words(r: &Request<'_>) -> u16
     requires { HasSpelling r.now }
-    ensures { result ≡ 2 + length (request_fci (shown_request r.now)) / 4 }
+    ensures words { result ≡ 2 + length (request_fci (shown_request r.now)) / 4 }
+    ensures whole { length (request_fci (shown_request r.now)) % 4 ≡ 0 }
 {
     3 + ssrcs_words(r.ssrcs)
         + words(r.min_ms.is_some(), 2)
@@ -127,7 +155,8 @@ fn list_words(list: &[u8]) -> u16
 
 /// The words behind the first of a RAMS-I.
 fn info_words(i: &Info) -> u16
-    ensures { result ≡ 2 + length (info_fci i.now) / 4 }
+    ensures words { result ≡ 2 + length (info_fci i.now) / 4 }
+    ensures whole { length (info_fci i.now) % 4 ≡ 0 }
 {
     3 + words(i.first.is_some(), 2)
         + words(i.join_ms.is_some(), 2)
@@ -137,7 +166,8 @@ fn info_words(i: &Info) -> u16
 
 /// The words behind the first of a RAMS-T.
 fn stop_words(s: &Stop) -> u16
-    ensures { result ≡ 2 + length (stop_fci s.now) / 4 }
+    ensures words { result ≡ 2 + length (stop_fci s.now) / 4 }
+    ensures whole { length (stop_fci s.now) % 4 ≡ 0 }
 {
     3 + words(s.first_multicast.is_some(), 2)
 }
@@ -150,101 +180,123 @@ fn words(is_there: bool, count: u16) -> u16
 }
 
 /// The feedback control information of a RAMS-R.
-fn append_request_fci(text: &mut Vec<u8>, r: &Request<'_>) -> Result<(), NoMemory>
-    requires { HasSpelling r.now }
-    ensures { OnOk result (text.new.items ≡ text.old.items ++ request_fci (shown_request r.now)) }
+fn put_request_fci(text: &mut Vec<u8>, r: &Request<'_>)
+    requires spelling { HasSpelling r.now }
+    requires room { vec_len text.old + length (request_fci (shown_request r.now)) ≤ vec_capacity text.old }
+    ensures items { text.new.items ≡ text.old.items ++ request_fci (shown_request r.now) }
+    ensures len { vec_len text.new ≡ vec_len text.old + length (request_fci (shown_request r.now)) }
+    ensures capacity { vec_capacity text.old ≤ vec_capacity text.new }
 {
-    text.extend_from_slice(&[1, 0, 0, 0])?;
-    append_ssrcs(text, r.ssrcs)?;
-    append_word(text, 2, r.min_ms)?;
-    append_word(text, 3, r.max_ms)?;
-    append_long(text, 4, r.bps)?;
-    append_preamble(text, r.preamble)
+    put(text, &[1, 0, 0, 0]);
+    put_ssrcs(text, r.ssrcs);
+    put_word(text, 2, r.min_ms);
+    put_word(text, 3, r.max_ms);
+    put_long(text, 4, r.bps);
+    put_preamble(text, r.preamble);
 }
 
 /// The feedback control information of a RAMS-I.
-fn append_info_fci(text: &mut Vec<u8>, i: &Info) -> Result<(), NoMemory>
-    ensures { OnOk result (text.new.items ≡ text.old.items ++ info_fci i.now) }
+fn put_info_fci(text: &mut Vec<u8>, i: &Info)
+    requires room { vec_len text.old + length (info_fci i.now) ≤ vec_capacity text.old }
+    ensures items { text.new.items ≡ text.old.items ++ info_fci i.now }
+    ensures len { vec_len text.new ≡ vec_len text.old + length (info_fci i.now) }
+    ensures capacity { vec_capacity text.old ≤ vec_capacity text.new }
 {
-    text.extend_from_slice(&[2, i.msn])?;
-    text.extend_from_slice(&i.code.to_be_bytes())?;
-    append_short(text, 32, i.first)?;
-    append_word(text, 33, i.join_ms)?;
-    append_word(text, 34, i.length_ms)?;
-    append_long(text, 35, i.bps)
+    put(text, &[2, i.msn]);
+    put(text, &i.code.to_be_bytes());
+    put_short(text, 32, i.first);
+    put_word(text, 33, i.join_ms);
+    put_word(text, 34, i.length_ms);
+    put_long(text, 35, i.bps);
 }
 
 /// The feedback control information of a RAMS-T.
-fn append_stop_fci(text: &mut Vec<u8>, s: &Stop) -> Result<(), NoMemory>
-    ensures { OnOk result (text.new.items ≡ text.old.items ++ stop_fci s.now) }
+fn put_stop_fci(text: &mut Vec<u8>, s: &Stop)
+    requires room { vec_len text.old + length (stop_fci s.now) ≤ vec_capacity text.old }
+    ensures items { text.new.items ≡ text.old.items ++ stop_fci s.now }
+    ensures len { vec_len text.new ≡ vec_len text.old + length (stop_fci s.now) }
+    ensures capacity { vec_capacity text.old ≤ vec_capacity text.new }
 {
-    text.extend_from_slice(&[3, 0, 0, 0])?;
-    append_word(text, 61, s.first_multicast)
+    put(text, &[3, 0, 0, 0]);
+    put_word(text, 61, s.first_multicast);
 }
 
 /// The TLV of the SSRCs, where there is a list.
-fn append_ssrcs(text: &mut Vec<u8>, ssrcs: Option<&[u8]>) -> Result<(), NoMemory>
-    requires { IsWritable ssrcs }
-    ensures { OnOk result (text.new.items ≡ text.old.items ++ ssrcs_tlv (shown_ssrcs ssrcs.entry)) }
+fn put_ssrcs(text: &mut Vec<u8>, ssrcs: Option<&[u8]>)
+    requires writable { IsWritable ssrcs }
+    requires room { vec_len text.old + length (ssrcs_tlv (shown_ssrcs ssrcs)) ≤ vec_capacity text.old }
+    ensures items { text.new.items ≡ text.old.items ++ ssrcs_tlv (shown_ssrcs ssrcs.entry) }
+    ensures len { vec_len text.new ≡ vec_len text.old + length (ssrcs_tlv (shown_ssrcs ssrcs.entry)) }
+    ensures capacity { vec_capacity text.old ≤ vec_capacity text.new }
 {
     match ssrcs {
-        None => Ok(()),
-        Some(list) => append_list(text, list),
+        None => (),
+        Some(list) => put_list(text, list),
     }
 }
 
 /// A TLV of these SSRCs.
-fn append_list(text: &mut Vec<u8>, list: &[u8]) -> Result<(), NoMemory>
+fn put_list(text: &mut Vec<u8>, list: &[u8])
     requires short { length list.now ≤ 256 }
     requires whole { length list.now % 4 ≡ 0 }
-    ensures { OnOk result (text.new.items ≡ text.old.items ++ tlv 1 (flat_map (to_be_bytes w32) (words32 list.now))) }
+    requires room { vec_len text.old + length (tlv 1 (flat_map (to_be_bytes w32) (words32 list.now))) ≤ vec_capacity text.old }
+    ensures items { text.new.items ≡ text.old.items ++ tlv 1 (flat_map (to_be_bytes w32) (words32 list.now)) }
+    ensures len { vec_len text.new ≡ vec_len text.old + length (tlv 1 (flat_map (to_be_bytes w32) (words32 list.now))) }
+    ensures capacity { vec_capacity text.old ≤ vec_capacity text.new }
 {
-    text.extend_from_slice(&[1, 0])?;
-    text.extend_from_slice(&(list.len() as u16).to_be_bytes())?;
-    text.extend_from_slice(list)?;
-    Ok(())
+    put(text, &[1, 0]);
+    put(text, &(list.len() as u16).to_be_bytes());
+    put(text, list);
 }
 
 /// The TLV of the preamble, which has no value, where it is set.
-fn append_preamble(text: &mut Vec<u8>, is_set: bool) -> Result<(), NoMemory>
-    ensures { OnOk result (text.new.items ≡ text.old.items ++ preamble_tlv is_set) }
+fn put_preamble(text: &mut Vec<u8>, is_set: bool)
+    requires room { vec_len text.old + length (preamble_tlv is_set) ≤ vec_capacity text.old }
+    ensures items { text.new.items ≡ text.old.items ++ preamble_tlv is_set }
+    ensures len { vec_len text.new ≡ vec_len text.old + length (preamble_tlv is_set) }
+    ensures capacity { vec_capacity text.old ≤ vec_capacity text.new }
 {
     if is_set {
-        text.extend_from_slice(&[5, 0, 0, 0])?;
+        put(text, &[5, 0, 0, 0]);
     }
-    Ok(())
 }
 
 /// A TLV of 16 bits, where there is a value: two zeros fill its last word (RFC 6285, 7.1).
-fn append_short(text: &mut Vec<u8>, kind: u8, value: Option<u16>) -> Result<(), NoMemory>
-    ensures { OnOk result (text.new.items ≡ text.old.items ++ optional_tlv kind w16 value) }
+fn put_short(text: &mut Vec<u8>, kind: u8, value: Option<u16>)
+    requires room { vec_len text.old + length (optional_tlv kind w16 value) ≤ vec_capacity text.old }
+    ensures items { text.new.items ≡ text.old.items ++ optional_tlv kind w16 value }
+    ensures len { vec_len text.new ≡ vec_len text.old + length (optional_tlv kind w16 value) }
+    ensures capacity { vec_capacity text.old ≤ vec_capacity text.new }
 {
     if let Some(n) = value {
-        text.extend_from_slice(&[kind, 0, 0, 2])?;
-        text.extend_from_slice(&n.to_be_bytes())?;
-        text.extend_from_slice(&[0, 0])?;
+        put(text, &[kind, 0, 0, 2]);
+        put(text, &n.to_be_bytes());
+        put(text, &[0, 0]);
     }
-    Ok(())
 }
 
 /// A TLV of 32 bits, where there is a value.
-fn append_word(text: &mut Vec<u8>, kind: u8, value: Option<u32>) -> Result<(), NoMemory>
-    ensures { OnOk result (text.new.items ≡ text.old.items ++ optional_tlv kind w32 value) }
+fn put_word(text: &mut Vec<u8>, kind: u8, value: Option<u32>)
+    requires room { vec_len text.old + length (optional_tlv kind w32 value) ≤ vec_capacity text.old }
+    ensures items { text.new.items ≡ text.old.items ++ optional_tlv kind w32 value }
+    ensures len { vec_len text.new ≡ vec_len text.old + length (optional_tlv kind w32 value) }
+    ensures capacity { vec_capacity text.old ≤ vec_capacity text.new }
 {
     if let Some(n) = value {
-        text.extend_from_slice(&[kind, 0, 0, 4])?;
-        text.extend_from_slice(&n.to_be_bytes())?;
+        put(text, &[kind, 0, 0, 4]);
+        put(text, &n.to_be_bytes());
     }
-    Ok(())
 }
 
 /// A TLV of 64 bits, where there is a value.
-fn append_long(text: &mut Vec<u8>, kind: u8, value: Option<u64>) -> Result<(), NoMemory>
-    ensures { OnOk result (text.new.items ≡ text.old.items ++ optional_tlv kind w64 value) }
+fn put_long(text: &mut Vec<u8>, kind: u8, value: Option<u64>)
+    requires room { vec_len text.old + length (optional_tlv kind w64 value) ≤ vec_capacity text.old }
+    ensures items { text.new.items ≡ text.old.items ++ optional_tlv kind w64 value }
+    ensures len { vec_len text.new ≡ vec_len text.old + length (optional_tlv kind w64 value) }
+    ensures capacity { vec_capacity text.old ≤ vec_capacity text.new }
 {
     if let Some(n) = value {
-        text.extend_from_slice(&[kind, 0, 0, 8])?;
-        text.extend_from_slice(&n.to_be_bytes())?;
+        put(text, &[kind, 0, 0, 8]);
+        put(text, &n.to_be_bytes());
     }
-    Ok(())
 }

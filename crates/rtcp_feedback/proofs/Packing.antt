@@ -1,6 +1,6 @@
 -- The words of a NACK, packed from the front.
-use Rattle.std.proofs.Common.{◌≡◌, ℕ, zero, suc, ◌+◌, ◌-◌, ◌*◌, ◌/◌, ◌%◌, ◌^◌, ◌≤◌, ◌<◌, Bool, true, false, List, [], ◌∷◌, ◌++◌, length, drop, get_or, set, refl, sym, ◌∙◌, ap, arith, append_assoc, length-append, ltb, leb}
-use Rattle.std.specs.Prelude.{if◌then◌else◌, ◌&&◌, nat_lt, nat_le}
+use Rattle.std.proofs.Common.{◌≡◌, ℕ, zero, suc, ◌+◌, ◌-◌, ◌*◌, ◌/◌, ◌%◌, ◌^◌, ◌≤◌, ◌<◌, Bool, true, false, List, [], ◌∷◌, ◌++◌, length, drop, get_or, set, refl, sym, ◌∙◌, ap, arith, append_assoc, length-append, ltb, leb, Result, Ok, Err}
+use Rattle.std.specs.Prelude.{if◌then◌else◌, ◌&&◌, nat_lt, nat_le, OnErr}
 use Rattle.std.specs.Int.{w16, w32, to_be_bytes}
 use Rattle.std.proofs.lemmas.List.{drop_more, drop_all}
 use Rattle.std.proofs.lemmas.Bool.{and_parts, ltb-true, leb-true}
@@ -91,3 +91,29 @@ nack_text old head first both fci bytes sender media start words eh e1 e2 es who
     let long = ap length text ∙ length-append old (129 ∷ 205 ∷ 0 ∷ 0 ∷ (sources ++ fci)) in
     let count : words ≡ 2 + length fci / 4 = omega (arith, long) in
     rw (text, es, eb, count) (length_written old (sources ++ fci) 129 205 0 0 ((2 + length fci / 4) / 256 % 256) ((2 + length fci / 4) % 256))
+
+either_long : (b : Bool) (xs ys : List ℕ) → 4 ≤ length xs → 4 ≤ length ys → 4 ≤ length (if b then xs else ys)
+either_long true xs ys h k = h
+either_long false xs ys h k = k
+
+-- a word is still to come
+word_left : (pid blp last : ℕ) (ns : List ℕ) → 4 ≤ length (words_from pid blp last ns)
+unfolding words_from
+word_left pid blp last [] = omega arith
+word_left pid blp last (n ∷ ns) =
+    let d = distance pid n in
+    either_long (nat_lt last d && nat_le d 16) (words_from pid (blp + 2 ^ (d - 1)) d ns) (to_be_bytes w16 pid ++ to_be_bytes w16 blp ++ words_from n 0 0 ns)
+    (word_left pid (blp + 2 ^ (d - 1)) d ns) (omega arith)
+
+-- so all words are longer by four bytes at least than what is written
+pub room_for_word : (text old all ns : List ℕ) (pid blp last : ℕ) → text ++ words_from pid blp last ns ≡ old ++ all → length text + 4 ≤ length old + length all
+room_for_word text old all ns pid blp last whole =
+    omega (arith, word_left pid blp last ns, ap length whole, length-append text (words_from pid blp last ns), length-append old all)
+
+-- what stood before a word is still there behind it
+pub kept_behind : (old some text word more : List ℕ) → text ≡ old ++ some → more ≡ text ++ word → more ≡ old ++ (some ++ word)
+kept_behind old some text word more is written = written ∙ ap (λ (l : List ℕ). l ++ word) is ∙ append_assoc old some word
+
+pub on_err : {T E : Type 0} (r : Result T E) (P : Type 0) → P → OnErr r P
+on_err (Ok x) P p = tt
+on_err (Err e) P p = p

@@ -1,5 +1,5 @@
 //! The generic NACK, written (RFC 4585, 6.2.1).
-ghost use Rattle.std.specs.Prelude.{◌≡◌, ◌+◌, ◌-◌, ◌^◌, ◌<◌, ◌≤◌, ◌&&◌, ◌∷◌, ◌++◌, nat_lt, nat_le, IfOk, OnOk, length};
+ghost use Rattle.std.specs.Prelude.{◌≡◌, ◌+◌, ◌-◌, ◌^◌, ◌<◌, ◌≤◌, ◌&&◌, ◌∷◌, ◌++◌, ℕ, List, nat_lt, nat_le, IfOk, OnOk, OnErr, length, vec_len, vec_capacity};
 ghost use Rattle.std.specs.Int.{w16, w32, to_be_bytes};
 ghost use Rattle.rams_model.specs.Feedback.{nack_packet, nack_words};
 
@@ -23,7 +23,8 @@ pub fn write_nack(
     Ok(text)
 }
 
-/// `write_nack`, behind what is there; an error may leave a part of the message.
+/// `write_nack`, behind what is there. An error changes nothing, and comes only where the vector
+/// lacks the room.
 pub fn append_nack(
     text: &mut Vec<u8>,
     sender: u32,
@@ -32,11 +33,16 @@ pub fn append_nack(
 ) -> Result<(), NoMemory>
     requires some { 0 < length numbers.now }
     requires few { length numbers.now ≤ 8000 }
-    ensures { OnOk result (text.new.items ≡ text.old.items ++ nack_packet sender media numbers.now) }
+    ensures text { OnOk result (text.new.items ≡ text.old.items ++ nack_packet sender media numbers.now) }
+    ensures same { OnErr result (text.new.items ≡ text.old.items) }
+    ensures full { OnErr result (vec_capacity text.old < vec_len text.old + length (nack_packet sender media numbers.now)) }
 {
     let start = text.len();
     text.extend_from_slice(&header(sender, media))?;
-    append_words(text, numbers)?;
+    if let Err(e) = append_words(text, numbers) {
+        text.truncate(start);
+        return Err(e);
+    }
     let words = ((text.len() - start) / 4 - 1) as u16;
     let length = words.to_be_bytes();
     text[start + 2] = length[0];
@@ -55,9 +61,11 @@ fn header(sender: u32, media: u32) -> [u8; 12]
     ]
 }
 
-/// The words of a NACK, packed from the front.
+/// The words of a NACK, packed from the front. An error may leave some of them.
 fn append_words(text: &mut Vec<u8>, numbers: &[u16]) -> Result<(), NoMemory>
-    ensures { OnOk result (text.new.items ≡ text.old.items ++ nack_words numbers.now) }
+    ensures text { OnOk result (text.new.items ≡ text.old.items ++ nack_words numbers.now) }
+    ensures kept { OnErr result ((some : List ℕ) × (text.new.items ≡ text.old.items ++ some)) }
+    ensures full { OnErr result (vec_capacity text.old < vec_len text.old + length (nack_words numbers.now)) }
 {
     let Some((first, rest)) = numbers.split_first() else {
         return Ok(());
@@ -77,7 +85,8 @@ fn append_words(text: &mut Vec<u8>, numbers: &[u16]) -> Result<(), NoMemory>
         blp = 0;
         last = 0;
     }
-    append_word(text, pid, blp)
+    append_word(text, pid, blp)?;
+    Ok(())
 }
 
 /// Whether a number so far behind the word's own joins it, where the last that joined is at `last`.
@@ -98,7 +107,10 @@ fn bit(distance: u16) -> u16
 
 /// One word.
 fn append_word(text: &mut Vec<u8>, pid: u16, blp: u16) -> Result<(), NoMemory>
-    ensures { OnOk result (text.new.items ≡ text.old.items ++ (to_be_bytes w16 pid ++ to_be_bytes w16 blp)) }
+    ensures text { OnOk result (text.new.items ≡ text.old.items ++ (to_be_bytes w16 pid ++ to_be_bytes w16 blp)) }
+    ensures same { OnErr result (text.new.items ≡ text.old.items) }
+    ensures full { OnErr result (vec_capacity text.old < vec_len text.old + 4) }
+    ensures capacity { vec_capacity text.old ≤ vec_capacity text.new }
 {
     let p = pid.to_be_bytes();
     let b = blp.to_be_bytes();

@@ -1,6 +1,6 @@
-pub mod RunLemmas
-pub mod HoldLemmas
-pub mod Standing
-pub mod Bytes
-pub mod StartLemmas
-pub mod Kept
+pub mod Living
+pub mod Sized
+pub mod Short
+pub mod Counting
+pub mod Planned
+pub mod JoinTimes

@@ -1,6 +1,3 @@
 pub mod Seen
-pub mod Runs
-pub mod Plain
-pub mod Starts
-pub mod Render
-pub mod Shown
+pub mod Bounds
+pub mod JoinTimes

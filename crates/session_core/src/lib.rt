@@ -1,19 +1,18 @@
-//! The decisions of one channel: events in, answers out.
+//! The core of one channel: what it answers to each event, and what it keeps of it.
 //!
-//! A core stands for the history of its events and notes: each call that answers leaves it standing
-//! for that history with this event and this answer, and the answer is the one lawful one.
+//! A core takes live packets, feedback datagrams and ticks. Each answer is the one lawful answer to its
+//! event after the events before it, by the definitions of a channel's history.
 #![tactic(auto)]
 
-mod datagram;
-mod packet;
-mod request;
-mod run;
-mod session;
+mod channel;
+mod live;
+mod stepped;
 #[cfg(test)]
 mod tests;
 
+pub use channel::Core;
 pub use channel_config::Config;
-pub use datagram::{append_order, render_order};
 pub use ram_io::NoMemory;
-pub use rams_model::{Answer, Event, Held, Info, LiveNote, Note, Octets, Order};
-pub use session::Core;
+pub use rams_model::{Answer, Event};
+pub use stepped::Stepped;
+pub use tick_core::TickPlan;

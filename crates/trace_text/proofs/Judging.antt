@@ -1,30 +1,45 @@
--- How a line is judged from its reading, its first word and what came before.
-use Rattle.std.proofs.Common.{◌≡◌, ℕ, Bool, true, false, not, ◌&&◌, if◌then◌else◌, List, Option, Some, None, Result, Ok, Err, refl, sym, ap, ◌∙◌}
+-- How a line is judged from its reading, its words and what came before.
+use Rattle.std.proofs.Common.{◌≡◌, ℕ, Bool, true, false, not, ◌&&◌, ◌==◌, if◌then◌else◌, List, Option, Some, None, Result, Ok, Err, refl, sym, ap, subst, ◌∙◌, inl, inr}
+use Rattle.std.proofs.lemmas.Bool.{and_parts}
+use Rattle.rams_model.specs.declared.channel.Channel.{Channel}
 use Rattle.rams_model.specs.declared.fault.LineFault.{LineFault}
 use Rattle.rams_model.specs.declared.fault.LineFault.TheVariants.{Form, Order, Range}
+use Rattle.rams_model.specs.declared.mode.LineKind.TheVariants as kind
 use Rattle.rams_model.specs.Words.{front}
-use Rattle.rams_model.specs.TraceLine.{TraceLine, head_line, channel_line, live_line, feedback_line, tick_line, end_line, tune_line, give_line, mcast_line, ask_line, drop_line, line_of, line_at, ranged, line_words, line_in_range}
-use Rattle.rams_model.specs.TraceOrder.{Reached, kind_of, kind_named, named_may_come, may_come, expected, line_is_served, with_line, accepted, with_reached, judged_line, judged}
+use Rattle.rams_model.specs.TraceLine.{TraceLine, head_line, channel_line, live_line, feedback_line, tick_line, end_line, tune_line, give_line, mcast_line, ask_line, drop_line, line_of, line_at, ranged, line_words, channel_words, line_in_range, line_has_form, is_version}
+use Rattle.rams_model.specs.TraceOrder.{Reached, version_of, version_spelled, kind_named, kind_may_come, named_may_come, may_come, expected, line_is_served, with_line, accepted, with_reached, judged_line, judged}
 use Rattle.trace_text.proofs.Spelling.{is_text}
+use Rattle.trace_text.proofs.Steps.{two_versions}
 
--- the first word of a line tells its kind
-named_is : (l : TraceLine) → kind_named (front (line_words l)) ≡ Some (kind_of l)
-named_is (head_line tick link) = refl
-named_is (channel_line c) = refl
-named_is (live_line id hex) = refl
-named_is (feedback_line id client hex) = refl
-named_is tick_line = refl
-named_is end_line = refl
-named_is (tune_line id client ssrc) = refl
-named_is (give_line number) = refl
-named_is (mcast_line id client n) = refl
-named_is (ask_line id client) = refl
-named_is (drop_line id client) = refl
+-- a channel line has as many words as its version says
+version_is : (v : ℕ) (c : Channel) → is_version v ≡ true → version_spelled (channel_words v c) ≡ v
+version_is v c h = elim (two_versions v h) [
+  | inl e ↦ subst (λ (x : ℕ). version_spelled (channel_words x c) ≡ x) (sym e) refl
+  | inr e ↦ subst (λ (x : ℕ). version_spelled (channel_words x c) ≡ x) (sym e) refl
+]
 
--- and so whether it may come
+-- the words of a line tell whether it may come
+words_tell : (r : Reached) (l : TraceLine) → line_has_form l ≡ true → named_may_come r (kind_named (front (line_words l))) (line_words l) ≡ may_come r l
+words_tell r (head_line version tick link) h = refl
+words_tell r (channel_line version c) h =
+    let form = and_parts _ _ h in
+    let is = and_parts (is_version version) _ form.0 in
+    ap (λ v. kind_may_come r kind.Channel && version_of r.head == v) (version_is version c is.0)
+words_tell r (live_line id hex) h = refl
+words_tell r (feedback_line id client hex) h = refl
+words_tell r tick_line h = refl
+words_tell r end_line h = refl
+words_tell r (tune_line id client ssrc) h = refl
+words_tell r (give_line number) h = refl
+words_tell r (mcast_line id client n) h = refl
+words_tell r (ask_line id client) h = refl
+words_tell r (drop_line id client) h = refl
+
 pub expected_is : (r : Reached) (bytes : List ℕ) (l : TraceLine) → line_of bytes ≡ Some l → expected r bytes ≡ may_come r l
 unfolding expected
-expected_is r bytes l h = ap (λ ws. named_may_come r (kind_named (front ws))) ((is_text bytes l h).words) ∙ ap (named_may_come r) (named_is l)
+expected_is r bytes l h =
+    let is = is_text bytes l h in
+    ap (λ ws. named_may_come r (kind_named (front ws)) ws) is.words ∙ words_tell r l is.has_form
 
 -- a line that is read is judged as it is accepted
 read_judged : (r : Reached) (o : Option TraceLine) (l : TraceLine) → ranged o ≡ Ok l → judged_line r o ≡ with_reached l (accepted r l)

@@ -1,3 +1,8 @@
+pub mod ReadParts
+pub mod Steps
+pub mod ChannelWords
+pub mod ChannelBack
+pub mod Spaces
 pub mod ReadAgain
 pub mod Checks
 pub mod Cuts

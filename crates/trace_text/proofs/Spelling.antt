@@ -6,15 +6,16 @@ use Rattle.std.specs.List.{list_all}
 use Rattle.rams_model.specs.declared.fault.LineFault.{LineFault}
 use Rattle.rams_model.specs.Words.{words_of, text_of}
 use Rattle.rams_model.specs.TraceLine.{TraceLine, head_line, channel_line, live_line, feedback_line, tick_line, end_line, tune_line, give_line, mcast_line, ask_line, drop_line, Words, line_in, line_of, line_at, ranged, line_words, line_text, line_has_form, line_in_range, is_spelled}
+use Rattle.trace_text.specs.Cursor.{is_end}
 use Rattle.trace_text.proofs.AsRead.{line_is}
 use Rattle.trace_text.proofs.Joins.{has_no_space, words_of-text_of, text_of-words_of}
 use Rattle.trace_text.proofs.ReadAgain.{line_back, no_spaces}
 use Rattle.trace_text.proofs.Spelled.{and_both}
 
 -- a line has a word
-some_word : (l : TraceLine) → nat_lt 0 (length (line_words l)) ≡ true
-some_word (head_line tick link) = refl
-some_word (channel_line c) = refl
+some_word : (l : TraceLine) → is_end (line_words l) ≡ false
+some_word (head_line version tick link) = refl
+some_word (channel_line version c) = refl
 some_word (live_line id hex) = refl
 some_word (feedback_line id client hex) = refl
 some_word tick_line = refl
@@ -25,7 +26,7 @@ some_word (mcast_line id client n) = refl
 some_word (ask_line id client) = refl
 some_word (drop_line id client) = refl
 
-words_again : (ws : Words) → nat_lt 0 (length ws) ≡ true → list_all has_no_space ws ≡ true → words_of (text_of ws) ≡ ws
+words_again : (ws : Words) → is_end ws ≡ false → list_all has_no_space ws ≡ true → words_of (text_of ws) ≡ ws
 words_again [] some h = absurd cc
 words_again (word ∷ words) some h = words_of-text_of word words h
 
@@ -54,7 +55,7 @@ text_is_read l form short =
 pub record IsText (bytes : List ℕ) (l : TraceLine) : Type 0 where
   short : length bytes ≤ 4096
   pub words : words_of bytes ≡ line_words l
-  has_form : line_has_form l ≡ true
+  pub has_form : line_has_form l ≡ true
   text : line_text l ≡ bytes
 
 pub is_text : (bytes : List ℕ) (l : TraceLine) → line_of bytes ≡ Some l → IsText bytes l

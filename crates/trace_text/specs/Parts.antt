@@ -4,21 +4,19 @@ use Rattle.rams_model.specs.declared.channel.Channel.{Channel}
 use Rattle.rams_model.specs.TraceLine.{Words, access_word}
 use Rattle.rams_model.specs.Words.{word32}
 
--- the numbers that name things
+-- what names things
 abbrev pub names_words : Channel → Words
 names_words c =
     codes "channel" ∷ decimal c.id ∷ codes "ssrc" ∷ word32 c.ssrc ∷ codes "pt" ∷ decimal c.pt ∷ codes "rtx" ∷ decimal c.rtx
-    ∷ codes "server" ∷ word32 c.server ∷ []
+    ∷ codes "server" ∷ word32 c.server ∷ codes "seq0" ∷ decimal c.seq0 ∷ []
 
--- which packets there are, and which of them are access points
+-- which packets are held, and which of them are access points
 abbrev pub places_words : Channel → Words
-places_words c =
-    codes "seq0" ∷ decimal c.seq0 ∷ codes "ring" ∷ decimal c.ring ∷ codes "window" ∷ decimal c.window ∷ codes "access"
-    ∷ access_word c.access ∷ []
+places_words c = codes "ring" ∷ decimal c.ring ∷ codes "window" ∷ decimal c.window ∷ codes "access" ∷ access_word c.access ∷ []
 
 -- the amounts of bytes
-abbrev pub bytes_words : Channel → Words
-bytes_words c =
+abbrev pub amounts_words : Channel → Words
+amounts_words c =
     codes "share" ∷ decimal c.share ∷ codes "reserve" ∷ decimal c.reserve ∷ codes "burst" ∷ decimal c.burst ∷ codes "declared"
     ∷ decimal c.declared ∷ codes "minwire" ∷ decimal c.minwire ∷ []
 

@@ -8,8 +8,8 @@ use Rattle.trace_text.specs.declared.line.Line.TheVariants.{Head, Channel, Live,
 
 -- the line that it is
 abbrev pub shown : Line → TraceLine
-shown (Head tick link) = head_line tick link
-shown (Channel channel) = channel_line channel
+shown (Head version tick link) = head_line version tick link
+shown (Channel version channel) = channel_line version channel
 shown (Live id hex) = live_line id hex.now
 shown (Feedback id client hex) = feedback_line id client hex.now
 shown Tick = tick_line

@@ -11,6 +11,6 @@ SpelledLinesAreRead = (line : TraceLine) → is_spelled line ≡ true → line_a
 abbrev pub LinesAreSpelledAsRead : Type 0
 LinesAreSpelledAsRead = (bytes : List ℕ) (line : TraceLine) → line_at bytes ≡ Ok line → (is_spelled line ≡ true) × (line_text line ≡ bytes)
 
--- the first word of a line tells whether it may come
-abbrev pub TheFirstWordTells : Type 0
-TheFirstWordTells = (r : Reached) (bytes : List ℕ) (line : TraceLine) → line_of bytes ≡ Some line → expected r bytes ≡ may_come r line
+-- the words of a line tell whether it may come
+abbrev pub TheWordsTell : Type 0
+TheWordsTell = (r : Reached) (bytes : List ℕ) (line : TraceLine) → line_of bytes ≡ Some line → expected r bytes ≡ may_come r line

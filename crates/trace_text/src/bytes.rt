@@ -1,5 +1,5 @@
 //! The bytes that a word of hexadecimal digits stands for.
-ghost use Rattle.std.specs.Prelude.{◌≡◌, ◌*◌, ◌≤◌, length, take, IfOk, IsTrue, OnOk};
+ghost use Rattle.std.specs.Prelude.{◌≡◌, IfOk, IsTrue, OnOk};
 ghost use Rattle.rams_model.specs.Words.{is_hex, bytes_in};
 
 use crate::values::is_dash;
@@ -11,27 +11,9 @@ pub fn decode(alloc: Global, hex: &[u8]) -> Result<Vec<u8>, NoMemory>
     requires { IsTrue (is_hex hex.now) }
     ensures { IfOk result (λ bytes. bytes.items ≡ bytes_in hex.now) }
 {
-    if is_dash(hex) {
-        return Ok(Vec::new(alloc));
-    }
-    hex::decode(alloc, hex).map_err(|_| NoMemory)
-}
-
-/// Writes the bytes of a word that `read_line` gave into the front of `room`, and says how many.
-pub fn decode_into(hex: &[u8], room: &mut [u8]) -> usize
-    requires digits { IsTrue (is_hex hex.now) }
-    requires fits { length hex.now ≤ 2 * length room.old }
-    ensures bytes { take result room.new ≡ bytes_in hex.now }
-    ensures bound { result ≤ length room.old }
-{
-    if is_dash(hex) {
-        return 0;
-    }
-    let len = hex.len() / 2;
-    match hex::decode_to_slice(hex, &mut room[..len]) {
-        Ok(()) => len,
-        Err(_) => unreachable!(),
-    }
+    let mut bytes = Vec::new(alloc);
+    decode_to(hex, &mut bytes)?;
+    Ok(bytes)
 }
 
 /// Puts the bytes of a word that `read_line` gave in place of what `room` holds; an error may leave
@@ -40,9 +22,10 @@ pub fn decode_to(hex: &[u8], room: &mut Vec<u8>) -> Result<(), NoMemory>
     requires { IsTrue (is_hex hex.now) }
     ensures { OnOk result (room.new.items ≡ bytes_in hex.now) }
 {
-    room.clear();
-    room.resize(hex.len().div_ceil(2), 0)?;
-    let len = decode_into(hex, room);
-    room.truncate(len);
+    if is_dash(hex) {
+        room.clear();
+        return Ok(());
+    }
+    hex_text::decode_to(room, hex)?;
     Ok(())
 }

@@ -1,93 +1,172 @@
 //! The line of a channel, behind its first word.
-ghost use Rattle.std.specs.Prelude.{◌≡◌, ◌∷◌, true, IfOk, codes, option_map};
+ghost use Rattle.std.specs.Prelude.{◌≡◌, ◌∷◌, true, IfOk, codes};
 ghost use Rattle.rams_model.specs.Settings.{channel_in_range, names_in_range, bytes_in_range, bounds_in_range};
-ghost use Rattle.rams_model.specs.TraceLine.{channel_line, channel_in, ranged};
+ghost use Rattle.rams_model.specs.TraceLine.{channel_in, ranged};
+ghost use Rattle.trace_text.specs.Cursor.{Reads};
 ghost use Rattle.trace_text.specs.Shown.{Gives, HasDigits};
-ghost use Rattle.trace_text.specs.Numbers.{channel_of};
+ghost use Rattle.trace_text.specs.Numbers.{channel_of, names_in, places_in, amounts_in, bounds_in, keeping_in, numbers_in};
 
 use crate::fields::{access_field, ends, next_number, number_field, word32_field};
 use crate::line::Line;
-use crate::ranges::is_amount;
+use crate::ranges::{MOST_BYTES, is_amount};
 use crate::words::Words;
 use rams_model::{Access, Channel, LineFault};
 
-/// The numbers of a channel line, in or out of range.
+/// The numbers of a channel line, in or out of range, in the order of the line.
 #[derive(Drop)]
 struct Numbers {
+    names: Names,
+    places: Places,
+    amounts: Amounts,
+    bounds: Bounds,
+    keeping: Keeping,
+}
+
+/// What names things.
+#[derive(Drop)]
+struct Names {
     id: u64,
     ssrc: u32,
     pt: u64,
     rtx: u64,
     server: u32,
     seq0: u64,
+}
+
+/// Which packets are held, and which of them are access points.
+#[derive(Drop)]
+struct Places {
     ring: u64,
     window: u64,
     access: Access,
+}
+
+/// The amounts of bytes.
+#[derive(Drop)]
+struct Amounts {
     share: u64,
     reserve: u64,
     burst: u64,
     declared: u64,
     minwire: u64,
+}
+
+/// How long, and for how many.
+#[derive(Drop)]
+struct Bounds {
     limit: u64,
     idle: u64,
     clients: u64,
 }
 
-#[tactic(auto, unfolding(rams_model::specs::TraceLine::channel_in))]
-fn channel_words(words: &mut Words<'_>) -> Option<Numbers>
-    ensures { channel_in (codes "channel" ∷ words.old) ≡ option_map (λ read. channel_line (channel_of read)) result }
-{
-    let id = next_number(words)?;
-    let ssrc = word32_field(words, b"ssrc")?;
-    let pt = number_field(words, b"pt")?;
-    let rtx = number_field(words, b"rtx")?;
-    let server = word32_field(words, b"server")?;
-    let seq0 = number_field(words, b"seq0")?;
-    let ring = number_field(words, b"ring")?;
-    let window = number_field(words, b"window")?;
-    let access = access_field(words, b"access")?;
-    let share = number_field(words, b"share")?;
-    let reserve = number_field(words, b"reserve")?;
-    let burst = number_field(words, b"burst")?;
-    let declared = number_field(words, b"declared")?;
-    let minwire = number_field(words, b"minwire")?;
-    let limit = number_field(words, b"limit")?;
-    let idle = number_field(words, b"idle")?;
-    let clients = number_field(words, b"clients")?;
-    if !ends(words) {
-        return None;
-    }
-    Some(Numbers {
-        id,
-        ssrc,
-        pt,
-        rtx,
-        server,
-        seq0,
-        ring,
-        window,
-        access,
-        share,
-        reserve,
-        burst,
-        declared,
-        minwire,
-        limit,
-        idle,
-        clients,
-    })
+/// What is kept from tick to tick, and the version of the text that says so much.
+#[derive(Drop)]
+struct Keeping {
+    version: u8,
+    depth: u64,
+    swell: u64,
 }
 
 /// A channel line.
+#[tactic(auto, using(crate::proofs::ReadParts::channel_is_numbers))]
 pub fn channel<'a>(words: &mut Words<'a>) -> Result<Line<'a>, LineFault>
     ensures line { Gives result (ranged (channel_in (codes "channel" ∷ words.old))) }
     ensures digits { IfOk result HasDigits }
 {
-    let numbers = channel_words(words).ok_or(LineFault::Form)?;
+    let numbers = read_numbers(words).ok_or(LineFault::Form)?;
     if !are_in_range(&numbers) {
         return Err(LineFault::Range);
     }
-    Ok(Line::Channel(narrowed(&numbers)))
+    Ok(Line::Channel {
+        version: numbers.keeping.version,
+        channel: narrowed(&numbers),
+    })
+}
+
+#[tactic(auto, unfolding(crate::specs::Numbers::numbers_in))]
+fn read_numbers(words: &mut Words<'_>) -> Option<Numbers>
+    ensures { result ≡ numbers_in (codes "channel" ∷ words.old) }
+{
+    Some(Numbers {
+        names: next_names(words)?,
+        places: next_places(words)?,
+        amounts: next_amounts(words)?,
+        bounds: next_bounds(words)?,
+        keeping: next_keeping(words)?,
+    })
+}
+
+#[tactic(auto, unfolding(crate::specs::Numbers::names_in))]
+fn next_names(words: &mut Words<'_>) -> Option<Names>
+    ensures { Reads result words.new (names_in (codes "channel" ∷ words.old)) }
+{
+    Some(Names {
+        id: next_number(words)?,
+        ssrc: word32_field(words, b"ssrc")?,
+        pt: number_field(words, b"pt")?,
+        rtx: number_field(words, b"rtx")?,
+        server: word32_field(words, b"server")?,
+        seq0: number_field(words, b"seq0")?,
+    })
+}
+
+#[tactic(auto, unfolding(crate::specs::Numbers::places_in))]
+fn next_places(words: &mut Words<'_>) -> Option<Places>
+    ensures { Reads result words.new (places_in words.old) }
+{
+    Some(Places {
+        ring: number_field(words, b"ring")?,
+        window: number_field(words, b"window")?,
+        access: access_field(words, b"access")?,
+    })
+}
+
+#[tactic(auto, unfolding(crate::specs::Numbers::amounts_in))]
+fn next_amounts(words: &mut Words<'_>) -> Option<Amounts>
+    ensures { Reads result words.new (amounts_in words.old) }
+{
+    Some(Amounts {
+        share: number_field(words, b"share")?,
+        reserve: number_field(words, b"reserve")?,
+        burst: number_field(words, b"burst")?,
+        declared: number_field(words, b"declared")?,
+        minwire: number_field(words, b"minwire")?,
+    })
+}
+
+#[tactic(auto, unfolding(crate::specs::Numbers::bounds_in))]
+fn next_bounds(words: &mut Words<'_>) -> Option<Bounds>
+    ensures { Reads result words.new (bounds_in words.old) }
+{
+    Some(Bounds {
+        limit: number_field(words, b"limit")?,
+        idle: number_field(words, b"idle")?,
+        clients: number_field(words, b"clients")?,
+    })
+}
+
+// Version 1 ends before this.
+#[tactic(auto, unfolding(crate::specs::Numbers::keeping_in))]
+fn next_keeping(words: &mut Words<'_>) -> Option<Keeping>
+    ensures { result ≡ keeping_in words.old }
+{
+    let Some(name) = words.next() else {
+        return Some(Keeping {
+            version: 1,
+            depth: 0,
+            swell: 0,
+        });
+    };
+    if name != b"depth".as_slice() {
+        return None;
+    }
+    let depth = next_number(words)?;
+    let swell = number_field(words, b"swell")?;
+    ends(words).then_some(Keeping {
+        version: 2,
+        depth,
+        swell,
+    })
 }
 
 fn are_in_range(n: &Numbers) -> bool
@@ -100,29 +179,33 @@ fn are_in_range(n: &Numbers) -> bool
 fn are_names_in_range(n: &Numbers) -> bool
     ensures { result ≡ names_in_range (channel_of n.now) }
 {
-    (1..=65535).contains(&n.id) && n.pt <= 127 && n.rtx <= 127 && n.seq0 <= 65535
+    let names = &n.names;
+    (1..=65535).contains(&names.id) && names.pt <= 127 && names.rtx <= 127 && names.seq0 <= 65535
 }
 
 // The amounts of bytes.
 fn are_bytes_in_range(n: &Numbers) -> bool
     ensures { result ≡ bytes_in_range (channel_of n.now) }
 {
-    is_amount(n.share)
-        && is_amount(n.reserve)
-        && is_amount(n.burst)
-        && n.declared <= 1_000_000_000
-        && (42..=1500).contains(&n.minwire)
+    let amounts = &n.amounts;
+    is_amount(amounts.share)
+        && is_amount(amounts.reserve)
+        && is_amount(amounts.burst)
+        && amounts.declared <= MOST_BYTES
+        && (42..=1500).contains(&amounts.minwire)
+        && n.keeping.depth <= MOST_BYTES
+        && n.keeping.swell <= MOST_BYTES
 }
 
-// How much is kept, and how long.
+// How much is held, and how long.
 fn are_bounds_in_range(n: &Numbers) -> bool
     ensures { result ≡ bounds_in_range (channel_of n.now) }
 {
-    (1..=32768).contains(&n.ring)
-        && n.window <= 64
-        && (1..=1_000_000).contains(&n.limit)
-        && (1..=1_000_000).contains(&n.idle)
-        && (1..=1024).contains(&n.clients)
+    (1..=32768).contains(&n.places.ring)
+        && n.places.window <= 64
+        && (1..=1_000_000).contains(&n.bounds.limit)
+        && (1..=1_000_000).contains(&n.bounds.idle)
+        && (1..=1024).contains(&n.bounds.clients)
 }
 
 // The channel that numbers in their ranges describe.
@@ -131,24 +214,24 @@ fn narrowed(n: &Numbers) -> Channel
     ensures { result ≡ channel_of n.now }
 {
     Channel {
-        id: n.id as u16,
-        ssrc: n.ssrc,
-        pt: n.pt as u8,
-        rtx: n.rtx as u8,
-        server: n.server,
-        seq0: n.seq0 as u16,
-        ring: n.ring as u32,
-        window: n.window as u32,
-        access: n.access,
-        share: n.share,
-        reserve: n.reserve,
-        burst: n.burst,
-        declared: n.declared,
-        minwire: n.minwire,
-        limit: n.limit as u32,
-        idle: n.idle as u32,
-        clients: n.clients as u32,
-        depth: 0,
-        swell: 0,
+        id: n.names.id as u16,
+        ssrc: n.names.ssrc,
+        pt: n.names.pt as u8,
+        rtx: n.names.rtx as u8,
+        server: n.names.server,
+        seq0: n.names.seq0 as u16,
+        ring: n.places.ring as u32,
+        window: n.places.window as u32,
+        access: n.places.access,
+        share: n.amounts.share,
+        reserve: n.amounts.reserve,
+        burst: n.amounts.burst,
+        declared: n.amounts.declared,
+        minwire: n.amounts.minwire,
+        limit: n.bounds.limit as u32,
+        idle: n.bounds.idle as u32,
+        clients: n.bounds.clients as u32,
+        depth: n.keeping.depth,
+        swell: n.keeping.swell,
     }
 }

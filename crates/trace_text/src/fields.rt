@@ -4,7 +4,7 @@ ghost use Rattle.rams_model.specs.Words.{number_in, word32_in, is_hex};
 ghost use Rattle.rams_model.specs.TraceLine.{field, one, access_in, version_in, hex_in};
 ghost use Rattle.trace_text.specs.Cursor.{is_end, is_named, Reads, ReadsWord};
 
-use crate::values::{access, hex_word, number, word32};
+use crate::values::{access, hex_word, number, version, word32};
 use crate::words::Words;
 use rams_model::Access;
 
@@ -30,11 +30,11 @@ pub fn next_hex<'a>(words: &mut Words<'a>) -> Option<&'a [u8]>
     hex_word(words.next()?)
 }
 
-/// The next word as the version of the text, which is 1.
+/// The next word as the version of the text.
 pub fn next_version(words: &mut Words<'_>) -> Option<u8>
     ensures { Reads result words.new (one version_in words.old) }
 {
-    (words.next()? == b"1".as_slice()).then_some(1)
+    version(words.next()?)
 }
 
 /// Whether no word is left.

@@ -57,20 +57,24 @@ pub fn head<'a>(words: &mut Words<'a>) -> Result<Line<'a>, LineFault>
     ensures line { Gives result (ranged (head_in (codes "rams-trace" ∷ words.old))) }
     ensures digits { IfOk result HasDigits }
 {
-    let (tick, link) = head_words(words).ok_or(LineFault::Form)?;
+    let (version, tick, link) = head_words(words).ok_or(LineFault::Form)?;
     let tick_ms = tick_ms(tick).ok_or(LineFault::Range)?;
     if !is_amount(link) {
         return Err(LineFault::Range);
     }
-    Ok(Line::Head { tick_ms, link })
+    Ok(Line::Head {
+        version,
+        tick_ms,
+        link,
+    })
 }
 
 #[tactic(auto, unfolding(rams_model::specs::TraceLine::head_in))]
-fn head_words(words: &mut Words<'_>) -> Option<(u64, u64)>
-    ensures { head_in (codes "rams-trace" ∷ words.old) ≡ option_map (λ read. head_line read.0 read.1) result }
+fn head_words(words: &mut Words<'_>) -> Option<(u8, u64, u64)>
+    ensures { head_in (codes "rams-trace" ∷ words.old) ≡ option_map (λ read. head_line read.0 read.1 read.2) result }
 {
-    next_version(words)?;
+    let version = next_version(words)?;
     let tick = number_field(words, b"tick")?;
     let link = number_field(words, b"link")?;
-    ends(words).then_some((tick, link))
+    ends(words).then_some((version, tick, link))
 }

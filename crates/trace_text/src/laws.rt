@@ -1,5 +1,5 @@
 //! Laws of the definitions: each is the contract of a function that does nothing.
-ghost use Rattle.trace_text.specs.Spelling.{SpelledLinesAreRead, LinesAreSpelledAsRead, TheFirstWordTells};
+ghost use Rattle.trace_text.specs.Spelling.{SpelledLinesAreRead, LinesAreSpelledAsRead, TheWordsTell};
 
 /// The text of a line that a trace may have reads as that line.
 #[tactic(auto, using(crate::proofs::Spelling::spelled_is_read))]
@@ -12,8 +12,9 @@ pub fn lines_are_spelled_as_read()
     ensures { LinesAreSpelledAsRead }
 {}
 
-/// The first word of a line tells whether the line may come.
+/// The words of a line tell whether the line may come: the first one its kind, and their number the
+/// version that a channel line is spelled in.
 #[tactic(auto, using(crate::proofs::Judging::expected_is))]
-pub fn the_first_word_tells()
-    ensures { TheFirstWordTells }
+pub fn the_words_tell()
+    ensures { TheWordsTell }
 {}

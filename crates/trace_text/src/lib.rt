@@ -18,8 +18,8 @@ mod text;
 mod values;
 mod words;
 
-pub use bytes::{decode, decode_into, decode_to};
-pub use laws::{lines_are_spelled_as_read, spelled_lines_are_read, the_first_word_tells};
+pub use bytes::{decode, decode_to};
+pub use laws::{lines_are_spelled_as_read, spelled_lines_are_read, the_words_tell};
 pub use line::Line;
 pub use order::kind_of_first_word;
 pub use rams_model::{LineFault, Mode};

@@ -1,12 +1,15 @@
 //! What lines are to the order of a trace.
 ghost use Rattle.std.specs.Prelude.{◌≡◌};
-ghost use Rattle.rams_model.specs.TraceOrder.{kind_of, kind_named, is_event_word, is_receiver_word, has_receivers, has_events, is_threads};
-ghost use Rattle.rams_model.specs.Words.{first_word};
+ghost use Rattle.rams_model.specs.TraceOrder.{kind_of, kind_named, version_spelled, is_event_word, is_receiver_word, has_receivers, has_events, is_threads};
+ghost use Rattle.rams_model.specs.Words.{first_word, words_of};
 ghost use Rattle.trace_text.specs.Shown.{shown};
 
 use crate::line::Line;
-use crate::words::first_word;
+use crate::words::{Words, first_word};
 use rams_model::{LineKind, Mode};
+
+/// Words of a channel line in version 1.
+const WORDS_OF_VERSION_1: usize = 34;
 
 /// The kind of a line.
 pub fn kind_of(line: &Line<'_>) -> LineKind
@@ -15,7 +18,7 @@ pub fn kind_of(line: &Line<'_>) -> LineKind
     match line {
         Line::Live { .. } | Line::Feedback { .. } | Line::Tick => LineKind::Event,
         Line::Head { .. } => LineKind::Head,
-        Line::Channel(_) => LineKind::Channel,
+        Line::Channel { .. } => LineKind::Channel,
         Line::End => LineKind::End,
         Line::Tune { .. }
         | Line::Give { .. }
@@ -49,6 +52,16 @@ pub fn kind_of_first_word(line: &[u8]) -> Option<LineKind>
     ensures { result ≡ kind_named (first_word line.now) }
 {
     kind_named(first_word(line))
+}
+
+/// The version that a channel line is spelled in, as its number of words tells.
+pub fn version_spelled(line: &[u8]) -> u8
+    ensures { result ≡ version_spelled (words_of line.now) }
+{
+    match Words::of(line).nth(WORDS_OF_VERSION_1) {
+        None => 1,
+        Some(_) => 2,
+    }
 }
 
 fn is_event(word: &[u8]) -> bool

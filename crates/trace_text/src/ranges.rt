@@ -9,6 +9,9 @@ use crate::line::Line;
 use channel_config::Config;
 use rams_model::{Channel, ConfigFault};
 
+/// Most bytes of a tick, in each setting that is such an amount.
+pub const MOST_BYTES: u64 = 1_000_000_000;
+
 /// The channel's number, where it is in its range.
 pub fn channel_id(number: u64) -> Option<u16>
     ensures { MatchOption result
@@ -55,7 +58,7 @@ fn is_client(number: u64) -> bool
 pub fn is_amount(number: u64) -> bool
     ensures { result ≡ is_in_range 1500 most_bytes number }
 {
-    (1500..=1_000_000_000).contains(&number)
+    (1500..=MOST_BYTES).contains(&number)
 }
 
 /// Whether each number of a line is in its range.
@@ -70,8 +73,8 @@ pub fn is_in_range(line: &Line<'_>) -> bool
         | Line::Ask { id, client }
         | Line::Drop { id, client } => *id >= 1 && is_client(*client),
         Line::Tick | Line::End | Line::Give { .. } => true,
-        Line::Head { tick_ms, link } => (1..=1000).contains(tick_ms) && is_amount(*link),
-        Line::Channel(channel) => is_channel_in_range(channel),
+        Line::Head { tick_ms, link, .. } => (1..=1000).contains(tick_ms) && is_amount(*link),
+        Line::Channel { channel, .. } => is_channel_in_range(channel),
     }
 }
 

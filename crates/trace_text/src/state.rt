@@ -2,12 +2,15 @@
 ghost use Rattle.std.specs.Prelude.{◌≡◌, ◌≤◌, Ok, Err, Some, ◌==◌, IfErr, IfOk, OnErr, OnOk, MatchResult};
 ghost use Rattle.rams_model.specs.Settings.{settings, checked};
 ghost use Rattle.rams_model.specs.TraceLine.{line_at};
-ghost use Rattle.rams_model.specs.TraceOrder.{nothing_reached, tick_of, has_channel, kind_may_come, may_come_next, line_is_served, with_channel, expected, accepted, judged, line_fault};
+ghost use Rattle.rams_model.specs.TraceOrder.{nothing_reached, tick_of, version_of, has_channel, kind_may_come, may_come_next, may_come, has_version, spells_version, line_is_served, with_channel, expected, accepted, judged, line_fault};
+ghost use Rattle.rams_model.specs.Words.{words_of};
 ghost use Rattle.trace_text.specs.Shown.{shown, HasDigits};
 ghost use Rattle.std.specs.List.{list_any};
 
 use crate::line::Line;
-use crate::order::{has_events, has_receivers, is_threads, kind_of, kind_of_first_word};
+use crate::order::{
+    has_events, has_receivers, is_threads, kind_of, kind_of_first_word, version_spelled,
+};
 use crate::ranges::is_in_range;
 use crate::read::read_line;
 use arrayvec::ArrayVec;
@@ -21,6 +24,7 @@ const MOST_CHANNELS: usize = 64;
 /// What the head line said.
 #[derive(Clone, Copy)]
 struct Head {
+    version: u8,
     tick_ms: u32,
     link: u64,
 }
@@ -30,9 +34,9 @@ impl Model for Head {
 
     ghost Value = { Head };
 
-    ghost view = { λ h. record { tick = h.tick_ms; link = h.link } };
+    ghost view = { λ h. record { version = h.version; tick = h.tick_ms; link = h.link } };
 
-    ghost inverse = { λ h. record { tick_ms = h.tick; link = h.link } };
+    ghost inverse = { λ h. record { version = h.version; tick_ms = h.tick; link = h.link } };
 }
 
 /// The number and the share of a channel.
@@ -92,7 +96,7 @@ impl State {
 
     /// Reads a line, without its line feed, and goes on behind it. The first fault that is true, in
     /// this order: `Form` where it is no line of a trace, `Order` where a line of its kind may not
-    /// come here, `Range` where a number is out of its range, and what is wrong with a channel line.
+    /// come here or a channel line is of another version than the head, `Range` where a number is out of its range, and what is wrong with a channel line.
     /// A refusal changes nothing.
     #[tactic(auto, using(crate::proofs::Judging::judged_ok, crate::proofs::Judging::judged_refused))]
     pub fn judge<'a>(&mut self, line: &'a [u8]) -> Result<Line<'a>, LineFault>
@@ -109,19 +113,20 @@ impl State {
         Ok(read)
     }
 
-    /// Whether a line with the first word of this one may come next.
+    /// Whether a line with the first word of this one, and for a channel line with as many words, may
+    /// come next.
     #[tactic(auto, unfolding(rams_model::specs::TraceOrder::expected))]
     pub fn expects(&self, line: &[u8]) -> bool
         ensures { result ≡ expected self.now line.now }
     {
         match kind_of_first_word(line) {
-            Some(kind) => self.may_come(kind),
+            Some(kind) => self.kind_may_come(kind) && self.spells_version(kind, line),
             None => false,
         }
     }
 
-    /// Goes on behind this line. `Order` where a line of its kind may not come here, else `Range`
-    /// where a number is out of its range, or, for threads, is not the channel's, else what is wrong
+    /// Goes on behind this line. `Order` where a line of its kind may not come here or a channel line
+    /// is of another version than the head, else `Range` where a number is out of its range, or, for threads, is not the channel's, else what is wrong
     /// with a channel line: `Twice` where a channel before has its number, the first of rules 1 to 3
     /// that its settings break, `Rule(4)` where the shares are more than the link, `Rule(5)` where
     /// there are 64 channels already. A refusal changes nothing.
@@ -131,15 +136,19 @@ impl State {
         ensures err { IfErr result (λ fault. accepted self.old (shown line.now) ≡ Err fault) }
         ensures same { OnErr result (self.new ≡ self.old) }
     {
-        if !self.may_come(kind_of(line)) {
+        if !self.may_come(line) {
             return Err(LineFault::Order);
         }
         if !is_in_range(line) || !self.serves(line) {
             return Err(LineFault::Range);
         }
         match line {
-            Line::Head { tick_ms, link } => self.set_head(*tick_ms, *link),
-            Line::Channel(channel) => return self.add(channel),
+            Line::Head {
+                version,
+                tick_ms,
+                link,
+            } => self.set_head(*version, *tick_ms, *link),
+            Line::Channel { channel, .. } => return self.add(channel),
             Line::End => self.ended = true,
             _ => self.begun = true,
         }
@@ -163,6 +172,16 @@ impl State {
         }
     }
 
+    // The version of the text; 0 before the head line.
+    fn version(&self) -> u8
+        ensures { result ≡ version_of self.now.head }
+    {
+        match self.head {
+            Some(head) => head.version,
+            None => 0,
+        }
+    }
+
     // The first fault of a line that isn't read for this one.
     #[tactic(auto, using(crate::proofs::Judging::judged_fault, crate::proofs::Judging::judged_order))]
     fn first_fault(&self, line: &[u8], fault: LineFault) -> LineFault
@@ -176,8 +195,32 @@ impl State {
         }
     }
 
+    // Whether this line may come next.
+    fn may_come(&self, line: &Line<'_>) -> bool
+        ensures { result ≡ may_come self.now (shown line.now) }
+    {
+        self.kind_may_come(kind_of(line)) && self.has_version(line)
+    }
+
+    // Whether a channel line is spelled in the version of the trace.
+    fn has_version(&self, line: &Line<'_>) -> bool
+        ensures { result ≡ has_version self.now (shown line.now) }
+    {
+        match line {
+            Line::Channel { version, .. } => self.version() == *version,
+            _ => true,
+        }
+    }
+
+    // The same of a line of this kind, as its number of words tells.
+    fn spells_version(&self, kind: LineKind, line: &[u8]) -> bool
+        ensures { result ≡ spells_version self.now kind (words_of line.now) }
+    {
+        kind != LineKind::Channel || self.version() == version_spelled(line)
+    }
+
     // Whether a line of this kind may come next.
-    fn may_come(&self, kind: LineKind) -> bool
+    fn kind_may_come(&self, kind: LineKind) -> bool
         ensures { result ≡ kind_may_come self.now kind }
     {
         !self.ended && self.may_come_next(kind)
@@ -210,10 +253,14 @@ impl State {
         }
     }
 
-    fn set_head(&mut self, tick_ms: u32, link: u64)
-        ensures { self.new ≡ record self.old { head = Some (record { tick = tick_ms; link = link }) } }
+    fn set_head(&mut self, version: u8, tick_ms: u32, link: u64)
+        ensures { self.new ≡ record self.old { head = Some (record { version = version; tick = tick_ms; link = link }) } }
     {
-        self.head = Some(Head { tick_ms, link });
+        self.head = Some(Head {
+            version,
+            tick_ms,
+            link,
+        });
     }
 
     fn add(&mut self, channel: &Channel) -> Result<(), LineFault>

@@ -1,19 +1,21 @@
 //! The text of a line.
 ghost use Rattle.std.specs.Prelude.{◌≡◌, ◌∷◌, ◌++◌, true, Ok, IfOk, OnOk, decimal};
-ghost use Rattle.rams_model.specs.TraceLine.{head_line, line_words, line_text, line_at, is_spelled, channel_words, access_word};
+ghost use Rattle.rams_model.specs.TraceLine.{head_line, line_words, line_text, line_at, is_spelled, channel_words, kept_words, access_word};
 ghost use Rattle.rams_model.specs.Words.{text_of, spaced_words, word32};
-ghost use Rattle.trace_text.specs.Parts.{names_words, places_words, bytes_words, bounds_words};
+ghost use Rattle.trace_text.specs.Parts.{names_words, places_words, amounts_words, bounds_words};
 ghost use Rattle.trace_text.specs.Shown.{shown};
 
 use crate::line::Line;
+use hex_text::encode_into;
 use itoa::Buffer;
 use ram_io::NoMemory;
 use rams_model::{Access, Channel};
 use std::alloc::Global;
 
 /// The text of a line, without a line feed. It reads back as the line where each number is in its
-/// range and has at most 15 digits, the bytes are pairs of hexadecimal digits or `-`, and the text
-/// has at most 4,096 bytes.
+/// range and has at most 15 digits, the version is 1 or 2, a channel of version 1 keeps nothing from
+/// tick to tick, the bytes are pairs of hexadecimal digits or `-`, and the text has at most 4,096
+/// bytes.
 pub fn write_line(alloc: Global, line: &Line<'_>) -> Result<Vec<u8>, NoMemory>
     ensures text { IfOk result (λ text. text.items ≡ line_text (shown line.now)) }
     ensures read { IfOk result (λ text. is_spelled (shown line.now) ≡ true → line_at text.items ≡ Ok (shown line.now)) }
@@ -30,8 +32,12 @@ pub fn append_line(text: &mut Vec<u8>, line: &Line<'_>) -> Result<(), NoMemory>
     ensures { OnOk result (text.new.items ≡ text.old.items ++ line_text (shown line.now)) }
 {
     match line {
-        Line::Head { tick_ms, link } => append_head(text, *tick_ms, *link),
-        Line::Channel(channel) => append_channel(text, channel),
+        Line::Head {
+            version,
+            tick_ms,
+            link,
+        } => append_head(text, *version, *tick_ms, *link),
+        Line::Channel { version, channel } => append_channel(text, *version, channel),
         Line::Live { id, hex } => {
             named(text, b"live", u64::from(*id))?;
             word(text, hex)
@@ -56,24 +62,25 @@ pub fn append_line(text: &mut Vec<u8>, line: &Line<'_>) -> Result<(), NoMemory>
     }
 }
 
-fn append_head(text: &mut Vec<u8>, tick_ms: u32, link: u64) -> Result<(), NoMemory>
-    ensures { OnOk result (text.new.items ≡ text.old.items ++ text_of (line_words (head_line tick_ms link))) }
+fn append_head(text: &mut Vec<u8>, version: u8, tick_ms: u32, link: u64) -> Result<(), NoMemory>
+    ensures { OnOk result (text.new.items ≡ text.old.items ++ text_of (line_words (head_line version tick_ms link))) }
 {
-    text.extend_from_slice(b"rams-trace 1")?;
+    named(text, b"rams-trace", u64::from(version))?;
     field(text, b"tick", u64::from(tick_ms))?;
     field(text, b"link", link)
 }
 
-fn append_channel(text: &mut Vec<u8>, c: &Channel) -> Result<(), NoMemory>
-    ensures { OnOk result (text.new.items ≡ text.old.items ++ text_of (channel_words c.now)) }
+fn append_channel(text: &mut Vec<u8>, version: u8, c: &Channel) -> Result<(), NoMemory>
+    ensures { OnOk result (text.new.items ≡ text.old.items ++ text_of (channel_words version c.now)) }
 {
     append_names(text, c)?;
     append_places(text, c)?;
-    append_bytes(text, c)?;
-    append_bounds(text, c)
+    append_amounts(text, c)?;
+    append_bounds(text, c)?;
+    append_kept(text, version, c)
 }
 
-// The numbers that name things.
+// What names things.
 fn append_names(text: &mut Vec<u8>, c: &Channel) -> Result<(), NoMemory>
     ensures { OnOk result (text.new.items ≡ text.old.items ++ text_of (names_words c.now)) }
 {
@@ -81,23 +88,23 @@ fn append_names(text: &mut Vec<u8>, c: &Channel) -> Result<(), NoMemory>
     field32(text, b"ssrc", c.ssrc)?;
     field(text, b"pt", u64::from(c.pt))?;
     field(text, b"rtx", u64::from(c.rtx))?;
-    field32(text, b"server", c.server)
+    field32(text, b"server", c.server)?;
+    field(text, b"seq0", u64::from(c.seq0))
 }
 
-// Which packets there are, and which of them are access points.
+// Which packets are held, and which of them are access points.
 fn append_places(text: &mut Vec<u8>, c: &Channel) -> Result<(), NoMemory>
     ensures { OnOk result (text.new.items ≡ text.old.items ++ spaced_words (places_words c.now)) }
 {
-    field(text, b"seq0", u64::from(c.seq0))?;
     field(text, b"ring", u64::from(c.ring))?;
     field(text, b"window", u64::from(c.window))?;
     word(text, b"access")?;
     word(text, access_word(c.access))
 }
 
-// The amounts of bytes of a channel line.
-fn append_bytes(text: &mut Vec<u8>, c: &Channel) -> Result<(), NoMemory>
-    ensures { OnOk result (text.new.items ≡ text.old.items ++ spaced_words (bytes_words c.now)) }
+// The amounts of bytes.
+fn append_amounts(text: &mut Vec<u8>, c: &Channel) -> Result<(), NoMemory>
+    ensures { OnOk result (text.new.items ≡ text.old.items ++ spaced_words (amounts_words c.now)) }
 {
     field(text, b"share", c.share)?;
     field(text, b"reserve", c.reserve)?;
@@ -113,6 +120,17 @@ fn append_bounds(text: &mut Vec<u8>, c: &Channel) -> Result<(), NoMemory>
     field(text, b"limit", u64::from(c.limit))?;
     field(text, b"idle", u64::from(c.idle))?;
     field(text, b"clients", u64::from(c.clients))
+}
+
+// What is kept from tick to tick, which version 1 doesn't say.
+fn append_kept(text: &mut Vec<u8>, version: u8, c: &Channel) -> Result<(), NoMemory>
+    ensures { OnOk result (text.new.items ≡ text.old.items ++ spaced_words (kept_words version c.now)) }
+{
+    if version == 1 {
+        return Ok(());
+    }
+    field(text, b"depth", c.depth)?;
+    field(text, b"swell", c.swell)
 }
 
 fn access_word(access: Access) -> &'static [u8]
@@ -169,7 +187,7 @@ fn digits32(text: &mut Vec<u8>, n: u32) -> Result<(), NoMemory>
     ensures { OnOk result (text.new.items ≡ text.old.items ++ (32 ∷ word32 n)) }
 {
     let mut digits = [0; 8];
-    hex::encode_to_slice(n.to_be_bytes(), &mut digits).unwrap();
+    encode_into(&n.to_be_bytes(), &mut digits);
     word(text, &digits)
 }
 

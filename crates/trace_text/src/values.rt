@@ -3,10 +3,10 @@ ghost use Rattle.std.specs.Prelude.{◌≡◌, ◌≤◌, true, IfSome, length, 
 ghost use Rattle.std.specs.List.{list_all};
 ghost use Rattle.std.specs.Str.Parse.{digits_value};
 ghost use Rattle.rams_model.specs.Words.{is_digit, is_hex_digit, is_hex, is_number, number_in, word32_in};
-ghost use Rattle.rams_model.specs.TraceLine.{access_in, hex_in};
+ghost use Rattle.rams_model.specs.TraceLine.{access_in, hex_in, version_in};
 ghost use Rattle.trace_text.specs.Cursor.{IsWord};
 
-use hex::FromHex;
+use hex_text::decode_into;
 use rams_model::Access;
 
 /// A number in decimal digits: no zero in front of others, and at most 15 digits.
@@ -49,10 +49,10 @@ fn decimal_value(word: &[u8]) -> u64
 pub fn word32(word: &[u8]) -> Option<u32>
     ensures { result ≡ word32_in word.now }
 {
-    if word.len() != 8 || !are_hex_digits(word) {
+    let mut bytes = [0; 4];
+    if word.len() != 8 || !decode_into(word, &mut bytes) {
         return None;
     }
-    let bytes = <[u8; 4]>::from_hex(word).ok()?;
     Some(u32::from_be_bytes(bytes))
 }
 
@@ -92,6 +92,19 @@ fn is_lower_hex(digit: u8) -> bool
     ensures { result ≡ is_hex_digit digit }
 {
     digit.is_ascii_digit() | (b'a'..=b'f').contains(&digit)
+}
+
+/// A version of the text.
+pub fn version(word: &[u8]) -> Option<u8>
+    ensures { result ≡ version_in word.now }
+{
+    if word == b"1".as_slice() {
+        Some(1)
+    } else if word == b"2".as_slice() {
+        Some(2)
+    } else {
+        None
+    }
 }
 
 /// What an access point is.

@@ -1,174 +1,103 @@
-//! The order of a trace's lines, and what a trace's channels may be together.
-use super::{channel, edited};
-use crate::{Line, LineFault, Mode, State, read_line};
-use rams_model::Channel;
+//! The order of a trace's lines in each mode, what a trace's channels may be together, and which of
+//! several faults is named.
+use super::{expect_lines, expect_trace};
+use crate::{Mode, State};
 use std::test::Fail;
 
-const HEAD: Line<'static> = Line::Head {
-    tick_ms: 10,
-    link: 20000,
-};
-
-const LIVE: Line<'static> = Line::Live { id: 7, hex: b"-" };
-
-const FEEDBACK: Line<'static> = Line::Feedback {
-    id: 7,
-    client: 5,
-    hex: b"-",
-};
-
-// The channel of this number, with this share.
-fn sharing(id: u16, share: u64) -> Line<'static> {
-    Line::Channel(Channel {
-        id,
-        share,
-        ..channel()
-    })
+#[test]
+fn lines_come_in_their_order(rt: HostRuntime) -> Result<(), Fail> {
+    let trace = "order live 7 -|order @|order end|order tick|ok rams-trace 1 tick 10 link 20000|\
+        order rams-trace 1 tick 10 link 20000|order live 7 -|order fb 7 5 -|order tick|order end|\
+        ok @|order rams-trace 1 tick 10 link 20000|ok live 7 -|ok fb 7 5 -|ok tick|\
+        order @channel 7>channel 8|order rams-trace 2 tick 10 link 20000|ok live 9 -|form lives 7 -|\
+        ok end|order end|order tick|order live 7 -|order @|order rams-trace 1 tick 10 link 20000";
+    expect_trace(&rt, rt.alloc(), Mode::Run, trace)
 }
 
 #[test]
-fn lines_come_in_their_order(rt: HostRuntime) {
-    let order = Err(LineFault::Order);
-    let traces = [
-        // an event, a channel or the end before the head
-        [
-            (LIVE, order),
-            (sharing(7, 10000), order),
-            (Line::End, order),
-            (HEAD, Ok(())),
-        ],
-        // events and the end need a channel, and there is one head
-        [
-            (HEAD, Ok(())),
-            (Line::End, order),
-            (Line::Tick, order),
-            (HEAD, order),
-        ],
-        [
-            (HEAD, Ok(())),
-            (LIVE, order),
-            (FEEDBACK, order),
-            (sharing(7, 10000), Ok(())),
-        ],
-        // no channel and no head behind an event
-        [
-            (HEAD, Ok(())),
-            (sharing(7, 10000), Ok(())),
-            (Line::Tick, Ok(())),
-            (sharing(8, 10000), order),
-        ],
-        [
-            (HEAD, Ok(())),
-            (sharing(7, 10000), Ok(())),
-            (LIVE, Ok(())),
-            (HEAD, order),
-        ],
-        [
-            (HEAD, Ok(())),
-            (sharing(7, 10000), Ok(())),
-            (FEEDBACK, Ok(())),
-            (Line::End, Ok(())),
-        ],
-        // the number of a channel stands once, the shares fit into the link
-        [
-            (HEAD, Ok(())),
-            (sharing(7, 10000), Ok(())),
-            (sharing(7, 10000), Err(LineFault::Twice)),
-            (sharing(8, 10000), Ok(())),
-        ],
-        [
-            (HEAD, Ok(())),
-            (sharing(7, 10000), Ok(())),
-            (sharing(8, 10001), Err(LineFault::Rule(4))),
-            (sharing(8, 10000), Ok(())),
-        ],
-        [
-            (HEAD, Ok(())),
-            (sharing(7, 20001), Err(LineFault::Rule(4))),
-            (sharing(7, 20000), Ok(())),
-            (sharing(7, 0), Err(LineFault::Range)),
-        ],
-    ];
-    for (number, trace) in traces.iter().enumerate() {
-        let mut state = State::new(Mode::Run);
-        for (line, answer) in trace {
-            assert!(rt; state.accept(line) == *answer, "trace {number}: {line:?}");
-        }
-    }
+fn each_mode_has_its_lines(rt: HostRuntime) -> Result<(), Fail> {
+    let run = "ok rams-trace 1 tick 10 link 20000|ok @|ok @channel 7>channel 8|ok live 9 -|\
+        ok fb 9 5 -|ok tick|order tune 7 5 00000005|order give 3|order mcast 7 5 65546|\
+        order ask 7 5|order drop 7 5|ok end";
+    let meet = "ok rams-trace 1 tick 10 link 20000|ok @|ok @channel 7>channel 8|ok live 9 -|\
+        ok fb 9 5 -|ok tick|ok tune 7 5 00000005|ok give 3|ok mcast 7 5 65546|ok ask 7 5|\
+        ok drop 9 5|range ask 0 5|ok end|order give 3";
+    let threads = "ok rams-trace 1 tick 10 link 20000|ok @|order @channel 7>channel 8|\
+        order @ring 64>ring 0|ok live 7 -|ok fb 7 5 -|range live 9 -|range fb 9 5 -|range live 0 -|\
+        ok tick|order tune 7 5 00000005|order give 3|order mcast 7 5 65546|order ask 0 5|\
+        order drop 7 5|ok end|order live 9 -";
+    let serve = "ok rams-trace 1 tick 10 link 20000|ok @|ok @channel 7>channel 8|order live 7 -|\
+        order live 0 -|order fb 7 5 -|order tick|order tune 7 5 00000005|order give 3|\
+        order mcast 7 5 65546|order ask 7 5|order drop 7 5|ok end|order @";
+    expect_trace(&rt, rt.alloc(), Mode::Run, run)?;
+    expect_trace(&rt, rt.alloc(), Mode::Meet, meet)?;
+    expect_trace(&rt, rt.alloc(), Mode::Threads, threads)?;
+    expect_trace(&rt, rt.alloc(), Mode::Serve, serve)
+}
+
+#[test]
+fn the_order_comes_before_the_range(rt: HostRuntime) -> Result<(), Fail> {
+    let trace = "order live 0 -|form live 0 0A|order @ring 64>ring 0|\
+        range rams-trace 1 tick 0 link 1500|ok rams-trace 1 tick 10 link 20000|\
+        order rams-trace 1 tick 0 link 1500|order fb 0 5 -|range @ring 64>ring 0|ok @|\
+        order tune 0 5 00000000|range fb 7 281474976710656 -|ok tick|order @ring 64>ring 0|ok end|\
+        order live 0 -";
+    expect_trace(&rt, rt.alloc(), Mode::Run, trace)
+}
+
+#[test]
+fn channels_are_of_the_heads_version(rt: HostRuntime) -> Result<(), Fail> {
+    let first = "order @clients 4>clients 4 depth 0 swell 0|form rams-trace 3 tick 10 link 20000|\
+        ok rams-trace 1 tick 10 link 20000|order @clients 4>clients 4 depth 0 swell 0|\
+        order @clients 4>clients 4 depth 1000000001 swell 0|form @clients 4>clients 4 depth 0|\
+        range @ring 64>ring 0|ok @|order @channel 7>channel 8;clients 4>clients 4 depth 0 swell 0|\
+        ok @channel 7>channel 8|ok tick|ok end";
+    // the share is at least reserve, burst and depth together
+    let second = "ok rams-trace 2 tick 10 link 20000|order @|order @ring 64>ring 0|\
+        range @clients 4>clients 4 depth 1000000001 swell 0|\
+        range @clients 4>clients 4 depth 0 swell 1000000001|\
+        rule-3 @clients 4>clients 4 depth 4501 swell 0|\
+        rule-3 @clients 4>clients 4 depth 1000000000 swell 0|\
+        ok @clients 4>clients 4 depth 4500 swell 1000000000|order @channel 7>channel 8|\
+        ok @channel 7>channel 8;clients 4>clients 4 depth 0 swell 0|order @|ok live 7 -|ok end";
+    expect_trace(&rt, rt.alloc(), Mode::Run, first)?;
+    expect_trace(
+        &rt,
+        rt.alloc(),
+        Mode::Serve,
+        "ok rams-trace 2 tick 10 link 20000|order @",
+    )?;
+    expect_trace(&rt, rt.alloc(), Mode::Meet, second)
 }
 
 #[test]
 fn the_first_broken_rule_is_named(rt: HostRuntime) -> Result<(), Fail> {
-    let edits = [
-        ("rtx 99", "rtx 33", 1),
-        ("burst 4000", "burst 1599", 2),
-        ("share 10000", "share 5499", 3),
-    ];
-    let mut state = State::new(Mode::Run);
-    assert!(rt; state.accept(&HEAD).is_ok());
-    for (old, new, rule) in edits {
-        let text = edited(rt.alloc(), old, new)?;
-        let line = read_line(text.as_bytes());
-        assert!(rt; line.is_ok(), "{new}");
-        if let Ok(line) = line {
-            assert!(rt; state.accept(&line) == Err(LineFault::Rule(rule)), "{new}");
-        }
-    }
-    let several = [
-        (
-            Channel {
-                rtx: 33,
-                burst: 1500,
-                share: 1500,
-                ..channel()
-            },
-            1,
-        ),
-        (
-            Channel {
-                burst: 1500,
-                share: 1500,
-                ..channel()
-            },
-            2,
-        ),
-        (
-            Channel {
-                share: 20001,
-                burst: 20000,
-                ..channel()
-            },
-            3,
-        ),
-    ];
-    for (channel, rule) in several {
-        assert!(rt;
-            state.accept(&Line::Channel(channel)) == Err(LineFault::Rule(rule)),
-            "{rule}"
-        );
-    }
-    let out_of_range = Line::Channel(Channel {
-        ring: 0,
-        ..channel()
-    });
-    assert!(rt; state.accept(&out_of_range) == Err(LineFault::Range));
-    Ok(())
+    let rules = "ok rams-trace 1 tick 10 link 20000|rule-1 @rtx 99>rtx 33|\
+        rule-2 @burst 4000>burst 1599|rule-3 @share 10000>share 5499|\
+        rule-4 @share 10000>share 20001|\
+        rule-1 @rtx 99>rtx 33;share 10000>share 1500;burst 4000>burst 1500|\
+        rule-2 @share 10000>share 1500;burst 4000>burst 1500|\
+        rule-3 @share 10000>share 20001;burst 4000>burst 20000|\
+        range @rtx 99>rtx 33;ring 64>ring 0|ok @share 10000>share 5500;burst 4000>burst 4000|\
+        twice @pt 33>pt 99|range @ring 64>ring 32769|ok @channel 7>channel 8;burst 4000>burst 1600|\
+        rule-4 @channel 7>channel 9|rule-1 @channel 7>channel 9;pt 33>pt 99|\
+        rule-4 @channel 7>channel 9;share 10000>share 5500|\
+        twice @channel 7>channel 8;share 10000>share 1500|\
+        ok @channel 7>channel 9;share 10000>share 4500;burst 4000>burst 3000";
+    expect_trace(&rt, rt.alloc(), Mode::Run, rules)
 }
 
 #[test]
-fn there_are_at_most_64_channels(rt: HostRuntime) {
+fn there_are_at_most_64_channels(rt: HostRuntime) -> Result<(), Fail> {
+    let alloc = rt.alloc();
     let mut state = State::new(Mode::Run);
-    let head = Line::Head {
-        tick_ms: 10,
-        link: 1_000_000,
-    };
-    assert!(rt; state.accept(&head).is_ok());
+    let head = "ok rams-trace 1 tick 10 link 1000000";
+    expect_lines(&rt, alloc, &mut state, head)?;
     for id in 1..=64 {
-        assert!(rt; state.accept(&sharing(id, 10000)).is_ok(), "{id}");
+        let channel = format!(in alloc; "ok @channel 7>channel {id}")?;
+        expect_lines(&rt, alloc, &mut state, &channel)?;
     }
-    assert!(rt; state.accept(&sharing(65, 10000)) == Err(LineFault::Rule(5)));
-    assert!(rt; state.accept(&sharing(65, 360001)) == Err(LineFault::Rule(4)));
-    assert!(rt; state.accept(&sharing(65, 360000)) == Err(LineFault::Rule(5)));
-    assert!(rt; state.accept(&sharing(64, 10000)) == Err(LineFault::Twice));
-    assert!(rt; state.accept(&Line::End).is_ok());
+    let more = "rule-5 @channel 7>channel 65|rule-4 @channel 7>channel 65;share 10000>share 360001|\
+        rule-5 @channel 7>channel 65;share 10000>share 360000|twice @channel 7>channel 64|ok end";
+    expect_lines(&rt, alloc, &mut state, more)
 }

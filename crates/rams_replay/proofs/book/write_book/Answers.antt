@@ -1,7 +1,7 @@
 use Rattle.std.proofs.Common.{◌≡◌, ◌++◌, [], length, Result, sym, ap, ◌∙◌, subst, length-append, arith}
 use Rattle.std.proofs.lemmas.Result.{err_from_is_err_and}
 use Rattle.rams_model.specs.declared.status.Status.{Status}
-use Rattle.rams_model.specs.First.TraceText.{first_line}
+use Rattle.trace_book.specs.TraceText.{first_line}
 use Rattle.rams_replay.specs.declared.stop.Stop.{Stop}
 use Rattle.rams_replay.specs.Stops.{OnlyMemoryStops}
 use Rattle.rams_replay.proofs.Reading.{not_by_source, ended_by_source, lines_then_all}

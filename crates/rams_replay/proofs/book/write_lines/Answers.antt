@@ -4,6 +4,7 @@ use Rattle.std.specs.Io.KnownBytes.{prepend_known}
 use Rattle.rams_model.specs.declared.status.Status.{Status}
 use Rattle.rams_replay.specs.declared.stop.Stop.{Stop}
 use Rattle.rams_replay.specs.Stops.{OnlyMemoryStops, StopsIn}
+use Rattle.trace_book.specs.TraceText.{opening}
 use Rattle.rams_replay.specs.Told.{IfTold}
 use Rattle.rams_replay.specs.declared.stop.Stop.TheVariants.{Memory, Read}
 use Rattle.rams_replay.proofs.Reading.{not_by_source}
@@ -20,9 +21,9 @@ returns-in_err-reader-clause-front g c =
 pub loop-number-init : goal.loop-number-init
 loop-number-init g c =
     let begins = running_begins (g.K.Sink.held c.args.sink.now) (g.K.Sink.held c.args.sink.now) (g.K.Sink.faults c.args.sink.now) (g.K.Sink.faults c.args.sink.now) (g.K.Sink.is_steady c.args.sink.now) (g.K.Sink.is_steady c.args.sink.now)
-    c.args.writer.now.gather c.args.writer.now.gather c.new_replay-replay.result.core c.new_replay-replay.result.events c.new_replay-replay.result.state
+    c.args.writer.now.gather c.args.writer.now.gather c.new_replay-replay.result.hub c.new_replay-replay.result.events c.new_replay-replay.result.state
     (g.S.Source.left c.args.source.now) c.in_ok-reader.reader.kept c.in_ok-reader.ensures.kept refl refl (λ n s. s) refl c.new_replay-replay.ensures in
-    (begins, omega arith, omega arith, λ s. s)
+    (begins, omega arith, omega arith, λ s. s, (opening, c.new_replay-replay.ensures))
 
 pub returns-in_err-turn-clause-front : goal.returns-in_err-turn-clause-front
 returns-in_err-turn-clause-front g c =
@@ -62,7 +63,7 @@ returns-in_err-write_turn-clause-steady g c = λ calm.
     let leaves = prepend_known c.loop-number.reader.kept (g.S.Source.left c.loop-number.source) in
     let later = prepend_known c.next_turn.new.reader.kept (g.S.Source.left c.next_turn.new.source) in
     let p = err_from_is_err_and c.from_residual-in_err-write_turn.result c.from_residual-in_err-write_turn.ensures.1 in
-    let room = running_has_room _ _ _ _ (g.K.Sink.is_steady c.args.sink.now) (g.K.Sink.is_steady c.loop-number.sink) c.args.writer.now.gather c.loop-number.writer.gather _ _ _ c.next_turn.new.replay.core c.next_turn.new.replay.events _ c.loop-number.number c.in_ok-turn.turn
+    let room = running_has_room _ _ _ _ (g.K.Sink.is_steady c.args.sink.now) (g.K.Sink.is_steady c.loop-number.sink) c.args.writer.now.gather c.loop-number.writer.gather _ _ _ c.next_turn.new.replay.hub c.next_turn.new.replay.events _ c.loop-number.number c.in_ok-turn.turn
     left leaves later c.loop-number.invariant.0 c.in_ok-turn.ensures.turn in
     told_gives left _ _
     (λ xs has. λ room s.
@@ -96,7 +97,7 @@ loop-number-preserved g c =
     let more_writes = c.write_turn.ensures.cause.later in
     let goes_on = running_goes_on _ _ _ _ _ _ _ _ _ _ _ _ _ _ _ _ _ _ _ _ left leaves later c.loop-number.invariant.0 c.in_ok-turn.ensures.turn (sym c.ending.ensures.value ∙ c.in_default.is) c.in_ok-write_turn.ensures.all
     more_writes c.in_ok-write_turn.ensures.steady in
-    (goes_on, omega arith, omega arith, λ s. c.in_ok-turn.ensures.steady (c.loop-number.invariant.3 s))
+    (goes_on, omega arith, omega arith, λ s. c.in_ok-turn.ensures.steady (c.loop-number.invariant.3 s), c.in_ok-turn.ensures.stands (sym c.ending.ensures.value ∙ c.in_default.is))
 
 pub returns-clause-front : goal.returns-clause-front
 returns-clause-front g c =

@@ -1,6 +1,7 @@
 use Rattle.std.proofs.Common.{◌≤◌}
 use Rattle.std.specs.Io.KnownBytes.{prepend_known}
 use Rattle.rams_replay.specs.Told.{IfBothTold}
+use Rattle.rams_replay.specs.Turns.{StandsSomewhere}
 use Rattle.rams_replay.proofs.Running.{IsRunning}
 use Rattle.rams_replay.proofs.book.write_lines.Given as goal
 
@@ -8,7 +9,8 @@ abbrev pub invariant-loop-number : goal.invariant-loop-number
 invariant-loop-number g l =
     IfBothTold (g.S.Source.left l.fn.source) (prepend_known l.reader.kept (g.S.Source.left l.source))
     (IsRunning (g.K.Sink.held l.fn.sink) (g.K.Sink.held l.sink) (g.K.Sink.faults l.fn.sink) (g.K.Sink.faults l.sink) (g.K.Sink.is_steady l.fn.sink) (g.K.Sink.is_steady l.sink)
-    l.fn.writer.gather l.writer.gather l.replay.core l.replay.events l.replay.state l.number)
+    l.fn.writer.gather l.writer.gather l.replay.hub l.replay.events l.replay.state l.number)
     × (g.S.Source.faults l.fn.source ≤ g.S.Source.faults l.source)
     × (g.K.Sink.faults l.fn.sink ≤ g.K.Sink.faults l.sink)
     × (g.S.Source.is_steady l.fn.source → g.S.Source.is_steady l.source)
+    × StandsSomewhere l.replay.hub l.replay.events l.replay.state

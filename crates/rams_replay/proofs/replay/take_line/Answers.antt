@@ -1,11 +1,32 @@
-use Rattle.std.proofs.Common.{◌≡◌, Err, ◌∙◌, subst}
+use Rattle.std.proofs.Common.{◌≡◌, Ok, Err, subst}
+use Rattle.std.proofs.lemmas.Result.{IfOk-weaker}
 use Rattle.rams_model.specs.TraceOrder.{Reached, judged}
-use Rattle.rams_replay.proofs.Turning.{refused_turn}
+use Rattle.trace_text.specs.Shown.{shown}
+use Rattle.rams_replay.proofs.Turning.{comes_next, judged_turn, refused_turn, goes_somewhere}
 use Rattle.rams_replay.proofs.replay.take_line.Goals as goal
+
+pub after_line-requires-clause-comes : goal.after_line-requires-clause-comes
+after_line-requires-clause-comes c =
+    (c.requires.0, comes_next _ _ _ c.judge.new.self c.args.line.now (shown c.in-Ok.read) c.requires.0 c.requires.1 c.in-Ok.ensures.ok)
+
+pub returns-in-Ok-clause-turn : goal.returns-in-Ok-clause-turn
+returns-in-Ok-clause-turn c =
+    IfOk-weaker c.after_line.result _ _
+    (λ t took stage number stands.
+    judged_turn stage number c.args.line.now (shown c.in-Ok.read) c.judge.new.self _ _ _ t
+    (subst (λ (r : Reached). judged r c.args.line.now ≡ Ok (shown c.in-Ok.read, c.judge.new.self)) stands.lines c.in-Ok.ensures.ok)
+    (took stage number (comes_next _ _ _ c.judge.new.self c.args.line.now (shown c.in-Ok.read) stage stands c.in-Ok.ensures.ok)))
+    c.after_line.ensures.turn
+
+pub returns-in-Ok-clause-stands : goal.returns-in-Ok-clause-stands
+returns-in-Ok-clause-stands c =
+    IfOk-weaker c.after_line.result _ _
+    (λ t took. λ none.
+    goes_somewhere _ _ _ _ 0 t
+    (took c.requires.0 0 (comes_next _ _ _ c.judge.new.self c.args.line.now (shown c.in-Ok.read) c.requires.0 c.requires.1 c.in-Ok.ensures.ok)) none)
+    c.after_line.ensures.turn
 
 pub returns-in-Err-clause-turn : goal.returns-in-Err-clause-turn
 returns-in-Err-clause-turn c = λ stage number stands.
-    refused_turn stage number c.args.line.now _ c.in-Err.fault _ _ _ c.refuse.result
+    refused_turn stage number c.args.line.now c.in-Err.fault _ _ _
     (subst (λ (r : Reached). judged r c.args.line.now ≡ Err c.in-Err.fault) stands.lines c.in-Err.ensures.err)
-    c.kind_of_first_word.ensures stands.counted
-    (c.refuse.ensures.turn c.args.replay.now.core stage number (c.in-Err.ensures.same ∙ stands.lines))

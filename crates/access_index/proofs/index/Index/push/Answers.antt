@@ -1,0 +1,49 @@
+use Rattle.std.proofs.Common.{◌≡◌, [], ◌∷◌, ◌++◌, ◌==◌, if◌then◌else◌, sym, ◌∙◌, ap, subst, arith}
+use Rattle.std.proofs.lemmas.Bool.Decides.{nat_tests}
+use Rattle.access_index.specs.Seen.{Seen, pushed}
+use Rattle.access_index.specs.Marks.{StandsFor}
+use Rattle.access_index.proofs.Points.{rise-length}
+use Rattle.access_index.proofs.Standing.{pushed_stands}
+use Rattle.access_index.proofs.Pushing.{IsTaken, taken_point, taken_other, taken_is, taken_rise}
+use Rattle.access_index.proofs.index.Index.push.Goals as goal
+use Rattle.access_index.proofs.index.Index.push.Goals.{then-access, else-access, then-self, else-self}
+
+pub push_back_reserved-requires : goal.push_back_reserved-requires
+push_back_reserved-requires c =
+    let i = c.self.inside in
+    omega (arith, rise-length i.lo i.hi 0 i.total i.points.items c.self.invariant.rise, c.self.invariant.room, i.points.ok, ap (λ v. v.hi) c.self.view_is, ap (λ v. v.lo) c.self.view_is, ap (λ v. v.capacity) c.self.view_is, c.requires.room)
+
+pub invariant_of-self : goal.invariant_of-self
+invariant_of-self c =
+    let old = c.self.inside in
+    let new = c.if-access.self-inside in
+    let first : c.if-self.self ≡ (if old.lo == old.hi then c.args.n else old.lo) = elim c.if-self.branch [ then-self w ↦ grind (arith, nat_tests) | else-self w ↦ grind (arith, nat_tests) ] in
+    let taken : IsTaken old new c.if-self.self c.args.n c.args.ts c.args.access = elim c.if-access.branch [
+      | then-access w ↦ taken_point old new w.push_back_reserved.new.self c.if-self.self c.args.n c.args.ts c.args.access w.self-inside-is w.if-access.true w.push_back_reserved.ensures.items w.push_back_reserved.ensures.capacity
+      | else-access w ↦ taken_other old new c.if-self.self c.args.n c.args.ts c.args.access w.self-inside-is w.if-access.false
+    ] in
+    record {
+      rise = taken_rise old new c.if-self.self c.args.n c.args.ts c.args.wire c.from.result c.args.access c.self.invariant.rise first c.from.ensures
+          (λ some. let lo : old.lo ≡ c.args.self.now.lo = ap (λ v. v.lo) c.self.view_is in let hi : old.hi ≡ c.args.self.now.hi = ap (λ v. v.hi) c.self.view_is in c.requires.next (omega (arith, some)) ∙ sym hi) taken;
+      small = omega (arith, c.requires.small);
+      bytes = omega (arith, c.self.invariant.bytes, c.from.ensures, c.requires.wire, taken.total, taken.calls);
+      few = omega (arith, taken.calls, c.requires.few, ap (λ v. v.calls) c.self.view_is);
+      room = omega (arith, taken.capacity, taken.room, c.self.invariant.room);
+    }
+
+pub returns-clause-step : goal.returns-clause-step
+returns-clause-step c =
+    let old = c.self.inside in
+    let new = c.if-access.self-inside in
+    let first : c.if-self.self ≡ (if old.lo == old.hi then c.args.n else old.lo) = elim c.if-self.branch [ then-self w ↦ grind (arith, nat_tests) | else-self w ↦ grind (arith, nat_tests) ] in
+    let taken : IsTaken old new c.if-self.self c.args.n c.args.ts c.args.access = elim c.if-access.branch [
+      | then-access w ↦ taken_point old new w.push_back_reserved.new.self c.if-self.self c.args.n c.args.ts c.args.access w.self-inside-is w.if-access.true w.push_back_reserved.ensures.items w.push_back_reserved.ensures.capacity
+      | else-access w ↦ taken_other old new c.if-self.self c.args.n c.args.ts c.args.access w.self-inside-is w.if-access.false
+    ] in
+    taken_is old new c.if-self.self c.args.n c.args.ts c.args.wire c.from.result c.args.access c.self.invariant.rise first c.from.ensures taken
+    ∙ ap (λ v. pushed v c.args.n c.args.ts c.args.wire c.args.access) c.self.view_is
+
+pub returns-clause-stands : goal.returns-clause-stands
+returns-clause-stands c = λ marks h is_n is_ts is_wire is_access stood.
+    subst (λ (v : Seen). StandsFor v (marks ++ h ∷ [])) (sym (returns-clause-step c))
+    (pushed_stands c.args.self.now c.args.n c.args.ts c.args.wire c.args.access marks h c.requires.next is_n is_ts is_wire is_access stood)

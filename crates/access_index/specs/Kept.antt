@@ -1,0 +1,22 @@
+-- The access points as an index keeps them, each with the bytes that were pushed before it.
+use Rattle.std.specs.Prelude.{ℕ, ◌+◌, ◌-◌, ◌≤◌, nat_lt, if◌then◌else◌, List, [], ◌∷◌, map}
+use Rattle.access_index.specs.declared.index.Point.{Point}
+use Rattle.access_index.specs.Seen.{AccessPoint, Seen}
+
+-- a point, of all bytes that were pushed
+abbrev pub shown : ℕ → Point → AccessPoint
+shown total p = record { n = p.n; ts = p.ts; behind = total - p.before }
+
+abbrev pub seen_of : ℕ → ℕ → ℕ → ℕ → ℕ → ℕ → List Point → Seen
+seen_of capacity calls lo hi last total points =
+    record { capacity = capacity; calls = calls; lo = lo; hi = hi; last = last; points = map (shown total) points }
+
+-- the numbers rise, from `lo` on and below `hi`, and the bytes before the points rise, from `least` on up to `total`
+abbrev pub RiseIn : ℕ → ℕ → ℕ → ℕ → List Point → Type 0
+RiseIn lo hi least total [] = (lo ≤ hi) × (least ≤ total)
+RiseIn lo hi least total (p ∷ ps) = ((lo ≤ p.n) × (least ≤ p.before)) × RiseIn (p.n + 1) hi p.before total ps
+
+-- without the points in front that have numbers below `lo`
+abbrev pub above : ℕ → List Point → List Point
+above lo [] = []
+above lo (p ∷ ps) = if nat_lt p.n lo then above lo ps else p ∷ ps

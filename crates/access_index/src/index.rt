@@ -1,0 +1,176 @@
+//! The index of one channel's access points.
+ghost use Rattle.std.specs.Prelude.{◌≡◌, ◌-◌, ◌*◌, ◌^◌, ◌<◌, ◌≤◌, List, [], ◌∷◌, ◌++◌, IfOk};
+ghost use Rattle.rams_model.specs.declared.channel.Channel.{Channel};
+ghost use Rattle.rams_model.specs.declared.held.Held.{Held};
+ghost use Rattle.rams_model.specs.Hold.{from_number};
+ghost use Rattle.rams_model.specs.Access.{chosen};
+ghost use Rattle.std.specs.VecDeque.{deque_capacity};
+ghost use Rattle.access_index.specs.Kept.{above};
+ghost use Rattle.access_index.specs.Seen.{new_index, pushed, left_from, start_unless, choice};
+ghost use Rattle.access_index.specs.Marks.{StandsFor, choice_of};
+
+use crate::Choice;
+use ext_seq::age_ms;
+use ram_io::NoMemory;
+use std::alloc::Global;
+use std::collections::VecDeque;
+use std::marker::Model;
+
+/// An access point.
+#[derive(Clone, Copy)]
+struct Point {
+    n: u64,
+    ts: u32,
+    /// The wire sizes of all packets that were pushed before it.
+    before: u64,
+}
+
+/// The access points among the marks, which are the packets that were pushed and not dropped. The
+/// numbers of the marks follow one another.
+#[derive(Drop)]
+pub struct Index {
+    /// Most marks.
+    capacity: u32,
+    /// How many packets were pushed.
+    calls: u64,
+    /// The number of the first mark, and one above that of the last.
+    lo: u64,
+    hi: u64,
+    /// The timestamp of the last packet that was pushed.
+    last: u32,
+    /// The wire sizes of all packets that were pushed.
+    total: u64,
+    points: VecDeque<Point>,
+}
+
+impl Model for Index {
+    ghost use Rattle.std.specs.Prelude.{◌*◌, ◌^◌, ◌≤◌};
+    ghost use Rattle.std.specs.VecDeque.{deque_capacity};
+    ghost use Rattle.access_index.specs.Seen.{Seen};
+    ghost use Rattle.access_index.specs.Kept.{seen_of, RiseIn};
+
+    ghost Value = { Seen };
+
+    ghost view = { λ i. seen_of i.capacity i.calls i.lo i.hi i.last i.total i.points.items };
+
+    ghost invariant = { λ i. record {
+      rise : RiseIn i.lo i.hi 0 i.total i.points.items;
+      small : i.hi ≤ 2 ^ 62;
+      bytes : i.total ≤ 1500 * i.calls;
+      few : i.calls ≤ 2 ^ 40;
+      room : i.capacity ≤ deque_capacity i.points;
+    } };
+}
+
+impl Index {
+    /// An index with no marks. It takes room for `capacity` of them, so that no other call takes
+    /// memory.
+    pub fn new(alloc: Global, capacity: u32) -> Result<Index, NoMemory>
+        requires some { 1 ≤ capacity }
+        requires bounded { capacity ≤ 32768 }
+        ensures value { IfOk result (λ index. index ≡ new_index capacity) }
+        ensures stands { IfOk result (λ index. StandsFor index []) }
+    {
+        Ok(Index {
+            capacity,
+            calls: 0,
+            lo: 0,
+            hi: 0,
+            last: 0,
+            total: 0,
+            points: VecDeque::with_capacity(alloc, capacity as usize)?,
+        })
+    }
+
+    /// Takes the next packet: its number, its timestamp in units of 1/90,000 s, its bytes on the wire, and
+    /// whether it is an access point. Its number is one above the last mark's; where no mark is left it
+    /// may be any.
+    pub fn push(&mut self, n: u64, ts: u32, wire: u32, access: bool)
+        requires room { self.old.hi - self.old.lo < self.old.capacity }
+        requires next { self.old.lo < self.old.hi → n ≡ self.old.hi }
+        requires wire { wire ≤ 1500 }
+        requires small { n < 2 ^ 62 }
+        requires few { self.old.calls < 2 ^ 40 }
+        ensures step { self.new ≡ pushed self.old n ts wire access }
+        ensures stands { (marks : List Held) (h : Held) → h.n ≡ n → h.ts ≡ ts → h.wire ≡ wire → h.access ≡ access →
+            StandsFor self.old marks → StandsFor self.new (marks ++ h ∷ []) }
+    {
+        // Where no mark is left, the interval begins anew.
+        self.lo = if self.lo == self.hi { n } else { self.lo };
+        if access {
+            self.points.push_back_reserved(Point {
+                n,
+                ts,
+                before: self.total,
+            });
+        }
+        self.hi = n + 1;
+        self.last = ts;
+        self.total += u64::from(wire);
+        self.calls += 1;
+    }
+
+    /// The marks below `lo` go, whether some are left or none. It takes as long as access points go.
+    pub fn drop_below(&mut self, lo: u64)
+        ensures step { self.new ≡ left_from self.old lo }
+        ensures stands { (marks : List Held) → StandsFor self.old marks → StandsFor self.new (from_number lo marks) }
+    {
+        drop_points(&mut self.points, lo);
+        self.lo = self.lo.max(lo).min(self.hi);
+    }
+
+    /// Chooses the newest access point that leaves room and is at least `min_ms` old, unless it is older
+    /// than `max_ms`. An access point leaves room where the wire sizes from it on, with the `declared`
+    /// bytes, are at most `room`. Its age is the time, in ms, from its timestamp to the last mark's;
+    /// timestamps go around at 2^32 (RFC 3550, 5.1). The search goes through the points from the newest on
+    /// and ends at the first that is old enough, or leaves no room.
+    pub fn choose(&self, room: u64, declared: u64, min_ms: u32, max_ms: Option<u32>) -> Choice
+        requires { declared ≤ 10 ^ 9 }
+        ensures value { result ≡ choice self.now room declared min_ms max_ms }
+        ensures stands { (c : Channel) (marks : List Held) → c.ring * c.minwire ≡ room → c.declared ≡ declared → StandsFor self.now marks →
+            result ≡ choice_of marks (chosen c marks min_ms max_ms) }
+    {
+        self.search(room, declared, min_ms, max_ms)
+    }
+
+    /// The choice by the search alone.
+    fn search(&self, room: u64, declared: u64, min_ms: u32, max_ms: Option<u32>) -> Choice
+        requires { declared ≤ 10 ^ 9 }
+        ensures { result ≡ choice self.now room declared min_ms max_ms }
+    {
+        let mut choice = Choice::NoStart;
+        for point in self.points.iter().rev() {
+            let behind = self.total - point.before;
+            if behind + declared > room {
+                break;
+            }
+            let age = age_ms(self.last, point.ts);
+            if age >= min_ms {
+                return start_at(point.n, behind, age, max_ms);
+            }
+            choice = Choice::MinUnmet;
+        }
+        choice
+    }
+}
+
+/// The points with numbers below `lo`, which stand in front, go.
+fn drop_points(points: &mut VecDeque<Point>, lo: u64)
+    ensures items { points.new.items ≡ above lo points.old.items }
+    ensures capacity { deque_capacity points.new ≡ deque_capacity points.old }
+{
+    while points.front().is_some_and(|point| point.n < lo) {
+        let _ = points.pop_front();
+    }
+}
+
+/// A start at a point of this age, where it isn't too old.
+fn start_at(n: u64, behind: u64, age: u32, max_ms: Option<u32>) -> Choice
+    ensures { result ≡ start_unless max_ms age n behind }
+{
+    if max_ms.is_some_and(|most| most < age) {
+        Choice::MaxUnmet
+    } else {
+        Choice::Start { n, behind }
+    }
+}

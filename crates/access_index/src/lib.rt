@@ -1,0 +1,14 @@
+//! The access points among the packets that a channel holds, and where a burst may begin.
+//!
+//! The packets themselves stand elsewhere: of each that is no access point only its bytes on the wire
+//! are counted here.
+#![tactic(auto)]
+
+mod choice;
+mod index;
+#[cfg(test)]
+mod tests;
+
+pub use choice::Choice;
+pub use index::Index;
+pub use ram_io::NoMemory;

@@ -1,0 +1,12 @@
+pub mod Packets
+pub mod Through
+pub mod Sizes
+pub mod Answers
+pub mod Near
+pub mod States
+pub mod Once
+pub mod Grown
+pub mod Turns
+pub mod Kept
+pub mod Notes
+pub mod Laws

@@ -1,0 +1,172 @@
+-- What the open bursts reserve fits the share.
+use Rattle.std.proofs.Common.{◌≡◌, ℕ, ◌+◌, ◌-◌, ◌≤◌, true, false, cond, not, ⊎_elim, List, [], ◌∷◌, Option, Some, None, refl, ap, sym, ◌∙◌, subst, arith, eqb}
+use Rattle.std.specs.Prelude.{Result, Ok, Err, unwrap_or, if◌then◌else◌}
+use Rattle.std.specs.List.{sum_by}
+use Rattle.std.proofs.lemmas.Bool.{cond_both, cond-true, cond-false, cases_Bool, eqb-true, eqb-false, ne_eqb, eq-eqb, ltb-false, or_left}
+use Rattle.rams_model.specs.declared.fault.TlvFault.{TlvFault}
+use Rattle.rams_model.specs.declared.held.Held.{Held}
+use Rattle.rams_model.specs.declared.note.Note.{Note}
+use Rattle.rams_model.specs.declared.note.Note.TheVariants as note
+use Rattle.rams_model.specs.Settings.{Settings}
+use Rattle.rams_model.specs.Rams.{Request, names}
+use Rattle.rams_model.specs.Access.{chosen}
+use Rattle.rams_model.specs.Rates.{rate_of}
+use Rattle.rams_model.specs.Heard.{tick}
+use Rattle.rams_model.specs.History.{began, told, noted, History, hold}
+use Rattle.rams_model.specs.Clients.{opened, is_among, placed, with_client, without}
+use Rattle.rams_model.specs.Bursts.{Burst, next, bursts, open_burst, has_open}
+use Rattle.rams_model.specs.Buckets.{most_of, reserved}
+use Rattle.rams_model.specs.Verdict.{asked_rate, is_slow, is_too_much, is_full, join_from, begins, changes, on_burst, on_request, verdict}
+use Rattle.book_laws.proofs.Legal.{IsVerdict, IsLegal}
+use Rattle.book_laws.proofs.Sums.{one_at, times, all_sum, sum_without, sum_placed, times-none, times-among, others_sum, one_changed, part_of_sum}
+use Rattle.book_laws.proofs.BurstAmounts.{opened_open, open_among, closed_among, most_falls, most_begun, most_changed, most_at_tick, of_others}
+
+-- what an Accept and an Update leave of the share, and the rate that they give
+abbrev pub Grants : Settings → History → Note → Type 0
+Grants s history (note.Accept k first rate join) =
+    (rate ≤ s.channel.burst) × (open_burst s k history ≡ None) × (reserved s history + rate + s.channel.depth + s.channel.reserve ≤ s.channel.share)
+Grants s history (note.Update k rate join) =
+    (rate ≤ s.channel.burst) × ((b : Burst) × (open_burst s k history ≡ Some b) × (reserved s history - b.rate + rate + s.channel.reserve ≤ s.channel.share))
+Grants s history note = Unit {0}
+
+asked_within : (s : Settings) (bps : Option ℕ) → rate_of bps s.tick s.channel.burst ≤ s.channel.burst
+asked_within s None = omega arith
+asked_within s (Some bps) = omega arith
+
+grants_begin : (s : Settings) (held : List Held) (k rate : ℕ) (history : History) → rate ≤ s.channel.burst → open_burst s k history ≡ None → (r : Result Held ℕ) → Grants s history (begins s held k rate history r)
+grants_begin s held k rate history most none (Err code) = tt
+grants_begin s held k rate history most none (Ok h) =
+    let amount = reserved s history + rate + s.channel.depth in
+    cond_both (is_slow s rate) (note.Refuse k 403) (if is_too_much s amount then note.Refuse k 501 else note.Accept k h.n rate (join_from s held h.n rate)) (Grants s history) (λ t. tt)
+    (λ f.
+    cond_both (is_too_much s amount) (note.Refuse k 501) (note.Accept k h.n rate (join_from s held h.n rate)) (Grants s history) (λ t. tt)
+    (λ fits. (most, none, ltb-false s.channel.share (amount + s.channel.reserve) fits)))
+
+grants_change : (s : Settings) (held : List Held) (k rate : ℕ) (history : History) (b : Burst) → rate ≤ s.channel.burst → open_burst s k history ≡ Some b → Grants s history (changes s held k rate history b)
+grants_change s held k rate history b most is =
+    let amount = reserved s history - b.rate + rate in
+    cond_both (is_slow s rate) (note.Refuse k 403) (if is_too_much s amount then note.Refuse k 501 else note.Update k rate (join_from s held (next b) rate)) (Grants s history) (λ t. tt)
+    (λ f.
+    cond_both (is_too_much s amount) (note.Refuse k 501) (note.Update k rate (join_from s held (next b) rate)) (Grants s history) (λ t. tt)
+    (λ fits. (most, (b, is, ltb-false s.channel.share (amount + s.channel.reserve) fits))))
+
+grants_on_burst : (s : Settings) (held : List Held) (k rate : ℕ) (history : History) (b : Burst) → rate ≤ s.channel.burst → open_burst s k history ≡ Some b → (bps : Option ℕ) → Grants s history (on_burst s held k rate history b bps)
+grants_on_burst s held k rate history b most is None = tt
+grants_on_burst s held k rate history b most is (Some bps) =
+    cond_both (eqb rate b.rate) (note.Again k) (changes s held k rate history b) (Grants s history) (λ t. tt) (λ f. grants_change s held k rate history b most is)
+
+grants_on_request : (s : Settings) (held : List Held) (k : ℕ) (r : Request) (history : History) (o : Option Burst) → open_burst s k history ≡ o → Grants s history (on_request s held k r history o)
+grants_on_request s held k r history (Some b) is = grants_on_burst s held k (asked_rate s r) history b (asked_within s r.bps) is r.bps
+grants_on_request s held k r history None is =
+    let start = chosen s.channel held (unwrap_or r.min_ms 0) r.max_ms in
+    cond_both (is_full s k history) (note.Refuse k 503) (begins s held k (asked_rate s r) history start) (Grants s history) (λ t. tt)
+    (λ f. grants_begin s held k (asked_rate s r) history (asked_within s r.bps) is start)
+
+grants : (s : Settings) (k : ℕ) (history : History) (request : Result Request TlvFault) → Grants s history (verdict s k history request)
+unfolding verdict
+grants s k history (Err fault) = tt
+grants s k history (Ok r) =
+    let asked = on_request s (hold s history) k r history (open_burst s k history) in
+    cond_both r.preamble (note.Refuse k 512) (if not (names r s.channel.ssrc) then note.Refuse k 509 else asked) (Grants s history) (λ t. tt)
+    (λ f.
+    cond_both (not (names r s.channel.ssrc)) (note.Refuse k 509) asked (Grants s history) (λ t. tt)
+    (λ g. grants_on_request s (hold s history) k r history (open_burst s k history) refl))
+
+pub granted : (s : Settings) (history : History) (k : ℕ) (note : Note) → IsVerdict s history k note → Grants s history note
+granted s history k note v = subst (Grants s history) v.is_verdict (grants s k history v.request)
+
+-- a client's burst in a sum over clients
+abbrev most_at : Settings → History → ℕ → ℕ
+most_at s history k = most_of s (open_burst s k history)
+
+apart : (j k : ℕ) → eqb j k ≡ false → eqb k j ≡ false
+apart j k f = ne_eqb k j (λ e. eqb-false j k f (sym e))
+
+-- a new burst
+more_reserved : (s : Settings) (history : History) (k first rate join : ℕ) (packet : Option Held) → open_burst s k history ≡ None
+    → reserved s (noted (note.Accept k first rate join) packet ∷ history) ≤ reserved s history + rate + s.channel.depth
+unfolding opened
+more_reserved s history k first rate join packet none =
+    let later = noted (note.Accept k first rate join) packet ∷ history in
+    let ks = opened history in
+    let out = closed_among s k history none in
+    let f = most_at s later in
+    let placed_is : with_client k ks ≡ placed k ks = cond-false (is_among k ks) ks (placed k ks) out in
+    let others = others_sum f (most_at s history) k ks (times-none k ks out)
+    (λ j away. omega (arith, ap (most_of s) (of_others s j (note.Accept k first rate join) packet history (apart j k away)))) in
+    omega (arith, ap (sum_by f) placed_is, sum_placed f k ks, most_begun s k first rate join packet history, others)
+
+-- each client stands once among those with an open burst
+one_more : (j k : ℕ) (ks : List ℕ) → is_among j ks ≡ false → times k ks ≤ 1 → times k (placed j ks) ≤ 1
+one_more j k ks out once =
+    let sum = sum_placed (one_at k) j ks in
+    ⊎_elim (λ t. omega (arith, sum, cond-true {A = ℕ} (eqb j k) 1 0 t, times-none k ks (subst (λ (i : ℕ). is_among i ks ≡ false) (eqb-true j k t) out)))
+    (λ f. omega (arith, sum, cond-false {A = ℕ} (eqb j k) 1 0 f)) (cases_Bool (eqb j k))
+
+pub times-opened : (k : ℕ) (history : History) → times k (opened history) ≤ 1
+unfolding opened
+times-opened k [] = omega arith
+times-opened k (began heard ∷ history) = times-opened k history
+times-opened k (told client message ∷ history) = times-opened k history
+times-opened k (noted (note.Accept client first rate join) packet ∷ history) =
+    let ks = opened history in
+    cond_both (is_among client ks) ks (placed client ks) (λ l. times k l ≤ 1) (λ t. times-opened k history) (λ out. one_more client k ks out (times-opened k history))
+times-opened k (noted (note.End client cause) packet ∷ history) = omega (arith, sum_without (one_at k) client (opened history), times-opened k history)
+times-opened k (noted note packet ∷ history) = times-opened k history
+
+-- another rate
+changed_reserved : (s : Settings) (history : History) (k rate join : ℕ) (packet : Option Held) (b : Burst) → open_burst s k history ≡ Some b
+    → reserved s (noted (note.Update k rate join) packet ∷ history) ≤ reserved s history - b.rate + rate
+unfolding opened
+changed_reserved s history k rate join packet b is =
+    let f = most_at s (noted (note.Update k rate join) packet ∷ history) in
+    let g = most_at s history in
+    let ks = opened history in
+    let among = open_among s k history b is in
+    let changed = one_changed f g k ks (times-opened k history) among
+    (λ j away. omega (arith, ap (most_of s) (of_others s j (note.Update k rate join) packet history (apart j k away)))) in
+    omega (arith, changed, part_of_sum g k ks among, ap (most_of s) is, most_changed s k rate join packet history b is)
+
+-- where a burst is open, what is reserved leaves the reserve
+abbrev Fits : Settings → History → Type 0
+Fits s history = (k : ℕ) → is_among k (opened history) ≡ true → reserved s history + s.channel.reserve ≤ s.channel.share
+
+among_others : (k client : ℕ) (ks : List ℕ) → is_among k (without client ks) ≡ true → is_among k ks ≡ true
+among_others k client ks e =
+    ⊎_elim (λ t. t)
+    (λ f. absurd (omega (arith, times-among k (without client ks) e, sum_without (one_at k) client ks, times-none k ks f))) (cases_Bool (is_among k ks))
+
+pub fits : (s : Settings) (history : History) → IsLegal s history → Fits s history
+unfolding opened bursts
+fits s [] l k e = absurd cc
+fits s (began tick ∷ history) l k e =
+    omega (arith, all_sum (most_at s (began tick ∷ history)) (most_at s history) (opened history) (λ j. most_at_tick s j history), fits s history l k e)
+fits s (began heard ∷ history) l k e = fits s history l k e
+fits s (told client message ∷ history) l k e = fits s history l k e
+fits s (noted (note.Accept client first rate join) packet ∷ history) l k e =
+    let g = granted s history client (note.Accept client first rate join) l.0 in omega (arith, g.2, more_reserved s history client first rate join packet g.1)
+fits s (noted (note.Update client rate join) packet ∷ history) l k e =
+    let g = granted s history client (note.Update client rate join) l.0 in omega (arith, g.1.2, changed_reserved s history client rate join packet g.1.0 g.1.1)
+fits s (noted (note.End client cause) packet ∷ history) l k e =
+    let ks = opened history in
+    let f = most_at s (noted (note.End client cause) packet ∷ history) in
+    omega (arith, sum_without f client ks, all_sum f (most_at s history) ks (λ j. most_falls s j (note.End client cause) packet history refl), fits s history l.1 k (among_others k client ks e))
+fits s (noted note packet ∷ history) l k e =
+    omega (arith, all_sum (most_at s (noted note packet ∷ history)) (most_at s history) (opened history) (λ j. most_falls s j note packet history refl), fits s history l.1 k e)
+
+-- what is reserved is within the share
+sum_within : (f : ℕ → ℕ) (spare share : ℕ) (ks : List ℕ) → ((k : ℕ) → is_among k ks ≡ true → sum_by f ks + spare ≤ share) → sum_by f ks ≤ share
+sum_within f spare share [] within = omega arith
+sum_within f spare share (j ∷ js) within = let w = within j (or_left (eqb j j) (is_among j js) (eq-eqb j j refl)) in omega (arith, w)
+
+pub within_share : (s : Settings) (history : History) → IsLegal s history → reserved s history ≤ s.channel.share
+within_share s history l = sum_within (most_at s history) s.channel.reserve s.channel.share (opened history) (fits s history l)
+
+-- each client with an open burst counts once
+pub counts_once : (s : Settings) (k : ℕ) (history : History) → times k (opened history) ≡ cond (has_open s k history) 1 0
+counts_once s k history =
+    let ks = opened history in
+    let once = times-opened k history in
+    let same = opened_open s k history in
+    ⊎_elim (λ t. omega (arith, times-among k ks t, cond-true {A = ℕ} (has_open s k history) 1 0 (sym same ∙ t)))
+    (λ f. omega (arith, times-none k ks f, cond-false {A = ℕ} (has_open s k history) 1 0 (sym same ∙ f))) (cases_Bool (is_among k ks))

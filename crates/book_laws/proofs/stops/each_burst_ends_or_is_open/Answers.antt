@@ -1,0 +1,29 @@
+use Rattle.std.proofs.Common.{◌≡◌, true, ◌⊎◌, ap, sym, ◌∙◌, subst}
+use Rattle.std.specs.Prelude.{is_some}
+use Rattle.std.proofs.lemmas.Bool.{true≢false}
+use Rattle.rams_model.specs.History.{History}
+use Rattle.rams_model.specs.Bursts.{has_open}
+use Rattle.book_laws.specs.Stops.{HasEnded}
+use Rattle.book_laws.proofs.Legal.{IsLegal}
+use Rattle.book_laws.proofs.Legality.{legal_moment}
+use Rattle.book_laws.proofs.Beginning.{none_is_open}
+use Rattle.book_laws.proofs.Stopping.{over, ended_or_open}
+use Rattle.book_laws.proofs.Causes.{cause_is_true}
+use Rattle.book_laws.proofs.stops.each_burst_ends_or_is_open.Goals as goal
+
+pub returns-clause-ends : goal.returns-clause-ends
+returns-clause-ends c s history m client a =
+    let P = λ (h : History). (HasEnded client a.since ⊎ (has_open s client h ≡ true)) × (HasEnded client a.since → has_open s client h ≡ true → ⊥) in
+    subst P (sym a.splits) (ended_or_open s client a.first a.rate a.join a.packet a.since a.before a.last)
+
+pub returns-clause-causes : goal.returns-clause-causes
+returns-clause-causes c s client cause packet before m = let l = legal_moment s _ m in cause_is_true s client cause before l.1 l.0
+
+pub returns-clause-apart : goal.returns-clause-apart
+returns-clause-apart c s client first rate join packet before m e =
+    let none = none_is_open s client first rate join before (legal_moment s _ m).0 in
+    true≢false (sym e ∙ ap (λ o. is_some o) none)
+
+pub returns-clause-over : goal.returns-clause-over
+returns-clause-over c s history m client a cause end =
+    over s client a.first a.rate a.join a.packet a.since a.before a.last (subst (IsLegal s) a.splits (legal_moment s history m)) cause end

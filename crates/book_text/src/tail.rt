@@ -1,0 +1,112 @@
+//! The end of a line, which grows at its front.
+ghost use Rattle.std.specs.Prelude.{◌≡◌, ◌+◌, ◌≤◌, ◌<◌, ◌++◌, [], ◌∷◌, OnOk, length, decimal};
+ghost use Rattle.rams_model.specs.BookText.{spaced, of_number};
+
+use itoa::write_digits;
+use ram_io::NoMemory;
+use std::marker::Model;
+
+/// Bytes of the longest line of a note, and more.
+const ROOM: usize = 160;
+
+/// The end of a line. It is written from its last byte to its first, as digits are, and then appended
+/// to a text as a whole.
+#[derive(Drop)]
+pub struct Tail {
+    bytes: [u8; ROOM],
+    start: usize,
+}
+
+impl Model for Tail {
+    ghost use Rattle.std.specs.Prelude.{ℕ, List, ◌≤◌, drop};
+
+    ghost Value = { List ℕ };
+
+    ghost view = { λ tail. drop tail.start tail.bytes };
+
+    ghost invariant = { λ tail. tail.start ≤ 160 };
+}
+
+impl Tail {
+    /// No bytes.
+    #[inline]
+    pub fn new() -> Tail
+        ensures { result ≡ [] }
+    {
+        Tail {
+            bytes: [0; ROOM],
+            start: ROOM,
+        }
+    }
+
+    /// Appends it to a text.
+    pub fn append_to(&self, text: &mut Vec<u8>) -> Result<(), NoMemory>
+        ensures { OnOk result (text.new.items ≡ text.old.items ++ self.now) }
+    {
+        text.extend_from_slice(&self.bytes[self.start..])?;
+        Ok(())
+    }
+
+    /// A byte in front.
+    #[inline]
+    pub fn byte(&mut self, byte: u8)
+        requires { length self.old < 160 }
+        ensures { self.new ≡ byte ∷ self.old }
+    {
+        self.start -= 1;
+        self.bytes[self.start] = byte;
+    }
+
+    /// A word in front.
+    #[inline]
+    pub fn word(&mut self, word: &[u8])
+        requires { length word.now + length self.old ≤ 160 }
+        ensures { self.new ≡ word.now ++ self.old }
+    {
+        let end = self.start;
+        self.start -= word.len();
+        self.bytes[self.start..end].copy_from_slice(word);
+    }
+
+    /// A number in front, in decimal digits.
+    pub fn number(&mut self, n: u64)
+        requires { length self.old + 20 ≤ 160 }
+        ensures line { self.new ≡ decimal n ++ self.old }
+        ensures few { length self.new ≤ length self.old + 20 }
+    {
+        self.start = write_digits(n, &mut self.bytes, self.start);
+    }
+
+    /// A space and a number in front.
+    #[inline]
+    pub fn spaced(&mut self, n: u64)
+        requires { length self.old + 21 ≤ 160 }
+        ensures line { self.new ≡ spaced n ++ self.old }
+        ensures few { length self.new ≤ length self.old + 21 }
+    {
+        self.number(n);
+        self.byte(b' ');
+    }
+
+    /// A word, a space and a number in front.
+    #[inline]
+    pub fn named(&mut self, word: &[u8], n: u64)
+        requires { length word.now + length self.old + 21 ≤ 160 }
+        ensures line { self.new ≡ word.now ++ spaced n ++ self.old }
+        ensures few { length self.new ≤ length word.now + length self.old + 21 }
+    {
+        self.spaced(n);
+        self.word(word);
+    }
+
+    /// A word, a client and a number in front.
+    #[inline]
+    pub fn numbered(&mut self, word: &[u8], client: u64, n: u64)
+        requires { length word.now + length self.old + 42 ≤ 160 }
+        ensures line { self.new ≡ of_number word.now client n ++ self.old }
+        ensures few { length self.new ≤ length word.now + length self.old + 42 }
+    {
+        self.spaced(n);
+        self.named(word, client);
+    }
+}

@@ -1,0 +1,9 @@
+pub mod Lengths
+pub mod Wholes
+pub mod Stocking
+pub mod Draining
+pub mod Placing
+pub mod Starting
+pub mod Stepping
+pub mod Shown
+pub mod Booked

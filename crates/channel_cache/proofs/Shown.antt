@@ -1,0 +1,106 @@
+-- A cache stands for what its numbering and its packets in time stand for.
+use Rattle.std.proofs.Common.{◌≡◌, ℕ, zero, suc, ◌+◌, ◌-◌, List, [], ◌∷◌, ◌++◌, drop, Some, refl, sym, ap, ◌∙◌, subst}
+use Rattle.rams_model.specs.declared.channel.Channel.{Channel}
+use Rattle.rams_model.specs.declared.held.Held.{Held}
+use Rattle.rams_model.specs.declared.note.LiveNote.{LiveNote}
+use Rattle.rams_model.specs.Settings.{Settings}
+use Rattle.rams_model.specs.Heard.{Heard, live, dropped, heard_live}
+use Rattle.rams_model.specs.Hold.{last_of}
+use Rattle.rams_model.specs.Source.{Arrival, Stream, stream_of, live_note, source, consecutive_end, hold}
+use Rattle.ext_seq.specs.Numbers.{new_numbering}
+use Rattle.ext_seq.specs.Numbers as numbers
+use Rattle.packet_ring.specs.Seen as rings
+use Rattle.channel_cache.specs.declared.cache.Cache.TheInside.{Inside}
+use Rattle.channel_cache.specs.declared.intake.Intake.{Intake}
+use Rattle.channel_cache.specs.Arrivals.{note_heard, arrivals_heard, live_note_of, arrivals_after}
+use Rattle.channel_cache.specs.Brought.{due, Waits}
+use Rattle.channel_cache.specs.Waiting.{new_intake}
+use Rattle.channel_cache.specs.Step.{Stand}
+use Rattle.channel_cache.specs.Seen.{Seen, new_cache, StandsFor}
+
+-- what a cache with these parts keeps
+abbrev pub seen_at : Settings → ℕ → numbers.Seen → Intake → Seen
+seen_at s calls numbering intake = record { settings = s; calls = calls; numbering = numbering; window = intake.window; held = intake.stock.ring.held }
+
+-- the parts are of these sizes
+pub record Fit (s : Settings) (intake : Intake) : Type 0 where
+  pub width : intake.window.width ≡ s.channel.window
+  pub ring : intake.stock.ring.capacity ≡ s.channel.ring
+
+held_holds : (ring : rings.Seen) (width capacity : ℕ) (s : Stream) → ring.capacity ≡ capacity → ring.held ≡ hold width capacity s → rings.StandsFor ring (s.ended ++ due width s.present)
+unfolding hold source
+held_holds ring width capacity s same held = held ∙ ap (λ n. last_of n (consecutive_end (s.ended ++ due width s.present))) (sym same)
+
+holds_held : (ring : rings.Seen) (width capacity : ℕ) (s : Stream) → ring.capacity ≡ capacity → rings.StandsFor ring (s.ended ++ due width s.present) → ring.held ≡ hold width capacity s
+unfolding hold source
+holds_held ring width capacity s same holds = holds ∙ ap (λ n. last_of n (consecutive_end (s.ended ++ due width s.present))) same
+
+pub stand_of : (s : Settings) (calls : ℕ) (numbering : numbers.Seen) (intake : Intake) (arrivals : List Arrival) → Fit s intake → StandsFor (seen_at s calls numbering intake) arrivals → Stand numbering intake arrivals
+stand_of s calls numbering intake arrivals fit stood =
+    let width = s.channel.window in
+    let back = sym fit.width in
+    record {
+      numbered = subst (λ (n : ℕ). numbers.StandsFor numbering n arrivals) back stood.numbering;
+      brought = record {
+        waits = subst (λ (n : ℕ). Waits intake.window n (stream_of n arrivals).present) back stood.waits;
+        holds = subst (λ (n : ℕ). rings.StandsFor intake.stock.ring ((stream_of n arrivals).ended ++ due n (stream_of n arrivals).present)) back
+            (held_holds intake.stock.ring width s.channel.ring (stream_of width arrivals) fit.ring stood.held);
+      };
+    }
+
+pub stands_of : (s : Settings) (calls : ℕ) (numbering : numbers.Seen) (intake : Intake) (arrivals : List Arrival) → Fit s intake → Stand numbering intake arrivals → StandsFor (seen_at s calls numbering intake) arrivals
+stands_of s calls numbering intake arrivals fit stood =
+    let width = s.channel.window in
+    record {
+      numbering = subst (λ (n : ℕ). numbers.StandsFor numbering n arrivals) fit.width stood.numbered;
+      waits = subst (λ (n : ℕ). Waits intake.window n (stream_of n arrivals).present) fit.width stood.brought.waits;
+      held = holds_held intake.stock.ring width s.channel.ring (stream_of width arrivals) fit.ring
+          (subst (λ (n : ℕ). rings.StandsFor intake.stock.ring ((stream_of n arrivals).ended ++ due n (stream_of n arrivals).present)) fit.width stood.brought.holds);
+    }
+
+-- what a live packet does to a cache, its note included
+abbrev pub Does : Seen → Seen → List ℕ → LiveNote → Type 0
+Does v w bytes note = (arrivals : List Arrival) → StandsFor v arrivals → (live_note_of v.settings arrivals bytes ≡ Some note) × StandsFor w (arrivals_after v.settings bytes arrivals)
+
+-- one that passed the tests
+pub took : (s : Settings) (calls calls' : ℕ) (v w : numbers.Seen) (i j : Intake) (bytes : List ℕ) (a : Arrival) (note : LiveNote) → Fit s i → Fit s j → heard_live s.channel bytes ≡ live a
+    → ((arrivals : List Arrival) → Stand v i arrivals → (note ≡ live_note i.window.width (stream_of i.window.width arrivals) a.sequence) × Stand w j (a ∷ arrivals))
+    → Does (seen_at s calls v i) (seen_at s calls' w j) bytes note
+took s calls calls' v w i j bytes a note fit fit' heard taken arrivals stood =
+    let new = taken arrivals (stand_of s calls v i arrivals fit stood) in
+    let same : note ≡ live_note s.channel.window (stream_of s.channel.window arrivals) a.sequence = subst (λ (n : ℕ). note ≡ live_note n (stream_of n arrivals) a.sequence) fit.width new.0 in (
+      ap (note_heard s.channel.window arrivals) heard ∙ ap Some (sym same),
+      subst (λ (h : Heard). StandsFor (seen_at s calls' w j) (arrivals_heard arrivals h)) (sym heard) (stands_of s calls' w j (a ∷ arrivals) fit' new.1),
+    )
+
+-- one that was dropped
+pub let_go : (s : Settings) (calls calls' : ℕ) (v : numbers.Seen) (i : Intake) (bytes : List ℕ) (note : LiveNote) → heard_live s.channel bytes ≡ dropped note
+    → Does (seen_at s calls v i) (seen_at s calls' v i) bytes note
+let_go s calls calls' v i bytes note heard arrivals stood = (
+  ap (note_heard s.channel.window arrivals) heard,
+  subst (λ (h : Heard). StandsFor (seen_at s calls' v i) (arrivals_heard arrivals h)) (sym heard) (record { numbering = stood.numbering; waits = stood.waits; held = stood.held }),
+)
+
+drop_none : (n : ℕ) → drop n (let none : List Held = [] in none) ≡ []
+drop_none zero = refl
+drop_none (suc n) = refl
+
+-- no packet came
+pub new_stands : (s : Settings) → numbers.StandsFor new_numbering s.channel.window [] → StandsFor (new_cache s) []
+unfolding stream_of hold source consecutive_end
+new_stands s numbering = record { numbering = numbering; waits = refl; held = sym (drop_none (0 - s.channel.ring)) }
+
+-- the same of the fields, the packet being counted at last
+pub does : (v : Seen) (old mid new : Inside) (bytes : List ℕ) (note same : LiveNote) → seen_at old.config old.calls old.numbering old.intake ≡ v → mid ≡ new → note ≡ same
+    → Does (seen_at old.config old.calls old.numbering old.intake) (seen_at new.config (new.calls + 1) new.numbering new.intake) bytes same
+    → Does v (seen_at mid.config (mid.calls + 1) mid.numbering mid.intake) bytes note
+does v old mid new bytes note same shown is answer does_so =
+    subst (λ (x : Seen). Does x (seen_at mid.config (mid.calls + 1) mid.numbering mid.intake) bytes note) shown
+    (subst (λ (n : LiveNote). Does (seen_at old.config old.calls old.numbering old.intake) (seen_at mid.config (mid.calls + 1) mid.numbering mid.intake) bytes n) (sym answer)
+    (subst (λ (x : Inside). Does (seen_at old.config old.calls old.numbering old.intake) (seen_at x.config (x.calls + 1) x.numbering x.intake) bytes same) (sym is) does_so))
+
+-- nor to these parts
+pub new_is : (s : Settings) (channel : Channel) (numbering : numbers.Seen) (intake : Intake) → channel ≡ s.channel → numbering ≡ new_numbering → intake ≡ new_intake channel.window channel.ring → new_cache s ≡ seen_at s 0 numbering intake
+new_is s channel numbering intake same one two =
+    let parts : intake ≡ new_intake s.channel.window s.channel.ring = two ∙ ap (λ (ch : Channel). new_intake ch.window ch.ring) same in
+    sym (ap (λ (n : numbers.Seen). seen_at s 0 n intake) one ∙ ap (λ (i : Intake). seen_at s 0 new_numbering i) parts)

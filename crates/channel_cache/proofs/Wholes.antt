@@ -1,0 +1,53 @@
+-- Packets that are held stay whole.
+use Rattle.std.proofs.Common.{◌≡◌, ℕ, zero, suc, ◌-◌, ◌≤◌, Bool, true, false, if◌then◌else◌, List, [], ◌∷◌, ◌++◌, length, drop, Option, Some, None, Bor, refl, sym, subst, inl}
+use Rattle.std.specs.Prelude.{find, IfSome, option_copied}
+use Rattle.rams_model.specs.declared.held.Held.{Held}
+use Rattle.rams_model.specs.Hold.{last_of}
+use Rattle.rams_model.specs.Packet.{Packet, stripped}
+use Rattle.rams_model.specs.Rtp.{IsPacket}
+use Rattle.rams_model.proofs.RtpPackets.{read_so}
+use Rattle.channel_cache.specs.Whole.{IsBare, IsWhole, AreWhole}
+
+-- a packet without its padding is bare
+pub stripped_bare : (p : Packet) → IsPacket p → length (stripped p) ≤ 1470 → IsBare (stripped p)
+stripped_bare p lawful short =
+    let bare : Packet = record p { padding = [] } in
+    let whole : IsPacket bare = record {
+      payload_type = lawful.payload_type;
+      sequence = lawful.sequence;
+      timestamp = lawful.timestamp;
+      ssrc = lawful.ssrc;
+      csrc = lawful.csrc;
+      extension = lawful.extension;
+      padding = inl refl;
+    } in
+    record { packet = bare; read = read_so bare whole; unpadded = refl; short = short }
+
+AreWhole-drop : (d : ℕ) (hs : List Held) → AreWhole hs → AreWhole (drop d hs)
+AreWhole-drop zero hs all = all
+AreWhole-drop (suc d) [] all = tt
+AreWhole-drop (suc d) (h ∷ hs) all = AreWhole-drop d hs all.1
+
+AreWhole-push : (hs : List Held) (h : Held) → AreWhole hs → IsWhole h → AreWhole (hs ++ h ∷ [])
+AreWhole-push [] h all one = (one, tt)
+AreWhole-push (k ∷ hs) h all one = (all.0, AreWhole-push hs h all.1 one)
+
+with_step : (capacity : ℕ) (held : List Held) (h : Held) (b : Bool) → AreWhole held → IsWhole h → AreWhole (if b then last_of capacity (held ++ h ∷ []) else h ∷ [])
+with_step capacity held h true all one = AreWhole-drop (length (held ++ h ∷ []) - capacity) (held ++ h ∷ []) (AreWhole-push held h all one)
+with_step capacity held h false all one = (one, tt)
+
+pub AreWhole-with : (capacity : ℕ) (held : List Held) (h : Held) (b : Bool) → AreWhole held → IsWhole h → AreWhole (if b then last_of capacity (held ++ h ∷ []) else h ∷ [])
+AreWhole-with = with_step
+
+-- and so is one that is found
+find_step : (test : Held → Bool) (h : Held) (hs : List Held) (b : Bool) → IsWhole h → IfSome (find test hs) IsWhole → IfSome (if b then Some h else find test hs) IsWhole
+find_step test h hs true one rest = one
+find_step test h hs false one rest = rest
+
+pub found_whole : (test : Held → Bool) (hs : List Held) → AreWhole hs → IfSome (find test hs) IsWhole
+found_whole test [] all = tt
+found_whole test (h ∷ hs) all = find_step test h hs (test h) all.0 (found_whole test hs all.1)
+
+pub lent_whole : (r : Option (Bor Held)) (found : Option Held) → option_copied r ≡ found → IfSome found IsWhole → IfSome r (λ h. IsWhole h.now)
+lent_whole None found is whole = tt
+lent_whole (Some h) found is whole = subst (λ (o : Option Held). IfSome o IsWhole) (sym is) whole

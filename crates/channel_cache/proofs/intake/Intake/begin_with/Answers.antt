@@ -1,0 +1,21 @@
+use Rattle.std.proofs.Common.{◌≡◌, [], List, ◌∙◌, ap, subst}
+use Rattle.rams_model.specs.declared.held.Held.{Held}
+use Rattle.reorder_window.specs.Starts.{Start, came, start_after}
+use Rattle.reorder_window.specs.Seen.{came_of}
+use Rattle.channel_cache.specs.declared.intake.Intake.{Intake}
+use Rattle.channel_cache.specs.Arrivals.{arrival_of}
+use Rattle.channel_cache.specs.Waiting.{Holds}
+use Rattle.channel_cache.proofs.Starting.{begun_keeps, begun_brings}
+use Rattle.channel_cache.proofs.intake.Intake.begin_with.Goals as goal
+
+pub returns-clause-stands : goal.returns-clause-stands
+returns-clause-stands c = λ before kept stood.
+    let v = c.args.self.now in
+    let b = c.begin.new.self in
+    let w = c.place.new.self in
+    let placed = subst (λ (x : Held). (before : List Held) (t : Start Held) → Holds b before t → (c.place.result ≡ came b.window.width t x.n) × Holds w before (start_after t x.n x c.place.result))
+    c.under.ensures.value c.place.ensures.stands in
+    let keeps = c.place.ensures.came ∙ (ap (λ (x : Held). came_of b.window x.n) c.under.ensures.value
+    ∙ (ap (λ (x : Intake). came_of x.window c.args.n) c.begin.ensures.step ∙ begun_keeps v.window c.args.n c.requires.empty)) in
+    begun_brings w before kept (arrival_of c.args.incoming) c.args.n c.place.result keeps c.place.ensures.going
+    (placed before (record { first = c.args.n; items = [] }) (c.begin.ensures.stands before stood)).1

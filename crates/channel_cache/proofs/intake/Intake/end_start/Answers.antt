@@ -1,0 +1,14 @@
+use Rattle.std.proofs.Common.{◌∙◌, ap}
+use Rattle.rams_model.specs.declared.held.Held.{Held}
+use Rattle.reorder_window.specs.Starts.{released}
+use Rattle.reorder_window.specs.Seen as windows
+use Rattle.channel_cache.proofs.Placing.{ended_holds}
+use Rattle.channel_cache.proofs.intake.Intake.end_start.Goals as goal
+
+pub returns-clause-stands : goal.returns-clause-stands
+returns-clause-stands c = λ before s held.
+    let v = c.args.self.now.window in
+    let w = c.drain.new.self.window in
+    let out = released v.width v.ended s in
+    let ended = ap (λ (x : windows.Seen Held). x.ended) c.drain.ensures.window ∙ ap (λ (x : windows.Seen Held). x.ended) c.end_start.ensures.step in
+    ended_holds w c.drain.new.self.stock.ring before s ended (c.drain.ensures.stands before s out (c.end_start.ensures.stands s out held.waits) held.holds).holds

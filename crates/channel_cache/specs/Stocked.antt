@@ -1,0 +1,29 @@
+-- What contracts see of the packets that are held.
+use Rattle.std.specs.Prelude.{◌≡◌, ℕ, ◌+◌}
+use Rattle.rams_model.specs.declared.held.Held.{Held}
+use Rattle.packet_ring.specs.Seen.{empty_ring, pushed, IsRing}
+use Rattle.packet_ring.specs.Seen as rings
+use Rattle.access_index.specs.Seen as indexes
+use Rattle.access_index.specs.Marks.{StandsFor}
+use Rattle.channel_cache.specs.Whole.{AreWhole}
+
+-- what is held
+pub record Seen : Type 0 where
+  pub ring : rings.Seen
+  -- how many packets were put in
+  pub pushes : ℕ
+
+-- nothing is held
+abbrev pub empty_stock : ℕ → Seen
+empty_stock capacity = record { ring = empty_ring capacity; pushes = 0 }
+
+-- what is held after a packet was put in
+abbrev pub stocked : Seen → Held → Seen
+stocked v h = record { ring = pushed v.ring h; pushes = v.pushes + 1 }
+
+-- the index stands for the packets of the ring
+pub record IsStock (ring : rings.Seen) (index : indexes.Seen) : Type 0 where
+  pub lawful : IsRing ring
+  pub marks : StandsFor index ring.held
+  pub alike : index.capacity ≡ ring.capacity
+  pub whole : AreWhole ring.held

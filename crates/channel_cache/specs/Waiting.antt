@@ -1,0 +1,49 @@
+-- The packets of a channel that came in time: those that wait for others, and those that are held.
+use Rattle.std.specs.Prelude.{◌≡◌, ℕ, ◌+◌, ◌^◌, ◌<◌, ◌≤◌, false, List, [], ◌∷◌, ◌++◌, map}
+use Rattle.rams_model.specs.declared.held.Held.{Held}
+use Rattle.rams_model.specs.Hold.{hi}
+use Rattle.packet_ring.specs.Seen as rings
+use Rattle.reorder_window.specs.declared.window.Came.{Came}
+use Rattle.reorder_window.specs.declared.window.Came.TheVariants.{Kept, Late, Twice}
+use Rattle.reorder_window.specs.Starts.{Start, released}
+use Rattle.reorder_window.specs.Seen.{new_window, RisesIn}
+use Rattle.reorder_window.specs.Seen as windows
+use Rattle.channel_cache.specs.declared.intake.Intake.{Intake}
+use Rattle.channel_cache.specs.Whole.{IsWhole}
+use Rattle.channel_cache.specs.Stocked.{empty_stock}
+
+-- no packet came
+abbrev pub new_intake : ℕ → ℕ → Intake
+new_intake width ring = record { window = new_window width; stock = empty_stock ring }
+
+-- the packets of items
+abbrev pub packets_of : List (ℕ × Held) → List Held
+packets_of items = map (λ e. e.1) items
+
+-- an item is a packet under its own number
+pub record IsItem (e : ℕ × Held) : Type 0 where
+  pub number : e.0 ≡ e.1.n
+  pub whole : IsWhole e.1
+
+abbrev pub AreItems : List (ℕ × Held) → Type 0
+AreItems [] = Unit {0}
+AreItems (e ∷ es) = IsItem e × AreItems es
+
+-- What waits comes behind what is held.
+pub record IsIntake (v : Intake) : Type 0 where
+  pub behind : RisesIn (hi v.stock.ring.held) (v.window.greatest + 1) v.window.kept
+  pub due : v.window.ended ≡ false → hi v.stock.ring.held ≤ v.window.awaited
+  pub next : v.window.awaited ≤ v.window.greatest + 1
+  pub small : v.window.greatest < 2 ^ 62
+  pub items : AreItems v.window.kept
+
+-- for a packet that was dropped
+abbrev pub UnlessKept : Came → Type 0 → Type 0
+UnlessKept Kept p = Unit {0}
+UnlessKept Late p = p
+UnlessKept Twice p = p
+
+-- The window stands for a start of which all went out that may; the ring stands for a source that these packets end.
+pub record Holds (v : Intake) (before : List Held) (s : Start Held) : Type 0 where
+  pub waits : windows.StandsFor v.window s (released v.window.width v.window.ended s)
+  pub holds : rings.StandsFor v.stock.ring (before ++ packets_of (released v.window.width v.window.ended s))

@@ -1,0 +1,155 @@
+//! The cache of one channel.
+ghost use Rattle.std.specs.Prelude.{◌≡◌, ◌+◌, ◌^◌, ◌<◌, ◌≤◌, ◌↔◌, List, [], Some, ◌∷◌, option_copied, length, IfOk, IfSome, IsSome, OnOk, OnErr};
+ghost use Rattle.rams_model.specs.Access.{chosen};
+ghost use Rattle.rams_model.specs.Hold.{lo, hi};
+ghost use Rattle.rams_model.specs.Source.{Arrival, live_note, stream_of};
+ghost use Rattle.packet_ring.specs.Seen.{packet_of, IsRing};
+ghost use Rattle.access_index.specs.Marks.{choice_of};
+ghost use Rattle.channel_cache.specs.Arrivals.{arrival_of, live_note_of, arrivals_after};
+ghost use Rattle.channel_cache.specs.Brought.{UnlessTaken};
+ghost use Rattle.channel_cache.specs.Seen.{new_cache, ring_of, StandsFor, DiffersInKept};
+ghost use Rattle.channel_cache.specs.Step.{AreInStep, Stand, count, kept_other};
+ghost use Rattle.channel_cache.specs.Whole.{IsBare, IsWhole};
+
+use crate::incoming::{Incoming, read_live};
+use crate::intake::Intake;
+use access_index::Choice;
+use channel_config::Config;
+use ext_seq::{Noted, Numbering};
+use ram_io::NoMemory;
+use rams_model::{Held, LiveNote};
+use std::alloc::Global;
+use std::marker::Model;
+
+/// What a channel keeps of its live packets: their numbers, those that wait for others, and those
+/// that it holds.
+#[derive(Drop)]
+pub struct Cache {
+    config: Config,
+    /// How many packets came.
+    calls: u64,
+    numbering: Numbering,
+    intake: Intake,
+}
+
+impl Model for Cache {
+    ghost use Rattle.channel_cache.specs.Seen.{Seen, IsCache};
+
+    ghost Value = { Seen };
+
+    ghost view = { λ c. record { settings = c.config; calls = c.calls; numbering = c.numbering; window = c.intake.window; held = c.intake.stock.ring.held } };
+
+    ghost invariant = { λ c. IsCache c.config c.calls c.numbering c.intake };
+}
+
+impl Cache {
+    /// A cache that no packet came to. It takes the room of its window and its ring.
+    pub fn new(alloc: Global, config: &Config) -> Result<Cache, NoMemory>
+        ensures value { IfOk result (λ cache. cache ≡ new_cache config.now) }
+        ensures stands { IfOk result (λ cache. StandsFor cache []) }
+    {
+        let channel = config.channel();
+        Ok(Cache {
+            config: *config,
+            calls: 0,
+            numbering: Numbering::new(),
+            intake: Intake::new(alloc, channel.window, channel.ring)?,
+        })
+    }
+
+    /// Takes the bytes of a live packet, and says what became of it. One that neither comes in time
+    /// nor begins a new start changes nothing but what the next jump is compared with (RFC 3550, A.1).
+    /// Memory is taken first: after want of it all is as before.
+    pub fn live(&mut self, alloc: Global, bytes: &[u8]) -> Result<LiveNote, NoMemory>
+        requires { self.old.calls < 2 ^ 40 }
+        // Whichever packets came before, the note is that of this one after them.
+        ensures stands { (arrivals : List Arrival) → StandsFor self.old arrivals →
+            IfOk result (λ note. (live_note_of self.old.settings arrivals bytes.now ≡ Some note)
+            × StandsFor self.new (arrivals_after self.old.settings bytes.now arrivals)) }
+        ensures kept { IfOk result (λ note. UnlessTaken note (DiffersInKept self.old self.new)) }
+        ensures settings { self.new.settings ≡ self.old.settings }
+        ensures grows { hi self.old.held ≤ hi self.new.held }
+        ensures calls { OnOk result (self.new.calls ≡ self.old.calls + 1) }
+        ensures same { OnErr result (self.new ≡ self.old) }
+    {
+        let channel = self.config.channel();
+        let note = match read_live(channel, bytes) {
+            Ok(packet) => {
+                let incoming = Incoming::of(alloc, channel, &packet)?;
+                take(&mut self.numbering, &mut self.intake, incoming)
+            }
+            Err(note) => note,
+        };
+        self.calls += 1;
+        Ok(note)
+    }
+
+    /// The number of the oldest packet that is held; 0 while none is.
+    pub fn lo(&self) -> u64
+        ensures value { result ≡ lo self.now.held }
+        ensures ring { IsRing (ring_of self.now) }
+    {
+        self.intake.stock.lo()
+    }
+
+    /// One above the number of the newest packet that is held; 0 while none is.
+    pub fn hi(&self) -> u64
+        ensures value { result ≡ hi self.now.held }
+        ensures ring { IsRing (ring_of self.now) }
+    {
+        self.intake.stock.hi()
+    }
+
+    /// The packet of a number; `None` exactly outside of [`lo`, `hi`).
+    pub fn held(&self, n: u64) -> Option<&Held>
+        ensures value { option_copied result ≡ packet_of n self.now.held }
+        ensures number { IfSome result (λ held. held.now.n ≡ n) }
+        ensures within { IsSome result ↔ ((lo self.now.held ≤ n) × (n < hi self.now.held)) }
+        // Its bytes are an RTP packet without padding.
+        ensures whole { IfSome result (λ held. IsWhole held.now) }
+    {
+        self.intake.stock.get(n)
+    }
+
+    /// Where a burst may begin: at the newest eligible access point that is at least `min_ms` old,
+    /// unless it is older than `max_ms`.
+    pub fn choose(&self, min_ms: u32, max_ms: Option<u32>) -> Choice
+        ensures { result ≡ choice_of self.now.held (chosen self.now.settings.channel self.now.held min_ms max_ms) }
+    {
+        self.intake
+            .stock
+            .choose(self.config.channel(), min_ms, max_ms)
+    }
+}
+
+/// Numbers a packet of the channel, and takes it in where it comes in time.
+fn take(numbering: &mut Numbering, intake: &mut Intake, incoming: Incoming) -> LiveNote
+    requires in_step { AreInStep numbering.old intake.old }
+    requires bare { IsBare incoming.packet }
+    requires low { incoming.sequence < 65536 }
+    requires numbered { numbering.old.calls < 2 ^ 40 }
+    requires counted { count intake.old < 2 ^ 40 }
+    ensures in_step { AreInStep numbering.new intake.new }
+    ensures numbered { numbering.new.calls ≡ numbering.old.calls + 1 }
+    ensures counted { count intake.new ≤ count intake.old + 1 }
+    ensures width { intake.new.window.width ≡ intake.old.window.width }
+    ensures capacity { intake.new.stock.ring.capacity ≡ intake.old.stock.ring.capacity }
+    ensures grows { hi intake.old.stock.ring.held ≤ hi intake.new.stock.ring.held }
+    ensures kept { UnlessTaken result ((numbering.new ≡ kept_other numbering.old numbering.new) × (intake.new ≡ intake.old)) }
+    ensures stands { (arrivals : List Arrival) → Stand numbering.old intake.old arrivals →
+        (result ≡ live_note intake.old.window.width (stream_of intake.old.window.width arrivals) incoming.sequence)
+        × Stand numbering.new intake.new (arrival_of incoming ∷ arrivals) }
+{
+    match numbering.note(incoming.sequence) {
+        Noted::First(n) => {
+            intake.begin_with(n, incoming);
+            LiveNote::Took(n)
+        }
+        Noted::Forward(n) | Noted::Behind(n) => intake.take(n, incoming),
+        Noted::Jump => LiveNote::Jump,
+        Noted::Restart(n) => {
+            intake.restart_with(n, incoming);
+            LiveNote::Restart(n)
+        }
+    }
+}

@@ -1,0 +1,104 @@
+//! Live packets as they come, before they have a number.
+ghost use Rattle.std.specs.Prelude.{◌≡◌, ℕ, ◌+◌, ◌<◌, ◌≤◌, length, IfOk, MatchResult};
+ghost use Rattle.rams_model.specs.Access.{is_access_point};
+ghost use Rattle.rams_model.specs.Heard.{heard_live, arrival, live, dropped};
+ghost use Rattle.rams_model.specs.Packet.{stripped};
+ghost use Rattle.rams_model.specs.Rtp.{IsPacket};
+ghost use Rattle.rams_model.specs.Source.{held_as};
+ghost use Rattle.channel_cache.specs.Arrivals.{arrival_of};
+ghost use Rattle.channel_cache.specs.Whole.{IsBare, IsWhole};
+
+use bytes::Bytes;
+use channel_config::{Access, Channel};
+use ram_io::NoMemory;
+use rams_model::{Held, LiveNote};
+use rtp_record::Rtp;
+use std::alloc::Global;
+use ts_access::has_access;
+
+/// Most bytes of a live packet: its retransmission then takes at most 1,500 on the wire.
+const MOST_BYTES: usize = 1470;
+
+/// What a retransmission takes on the wire beside the packet: two bytes for the original number (RFC
+/// 4588, 4), 28 for the headers of IPv4 and UDP.
+const HEADERS: u32 = 30;
+
+/// A packet of the channel that has no number yet.
+#[derive(Drop)]
+pub struct Incoming {
+    pub sequence: u16,
+    /// In units of 1/90,000 s.
+    pub timestamp: u32,
+    /// Whether a decoder may start with it.
+    pub access: bool,
+    /// The packet without its padding.
+    pub packet: Bytes,
+}
+
+/// Reads the bytes as a packet of the channel: at most 1,470 of them, an RTP packet (RFC 3550, 5.1),
+/// of the channel's media source, with its payload type. The error is the note for the first of these
+/// that isn't true.
+pub fn read_live<'a>(channel: &Channel, bytes: &'a [u8]) -> Result<Rtp<'a>, LiveNote>
+    ensures heard { MatchResult result (λ p. heard_live channel.now bytes.now ≡ live (arrival channel.now p)) (λ note. heard_live channel.now bytes.now ≡ dropped note) }
+    ensures lawful { IfOk result (λ p. IsPacket p × (length (stripped p) ≤ 1470)) }
+{
+    if bytes.len() > MOST_BYTES {
+        return Err(LiveNote::TooBig);
+    }
+    let packet = match Rtp::read(bytes) {
+        Ok(packet) => packet,
+        Err(fault) => return Err(LiveNote::Bad(fault)),
+    };
+    if packet.ssrc() != channel.ssrc {
+        return Err(LiveNote::ForeignSsrc);
+    }
+    if packet.payload_type() != channel.pt {
+        return Err(LiveNote::ForeignType);
+    }
+    Ok(packet)
+}
+
+/// Whether a decoder may start with the packet, by what the channel says.
+fn is_access_point(access: Access, packet: &Rtp<'_>) -> bool
+    ensures { result ≡ is_access_point access packet.now }
+{
+    match access {
+        Access::Marker => packet.marker(),
+        Access::Ts => has_access(packet.payload()),
+    }
+}
+
+impl Incoming {
+    /// What a packet of the channel brings, in memory of its own.
+    pub fn of(alloc: Global, channel: &Channel, packet: &Rtp<'_>) -> Result<Incoming, NoMemory>
+        requires lawful { IsPacket packet.now }
+        requires short { length (stripped packet.now) ≤ 1470 }
+        ensures value { IfOk result (λ i. arrival_of i ≡ arrival channel.now packet.now) }
+        ensures low { IfOk result (λ i. i.sequence < 65536) }
+        ensures bare { IfOk result (λ i. IsBare i.packet) }
+    {
+        let stripped = packet.strip(alloc)?;
+        Ok(Incoming {
+            sequence: packet.sequence(),
+            timestamp: packet.timestamp(),
+            access: is_access_point(channel.access, packet),
+            packet: Bytes::from_vec(stripped)?,
+        })
+    }
+
+    /// The packet under a number.
+    pub fn under(self, n: u64) -> Held
+        requires { IsBare self.packet }
+        ensures value { result ≡ held_as n (arrival_of self) }
+        ensures whole { IsWhole result }
+    {
+        let wire = self.packet.len() as u32 + HEADERS;
+        Held {
+            n,
+            ts: self.timestamp,
+            wire,
+            access: self.access,
+            packet: self.packet,
+        }
+    }
+}

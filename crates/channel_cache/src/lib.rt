@@ -1,0 +1,22 @@
+//! The packets that a channel holds of its live stream.
+//!
+//! A live packet is tested, numbered, put in order and held, its memory taken first. Contracts see a
+//! cache by the live packets that it stands for: the note of each and what is held are those that the
+//! definitions give them.
+#![tactic(auto)]
+
+mod cache;
+mod incoming;
+mod intake;
+mod laws;
+mod starts;
+mod stock;
+#[cfg(test)]
+mod tests;
+
+pub use access_index::Choice;
+pub use cache::Cache;
+pub use channel_config::Config;
+pub use laws::notes_are_of_the_book;
+pub use ram_io::NoMemory;
+pub use rams_model::{Held, LiveNote};

@@ -1,0 +1,98 @@
+//! Packets under their numbers, start by start.
+ghost use Rattle.std.specs.Prelude.{◌≡◌, ℕ, ◌+◌, ◌^◌, ◌<◌, ◌≤◌, max, List, [], ◌∷◌, Option, None, false, length};
+ghost use Rattle.rams_model.specs.declared.held.Held.{Held};
+ghost use Rattle.rams_model.specs.declared.note.LiveNote.TheVariants as notes;
+ghost use Rattle.rams_model.specs.Hold.{hi};
+ghost use Rattle.rams_model.specs.Source.{Stream, held_as, in_time, stream_after};
+ghost use Rattle.packet_ring.specs.Seen as rings;
+ghost use Rattle.reorder_window.specs.Packets.{note_of};
+ghost use Rattle.reorder_window.specs.Seen.{first_free};
+ghost use Rattle.channel_cache.specs.Arrivals.{arrival_of};
+ghost use Rattle.channel_cache.specs.Waiting.{IsIntake};
+ghost use Rattle.channel_cache.specs.Whole.{IsBare};
+ghost use Rattle.channel_cache.specs.Brought.{Brings, UnlessTaken};
+
+use crate::incoming::Incoming;
+use crate::intake::Intake;
+use rams_model::LiveNote;
+use reorder_window::Came;
+
+impl Intake {
+    /// Takes a packet of the present start under its number.
+    pub fn take(&mut self, n: u64, incoming: Incoming) -> LiveNote
+        requires intake { IsIntake self.old }
+        requires going { self.old.window.ended ≡ false }
+        requires settled { first_free self.old.window ≡ None }
+        requires small { n < 2 ^ 62 }
+        requires bare { IsBare incoming.packet }
+        requires few { self.old.stock.pushes + length self.old.window.kept < 2 ^ 40 }
+        ensures intake { IsIntake self.new }
+        ensures settled { first_free self.new.window ≡ None }
+        ensures going { self.new.window.ended ≡ false }
+        ensures greatest { self.new.window.greatest ≡ max self.old.window.greatest n }
+        ensures width { self.new.window.width ≡ self.old.window.width }
+        ensures capacity { self.new.stock.ring.capacity ≡ self.old.stock.ring.capacity }
+        ensures grows { hi self.old.stock.ring.held ≤ hi self.new.stock.ring.held }
+        ensures few { self.new.stock.pushes + length self.new.window.kept ≤ self.old.stock.pushes + length self.old.window.kept + 1 }
+        ensures dropped { UnlessTaken result (self.new ≡ self.old) }
+        ensures stands { (s : Stream) → 0 < length s.present → Brings self.old s →
+            (result ≡ in_time self.old.window.width s.present n) × Brings self.new (stream_after s (arrival_of incoming) result) }
+    {
+        note_of(n, self.place(incoming.under(n)))
+    }
+
+    /// Begins a start with this packet.
+    pub fn begin_with(&mut self, n: u64, incoming: Incoming)
+        requires intake { IsIntake self.old }
+        requires empty { self.old.window.kept ≡ [] }
+        requires above { hi self.old.stock.ring.held ≤ n }
+        requires small { n < 2 ^ 62 }
+        requires bare { IsBare incoming.packet }
+        requires few { self.old.stock.pushes < 2 ^ 40 }
+        ensures intake { IsIntake self.new }
+        ensures settled { first_free self.new.window ≡ None }
+        ensures going { self.new.window.ended ≡ false }
+        ensures greatest { self.new.window.greatest ≡ n }
+        ensures width { self.new.window.width ≡ self.old.window.width }
+        ensures capacity { self.new.stock.ring.capacity ≡ self.old.stock.ring.capacity }
+        ensures grows { hi self.old.stock.ring.held ≤ hi self.new.stock.ring.held }
+        ensures few { self.new.stock.pushes + length self.new.window.kept ≤ self.old.stock.pushes + 1 }
+        ensures stands { (before : List Held) (kept : Option ℕ) → rings.StandsFor self.old.stock.ring before →
+            Brings self.new (record { ended = before; present = held_as n (arrival_of incoming) ∷ []; kept = kept }) }
+    {
+        self.begin(n);
+        let _ = self.place(incoming.under(n));
+    }
+
+    /// Ends the present start, and begins one with this packet.
+    pub fn restart_with(&mut self, n: u64, incoming: Incoming)
+        requires intake { IsIntake self.old }
+        requires above { self.old.window.greatest < n }
+        requires small { n < 2 ^ 62 }
+        requires bare { IsBare incoming.packet }
+        requires few { self.old.stock.pushes + length self.old.window.kept < 2 ^ 40 }
+        ensures intake { IsIntake self.new }
+        ensures settled { first_free self.new.window ≡ None }
+        ensures going { self.new.window.ended ≡ false }
+        ensures greatest { self.new.window.greatest ≡ n }
+        ensures width { self.new.window.width ≡ self.old.window.width }
+        ensures capacity { self.new.stock.ring.capacity ≡ self.old.stock.ring.capacity }
+        ensures grows { hi self.old.stock.ring.held ≤ hi self.new.stock.ring.held }
+        ensures few { self.new.stock.pushes + length self.new.window.kept ≤ self.old.stock.pushes + length self.old.window.kept + 1 }
+        ensures stands { (s : Stream) → 0 < length s.present → Brings self.old s → Brings self.new (stream_after s (arrival_of incoming) (notes.Restart n)) }
+    {
+        self.end_start();
+        self.begin_with(n, incoming);
+    }
+}
+
+/// The note of a packet under its number.
+fn note_of(n: u64, came: Came) -> LiveNote
+    ensures { result ≡ note_of n came }
+{
+    match came {
+        Came::Kept => LiveNote::Took(n),
+        Came::Late => LiveNote::Late,
+        Came::Twice => LiveNote::Twice,
+    }
+}

@@ -1,0 +1,39 @@
+-- The parts of a channel to which nothing came stand for no events.
+use Rattle.std.proofs.Common.{◌≡◌, ◌<◌, ◌^◌, true, List, [], refl, sym, subst, arith}
+use Rattle.std.proofs.lemmas.List.Elements.{All-nil}
+use Rattle.rams_model.specs.declared.channel.Channel.{Channel}
+use Rattle.rams_model.specs.Settings.{Settings}
+use Rattle.rams_model.specs.Source.{Arrival}
+use Rattle.rams_model.specs.History.{arrivals}
+use Rattle.rams_model.specs.Clients.{known, opened, is_among}
+use Rattle.rams_model.specs.Bursts.{bursts}
+use Rattle.rams_model.specs.Pending.{Wanted, pending}
+use Rattle.rams_model.specs.Buckets.{channel_left}
+use Rattle.rams_model.specs.Book.{history_of}
+use Rattle.channel_config.specs.Lawful.{IsLawful}
+use Rattle.channel_cache.specs.Seen.{new_cache}
+use Rattle.channel_cache.specs.Seen as caches
+use Rattle.link_budget.specs.Amounts.{Amounts, amounts}
+use Rattle.client_table.specs.Clients.{Clients, nobody}
+use Rattle.channel_parts.specs.declared.parts.Parts.{Parts}
+use Rattle.channel_parts.specs.Standing.{StandsFor, new_parts}
+
+new_stands : (s : Settings) → IsLawful s → caches.StandsFor (new_cache s) [] → StandsFor (new_parts s) []
+unfolding history_of arrivals known opened bursts pending channel_left
+new_stands s lawful stands = record {
+  lawful = lawful;
+  packets = record { settings_are = refl; stands = stands; low = All-nil (λ (a : Arrival). a.sequence < 2 ^ 16); counted = omega arith; few = omega arith };
+  table = record { most = refl; clients = refl; entries = λ k e found. absurd cc; others = λ k f. refl };
+  queue = record { pending_is = refl; known_is = All-nil (λ (w : Wanted). is_among w.client [] ≡ true) };
+  budget = refl;
+  calls = omega arith;
+}
+
+-- the same of parts that are each new
+pub begun_stands : (s : Settings) (channel : Channel) (cache : caches.Seen) (budget : Amounts) (queue : List Wanted) (table : Clients) → IsLawful s → channel ≡ s.channel
+    → cache ≡ new_cache s → caches.StandsFor cache [] → budget ≡ amounts channel.share channel.reserve channel.swell 0 0 → queue ≡ [] → table ≡ nobody channel.clients
+    → StandsFor (record { config = s; cache = cache; budget = budget; queue = queue; table = table }) []
+begun_stands s channel cache budget queue table lawful channel_is cache_is stands budget_is queue_is table_is =
+    let p : Parts = record { config = s; cache = cache; budget = budget; queue = queue; table = table } in
+    let same : p ≡ new_parts s = cc in
+    subst (λ (v : Parts). StandsFor v []) (sym same) (new_stands s lawful (subst (λ (v : caches.Seen). caches.StandsFor v []) cache_is stands))

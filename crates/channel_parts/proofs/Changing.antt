@@ -1,0 +1,97 @@
+-- What is true of a client's open burst, item by item.
+use Rattle.std.proofs.Common.{◌≡◌, ℕ, Bool, true, false, cond, not, ◌&&◌, ◌||◌, List, [], ◌∷◌, Option, Some, None, refl, ap, sym, ◌∙◌, subst, eqb}
+use Rattle.std.proofs.lemmas.Bool.{cond_both, eq-eqb, eqb-true}
+use Rattle.rams_model.specs.declared.held.Held.{Held}
+use Rattle.rams_model.specs.declared.note.Cause.{Cause}
+use Rattle.rams_model.specs.declared.note.Note.{Note}
+use Rattle.rams_model.specs.declared.note.Note.TheVariants as note
+use Rattle.rams_model.specs.Settings.{Settings}
+use Rattle.rams_model.specs.Heard.{tick}
+use Rattle.rams_model.specs.History.{began, noted, History}
+use Rattle.rams_model.specs.Clients.{sequence}
+use Rattle.rams_model.specs.Bursts.{Burst, begun, in_tick, after_note, newest_changed, size_of, bursts, is_of, if_open, newest_open, open_burst, has_open}
+use Rattle.channel_parts.proofs.Knowing.{open_step}
+use Rattle.channel_parts.proofs.Opening.{none_of}
+
+-- it is true of a burst, where one is open
+abbrev pub Holds : (Burst → Type 0) → Option Burst → Type 0
+Holds Q None = Unit {0}
+Holds Q (Some b) = Q b
+
+pub holds_of : (Q : Burst → Type 0) (o : Option Burst) (b : Burst) → Holds Q o → o ≡ Some b → Q b
+holds_of Q o b h e = subst (Holds Q) e h
+
+pub holds_from : (Q : Burst → Type 0) (o : Option Burst) → ((b : Burst) → o ≡ Some b → Q b) → Holds Q o
+holds_from Q None f = tt
+holds_from Q (Some b) f = f b refl
+
+-- a change that ends nothing
+at_end : (Q : Burst → Type 0) (b c : Burst) (e : Option Cause) → (if_open e b ≡ Some b → Q c) → Holds Q (if_open e c)
+at_end Q b c None f = f refl
+at_end Q b c (Some why) f = tt
+
+at_newest : (Q : Burst → Type 0) (change : Burst → Burst) (bs : List Burst) → ((b : Burst) → (change b).ended ≡ b.ended)
+    → ((b : Burst) → newest_open bs ≡ Some b → Q (change b)) → Holds Q (newest_open (newest_changed change bs))
+at_newest Q change [] same f = tt
+at_newest Q change (b ∷ bs) same f =
+    subst (λ (e : Option Cause). Holds Q (if_open e (change b))) (sym (same b)) (at_end Q b (change b) b.ended (f b))
+
+at_own : (c : Bool) (Q : Burst → Type 0) (change : Burst → Burst) (bs : List Burst) → ((b : Burst) → (change b).ended ≡ b.ended)
+    → (c ≡ true → (b : Burst) → newest_open bs ≡ Some b → Q b → Q (change b)) → Holds Q (newest_open bs) → Holds Q (newest_open (cond c (newest_changed change bs) bs))
+at_own true Q change bs same f h = at_newest Q change bs same (λ b is. f refl b is (holds_of Q (newest_open bs) b h is))
+at_own false Q change bs same f h = h
+
+-- an open burst that ends isn't open
+pub end_closes : (s : Settings) (k : ℕ) (why : Cause) (packet : Option Held) (history : History) → open_burst s k (noted (note.End k why) packet ∷ history) ≡ None
+end_closes s k why packet history =
+    none_of (open_burst s k (noted (note.End k why) packet ∷ history))
+    (open_step s k (noted (note.End k why) packet) history ∙ gone (eqb k k) (eq-eqb k k refl))
+  where
+    gone : (c : Bool) → c ≡ true → (false || (not c && has_open s k history)) ≡ false
+    gone true t = refl
+    gone false t = absurd cc
+
+-- It goes on being true where each note of the client keeps it, and one that begins a burst makes it true.
+pub record Keeps (s : Settings) (k : ℕ) (Q : Burst → Type 0) (n : Note) (packet : Option Held) (history : History) : Type 0 where
+  pub begins : (first rate join : ℕ) → n ≡ note.Accept k first rate join → Q (begun s first rate join (sequence s k history))
+  pub changes : (b : Burst) → is_of k n ≡ true → open_burst s k history ≡ Some b → Q b → Q (after_note s n (size_of packet) b)
+
+at_accept : (s : Settings) (k client first rate join : ℕ) (Q : Burst → Type 0) (packet : Option Held) (history : History)
+    → Keeps s k Q (note.Accept client first rate join) packet history → Holds Q (open_burst s k history)
+    → Holds Q (open_burst s k (noted (note.Accept client first rate join) packet ∷ history))
+unfolding bursts
+at_accept s k client first rate join Q packet history keeps h =
+    cond_both (eqb client k) (begun s first rate join (sequence s k history) ∷ bursts s k history) (bursts s k history) (λ bs. Holds Q (newest_open bs))
+    (λ t. keeps.begins first rate join (ap (λ (c : ℕ). note.Accept c first rate join) (eqb-true client k t))) (λ f. h)
+
+at_end_note : (s : Settings) (k client : ℕ) (why : Cause) (Q : Burst → Type 0) (packet : Option Held) (history : History) → Holds Q (open_burst s k history)
+    → Holds Q (open_burst s k (noted (note.End client why) packet ∷ history))
+unfolding bursts
+at_end_note s k client why Q packet history h =
+    cond_both (eqb client k) (newest_changed (after_note s (note.End client why) (size_of packet)) (bursts s k history)) (bursts s k history) (λ bs. Holds Q (newest_open bs))
+    (λ t. over (bursts s k history)) (λ f. h)
+  where
+    over : (bs : List Burst) → Holds Q (newest_open (newest_changed (after_note s (note.End client why) (size_of packet)) bs))
+    over [] = tt
+    over (b ∷ bs) = tt
+
+pub at_note : (s : Settings) (k : ℕ) (Q : Burst → Type 0) (n : Note) (packet : Option Held) (history : History) → Keeps s k Q n packet history → Holds Q (open_burst s k history)
+    → Holds Q (open_burst s k (noted n packet ∷ history))
+unfolding bursts
+at_note s k Q (note.Accept client first rate join) packet history keeps h = at_accept s k client first rate join Q packet history keeps h
+at_note s k Q (note.Update client rate join) packet history keeps h =
+    at_own (eqb client k) Q (after_note s (note.Update client rate join) (size_of packet)) (bursts s k history) (λ b. refl) (λ t b. keeps.changes b t) h
+at_note s k Q (note.StopAt client n) packet history keeps h =
+    at_own (eqb client k) Q (after_note s (note.StopAt client n) (size_of packet)) (bursts s k history) (λ b. refl) (λ t b. keeps.changes b t) h
+at_note s k Q (note.Burst client n q) packet history keeps h =
+    at_own (eqb client k) Q (after_note s (note.Burst client n q) (size_of packet)) (bursts s k history) (λ b. refl) (λ t b. keeps.changes b t) h
+at_note s k Q (note.Repair client n q) packet history keeps h =
+    at_own (eqb client k) Q (after_note s (note.Repair client n q) (size_of packet)) (bursts s k history) (λ b. refl) (λ t b. keeps.changes b t) h
+at_note s k Q (note.End client why) packet history keeps h = at_end_note s k client why Q packet history h
+at_note s k Q n packet history keeps h = h
+
+pub at_tick : (s : Settings) (k : ℕ) (P Q : Burst → Type 0) (history : History) → ((b : Burst) → P b → Q (in_tick s b)) → Holds P (open_burst s k history)
+    → Holds Q (open_burst s k (began tick ∷ history))
+unfolding bursts
+at_tick s k P Q history f h =
+    at_newest Q (in_tick s) (bursts s k history) (λ b. refl) (λ b is. f b (holds_of P (open_burst s k history) b h is))

@@ -1,0 +1,126 @@
+-- Between two events an open burst has lasted fewer than `limit` ticks: each tick ends those that have lasted so many.
+use Rattle.std.proofs.Common.{◌≡◌, ℕ, ◌-◌, ◌<◌, ◌≤◌, true, ◌⊎◌, inl, inr, ⊎_elim, List, [], ◌∷◌, Option, Some, None, refl, sym, ◌∙◌, subst, arith, eqb}
+use Rattle.std.specs.Prelude.{◌≢◌}
+use Rattle.std.proofs.lemmas.Bool.{cond_both, cases_Bool, or_cases, eqb-true, eqb-false}
+use Rattle.rams_model.specs.declared.event.Event.{Event}
+use Rattle.rams_model.specs.declared.held.Held.{Held}
+use Rattle.rams_model.specs.declared.note.Cause.{Cause}
+use Rattle.rams_model.specs.declared.note.Cause.TheVariants as cause
+use Rattle.rams_model.specs.declared.note.Note.{Note}
+use Rattle.rams_model.specs.declared.note.Note.TheVariants as note
+use Rattle.rams_model.specs.Settings.{Settings}
+use Rattle.rams_model.specs.Hold.{from_number}
+use Rattle.rams_model.specs.Heard.{Heard, live, dropped, feedback, unframed, tick, heard_of}
+use Rattle.rams_model.specs.History.{began, noted, History, hold}
+use Rattle.rams_model.specs.Clients.{known, opened, is_among}
+use Rattle.rams_model.specs.Bursts.{Burst, next, after_note, size_of, bursts, open_burst}
+use Rattle.rams_model.specs.Pending.{pending}
+use Rattle.rams_model.specs.Tick.{run, send, is_lost, is_stop, after_run, run_sent, burst_served, all_served, bursts_served, repairs_sent, after_tick}
+use Rattle.rams_model.specs.Book.{after_hearing, history_of}
+use Rattle.book_laws.proofs.BurstAmounts.{opened_open}
+use Rattle.channel_parts.proofs.Opening.{none_of}
+use Rattle.channel_parts.proofs.Passing.{through_send, through_served, through_all_repaired, through_all_forgotten, through_messages}
+use Rattle.channel_parts.proofs.Changing.{Holds, holds_of, end_closes, at_note, at_tick}
+
+-- it has lasted at most so many ticks
+abbrev Within : ℕ → Burst → Type 0
+Within most b = b.ticks ≤ most
+
+abbrev Lasts : Settings → ℕ → ℕ → History → Type 0
+Lasts s most k history = Holds (Within most) (open_burst s k history)
+
+-- no note makes it more
+same_ticks : (s : Settings) (n : Note) (size : ℕ) (b : Burst) → (after_note s n size b).ticks ≡ b.ticks
+same_ticks s (note.Update client rate join) size b = refl
+same_ticks s (note.StopAt client m) size b = refl
+same_ticks s (note.Burst client m q) size b = refl
+same_ticks s (note.Repair client m q) size b = refl
+same_ticks s (note.End client why) size b = refl
+same_ticks s n size b = refl
+
+noted_lasts : (s : Settings) (most k : ℕ) (n : Note) (packet : Option Held) (history : History) → Lasts s most k history → Lasts s most k (noted n packet ∷ history)
+noted_lasts s most k n packet history l =
+    at_note s k (Within most) n packet history
+    (record { begins = λ first rate join e. omega arith; changes = λ b own is within. omega (arith, same_ticks s n (size_of packet) b, within) }) l
+
+closed_lasts : (s : Settings) (most k : ℕ) (history : History) → open_burst s k history ≡ None → Lasts s most k history
+closed_lasts s most k history e = subst (Holds (Within most)) (sym e) tt
+
+ended_lasts : (s : Settings) (most k : ℕ) (why : Cause) (history : History) → Lasts s most k (noted (note.End k why) None ∷ history)
+ended_lasts s most k why history = closed_lasts s most k (noted (note.End k why) None ∷ history) (end_closes s k why None history)
+
+-- a burst that goes on after its run has a tick left
+run_lasts : (s : Settings) (k : ℕ) (o : Option Burst) (history : History) → open_burst s k history ≡ o → Lasts s s.channel.limit k history
+    → Lasts s (s.channel.limit - 1) k (after_run s k o history)
+run_lasts s k None history e l = closed_lasts s (s.channel.limit - 1) k history e
+run_lasts s k (Some b) history e l =
+    let most = s.channel.limit - 1 in
+    cond_both (is_stop b.stop (next b)) _ _ (Lasts s most k) (λ t. ended_lasts s most k cause.Stopped history)
+    (λ f. cond_both (eqb b.ticks s.channel.limit) _ _ (Lasts s most k) (λ t. ended_lasts s most k cause.Limit history)
+    (λ g. let other : b.ticks ≢ s.channel.limit = eqb-false b.ticks s.channel.limit g in
+    let within : b.ticks ≤ s.channel.limit = holds_of (Within s.channel.limit) (open_burst s k history) b l e in
+    subst (Holds (Within most)) (sym e) (omega (arith, other, within))))
+
+served_lasts : (s : Settings) (held : List Held) (k : ℕ) (o : Option Burst) (history : History) → open_burst s k history ≡ o → Lasts s s.channel.limit k history
+    → Lasts s (s.channel.limit - 1) k (burst_served s held k o history)
+served_lasts s held k None history e l = closed_lasts s (s.channel.limit - 1) k history e
+served_lasts s held k (Some b) history e l =
+    let most = s.channel.limit in
+    let hs = run b.stop (next b) b.left (from_number (next b) held) in
+    let sent = send s k hs history in
+    cond_both (is_lost (next b) held) (noted (note.End k cause.Lost) None ∷ history) (run_sent s k sent) (Lasts s (most - 1) k) (λ t. ended_lasts s (most - 1) k cause.Lost history)
+    (λ f. run_lasts s k (open_burst s k sent) sent refl (through_send (Lasts s most k) (noted_lasts s most k) s k hs history l))
+
+-- so have all, after each was served
+all_last : (s : Settings) (held : List Held) (j : ℕ) (ks : List ℕ) (history : History) → Lasts s s.channel.limit j history
+    → (is_among j ks ≡ true) ⊎ Lasts s (s.channel.limit - 1) j history → Lasts s (s.channel.limit - 1) j (all_served s held ks history)
+unfolding all_served
+all_last s held j [] history l o = ⊎_elim (λ t. absurd cc) (λ less. less) o
+all_last s held j (k ∷ ks) history l o =
+    let most = s.channel.limit in
+    let served = burst_served s held k (open_burst s k history) history in
+    let further : (m : ℕ) → Lasts s m j history → Lasts s m j served = λ m x. through_served (Lasts s m j) (noted_lasts s m j) s held k (open_burst s k history) history x in
+    all_last s held j ks served (further most l)
+    (⊎_elim
+    (λ t. ⊎_elim
+    (λ here. let same : k ≡ j = eqb-true k j here in
+    inr (subst (λ (i : ℕ). Lasts s (most - 1) i served) same (served_lasts s held k (open_burst s k history) history refl (subst (λ (i : ℕ). Lasts s most i history) (sym same) l))))
+    (λ later. inl later) (or_cases (eqb k j) (is_among j ks) t))
+    (λ less. inr (further (most - 1) less)) o)
+
+runs_last : (s : Settings) (j : ℕ) (history : History) → Lasts s s.channel.limit j history → Lasts s (s.channel.limit - 1) j (bursts_served s history)
+runs_last s j history l =
+    all_last s (hold s history) j (opened history) history l
+    (⊎_elim (λ t. inl t) (λ f. inr (closed_lasts s (s.channel.limit - 1) j history (none_of (open_burst s j history) (sym (opened_open s j history) ∙ f))))
+    (cases_Bool (is_among j (opened history))))
+
+tick_lasts : (s : Settings) (j : ℕ) (history : History) → Lasts s s.channel.limit j history → Lasts s (s.channel.limit - 1) j (after_tick s history)
+unfolding after_tick
+tick_lasts s j history l =
+    let most = s.channel.limit - 1 in
+    let served = bursts_served s history in
+    let sent = repairs_sent s served in
+    through_all_forgotten (Lasts s most j) (noted_lasts s most j) s (known sent) sent
+    (through_all_repaired (Lasts s most j) (noted_lasts s most j) s (hold s served) (pending served) served (runs_last s j history l))
+
+hearing_lasts : (s : Settings) (heard : Heard) (j : ℕ) (history : History) → 1 ≤ s.channel.limit → Lasts s (s.channel.limit - 1) j history
+    → Lasts s (s.channel.limit - 1) j (after_hearing s heard history)
+unfolding after_hearing bursts
+hearing_lasts s (live a) j history some l = l
+hearing_lasts s (dropped note) j history some l = l
+hearing_lasts s (feedback client messages) j history some l =
+    let most = s.channel.limit - 1 in
+    through_messages (Lasts s most j) (noted_lasts s most j) (λ k m h x. x) s client messages (began (feedback client messages) ∷ history) l
+hearing_lasts s (unframed client fault) j history some l = l
+hearing_lasts s tick j history some l =
+    tick_lasts s j (began tick ∷ history) (at_tick s j (Within (s.channel.limit - 1)) (Within s.channel.limit) history (λ b within. omega (arith, within, some)) l)
+
+lasting : (s : Settings) (events : List Event) (j : ℕ) → 1 ≤ s.channel.limit → Lasts s (s.channel.limit - 1) j (history_of s events)
+unfolding history_of bursts
+lasting s [] j some = tt
+lasting s (event ∷ events) j some = hearing_lasts s (heard_of s.channel event) j (history_of s events) some (lasting s events j some)
+
+pub ticks_left : (s : Settings) (k : ℕ) (b : Burst) (events : List Event) → 1 ≤ s.channel.limit → open_burst s k (history_of s events) ≡ Some b → b.ticks < s.channel.limit
+ticks_left s k b events some e =
+    let within : b.ticks ≤ s.channel.limit - 1 = holds_of (Within (s.channel.limit - 1)) (open_burst s k (history_of s events)) b (lasting s events k some) e in
+    omega (arith, within, some)

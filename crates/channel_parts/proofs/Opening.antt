@@ -1,0 +1,194 @@
+-- Between two events only known clients have an open burst.
+use Rattle.std.proofs.Common.{◌≡◌, ℕ, ◌≤◌, Bool, true, false, cond, not, ◌&&◌, ⊎_elim, List, [], ◌∷◌, ◌++◌, Option, Some, None, refl, ap, sym, ◌∙◌, subst, append_assoc, eqb}
+use Rattle.std.specs.Prelude.{filter, is_some}
+use Rattle.std.proofs.lemmas.Bool.{cond_both, cases_Bool, or_cases, and_parts, not-true, both_ways, eqb-true}
+use Rattle.std.proofs.lemmas.Map.Views.{any-filter_same}
+use Rattle.rams_model.specs.declared.event.Event.{Event}
+use Rattle.rams_model.specs.declared.held.Held.{Held}
+use Rattle.rams_model.specs.declared.note.Cause.TheVariants as cause
+use Rattle.rams_model.specs.declared.note.Note.{Note}
+use Rattle.rams_model.specs.declared.note.Note.TheVariants as note
+use Rattle.rams_model.specs.Settings.{Settings}
+use Rattle.rams_model.specs.Rtcp.{Framed}
+use Rattle.rams_model.specs.Messages.{Message, bye, nack, asks, stops}
+use Rattle.rams_model.specs.Heard.{Heard, live, dropped, feedback, unframed, tick, heard_of}
+use Rattle.rams_model.specs.History.{Item, began, told, noted, History}
+use Rattle.rams_model.specs.Clients.{known, opened, is_among, ssrc}
+use Rattle.rams_model.specs.Bursts.{bursts, open_burst, has_open}
+use Rattle.rams_model.specs.Answers.{is_bye_of, after_bye, after_message, after_messages}
+use Rattle.rams_model.specs.Tick.{after_tick}
+use Rattle.rams_model.specs.Book.{after_hearing, history_of}
+use Rattle.rams_model.specs.Laws.{makes_known, ends_known, is_accept_of, is_end_of}
+use Rattle.book_laws.specs.Answering.{AreNotes}
+use Rattle.book_laws.proofs.Legal.{newest_told, Allows, IsLegal, legal_part}
+use Rattle.book_laws.proofs.Legality.{legal_history}
+use Rattle.book_laws.proofs.Items.{message_puts, tick_puts}
+use Rattle.book_laws.proofs.BurstAmounts.{opened_open}
+use Rattle.channel_parts.proofs.Ordered.{rise_passed, known_rise, opened_rise, same_rise}
+use Rattle.channel_parts.proofs.Knowing.{open_step, still_known, made_known, forgotten_rests}
+
+-- each client with an open burst is known
+abbrev pub AreKnown : Settings → History → Type 0
+AreKnown s history = (k : ℕ) → has_open s k history ≡ true → is_among k (known history) ≡ true
+
+accept_makes : (k : ℕ) (i : Item) → is_accept_of k i ≡ true → makes_known k i ≡ true
+accept_makes k (noted (note.Accept client first rate join) packet) e = e
+accept_makes k i e = absurd cc
+
+-- an item with which no client goes that has an open burst
+kept : (s : Settings) (i : Item) (history : History) → ((k : ℕ) → ends_known k i ≡ true → has_open s k history ≡ true → ⊥) → AreKnown s history → AreKnown s (i ∷ history)
+kept s i history stays are k e =
+    ⊎_elim (λ a. made_known k i history (accept_makes k i a))
+    (λ b. let was = and_parts (not (is_end_of k i)) (has_open s k history) b in
+    ⊎_elim (λ t. absurd (stays k t was.1)) (λ f. still_known k i history f (are k was.1)) (cases_Bool (ends_known k i)))
+    (or_cases (is_accept_of k i) (not (is_end_of k i) && has_open s k history) (sym (open_step s k i history) ∙ e))
+
+-- no BYE is being answered
+abbrev NoBye : History → Type 0
+NoBye history = (client : ℕ) (p : Framed) → newest_told history ≡ Some (client, bye p) → ⊥
+
+-- so a note lets no client go that has an open burst
+stays : (s : Settings) (history : History) (n : Note) (packet : Option Held) → 1 ≤ s.channel.idle → Allows s history n packet → NoBye history
+    → (k : ℕ) → ends_known k (noted n packet) ≡ true → has_open s k history ≡ true → ⊥
+stays s history (note.Bye client) packet some a free k e o = free client a.packet a.is_answer
+stays s history (note.Forgot client) packet some a free k e o =
+    let rests = forgotten_rests s client history some a in
+    both_ways (has_open s k history) (subst (λ (j : ℕ). has_open s j history ≡ false) (eqb-true client k e) rests.0) o
+stays s history n packet some a free k e o = absurd cc
+
+kept_by_notes : (s : Settings) (items history : History) → 1 ≤ s.channel.idle → AreNotes items → IsLegal s (items ++ history) → NoBye history → AreKnown s history
+    → AreKnown s (items ++ history)
+kept_by_notes s [] history some n l free are = are
+kept_by_notes s (noted note packet ∷ items) history some n l free are =
+    kept s (noted note packet) (items ++ history) (stays s (items ++ history) note packet some l.0 (no_bye items n)) (kept_by_notes s items history some n l.1 free are)
+  where
+    no_bye : (items : History) → AreNotes items → NoBye (items ++ history)
+    no_bye [] n = free
+    no_bye (noted note packet ∷ items) n = no_bye items n
+    no_bye (began heard ∷ items) n = absurd n
+    no_bye (told client message ∷ items) n = absurd n
+kept_by_notes s (began heard ∷ items) history some n l free are = absurd n
+kept_by_notes s (told client message ∷ items) history some n l free are = absurd n
+
+-- a client that leaves has no open burst then
+left : (s : Settings) (k : ℕ) (history : History) → AreKnown s history → has_open s k history ≡ false → AreKnown s (noted (note.Bye k) None ∷ history)
+left s k history are none =
+    kept s (noted (note.Bye k) None) history (λ j e o. both_ways (has_open s j history) (subst (λ (i : ℕ). has_open s i history ≡ false) (eqb-true k j e) none) o) are
+
+ended : (s : Settings) (k : ℕ) (history : History) → AreKnown s history → AreKnown s (noted (note.End k cause.Bye) None ∷ noted (note.Bye k) None ∷ history)
+unfolding bursts
+ended s k history are j e =
+    let parts = and_parts (not (eqb k j)) (has_open s j history) (sym (open_step s j (noted (note.End k cause.Bye) None) (noted (note.Bye k) None ∷ history)) ∙ e) in
+    still_known j (noted (note.End k cause.Bye) None) (noted (note.Bye k) None ∷ history) refl
+    (still_known j (noted (note.Bye k) None) history (not-true (eqb k j) parts.0) (are j parts.1))
+
+bye_kept : (s : Settings) (k : ℕ) (p : Framed) (history : History) → AreKnown s history → AreKnown s (after_bye s k p history)
+unfolding bursts known
+bye_kept s k p history are =
+    cond_both (not (is_among k (known history) && is_bye_of p (ssrc k history))) (noted (note.ByeIdle k) None ∷ history)
+    (cond (has_open s k history) (noted (note.End k cause.Bye) None ∷ noted (note.Bye k) None ∷ history) (noted (note.Bye k) None ∷ history)) (AreKnown s)
+    (λ t. are)
+    (λ f. cond_both (has_open s k history) (noted (note.End k cause.Bye) None ∷ noted (note.Bye k) None ∷ history) (noted (note.Bye k) None ∷ history) (AreKnown s)
+    (λ t. ended s k history are) (λ none. left s k history are none))
+
+message_of : Message → Option (ℕ × Message) → Message
+message_of m None = m
+message_of m (Some told') = told'.1
+
+answered : (s : Settings) (k : ℕ) (m : Message) (history : History) → 1 ≤ s.channel.idle → ((p : Framed) → m ≡ bye p → ⊥) → IsLegal s (after_message s k m (told k m ∷ history))
+    → AreKnown s history → AreKnown s (after_message s k m (told k m ∷ history))
+unfolding bursts known message_of
+answered s k m history some other l are =
+    let p = message_puts s k m (told k m ∷ history) in
+    subst (AreKnown s) (sym p.splits)
+    (kept_by_notes s p.items (told k m ∷ history) some p.notes (subst (IsLegal s) p.splits l)
+    (λ client q e. other q (ap (message_of m) e)) are)
+
+pub message_kept : (s : Settings) (k : ℕ) (m : Message) (history : History) → 1 ≤ s.channel.idle → IsLegal s (after_message s k m (told k m ∷ history)) → AreKnown s history
+    → AreKnown s (after_message s k m (told k m ∷ history))
+unfolding bursts known
+message_kept s k (bye p) history some l are = bye_kept s k p (told k (bye p) ∷ history) are
+message_kept s k (nack media sender lows) history some l are = answered s k (nack media sender lows) history some (λ p e. absurd cc) l are
+message_kept s k (asks sender request) history some l are = answered s k (asks sender request) history some (λ p e. absurd cc) l are
+message_kept s k (stops stop) history some l are = answered s k (stops stop) history some (λ p e. absurd cc) l are
+
+-- the answers to later messages come after those to earlier ones
+pub record IsPart (before after : History) : Type 0 where
+  pub later : History
+  pub splits : after ≡ later ++ before
+
+pub messages_part : (s : Settings) (k : ℕ) (ms : List Message) (history : History) → IsPart history (after_messages s k ms history)
+unfolding after_messages
+messages_part s k [] history = record { later = []; splits = refl }
+messages_part s k (m ∷ ms) history =
+    let p = message_puts s k m (told k m ∷ history) in
+    let rest = messages_part s k ms (after_message s k m (told k m ∷ history)) in
+    record {
+      later = (rest.later ++ p.items) ++ told k m ∷ [];
+      splits = rest.splits ∙ ap (λ (h : History). rest.later ++ h) p.splits ∙ regrouped rest.later p.items (told k m) history;
+    }
+  where
+    regrouped : (a b : History) (i : Item) (c : History) → a ++ (b ++ (i ∷ c)) ≡ ((a ++ b) ++ i ∷ []) ++ c
+    regrouped a b i c = simp append_assoc
+
+messages_kept : (s : Settings) (k : ℕ) (ms : List Message) (history : History) → 1 ≤ s.channel.idle → IsLegal s (after_messages s k ms history) → AreKnown s history
+    → AreKnown s (after_messages s k ms history)
+unfolding after_messages
+messages_kept s k [] history some l are = are
+messages_kept s k (m ∷ ms) history some l are =
+    let answered = after_message s k m (told k m ∷ history) in
+    let part = messages_part s k ms answered in
+    messages_kept s k ms answered some l (message_kept s k m history some (legal_part s part.later answered (subst (IsLegal s) part.splits l)) are)
+
+tick_kept : (s : Settings) (history : History) → 1 ≤ s.channel.idle → IsLegal s (after_tick s (began tick ∷ history)) → AreKnown s (began tick ∷ history)
+    → AreKnown s (after_tick s (began tick ∷ history))
+tick_kept s history some l are =
+    let p = tick_puts s (began tick ∷ history) in
+    subst (AreKnown s) (sym p.splits)
+    (kept_by_notes s p.items (began tick ∷ history) some p.notes (subst (IsLegal s) p.splits l) (λ client q e. absurd cc) are)
+
+tick_begun : (s : Settings) (history : History) → AreKnown s history → AreKnown s (began tick ∷ history)
+tick_begun s history are = kept s (began tick) history (λ k e o. absurd cc) are
+
+hearing_kept : (s : Settings) (heard : Heard) (history : History) → 1 ≤ s.channel.idle → IsLegal s (after_hearing s heard history) → AreKnown s history
+    → AreKnown s (after_hearing s heard history)
+unfolding after_hearing bursts known
+hearing_kept s (live a) history some l are = are
+hearing_kept s (dropped note) history some l are = are
+hearing_kept s (feedback client messages) history some l are = messages_kept s client messages (began (feedback client messages) ∷ history) some l are
+hearing_kept s (unframed client fault) history some l are = are
+hearing_kept s tick history some l are = tick_kept s history some l (tick_begun s history are)
+
+pub open_known : (s : Settings) (events : List Event) → 1 ≤ s.channel.idle → AreKnown s (history_of s events)
+unfolding history_of bursts
+open_known s [] some = λ k e. absurd cc
+open_known s (event ∷ events) some =
+    hearing_kept s (heard_of s.channel event) (history_of s events) some (legal_history s (event ∷ events)) (open_known s events some)
+
+pub none_of : {A : Type 0} (o : Option A) → is_some o ≡ false → o ≡ None
+none_of None e = refl
+none_of (Some x) e = absurd cc
+
+pub unknown_closed_by : (s : Settings) (history : History) (k : ℕ) → AreKnown s history → is_among k (known history) ≡ false → open_burst s k history ≡ None
+unknown_closed_by s history k are out =
+    ⊎_elim (λ t. absurd (both_ways (is_among k (known history)) out (are k t))) (λ f. none_of (open_burst s k history) f) (cases_Bool (has_open s k history))
+
+pub unknown_closed : (s : Settings) (events : List Event) (k : ℕ) → 1 ≤ s.channel.idle → is_among k (known (history_of s events)) ≡ false → open_burst s k (history_of s events) ≡ None
+unknown_closed s events k some out = unknown_closed_by s (history_of s events) k (open_known s events some) out
+
+-- what was noted before later messages are answered was allowed, where all was
+pub legal_so_far : (s : Settings) (k : ℕ) (ms : List Message) (history whole : History) → after_messages s k ms history ≡ whole → IsLegal s whole → IsLegal s history
+legal_so_far s k ms history whole e l =
+    let part = messages_part s k ms history in legal_part s part.later history (subst (IsLegal s) (sym e ∙ part.splits) l)
+
+absorbs : (a b : Bool) → (a ≡ true → b ≡ true) → a ≡ (a && b)
+absorbs true b f = sym (f refl)
+absorbs false b f = refl
+
+pub opened_filter : (s : Settings) (events : List Event) → 1 ≤ s.channel.idle → opened (history_of s events) ≡ filter (λ k. has_open s k (history_of s events)) (known (history_of s events))
+opened_filter s events some =
+    let history = history_of s events in
+    let test : ℕ → Bool = λ k. has_open s k history in
+    same_rise (opened history) (filter test (known history)) (opened_rise history) (rise_passed test (known history) (known_rise history))
+    (λ i. opened_open s i history ∙ absorbs (test i) (is_among i (known history)) (open_known s events some i)
+    ∙ sym (any-filter_same (λ (j : ℕ). eqb j i) test (test i) (λ j t. ap test (eqb-true j i t)) (known history)))

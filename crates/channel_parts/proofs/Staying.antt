@@ -1,0 +1,213 @@
+-- Parts that stand for some events stand for one more, where each is what that event makes of it.
+use Rattle.std.proofs.Common.{◌≡◌, ℕ, ◌+◌, ◌≤◌, not, List, ◌∷◌, length, None, refl, ap, sym, ◌∙◌, subst, arith, eqb, ltb}
+use Rattle.std.specs.Prelude.{Result, Ok, Err}
+use Rattle.std.specs.List.{AllByRecursion as Each}
+use Rattle.std.proofs.lemmas.Bool.{cond_both}
+use Rattle.std.proofs.lemmas.List.Elements.{All-from_recursion}
+use Rattle.rams_model.specs.declared.channel.Channel.{Channel}
+use Rattle.rams_model.specs.declared.event.Event.{Event}
+use Rattle.rams_model.specs.declared.event.Event.TheVariants.{Live, Feedback, Tick}
+use Rattle.rams_model.specs.declared.fault.FrameFault.{FrameFault}
+use Rattle.rams_model.specs.declared.fault.RtpFault.{RtpFault}
+use Rattle.rams_model.specs.declared.note.LiveNote.{LiveNote}
+use Rattle.rams_model.specs.declared.note.LiveNote.TheVariants.{TooBig}
+use Rattle.rams_model.specs.declared.note.Note.TheVariants.{Live as LiveNoted}
+use Rattle.rams_model.specs.Settings.{Settings}
+use Rattle.rams_model.specs.Packet.{Packet}
+use Rattle.rams_model.specs.Rtp.{packet_at}
+use Rattle.rams_model.specs.Rtcp.{Framed, framed}
+use Rattle.rams_model.specs.Messages.{Message, messages}
+use Rattle.rams_model.specs.Source.{Arrival}
+use Rattle.rams_model.specs.Heard.{Heard, live, dropped, feedback, unframed, tick, heard_packet, heard_live, heard_feedback, heard_of}
+use Rattle.rams_model.specs.History.{began, noted, History, arrivals}
+use Rattle.rams_model.specs.Clients.{known, opened, sendings, ssrc}
+use Rattle.rams_model.specs.Bursts.{bursts}
+use Rattle.rams_model.specs.Pending.{Wanted, pending, quiet_ticks}
+use Rattle.rams_model.specs.Buckets.{reserved, channel_left}
+use Rattle.rams_model.specs.Answers.{after_messages}
+use Rattle.rams_model.specs.Tick.{after_tick}
+use Rattle.rams_model.specs.Book.{after, after_hearing, history_of}
+use Rattle.channel_config.specs.Lawful.{IsLawful}
+use Rattle.channel_cache.specs.Arrivals.{arrivals_heard, arrivals_after}
+use Rattle.channel_cache.specs.Seen as caches
+use Rattle.channel_cache.proofs.Booked.{noted_so}
+use Rattle.link_budget.specs.Amounts.{amounts}
+use Rattle.client_table.specs.Clients.{Clients}
+use Rattle.book_laws.proofs.Items.{tick_puts}
+use Rattle.channel_parts.specs.declared.parts.Parts.{Parts}
+use Rattle.channel_parts.specs.Facts.{HaveLowNumbers}
+use Rattle.channel_parts.specs.Standing.{IsTable, IsQueue, IsBudget, IsCache, StandsFor}
+use Rattle.channel_parts.specs.Given.{GoOn, OtherEventsLeaveTheCache, LivePacketsChangeTheCache}
+use Rattle.channel_parts.proofs.Knowing.{OfKnown, pending_known}
+use Rattle.channel_parts.proofs.Passing.{through_notes, through_messages}
+use Rattle.channel_parts.proofs.Small.{reads_low}
+use Rattle.book_laws.proofs.Legality.{legal_history}
+
+-- Notes and messages bring no live packet.
+arrivals_after_messages : (s : Settings) (k : ℕ) (ms : List Message) (history : History) → arrivals (after_messages s k ms history) ≡ arrivals history
+unfolding arrivals
+arrivals_after_messages s k ms history =
+    through_messages (λ h. arrivals h ≡ arrivals history) (λ n packet h e. e) (λ j m h e. e) s k ms history refl
+
+arrivals_after_tick : (s : Settings) (history : History) → arrivals (after_tick s history) ≡ arrivals history
+unfolding arrivals
+arrivals_after_tick s history =
+    let puts = tick_puts s history in
+    ap arrivals puts.splits ∙ through_notes (λ h. arrivals h ≡ arrivals history) (λ n packet h e. e) puts.items history puts.notes refl
+
+-- so a tick and a datagram bring none
+pub arrivals_of_tick : (s : Settings) (events : List Event) → arrivals (history_of s (Tick ∷ events)) ≡ arrivals (history_of s events)
+unfolding history_of after_hearing heard_of arrivals
+arrivals_of_tick s events = arrivals_after_tick s (began tick ∷ history_of s events)
+
+of_datagram : (s : Settings) (client : ℕ) (r : Result (List Framed) FrameFault) (history : History) → arrivals (after_hearing s (heard_feedback client r) history) ≡ arrivals history
+unfolding after_hearing arrivals
+of_datagram s client (Err fault) history = refl
+of_datagram s client (Ok ps) history = arrivals_after_messages s client (messages ps) (began (feedback client (messages ps)) ∷ history)
+
+pub arrivals_of_feedback : (s : Settings) (client : ℕ) (bytes : List ℕ) (events : List Event) → arrivals (history_of s (Feedback client bytes ∷ events)) ≡ arrivals (history_of s events)
+unfolding history_of heard_of
+arrivals_of_feedback s client bytes events = of_datagram s client (framed bytes) (history_of s events)
+
+-- so the cache still stands
+pub cache_stays : (s : Settings) (old new : History) (cache : caches.Seen) → arrivals new ≡ arrivals old → IsCache s old cache → IsCache s new cache
+cache_stays s old new cache same is = record {
+  settings_are = is.settings_are;
+  stands = subst (caches.StandsFor cache) (sym same) is.stands;
+  low = subst HaveLowNumbers (sym same) is.low;
+  counted = subst (λ (l : List Arrival). length l ≤ cache.calls) (sym same) is.counted;
+  few = is.few;
+}
+
+-- the pending repairs, of whom the queue speaks
+pub queue_is : (s : Settings) (events : List Event) (queue : List Wanted) → IsLawful s → queue ≡ pending (history_of s events) → IsQueue (history_of s events) queue
+queue_is s events queue lawful same =
+    let history = history_of s events in
+    record {
+      pending_is = same;
+      known_is = All-from_recursion (OfKnown history) queue (subst (Each (OfKnown history)) (sym same) (pending_known s history lawful.idle_least (legal_history s events)));
+    }
+
+-- After a tick or a datagram the parts stand for it too, where the table, the queue and the budget are those of the history with it, and nothing else changed.
+stands_on : (p q : Parts) (event : Event) (events : List Event) → StandsFor p events → arrivals (history_of p.config (event ∷ events)) ≡ arrivals (history_of p.config events)
+    → GoOn p q (history_of p.config (event ∷ events)) → StandsFor q (event ∷ events)
+stands_on p q event events st same g =
+    let s = p.config in
+    let new = history_of s (event ∷ events) in
+    let cache : IsCache s new p.cache = cache_stays s (history_of s events) new p.cache same st.packets in
+    let At : Settings → Type 0 = λ c. IsLawful c × IsCache c (history_of c (event ∷ events)) q.cache × IsTable c (history_of c (event ∷ events)) q.table
+    × IsQueue (history_of c (event ∷ events)) q.queue × IsBudget c (history_of c (event ∷ events)) q.budget in
+    let all : At q.config = subst At (sym g.same_config) (
+      st.lawful,
+      subst (IsCache s new) (sym g.same_cache) cache,
+      g.table,
+      queue_is s (event ∷ events) q.queue st.lawful g.queue,
+      g.budget,
+    ) in
+    record {
+      lawful = all.0;
+      packets = all.1;
+      table = all.2;
+      queue = all.3;
+      budget = all.4;
+      calls = omega (arith, ap (λ (c : caches.Seen). c.calls) g.same_cache, st.calls);
+    }
+
+pub other_events_leave_the_cache : OtherEventsLeaveTheCache
+other_events_leave_the_cache p q events st = (
+  λ g. stands_on p q Tick events st (arrivals_of_tick p.config events) g,
+  λ client bytes g. stands_on p q (Feedback client bytes) events st (arrivals_of_feedback p.config client bytes events) g,
+)
+
+-- A live packet changes nothing but what is held.
+abbrev OfLive : Heard → Type 0
+OfLive (live a) = Unit {0}
+OfLive (dropped note) = Unit {0}
+OfLive _ = ⊥
+
+of_packet : (c : Channel) (r : Result Packet RtpFault) → OfLive (heard_packet c r)
+of_packet c (Err fault) = tt
+of_packet c (Ok p) =
+    cond_both (not (eqb p.ssrc c.ssrc)) _ _ OfLive (λ t. tt) (λ f. cond_both (not (eqb p.payload_type c.pt)) _ _ OfLive (λ t. tt) (λ g. tt))
+
+of_live : (c : Channel) (bytes : List ℕ) → OfLive (heard_live c bytes)
+of_live c bytes = cond_both (ltb 1470 (length bytes)) (dropped TooBig) (heard_packet c (packet_at bytes)) OfLive (λ t. tt) (λ f. of_packet c (packet_at bytes))
+
+abbrev with_live : LiveNote → Heard → History → History
+with_live note heard history = noted (LiveNoted note) None ∷ began heard ∷ history
+
+live_table : (s : Settings) (note : LiveNote) (heard : Heard) (history : History) (t : Clients) → OfLive heard → IsTable s history t → IsTable s (with_live note heard history) t
+unfolding known bursts sendings ssrc pending quiet_ticks
+live_table s note (live a) history t of' is = record {
+  most = is.most;
+  clients = is.clients;
+  entries = λ k e found. let x = is.entries k e found in record { ssrc_is = x.ssrc_is; seq_is = x.seq_is; idle_is = x.idle_is; burst_is = x.burst_is; told = x.told };
+  others = is.others;
+}
+live_table s note (dropped other) history t of' is = record {
+  most = is.most;
+  clients = is.clients;
+  entries = λ k e found. let x = is.entries k e found in record { ssrc_is = x.ssrc_is; seq_is = x.seq_is; idle_is = x.idle_is; burst_is = x.burst_is; told = x.told };
+  others = is.others;
+}
+live_table s note heard history t of' is = absurd of'
+
+live_pending : (note : LiveNote) (heard : Heard) (history : History) → OfLive heard → pending (with_live note heard history) ≡ pending history
+unfolding pending
+live_pending note (live a) history of' = refl
+live_pending note (dropped other) history of' = refl
+live_pending note heard history of' = absurd of'
+
+live_budget : (s : Settings) (note : LiveNote) (heard : Heard) (history : History) → OfLive heard
+    → (reserved s (with_live note heard history) ≡ reserved s history) × (channel_left s (with_live note heard history) ≡ channel_left s history)
+unfolding opened bursts channel_left
+live_budget s note (live a) history of' = (refl, refl)
+live_budget s note (dropped other) history of' = (refl, refl)
+live_budget s note heard history of' = absurd of'
+
+-- how many live packets there are after one more
+live_counted : (s : Settings) (bytes : List ℕ) (packets : List Arrival) → length (arrivals_after s bytes packets) ≤ length packets + 1
+live_counted s bytes packets = counted (heard_live s.channel bytes)
+  where
+    counted : (h : Heard) → length (arrivals_heard packets h) ≤ length packets + 1
+    counted (live a) = omega arith
+    counted (dropped note) = omega arith
+    counted (feedback client ms) = omega arith
+    counted (unframed client fault) = omega arith
+    counted tick = omega arith
+
+-- So after a live packet the parts stand for it too, where the cache took it.
+pub live_packets_change_the_cache : LivePacketsChangeTheCache
+unfolding history_of
+live_packets_change_the_cache p events bytes note cache are st taken =
+    let s = p.config in
+    let old = history_of s events in
+    let is = noted_so s bytes old note taken.noted in
+    let heard = heard_live s.channel bytes in
+    let of' = of_live s.channel bytes in
+    let new = with_live note heard old in
+    let after' : after s (Live bytes) old ≡ new = is.entered in
+    let brought : arrivals new ≡ arrivals_after s bytes (arrivals old) = ap arrivals (sym after') ∙ is.arrived in
+    let At : History → Type 0 = λ h. IsCache s h cache × IsTable s h p.table × (p.queue ≡ pending h) × IsBudget s h p.budget in
+    let budget = live_budget s note heard old of' in
+    let all : At (after s (Live bytes) old) = subst At (sym after') (
+      record {
+        settings_are = taken.settings_are;
+        stands = subst (caches.StandsFor cache) (sym brought) taken.stands;
+        low = subst HaveLowNumbers (sym brought) (reads_low s bytes (arrivals old) are st.packets.low);
+        counted = omega (arith, ap (λ (l : List Arrival). length l) brought, live_counted s bytes (arrivals old), st.packets.counted, taken.calls);
+        few = omega (arith, taken.calls, taken.few);
+      },
+      live_table s note heard old p.table of' st.table,
+      st.queue.pending_is ∙ sym (live_pending note heard old of'),
+      st.budget ∙ ap (λ (n : ℕ). amounts s.channel.share s.channel.reserve s.channel.swell n (channel_left s old)) (sym budget.0)
+          ∙ ap (amounts s.channel.share s.channel.reserve s.channel.swell (reserved s new)) (sym budget.1),
+    ) in
+    record {
+      lawful = st.lawful;
+      packets = all.0;
+      table = all.1;
+      queue = queue_is s (Live bytes ∷ events) p.queue st.lawful all.2;
+      budget = all.3;
+      calls = omega (arith, taken.calls, st.calls);
+    }

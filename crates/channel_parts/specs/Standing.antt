@@ -1,0 +1,81 @@
+-- What the parts of a channel keep between events, and the history that they stand for.
+use Rattle.std.specs.Prelude.{◌≡◌, ℕ, ◌^◌, ◌≤◌, false, true, List, [], length, All, Option, Some, None, option_map}
+use Rattle.rams_model.specs.declared.event.Event.{Event}
+use Rattle.rams_model.specs.Settings.{Settings}
+use Rattle.rams_model.specs.History.{History, arrivals}
+use Rattle.rams_model.specs.Clients.{known, is_among, sequence, ssrc}
+use Rattle.rams_model.specs.Bursts.{next, kept, open_burst}
+use Rattle.rams_model.specs.Bursts as model
+use Rattle.rams_model.specs.Pending.{Wanted, pending, idle}
+use Rattle.rams_model.specs.Buckets.{reserved, channel_left}
+use Rattle.rams_model.specs.Book.{history_of}
+use Rattle.channel_config.specs.Lawful.{IsLawful}
+use Rattle.channel_cache.specs.Seen.{new_cache}
+use Rattle.channel_cache.specs.Seen as caches
+use Rattle.link_budget.specs.Amounts.{Amounts, amounts}
+use Rattle.client_table.specs.declared.entry.Burst.{Burst}
+use Rattle.client_table.specs.declared.entry.Entry.{Entry}
+use Rattle.client_table.specs.Clients.{Clients, nobody, clients_of, entry_of}
+use Rattle.channel_parts.specs.declared.parts.Parts.{Parts}
+use Rattle.channel_parts.specs.Facts.{HaveLowNumbers}
+
+-- what an entry keeps of an open burst
+abbrev pub burst_kept : Settings → model.Burst → Burst
+burst_kept s b = record { first = b.first; next = next b; stop = b.stop; rate = b.rate; ticks = b.ticks; kept = kept s b }
+
+-- the client of an open burst was told this last
+abbrev pub WasTold : Option model.Burst → Entry → Type 0
+WasTold None e = Unit {0}
+WasTold (Some b) e = e.last ≡ Some b.last
+
+-- A known client's entry, between two events, is what the history says of it.
+pub record IsEntry (s : Settings) (k : ℕ) (history : History) (e : Entry) : Type 0 where
+  pub ssrc_is : ssrc k history ≡ Some e.ssrc
+  pub seq_is : e.seq ≡ sequence s k history
+  pub idle_is : e.idle ≡ idle s k history
+  pub burst_is : e.burst ≡ option_map (burst_kept s) (open_burst s k history)
+  pub told : WasTold (open_burst s k history) e
+
+-- The table has exactly the known clients, each with its entry; only known clients have open bursts.
+pub record IsTable (s : Settings) (history : History) (table : Clients) : Type 0 where
+  pub most : table.most ≡ s.channel.clients
+  pub clients : clients_of table ≡ known history
+  pub entries : (k : ℕ) (e : Entry) → entry_of table k ≡ Some e → IsEntry s k history e
+  pub others : (k : ℕ) → is_among k (known history) ≡ false → open_burst s k history ≡ None
+
+-- The queue has the pending repairs, which are of known clients.
+pub record IsQueue (history : History) (queue : List Wanted) : Type 0 where
+  pub pending_is : queue ≡ pending history
+  pub known_is : All (λ w. is_among w.client (known history) ≡ true) queue
+
+-- The budget has what the open bursts reserve, and what the channel's bucket has left.
+abbrev pub IsBudget : Settings → History → Amounts → Type 0
+IsBudget s history budget =
+    budget ≡ amounts s.channel.share s.channel.reserve s.channel.swell (reserved s history) (channel_left s history)
+
+-- The cache has the live packets that passed the tests, whose sequence numbers have 16 bits, and counts those that came.
+pub record IsCache (s : Settings) (history : History) (cache : caches.Seen) : Type 0 where
+  pub settings_are : cache.settings ≡ s
+  pub stands : caches.StandsFor cache (arrivals history)
+  pub low : HaveLowNumbers (arrivals history)
+  pub counted : length (arrivals history) ≤ cache.calls
+  pub few : cache.calls ≤ 2 ^ 40
+
+-- The parts stand for these events, the newest first: each is what their history says. The settings are lawful.
+pub record StandsFor (p : Parts) (events : List Event) : Type 0 where
+  pub lawful : IsLawful p.config
+  pub packets : IsCache p.config (history_of p.config events) p.cache
+  pub table : IsTable p.config (history_of p.config events) p.table
+  pub queue : IsQueue (history_of p.config events) p.queue
+  pub budget : IsBudget p.config (history_of p.config events) p.budget
+  pub calls : p.cache.calls ≤ length events
+
+-- the parts of a channel that nothing came to
+abbrev pub new_parts : Settings → Parts
+new_parts s = record {
+  config = s;
+  cache = new_cache s;
+  budget = amounts s.channel.share s.channel.reserve s.channel.swell 0 0;
+  queue = [];
+  table = nobody s.channel.clients;
+}

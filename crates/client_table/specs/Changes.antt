@@ -1,0 +1,19 @@
+-- What a change of every entry makes of the known clients.
+use Rattle.std.specs.Prelude.{◌≡◌, ℕ, Option, Some, None}
+use Rattle.client_table.specs.declared.entry.Entry.{Entry}
+use Rattle.client_table.specs.Clients.{Clients, clients_of, entry_of}
+
+-- each known client, with its entry, is as asked
+abbrev pub AreAll : (ℕ → Entry → Type 0) → Clients → Type 0
+AreAll P t = (client : ℕ) (e : Entry) → entry_of t client ≡ Some e → P client e
+
+-- an entry was changed, where there was one
+abbrev pub IsChanged : (Entry → Entry → Type 0) → Option Entry → Option Entry → Type 0
+IsChanged change None new = new ≡ None
+IsChanged change (Some e) new = (d : Entry) × (new ≡ Some d) × change e d
+
+-- the same clients are known, and the entry of each was changed
+pub record AreChanged (change : ℕ → Entry → Entry → Type 0) (old new : Clients) : Type 0 where
+  pub most : new.most ≡ old.most
+  pub clients : clients_of new ≡ clients_of old
+  pub entries : (client : ℕ) → IsChanged (change client) (entry_of old client) (entry_of new client)

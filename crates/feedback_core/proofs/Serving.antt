@@ -1,0 +1,121 @@
+-- A datagram that frames, from its beginning to its end.
+use Rattle.std.proofs.Common.{◌≡◌, ℕ, ◌+◌, ◌≤◌, Bool, true, not, List, [], ◌∷◌, length, Option, Some, None, Result, Ok, Err, refl, ap, sym, ◌∙◌, subst, arith}
+use Rattle.std.specs.Prelude.{◌*◌, IfOk, is_some, IsSome, option_map, option_to_list}
+use Rattle.std.proofs.lemmas.Bool.{or_left}
+use Rattle.rams_model.specs.declared.event.Event.{Event}
+use Rattle.rams_model.specs.declared.event.Event.TheVariants.{Feedback}
+use Rattle.rams_model.specs.Answered.{Answered, answered}
+use Rattle.rams_model.specs.Settings.{Settings}
+use Rattle.rams_model.specs.Rtcp.{Framed, framed}
+use Rattle.rams_model.specs.Messages.{Message}
+use Rattle.rams_model.specs.History.{History, arrivals, hold}
+use Rattle.rams_model.specs.Orders.{info_order}
+use Rattle.rams_model.specs.Answers.{after_messages}
+use Rattle.rams_model.specs.Book.{history_of, answer}
+use Rattle.rams_model.specs.Pending.{Wanted}
+use Rattle.link_budget.specs.Amounts.{Amounts}
+use Rattle.client_table.specs.declared.entry.Entry.{Entry}
+use Rattle.client_table.specs.Clients.{Clients, entry_of}
+use Rattle.channel_parts.specs.declared.parts.Parts.{Parts}
+use Rattle.channel_parts.specs.Standing.{StandsFor}
+use Rattle.channel_parts.proofs.Facts.{known_clients_are_few}
+use Rattle.channel_parts.proofs.Given.{moment, held_is}
+use Rattle.channel_parts.proofs.Tables.{has_entry}
+use Rattle.feedback_core.specs.declared.page.Page.{Page}
+use Rattle.feedback_core.specs.declared.visitor.Visitor.{Visitor}
+use Rattle.feedback_core.specs.Visitors.{woken}
+use Rattle.feedback_core.specs.Framing.{answered_of}
+use Rattle.feedback_core.specs.Pages.{IsTurned, Turns, sitting}
+use Rattle.feedback_core.specs.Places.{is_full_table, has_place, with_place, with_kept}
+use Rattle.feedback_core.specs.Ready.{IsReady, IsSafe, AreOfOne}
+use Rattle.feedback_core.proofs.Beginning.{at_datagram, visit_begun, page_begun, ready_is, safe_begun}
+use Rattle.feedback_core.proofs.Places.{place_is, place_counts}
+use Rattle.feedback_core.proofs.Closing.{stands_after, answer_after}
+
+-- the client as it was received
+abbrev pub received : Parts → ℕ → Visitor
+received p k = record { client = k; entry = woken (entry_of p.table k); has_place = has_place p.table k; budget = p.budget }
+
+-- the parts with its place
+abbrev pub placed_parts : Parts → ℕ → Parts
+placed_parts p k = record p { table = with_place p.table k p.config.channel.seq0 }
+
+-- other parts, with the same settings and live packets
+abbrev pub parts_with : Parts → Amounts → List Wanted → Clients → Parts
+parts_with p budget queue table = record p { budget = budget; queue = queue; table = table }
+
+known_place : (t : Clients) (k : ℕ) (o : Option Entry) → entry_of t k ≡ o → IsSome (woken o) → has_place t k ≡ true
+known_place t k None e some = absurd cc
+known_place t k (Some x) e some = or_left (is_some (entry_of t k)) (not (is_full_table t)) (ap is_some e)
+
+pub ready_placed : (p q : Parts) (events : List Event) (k : ℕ) → StandsFor p events → q ≡ placed_parts p k → IsReady q.config q.cache
+ready_placed p q events k st e = subst (λ (x : Parts). IsReady x.config x.cache) (sym e) (ready_is p events st)
+
+pub safe_placed : (p q : Parts) (events : List Event) (k : ℕ) (v : Visitor) → StandsFor p events → q ≡ placed_parts p k → v ≡ received p k → IsSafe q.config v
+safe_placed p q events k v st e ve =
+    subst (λ (x : Parts). IsSafe x.config v) (sym e)
+    (subst (IsSafe p.config) (sym ve) (safe_begun p events k (received p k) st refl refl (known_place p.table k (entry_of p.table k) refl)))
+
+-- what is kept has its place
+pub kept_place : (p q : Parts) (events : List Event) (k : ℕ) (v w : Visitor) → StandsFor p events → q ≡ placed_parts p k → v ≡ received p k → AreOfOne v w
+    → (IsSome w.entry → w.has_place ≡ true) → IsSome w.entry → IsSome (entry_of q.table k)
+kept_place p q events k v w st e ve one placed some =
+    let place = place_is k p.config.channel.seq0 (history_of p.config events) p.table st.table.clients in
+    let there : has_place p.table k ≡ true = sym (one.has_place ∙ ap (λ (x : Visitor). x.has_place) ve) ∙ placed some in
+    subst (λ (x : Parts). IsSome (entry_of x.table k)) (sym e)
+    (has_entry (with_place p.table k p.config.channel.seq0) k ∙ place.among ∙ there)
+
+-- the visit as the datagram begins
+turned_begun : (p : Parts) (events : List Event) (k : ℕ) (ms : List Message) (v : Visitor) (page : Page) → StandsFor p events → v ≡ received p k → page.notes.items ≡ [] → page.info ≡ None
+    → IsTurned p.config (at_datagram k ms (history_of p.config events)) (at_datagram k ms (history_of p.config events)) p.queue v page
+turned_begun p events k ms v page st ve ne ie =
+    let history = history_of p.config events in
+    let counts = place_counts p.config k history p.table st.table (known_clients_are_few p.config history (moment p.config events)) in
+    record {
+      visit = visit_begun p events k ms v st (ap (λ (x : Visitor). x.client) ve) (ap (λ (x : Visitor). x.entry) ve) (ap (λ (x : Visitor). x.has_place) ve ∙ counts)
+          (ap (λ (x : Visitor). x.budget) ve);
+      written = page_begun p.config k v.client ms history page ne ie;
+    }
+
+begun_hold : (s : Settings) (k : ℕ) (ms : List Message) (history : History) → hold s (at_datagram k ms history) ≡ hold s history
+unfolding arrivals
+begun_hold s k ms history = refl
+
+-- what was answered to the messages
+pub all_turned : (p q : Parts) (events : List Event) (k : ℕ) (ps : List Framed) (due : Bool) (v w : Visitor) (queue : List Wanted) (page new : Page) → StandsFor p events → q ≡ placed_parts p k
+    → v ≡ received p k → page.notes.items ≡ [] → page.info ≡ None → page.is_due ≡ true
+    → Turns q.config q.cache.held (sitting v q.queue page) (sitting w queue new) (λ history. after_messages q.config v.client (answered_of page.is_due ps) history)
+    → (let ms = answered_of true ps in let base = at_datagram k ms (history_of p.config events) in IsTurned p.config base (after_messages p.config k ms base) queue w new)
+all_turned p q events k ps due v w queue page new st e ve ne ie de turns =
+    let ms = answered_of true ps in
+    let base = at_datagram k ms (history_of p.config events) in
+    let turns' : Turns p.config p.cache.held (sitting v p.queue page) (sitting w queue new) (λ history. after_messages p.config v.client (answered_of page.is_due ps) history) =
+    subst (λ (x : Parts). Turns x.config x.cache.held (sitting v x.queue page) (sitting w queue new) (λ history. after_messages x.config v.client (answered_of page.is_due ps) history)) e turns in
+    let t = turns' base base (begun_hold p.config k ms (history_of p.config events) ∙ sym (held_is p events st)) (turned_begun p events k ms v page st ve ne ie) in
+    subst (λ (j : ℕ). IsTurned p.config base (after_messages p.config j ms base) queue w new) (ap (λ (x : Visitor). x.client) ve)
+    (subst (λ (d : Bool). IsTurned p.config base (after_messages p.config v.client (answered_of d ps) base) queue w new) de t)
+
+pub served : (p q new : Parts) (events : List Event) (k : ℕ) (bytes : List ℕ) (ps : List Framed) (v w : Visitor) (queue : List Wanted) (page written : Page) (given : Answered) → StandsFor p events
+    → framed bytes ≡ Ok ps → q ≡ placed_parts p k → v ≡ received p k → page.notes.items ≡ [] → page.info ≡ None → page.is_due ≡ true
+    → Turns q.config q.cache.held (sitting v q.queue page) (sitting w queue written) (λ history. after_messages q.config v.client (answered_of page.is_due ps) history)
+    → AreOfOne v w → (IsSome w.entry → w.has_place ≡ true) → new ≡ record q { budget = w.budget; queue = queue; table = with_kept q.table k w.entry }
+    → given ≡ answered written.notes.items (option_to_list (option_map (info_order k) written.info))
+    → (given ≡ answer p.config events (Feedback k bytes)) × StandsFor new (Feedback k bytes ∷ events)
+served p q new events k bytes ps v w queue page written given st fe e ve ne ie de turns one placed newe ge =
+    let t = all_turned p q events k ps true v w queue page written st e ve ne ie de turns in
+    let ke : w.client ≡ k = one.client ∙ ap (λ (x : Visitor). x.client) ve in
+    let pe : w.has_place ≡ has_place p.table k = one.has_place ∙ ap (λ (x : Visitor). x.has_place) ve in
+    let new' = newe ∙ ap (λ (x : Parts). record x { budget = w.budget; queue = queue; table = with_kept x.table k w.entry }) e in (
+      ge ∙ answer_after p.config events k bytes ps queue w written (option_to_list (option_map (info_order k) written.info)) fe ke t refl,
+      stands_after p new events k p.config.channel.seq0 bytes ps queue w written st fe ke pe placed t new',
+    )
+
+-- no more notes, and what is answered where there is memory
+pub few_within : {F : Type 0} (r : Result Answered F) (most bytes : ℕ) → most ≤ 5 * bytes → IfOk r (λ a. (length a.notes ≤ most) × (length a.orders ≤ 1))
+    → IfOk r (λ a. (length a.notes ≤ 5 * bytes + 4) × (length a.orders ≤ 1))
+few_within (Ok a) most bytes le few = (omega (arith, le, few.0), few.1)
+few_within (Err f) most bytes le few = tt
+
+pub answered_as : {F : Type 0} (r : Result Answered F) (same other : Answered) (P : Type 0) → same ≡ other → P → IfOk r (λ a. a ≡ same) → IfOk r (λ a. (a ≡ other) × P)
+answered_as (Ok a) same other P e p is = (is ∙ e, p)
+answered_as (Err f) same other P e p is = tt

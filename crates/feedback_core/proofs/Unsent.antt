@@ -1,0 +1,190 @@
+-- A client that isn't known has no SSRC, and was sent nothing since it last was known.
+use Rattle.std.proofs.Common.{◌≡◌, ℕ, ◌+◌, ◌≤◌, Bool, true, false, cond, not, ◌&&◌, ⊎_elim, List, [], ◌∷◌, ◌++◌, Option, Some, None, refl, ap, sym, ◌∙◌, subst, eqb}
+use Rattle.std.specs.Prelude.{Contains, is_some}
+use Rattle.std.proofs.lemmas.Bool.{cond-true, cond-false, cases_Bool, or_parts, or_cases, and_parts, both_ways, eqb-true}
+use Rattle.std.proofs.lemmas.List.Elements.{All-from_recursion, All-contains}
+use Rattle.rams_model.specs.declared.event.Event.{Event}
+use Rattle.rams_model.specs.declared.held.Held.{Held}
+use Rattle.rams_model.specs.declared.note.Note.{Note}
+use Rattle.rams_model.specs.declared.note.Note.TheVariants as note
+use Rattle.rams_model.specs.Settings.{Settings}
+use Rattle.rams_model.specs.Messages.{Message, bye}
+use Rattle.rams_model.specs.Heard.{Heard, live, dropped, feedback, unframed, tick, heard_of}
+use Rattle.rams_model.specs.History.{Item, began, told, noted, History}
+use Rattle.rams_model.specs.Clients.{known, is_among, sendings, ssrc}
+use Rattle.rams_model.specs.Bursts.{has_open}
+use Rattle.rams_model.specs.Pending.{wanted, pending}
+use Rattle.rams_model.specs.Laws.{makes_known, ends_known, is_accept_of, is_end_of}
+use Rattle.rams_model.specs.Answers.{after_message, after_messages}
+use Rattle.rams_model.specs.Tick.{after_tick}
+use Rattle.rams_model.specs.Book.{after_hearing, history_of}
+use Rattle.book_laws.specs.Answering.{AreNotes}
+use Rattle.book_laws.proofs.Legal.{IsLegal, Allows, newest_told, in_tick, legal_part}
+use Rattle.book_laws.proofs.Legality.{legal_history, in_tick_from_runs}
+use Rattle.book_laws.proofs.Items.{message_puts, tick_puts}
+use Rattle.channel_parts.proofs.Knowing.{known_step, open_step, still_known, made_known, forgotten_rests, OfKnown, pending_known}
+use Rattle.channel_parts.proofs.Opening.{AreKnown, open_known, messages_part}
+
+-- what is true of a client that isn't known
+module _ (P : ℕ → History → Type 0) (k : ℕ) (history : History) where
+  -- an item that makes the client known, or ends that
+  pub still_unknown : (i : Item) → ends_known k i ≡ false → is_among k (known (i ∷ history)) ≡ false → (makes_known k i ≡ false) × (is_among k (known history) ≡ false)
+  still_unknown i stays out =
+      let parts = or_parts (makes_known k i) (not (ends_known k i) && is_among k (known history)) (sym (known_step k i history) ∙ out) in
+      (parts.0, ap (λ (b : Bool). not b && is_among k (known history)) (sym stays) ∙ parts.1)
+
+unnamed_end : (k client : ℕ) (i : Item) (history : History) → ends_known k i ≡ eqb client k → makes_known k i ≡ false → is_among k (known (i ∷ history)) ≡ false
+    → (is_among k (known history) ≡ false → ssrc k history ≡ None) → cond (eqb client k) None (ssrc k history) ≡ None
+unnamed_end k client i history ends makes out rest =
+    ⊎_elim (λ t. cond-true (eqb client k) None (ssrc k history) t)
+    (λ f. cond-false (eqb client k) None (ssrc k history) f ∙ rest (still_unknown (λ j h. Unit {0}) k history i (ends ∙ f) out).1) (cases_Bool (eqb client k))
+
+pub unnamed : (k : ℕ) (history : History) → is_among k (known history) ≡ false → ssrc k history ≡ None
+unfolding ssrc known
+unnamed k [] out = refl
+unnamed k (began heard ∷ history) out = unnamed k history out
+unnamed k (told client message ∷ history) out = unnamed k history out
+unnamed k (noted (note.Accept client first rate join) packet ∷ history) out =
+    let rest = still_unknown (λ j h. Unit {0}) k history (noted (note.Accept client first rate join) packet) refl out in
+    cond-false (eqb client k) _ _ rest.0 ∙ unnamed k history rest.1
+unnamed k (noted (note.Queued client n) packet ∷ history) out =
+    let rest = still_unknown (λ j h. Unit {0}) k history (noted (note.Queued client n) packet) refl out in
+    cond-false (eqb client k) _ _ rest.0 ∙ unnamed k history rest.1
+unnamed k (noted (note.Bye client) packet ∷ history) out = unnamed_end k client (noted (note.Bye client) packet) history refl refl out (unnamed k history)
+unnamed k (noted (note.Forgot client) packet ∷ history) out = unnamed_end k client (noted (note.Forgot client) packet) history refl refl out (unnamed k history)
+unnamed k (noted n packet ∷ history) out = unnamed k history out
+
+-- each client that isn't known was sent nothing
+abbrev AreUnsent : History → Type 0
+AreUnsent history = (k : ℕ) → is_among k (known history) ≡ false → sendings k history ≡ 0
+
+unsent_end : (k client : ℕ) (i : Item) (history : History) → ends_known k i ≡ eqb client k → is_among k (known (i ∷ history)) ≡ false → AreUnsent history
+    → cond (eqb client k) 0 (sendings k history) ≡ 0
+unsent_end k client i history ends out are =
+    ⊎_elim (λ t. cond-true (eqb client k) 0 (sendings k history) t)
+    (λ f. cond-false (eqb client k) 0 (sendings k history) f ∙ are k (still_unknown (λ j h. Unit {0}) k history i (ends ∙ f) out).1) (cases_Bool (eqb client k))
+
+-- a packet is sent to a known client alone
+unsent_sent : (k client : ℕ) (history : History) → is_among client (known history) ≡ true → is_among k (known history) ≡ false → AreUnsent history
+    → cond (eqb client k) (sendings k history + 1) (sendings k history) ≡ 0
+unsent_sent k client history is out are =
+    ⊎_elim
+    (λ t. absurd (both_ways (is_among k (known history)) out (subst (λ (j : ℕ). is_among j (known history) ≡ true) (eqb-true client k t) is)))
+    (λ f. cond-false (eqb client k) (sendings k history + 1) (sendings k history) f ∙ are k out) (cases_Bool (eqb client k))
+
+waits_known : (s : Settings) (k n : ℕ) (history : History) → 1 ≤ s.channel.idle → IsLegal s history → Contains (pending history) (wanted k n) → is_among k (known history) ≡ true
+waits_known s k n history some l there =
+    All-contains (OfKnown history) (pending history) (wanted k n) (All-from_recursion (OfKnown history) (pending history) (pending_known s history some l)) there
+
+unsent_note : (s : Settings) (n : Note) (packet : Option Held) (history : History) → 1 ≤ s.channel.idle → IsLegal s history → Allows s history n packet
+    → (in_tick history ≡ true → AreKnown s history) → AreUnsent history → AreUnsent (noted n packet ∷ history)
+unfolding known sendings
+unsent_note s (note.Burst client n number) packet history some l a are unsent k out =
+    unsent_sent k client history (are (in_tick_from_runs history a.running) client (ap is_some a.opened.is_open)) out unsent
+unsent_note s (note.Repair client n number) packet history some l a are unsent k out =
+    unsent_sent k client history (waits_known s client n history some l a.waits) out unsent
+unsent_note s (note.Bye client) packet history some l a are unsent k out = unsent_end k client (noted (note.Bye client) packet) history refl out unsent
+unsent_note s (note.Forgot client) packet history some l a are unsent k out = unsent_end k client (noted (note.Forgot client) packet) history refl out unsent
+unsent_note s (note.Accept client first rate join) packet history some l a are unsent k out =
+    unsent k (still_unknown (λ j h. Unit {0}) k history (noted (note.Accept client first rate join) packet) refl out).1
+unsent_note s (note.Queued client n) packet history some l a are unsent k out =
+    unsent k (still_unknown (λ j h. Unit {0}) k history (noted (note.Queued client n) packet) refl out).1
+unsent_note s n packet history some l a are unsent k out = unsent k out
+
+-- in a tick no client that is sent to becomes unknown before it is forgotten
+known_note : (s : Settings) (n : Note) (packet : Option Held) (history : History) → 1 ≤ s.channel.idle → Allows s history n packet → newest_told history ≡ None → AreKnown s history
+    → AreKnown s (noted n packet ∷ history)
+known_note s n packet history some a free are k e =
+    ⊎_elim (λ m. made_known k (noted n packet) history (accept_makes n m))
+    (λ b. let was = and_parts (not (is_end_of k (noted n packet))) (has_open s k history) b in
+    ⊎_elim (λ t. absurd (stays n a t was.1)) (λ f. still_known k (noted n packet) history f (are k was.1)) (cases_Bool (ends_known k (noted n packet))))
+    (or_cases (is_accept_of k (noted n packet)) (not (is_end_of k (noted n packet)) && has_open s k history) (sym (open_step s k (noted n packet) history) ∙ e))
+  where
+    accept_makes : (n : Note) → is_accept_of k (noted n packet) ≡ true → makes_known k (noted n packet) ≡ true
+    accept_makes (note.Accept client first rate join) m = m
+    accept_makes n m = absurd cc
+
+    stays : (n : Note) → Allows s history n packet → ends_known k (noted n packet) ≡ true → has_open s k history ≡ true → ⊥
+    stays (note.Bye client) a t o = let told' : Some (client, bye a.packet) ≡ None = sym a.is_answer ∙ free in absurd cc
+    stays (note.Forgot client) a t o =
+        both_ways (has_open s k history) (subst (λ (j : ℕ). has_open s j history ≡ false) (eqb-true client k t) (forgotten_rests s client history some a).0) o
+    stays n a t o = absurd cc
+
+record IsGoing (s : Settings) (history : History) : Type 0 where
+  pub free : newest_told history ≡ None
+  pub known : AreKnown s history
+  pub unsent : AreUnsent history
+
+going : (s : Settings) (items history : History) → 1 ≤ s.channel.idle → AreNotes items → IsLegal s (items ++ history) → IsGoing s history → IsGoing s (items ++ history)
+going s [] history some n l g = g
+going s (noted note packet ∷ items) history some n l g =
+    let rest = going s items history some n l.1 g in
+    record {
+      free = rest.free;
+      known = known_note s note packet (items ++ history) some l.0 rest.free rest.known;
+      unsent = unsent_note s note packet (items ++ history) some l.1 l.0 (λ t. rest.known) rest.unsent;
+    }
+going s (began heard ∷ items) history some n l g = absurd n
+going s (told client message ∷ items) history some n l g = absurd n
+
+-- while a message is answered nothing is sent
+record IsResting (history : History) : Type 0 where
+  pub still : in_tick history ≡ false
+  pub unsent : AreUnsent history
+
+resting : (s : Settings) (items history : History) → 1 ≤ s.channel.idle → AreNotes items → IsLegal s (items ++ history) → IsResting history → IsResting (items ++ history)
+resting s [] history some n l r = r
+resting s (noted note packet ∷ items) history some n l r =
+    let rest = resting s items history some n l.1 r in
+    record {
+      still = rest.still;
+      unsent = unsent_note s note packet (items ++ history) some l.1 l.0 (λ t. absurd (both_ways (in_tick (items ++ history)) rest.still t)) rest.unsent;
+    }
+resting s (began heard ∷ items) history some n l r = absurd n
+resting s (told client message ∷ items) history some n l r = absurd n
+
+told_rests : (k : ℕ) (m : Message) (history : History) → AreUnsent history → IsResting (told k m ∷ history)
+unfolding known sendings
+told_rests k m history are = record { still = refl; unsent = are }
+
+messages_unsent : (s : Settings) (k : ℕ) (ms : List Message) (history : History) → 1 ≤ s.channel.idle → IsLegal s (after_messages s k ms history) → AreUnsent history
+    → AreUnsent (after_messages s k ms history)
+unfolding after_messages
+messages_unsent s k [] history some l are = are
+messages_unsent s k (m ∷ ms) history some l are =
+    let answered = after_message s k m (told k m ∷ history) in
+    let part = messages_part s k ms answered in
+    let here = legal_part s part.later answered (subst (IsLegal s) part.splits l) in
+    let p = message_puts s k m (told k m ∷ history) in
+    let rests = resting s p.items (told k m ∷ history) some p.notes (subst (IsLegal s) p.splits here) (told_rests k m history are) in
+    messages_unsent s k ms answered some l (subst AreUnsent (sym p.splits) rests.unsent)
+
+tick_unsent : (s : Settings) (history : History) → 1 ≤ s.channel.idle → IsLegal s (after_tick s (began tick ∷ history)) → AreKnown s history → AreUnsent history
+    → AreUnsent (after_tick s (began tick ∷ history))
+unfolding known sendings
+tick_unsent s history some l is are =
+    let p = tick_puts s (began tick ∷ history) in
+    let begun : IsGoing s (began tick ∷ history) = record { free = refl; known = begun_known s history is; unsent = are } in
+    subst AreUnsent (sym p.splits) (going s p.items (began tick ∷ history) some p.notes (subst (IsLegal s) p.splits l) begun).unsent
+  where
+    begun_known : (s : Settings) (history : History) → AreKnown s history → AreKnown s (began tick ∷ history)
+    begun_known s history is k e =
+        let b = and_parts (not (is_end_of k (began tick))) (has_open s k history) (sym (open_step s k (began tick) history) ∙ e) in is k b.1
+
+hearing_unsent : (s : Settings) (heard : Heard) (history : History) → 1 ≤ s.channel.idle → IsLegal s (after_hearing s heard history) → AreKnown s history → AreUnsent history
+    → AreUnsent (after_hearing s heard history)
+unfolding after_hearing known sendings
+hearing_unsent s (live a) history some l is are = are
+hearing_unsent s (dropped note) history some l is are = are
+hearing_unsent s (feedback client messages) history some l is are = messages_unsent s client messages (began (feedback client messages) ∷ history) some l are
+hearing_unsent s (unframed client fault) history some l is are = are
+hearing_unsent s tick history some l is are = tick_unsent s history some l is are
+
+are_unsent : (s : Settings) (events : List Event) → 1 ≤ s.channel.idle → AreUnsent (history_of s events)
+unfolding history_of sendings
+are_unsent s [] some = λ k out. refl
+are_unsent s (event ∷ events) some =
+    hearing_unsent s (heard_of s.channel event) (history_of s events) some (legal_history s (event ∷ events)) (open_known s events some) (are_unsent s events some)
+
+pub unsent : (s : Settings) (events : List Event) (k : ℕ) → 1 ≤ s.channel.idle → is_among k (known (history_of s events)) ≡ false → sendings k (history_of s events) ≡ 0
+unsent s events k some out = are_unsent s events some k out

@@ -1,0 +1,24 @@
+-- The packets so far are answered.
+use Rattle.std.proofs.Common.{◌≡◌, ◌+◌, ◌≤◌, vec_len, vec_capacity}
+use Rattle.rams_model.specs.History.{History, hold}
+use Rattle.rtcp_frame.specs.Left.{packets_left}
+use Rattle.feedback_core.specs.Counting.{most_notes}
+use Rattle.feedback_core.specs.Framing.{answered_of}
+use Rattle.feedback_core.specs.Pages.{IsFresh, IsTurned}
+use Rattle.feedback_core.specs.Ready.{IsSafe, AreOfOne}
+use Rattle.feedback_core.proofs.Turns.{IsPartway}
+use Rattle.feedback_core.proofs.answering.answer_packets.Given as goal
+
+abbrev pub invariant-loop-packet : goal.invariant-loop-packet
+invariant-loop-packet l = record {
+  can_next : (goal.iterator-loop-packet).can_next l.packet-iterator;
+  is_finite : (goal.iterator-loop-packet).is_finite l.packet-iterator;
+  safe : IsSafe l.config l.visitor;
+  one : AreOfOne l.fn.visitor l.visitor;
+  fresh : IsFresh l.page;
+  room : vec_len l.page.notes + most_notes (packets_left l.packet-iterator) ≤ vec_capacity l.page.notes;
+  few : vec_len l.page.notes + most_notes (packets_left l.packet-iterator) ≤ vec_len l.fn.page.notes + most_notes (packets_left l.fn.packets);
+  answers : (before history : History) → hold l.config history ≡ l.cache.held → IsTurned l.config before history l.fn.queue l.fn.visitor l.fn.page
+      → IsPartway l.config l.cache.held l.fn.visitor.client before history (answered_of l.fn.page.is_due (packets_left l.fn.packets)) l.page.is_due (packets_left l.packet-iterator) l.queue
+      l.visitor l.page;
+}

@@ -1,0 +1,30 @@
+-- A datagram that frames, or doesn't.
+use Rattle.std.proofs.Common.{[], ◌∷◌, length, arith}
+use Rattle.rams_model.specs.declared.event.Event.TheVariants.{Feedback}
+use Rattle.rams_model.specs.declared.note.Note.TheVariants.{BadFeedback}
+use Rattle.rams_model.specs.Answered.{answered}
+use Rattle.rams_model.specs.Book.{answer}
+use Rattle.channel_parts.specs.Standing.{StandsFor}
+use Rattle.feedback_core.specs.Counting.{most_notes}
+use Rattle.feedback_core.proofs.Serving.{few_within, answered_as}
+use Rattle.rtcp_frame.specs.Left.{packets_left}
+use Rattle.feedback_core.proofs.Framed.{most_framed}
+use Rattle.feedback_core.proofs.Closing.{stands_unframed, answer_unframed}
+use Rattle.feedback_core.proofs.feedback.answer_feedback.Goals as goal
+
+pub answer_framed-requires-clause-few : goal.answer_framed-requires-clause-few
+answer_framed-requires-clause-few c =
+    let few = most_framed c.args.datagram.now (packets_left c.in-Ok.packets) c.in-Ok.ensures.ok in omega (arith, few, c.if-datagram-gt-MOST_BYTES.false)
+
+pub returns-else-datagram-gt-MOST_BYTES-clause-few : goal.returns-else-datagram-gt-MOST_BYTES-clause-few
+returns-else-datagram-gt-MOST_BYTES-clause-few c =
+    few_within c.answer_framed.result (most_notes (packets_left c.in-Ok.packets)) (length c.args.datagram.now)
+    (most_framed c.args.datagram.now (packets_left c.in-Ok.packets) c.in-Ok.ensures.ok) c.answer_framed.ensures.few
+
+pub returns-in-Err-clause-stands : goal.returns-in-Err-clause-stands
+returns-in-Err-clause-stands c = λ events st.
+    let s = c.args.parts.now.config in
+    let event = Feedback c.args.client c.args.datagram.now in
+    answered_as c.note_fault.result (answered (BadFeedback c.args.client c.in-Err.fault ∷ []) []) (answer s events event) (StandsFor c.args.parts.now (event ∷ events))
+    (answer_unframed s events c.args.client c.args.datagram.now c.in-Err.fault c.in-Err.ensures.err)
+    (stands_unframed c.args.parts.now events c.args.client c.args.datagram.now c.in-Err.fault st c.in-Err.ensures.err) c.note_fault.ensures

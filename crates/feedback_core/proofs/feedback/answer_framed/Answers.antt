@@ -1,0 +1,31 @@
+-- The client is received, answered and kept.
+use Rattle.std.proofs.Common.{ap}
+use Rattle.channel_parts.specs.declared.parts.Parts.{Parts}
+use Rattle.rtcp_frame.specs.Left.{packets_left}
+use Rattle.feedback_core.proofs.Serving.{parts_with, ready_placed, safe_placed, kept_place, served}
+use Rattle.feedback_core.proofs.feedback.answer_framed.Goals as goal
+
+pub answer_packets-requires-clause-ready : goal.answer_packets-requires-clause-ready
+answer_packets-requires-clause-ready c =
+    ready_placed c.args.parts.now c.receive.new.parts c.requires.stands.0 c.args.client c.requires.stands.1 c.in_ok-visitor.ensures.parts
+
+pub answer_packets-requires-clause-safe : goal.answer_packets-requires-clause-safe
+answer_packets-requires-clause-safe c =
+    safe_placed c.args.parts.now c.receive.new.parts c.requires.stands.0 c.args.client c.in_ok-visitor.visitor c.requires.stands.1 c.in_ok-visitor.ensures.parts
+    c.in_ok-visitor.ensures.visitor
+
+pub keep-requires : goal.keep-requires
+keep-requires c =
+    kept_place c.args.parts.now c.receive.new.parts c.requires.stands.0 c.args.client c.in_ok-visitor.visitor c.answer_packets.new.visitor c.requires.stands.1
+    c.in_ok-visitor.ensures.parts c.in_ok-visitor.ensures.visitor c.answer_packets.ensures.one c.answer_packets.ensures.safe.placed
+
+pub returns-clause-stands : goal.returns-clause-stands
+returns-clause-stands c = λ events bytes st fe.
+    served c.args.parts.now c.receive.new.parts (parts_with c.receive.new.parts c.answer_packets.new.visitor.budget c.answer_packets.new.queue c.keep.new.table) events c.args.client bytes (packets_left c.args.packets) c.in_ok-visitor.visitor c.answer_packets.new.visitor
+    c.answer_packets.new.queue c.in_ok-page.page c.answer_packets.new.page c.finish.result st fe c.in_ok-visitor.ensures.parts c.in_ok-visitor.ensures.visitor
+    c.in_ok-page.ensures.notes c.in_ok-page.ensures.info c.in_ok-page.ensures.due c.answer_packets.ensures.answers c.answer_packets.ensures.one
+    c.answer_packets.ensures.safe.placed
+    (ap (parts_with c.receive.new.parts c.answer_packets.new.visitor.budget c.answer_packets.new.queue) c.keep.ensures) c.finish.ensures
+
+pub returns-clause-settings : goal.returns-clause-settings
+returns-clause-settings c = ap (λ (p : Parts). p.config) c.in_ok-visitor.ensures.parts

@@ -1,0 +1,69 @@
+-- What makes the answers to a datagram safe, and what they are.
+use Rattle.std.specs.Prelude.{◌≡◌, ℕ, ◌+◌, ◌<◌, ◌≤◌, ◌^◌, true, List, ◌∷◌, length, Option, Some, None, IsSome, IfSome}
+use Rattle.rams_model.specs.declared.held.Held.{Held}
+use Rattle.rams_model.specs.declared.note.Note.{Note}
+use Rattle.rams_model.specs.Settings.{Settings}
+use Rattle.rams_model.specs.Hold.{lo, hi}
+use Rattle.rams_model.specs.Source.{Follows}
+use Rattle.rams_model.specs.Rates.{rate_of}
+use Rattle.rams_model.specs.History.{noted, History, hold}
+use Rattle.rams_model.specs.Clients.{newest_sender}
+use Rattle.rams_model.specs.Bursts.{open_burst}
+use Rattle.rams_model.specs.Bursts as model
+use Rattle.rams_model.specs.Pending.{Wanted}
+use Rattle.link_budget.specs.Amounts.{Amounts}
+use Rattle.channel_cache.specs.Seen as caches
+use Rattle.channel_parts.specs.Standing.{burst_kept}
+use Rattle.feedback_core.specs.declared.visitor.Open.{Open}
+use Rattle.feedback_core.specs.declared.visitor.Visitor.{Visitor}
+use Rattle.feedback_core.specs.Visitors.{open_of}
+use Rattle.feedback_core.specs.Visits.{IsVisit}
+
+-- the numbers of what is held follow one another, and are few and small
+pub record IsHeldRun (held : List Held) : Type 0 where
+  pub follows : Follows (lo held) held
+  pub ends : hi held ≡ lo held + length held
+  pub few : length held ≤ 32768
+  pub small : hi held ≤ 2 ^ 62
+
+-- the cache has these settings
+pub record IsReady (s : Settings) (cache : caches.Seen) : Type 0 where
+  pub settings_are : cache.settings ≡ s
+  pub run : IsHeldRun cache.held
+
+-- An open burst has its rate and the depth reserved, and its numbers are small.
+pub record IsSafeBurst (s : Settings) (budget : Amounts) (o : Open) : Type 0 where
+  pub first : o.burst.first < 2 ^ 63
+  pub rate : o.burst.rate ≤ 10 ^ 9
+  pub reserved : o.burst.rate + s.channel.depth ≤ budget.reserved
+  pub ticks : o.burst.ticks ≤ s.channel.limit
+
+-- A known client has its place in the table, and its open burst is safe.
+pub record IsSafe (s : Settings) (v : Visitor) : Type 0 where
+  pub placed : IsSome v.entry → v.has_place ≡ true
+  pub burst : IfSome (open_of v.entry) (IsSafeBurst s v.budget)
+
+-- it is the same client, with the same place
+pub record AreOfOne (old new : Visitor) : Type 0 where
+  pub client : new.client ≡ old.client
+  pub has_place : new.has_place ≡ old.has_place
+
+-- the rate that a bit rate asks for
+abbrev pub rate_for : Settings → Option ℕ → ℕ
+rate_for s bps = rate_of bps s.tick s.channel.burst
+
+-- The visitor is answered with this note, which is the lawful one, and is then what the history says with it.
+pub record IsAnswered (s : Settings) (before history : History) (queue : List Wanted) (new : Visitor) (note lawful : Note) : Type 0 where
+  pub is_lawful : note ≡ lawful
+  pub visit : IsVisit s before (noted note None ∷ history) new queue
+
+-- whichever history it is
+abbrev pub Answers : Settings → List Held → ℕ → Visitor → Visitor → Note → (History → Note) → Type 0
+Answers s held sender old new note lawful = (before history : History) (queue : List Wanted) → hold s history ≡ held → newest_sender history ≡ Some sender
+    → IsVisit s before history old queue → IsAnswered s before history queue new note (lawful history)
+
+-- the same of a client with an open burst
+abbrev pub AnswersBurst : Settings → List Held → Visitor → Visitor → Note → Open → (History → model.Burst → Note) → Type 0
+AnswersBurst s held old new note o lawful = (before history : History) (queue : List Wanted) (b : model.Burst) → hold s history ≡ held
+    → open_burst s old.client history ≡ Some b → o.burst ≡ burst_kept s b → IsVisit s before history old queue
+    → IsAnswered s before history queue new note (lawful history b)

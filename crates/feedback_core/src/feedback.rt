@@ -1,0 +1,116 @@
+//! The answer to a datagram.
+ghost use Rattle.std.specs.Prelude.{◌≡◌, ◌+◌, ◌*◌, ◌<◌, ◌≤◌, ◌^◌, ℕ, List, ◌∷◌, length, IfOk, OnErr, Ok, OnOk, []};
+ghost use Rattle.rams_model.specs.declared.event.Event.{Event};
+ghost use Rattle.rams_model.specs.declared.event.Event.TheVariants.{Feedback};
+ghost use Rattle.rams_model.specs.Book.{answer};
+ghost use Rattle.rams_model.specs.Rtcp.{framed};
+ghost use Rattle.rtcp_frame.specs.Left.{packets_left};
+ghost use Rattle.channel_parts.specs.Standing.{StandsFor};
+ghost use Rattle.feedback_core.specs.Counting.{most_notes};
+ghost use Rattle.client_table.specs.Clients.{entry_of};
+ghost use Rattle.feedback_core.specs.Visitors.{woken};
+ghost use Rattle.feedback_core.specs.Places.{has_place, with_place};
+ghost use Rattle.rams_model.specs.Answered.{answered};
+ghost use Rattle.rams_model.specs.declared.note.Note.TheVariants.{BadFeedback};
+
+use crate::answering::answer_packets;
+use crate::framing::most_notes;
+use crate::page::Page;
+use crate::placing::{keep, make_place};
+use crate::visitor::Visitor;
+use channel_parts::Parts;
+use ram_io::NoMemory;
+use rams_model::{Answer, FrameFault, Note};
+use rtcp_frame::{Packets, packets};
+use std::alloc::Global;
+
+/// The longest datagram whose notes there can be memory for, in bytes.
+const MOST_BYTES: usize = 1 << 56;
+
+/// What the channel answers to a datagram that came to its feedback target (RFC 4585) from this client,
+/// an IPv4 address times 65536 plus its port.
+///
+/// Its packets are taken apart whole before anything else; a fault is noted, and nothing changes. Then
+/// each BYE, each generic NACK and the first RAMS-R or RAMS-T (RFC 6285, 7) is answered, in their order.
+/// All memory is taken first: after want of it nothing has changed.
+pub fn answer_feedback(
+    alloc: Global,
+    parts: &mut Parts,
+    client: u64,
+    datagram: &[u8],
+) -> Result<Answer, NoMemory>
+    requires stands { (events : List Event) × StandsFor parts.old events }
+    // Whichever events came before, the answer is the lawful one, and the parts stand for them with it.
+    ensures stands { (events : List Event) → StandsFor parts.old events → IfOk result (λ a.
+        (a ≡ answer parts.old.config events (Feedback client datagram.now)) × StandsFor parts.new (Feedback client datagram.now ∷ events)) }
+    ensures settings { parts.new.config ≡ parts.old.config }
+    ensures same { OnErr result (parts.new ≡ parts.old) }
+    ensures few { IfOk result (λ a. (length a.notes ≤ 5 * length datagram.now + 4) × (length a.orders ≤ 1)) }
+{
+    match packets(datagram) {
+        Ok(packets) => {
+            if datagram.len() > MOST_BYTES {
+                return Err(NoMemory);
+            }
+            answer_framed(alloc, parts, client, packets)
+        }
+        Err(fault) => note_fault(alloc, client, fault),
+    }
+}
+
+// Answers the packets of a datagram that frames.
+fn answer_framed(
+    alloc: Global,
+    parts: &mut Parts,
+    client: u64,
+    packets: Packets<'_>,
+) -> Result<Answer, NoMemory>
+    requires stands { (events : List Event) × StandsFor parts.old events }
+    requires few { most_notes (packets_left packets) < 2 ^ 63 }
+    ensures stands { (events : List Event) (bytes : List ℕ) → StandsFor parts.old events → framed bytes ≡ Ok (packets_left packets.entry) → IfOk result (λ a.
+        (a ≡ answer parts.old.config events (Feedback client bytes)) × StandsFor parts.new (Feedback client bytes ∷ events)) }
+    ensures settings { parts.new.config ≡ parts.old.config }
+    ensures same { OnErr result (parts.new ≡ parts.old) }
+    ensures few { IfOk result (λ a. (length a.notes ≤ most_notes (packets_left packets.entry)) × (length a.orders ≤ 1)) }
+{
+    let mut page = Page::new(alloc, most_notes(packets))?;
+    let orders = Vec::with_capacity(alloc, 1)?;
+    let mut visitor = receive(alloc, parts, client)?;
+    answer_packets(
+        &parts.config,
+        &parts.cache,
+        &mut visitor,
+        &mut parts.queue,
+        &mut page,
+        packets,
+    );
+    keep(&mut parts.table, client, visitor.entry);
+    parts.budget = visitor.budget;
+    Ok(page.finish(client, orders))
+}
+
+// The client, with a place in the table where it can have one. It takes the memory.
+fn receive(alloc: Global, parts: &mut Parts, client: u64) -> Result<Visitor, NoMemory>
+    ensures visitor { IfOk result (λ v. v ≡ record {
+      client = client;
+      entry = woken (entry_of parts.old.table client);
+      has_place = has_place parts.old.table client;
+      budget = parts.old.budget;
+    }) }
+    ensures parts { OnOk result (parts.new ≡ record parts.old { table = with_place parts.old.table client parts.old.config.channel.seq0 }) }
+    ensures same { OnErr result (parts.new ≡ parts.old) }
+{
+    let entry = parts.table.find(client).copied();
+    let seq0 = parts.config.channel().seq0;
+    let has_place = make_place(alloc, &mut parts.table, client, seq0)?;
+    Ok(Visitor::new(client, entry, has_place, &parts.budget))
+}
+
+// The datagram is no compound RTCP packet.
+fn note_fault(alloc: Global, client: u64, fault: FrameFault) -> Result<Answer, NoMemory>
+    ensures { IfOk result (λ a. a ≡ answered (BadFeedback client fault ∷ []) []) }
+{
+    let mut notes = Vec::new(alloc);
+    notes.push(Note::BadFeedback { client, fault })?;
+    Ok(Answer::new(notes, Vec::new(alloc)))
+}

@@ -1,0 +1,97 @@
+//! Which packets of a datagram are messages that are answered.
+ghost use Rattle.std.specs.Prelude.{◌≡◌, ◌<◌, ◌≤◌, ◌^◌, ◌==◌, if◌then◌else◌, option_map, IfSome};
+ghost use Rattle.rams_model.specs.Messages.{is_rams, message_of, feedback_message, rams_message};
+ghost use Rattle.rtcp_feedback.specs.Shown.{shown_feedback};
+ghost use Rattle.rtcp_frame.specs.Left.{packets_left};
+ghost use Rattle.rtcp_frame.specs.Shown.{shown_packet};
+ghost use Rattle.feedback_core.specs.Counting.{most_of, most_of_message, most_of_nack, most_notes};
+ghost use Rattle.feedback_core.specs.Framing.{shown_message};
+
+use rtcp_feedback::{Feedback, feedback};
+use rtcp_frame::{Packet, Packets};
+
+/// A message that is answered.
+#[derive(Clone, Copy, Debug)]
+pub(crate) enum Message<'a> {
+    /// A BYE (RFC 3550, 6.6).
+    Bye(Packet<'a>),
+    /// A generic NACK (RFC 4585, 6.2.1).
+    Nack(Feedback<'a>),
+    /// A RAMS-R (RFC 6285, 7.2).
+    Request(Feedback<'a>),
+    /// A RAMS-T (RFC 6285, 7.4).
+    Stop(Feedback<'a>),
+}
+
+impl Message<'_> {
+    /// Whether it is a RAMS message.
+    pub fn is_rams(&self) -> bool
+        ensures { result ≡ is_rams (shown_message self.now) }
+    {
+        match self {
+            Message::Bye(_) | Message::Nack(_) => false,
+            Message::Request(_) | Message::Stop(_) => true,
+        }
+    }
+}
+
+/// The message that a packet is; all other packets are skipped.
+#[tactic(auto, unfolding(rams_model::specs::Messages::message_of))]
+pub(crate) fn message_of<'a>(packet: &Packet<'a>) -> Option<Message<'a>>
+    ensures message { option_map shown_message result ≡ message_of (shown_packet packet.now) }
+    ensures few { IfSome result (λ message. most_of_message message ≤ most_of (shown_packet packet.now)) }
+{
+    if packet.kind == 203 {
+        return Some(Message::Bye(*packet));
+    }
+    let message = feedback(packet)?;
+    feedback_message(message)
+}
+
+// Transport layer feedback of format 1 is a generic NACK, of format 6 a RAMS message.
+fn feedback_message(message: Feedback<'_>) -> Option<Message<'_>>
+    ensures message { option_map shown_message result ≡ feedback_message (Some (shown_feedback message.entry)) }
+    ensures few { IfSome result (λ m. most_of_message m ≤ (if message.entry.fmt == 1 then most_of_nack message.entry.fci.now else 2)) }
+{
+    match message.fmt {
+        1 => Some(Message::Nack(message)),
+        6 => rams_message(message),
+        _ => None,
+    }
+}
+
+// A RAMS message by its first byte.
+fn rams_message(message: Feedback<'_>) -> Option<Message<'_>>
+    ensures message { option_map shown_message result ≡ rams_message (shown_feedback message.entry) }
+    ensures few { IfSome result (λ m. most_of_message m ≤ 2) }
+{
+    match message.fci.first() {
+        Some(1) => Some(Message::Request(message)),
+        Some(3) => Some(Message::Stop(message)),
+        _ => None,
+    }
+}
+
+/// How many notes the answers to these packets make at most.
+pub(crate) fn most_notes(packets: Packets<'_>) -> usize
+    requires { most_notes (packets_left packets) < 2 ^ 63 }
+    ensures { result ≡ most_notes (packets_left packets.entry) }
+{
+    let mut most = 0;
+    for packet in packets {
+        most += most_of(&packet);
+    }
+    most
+}
+
+// The most of one packet: a word of a NACK names 17 numbers at most.
+fn most_of(packet: &Packet<'_>) -> usize
+    requires { most_of (shown_packet packet.now) < 2 ^ 63 }
+    ensures { result ≡ most_of (shown_packet packet.now) }
+{
+    if packet.kind == 205 && packet.count == 1 {
+        17 * (packet.body.len() / 4) + 1
+    } else {
+        2
+    }
+}

@@ -1,0 +1,26 @@
+//! What a channel answers to a feedback datagram (RFC 4585, RFC 6285).
+//!
+//! A datagram concerns one client alone. What its answers need of memory is taken first; then its
+//! messages are answered in order on a copy of what is kept of the client, and nothing can fail.
+#![tactic(auto)]
+
+mod answering;
+mod feedback;
+mod framing;
+mod holding;
+mod leaving;
+mod numbers;
+mod page;
+mod placing;
+mod said;
+mod stopping;
+mod telling;
+#[cfg(test)]
+mod tests;
+mod verdict;
+mod visitor;
+
+pub use channel_parts::Parts;
+pub use feedback::answer_feedback;
+pub use ram_io::NoMemory;
+pub use rams_model::Answer;

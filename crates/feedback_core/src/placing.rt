@@ -1,0 +1,52 @@
+//! A client's place in the table while its datagram is answered.
+ghost use Rattle.std.specs.Prelude.{◌≡◌, ◌↔◌, IfOk, OnOk, OnErr, IsSome};
+ghost use Rattle.client_table.specs.Clients.{entry_of, with_entry};
+ghost use Rattle.feedback_core.specs.Places.{has_place, with_place, with_kept};
+
+use client_table::{AdmitFault, Entry, Table};
+use ram_io::NoMemory;
+use std::alloc::Global;
+
+/// Makes a place for the client, where it isn't known and can be: whether it has one. It takes the
+/// memory; after want of it all is as before.
+pub(crate) fn make_place(
+    alloc: Global,
+    table: &mut Table,
+    client: u64,
+    seq0: u16,
+) -> Result<bool, NoMemory>
+    ensures value { IfOk result (λ has. has ≡ has_place table.old client) }
+    ensures table { OnOk result (table.new ≡ with_place table.old client seq0) }
+    ensures same { OnErr result (table.new ≡ table.old) }
+{
+    if table.find(client).is_some() {
+        return Ok(true);
+    }
+    match table.admit(alloc, client, 0, seq0) {
+        Ok(()) => Ok(true),
+        Err(AdmitFault::Full) => Ok(false),
+        Err(AdmitFault::NoMemory) => Err(NoMemory),
+    }
+}
+
+/// Puts what is kept of the client into its place, or gives the place up. Takes no memory.
+pub(crate) fn keep(table: &mut Table, client: u64, entry: Option<Entry>)
+    requires { IsSome entry → IsSome (entry_of table.old client) }
+    ensures { table.new ≡ with_kept table.old client entry }
+{
+    match entry {
+        Some(entry) => set_entry(table, client, entry),
+        None => {
+            table.remove(client);
+        }
+    }
+}
+
+fn set_entry(table: &mut Table, client: u64, entry: Entry)
+    requires { IsSome (entry_of table.old client) }
+    ensures { table.new ≡ with_entry table.old client entry }
+{
+    if let Some(slot) = table.find_mut(client) {
+        *slot = entry;
+    }
+}

@@ -1,0 +1,11 @@
+use Rattle.std.proofs.Common.{◌≡◌, ◌*◌, ◌++◌, take, drop}
+use Rattle.std.specs.List.{list_all}
+use Rattle.hex_text.specs.HexText.{is_lower_digit}
+use Rattle.hex_text.specs.Pairs.{pair_bytes}
+use Rattle.hex_text.proofs.block.decode_block.Given as goal
+
+abbrev pub invariant-pairs : goal.invariant-pairs
+invariant-pairs l = record {
+  digits : l.good ≡ list_all is_lower_digit (take (2 * l.i) l.text);
+  bytes : take l.i l.out ++ pair_bytes (drop (2 * l.i) l.text) ≡ pair_bytes l.text;
+}

@@ -1,0 +1,33 @@
+//! Digits of bytes.
+ghost use Rattle.std.specs.Prelude.{◌≡◌, ◌*◌, ◌<◌, ◌≤◌, length, take, drop, slice_index};
+ghost use Rattle.hex.specs.Hex.{encode_lower, lower_digits};
+
+/// Writes two lower-case hexadecimal digits for each byte into the front of `out`, the high one
+/// first. The rest of `out` stays.
+pub fn encode_into(bytes: &[u8], out: &mut [u8])
+    requires { 2 * length bytes.now ≤ length out.old }
+    ensures text { take (2 * length bytes.now) out.new ≡ encode_lower bytes.now }
+    ensures rest { drop (2 * length bytes.now) out.new ≡ drop (2 * length bytes.now) out.old }
+{
+    encode_all(bytes, &mut out[..2 * bytes.len()]);
+}
+
+/// Writes two digits for each byte over all of `out`.
+pub(crate) fn encode_all(bytes: &[u8], out: &mut [u8])
+    requires { length out.old ≡ 2 * length bytes.now }
+    ensures { out.new ≡ encode_lower bytes.now }
+{
+    'bytes: for i in 0..bytes.len() {
+        let byte = bytes[i];
+        out[2 * i] = digit(byte / 16);
+        out[2 * i + 1] = digit(byte % 16);
+    }
+}
+
+#[inline]
+fn digit(n: u8) -> u8
+    requires { n < 16 }
+    ensures { result ≡ slice_index lower_digits n }
+{
+    if n < 10 { b'0' + n } else { b'a' - 10 + n }
+}

@@ -1,0 +1,53 @@
+//! Digits and bytes in vectors that are used again.
+ghost use Rattle.std.specs.Prelude.{◌≡◌, ◌+◌, ◌*◌, ◌/◌, ◌<◌, ◌≤◌, ◌++◌, [], Ok, length, IfOk, OnOk, OnErr, vec_capacity};
+ghost use Rattle.std.specs.Bool.{MatchBool};
+ghost use Rattle.hex.specs.Hex.{decode_of, encode_lower};
+ghost use Rattle.hex_text.specs.HexText.{is_lower_hex};
+
+use crate::decode::decode_all;
+use crate::encode::encode_all;
+use std::alloc::AllocError;
+
+/// Puts the bytes of a text in place of what `out` holds, and says whether the text is lower-case
+/// hexadecimal digits, two a byte. Where it isn't, `out` is empty then.
+///
+/// It fails only where `out` had too little room and there is no memory for more; `out` then holds
+/// what it held.
+pub fn decode_to(out: &mut Vec<u8>, text: &[u8]) -> Result<bool, AllocError>
+    ensures digits { IfOk result (λ good. good ≡ is_lower_hex text.now) }
+    ensures bytes { IfOk result (λ good. MatchBool good (decode_of text.now ≡ Ok out.new.items) (out.new.items ≡ [])) }
+    ensures err { OnErr result (out.new.items ≡ out.old.items) }
+
+    // The room grows where there was too little, and is never given back.
+    ensures full { OnErr result (vec_capacity out.old < length text.now / 2) }
+    ensures room { vec_capacity out.old ≤ vec_capacity out.new }
+{
+    out.resize(text.len() / 2, 0)?;
+    let good = decode_all(text, out);
+    if !good {
+        out.clear();
+    }
+    Ok(good)
+}
+
+/// Appends two lower-case hexadecimal digits for each byte, the high one first.
+///
+/// It fails only where `text` had too little room and there is no memory for more; `text` then
+/// holds what it held.
+pub fn append_encoded(text: &mut Vec<u8>, bytes: &[u8]) -> Result<(), AllocError>
+    ensures ok { OnOk result (text.new.items ≡ text.old.items ++ encode_lower bytes.now) }
+    ensures err { OnErr result (text.new.items ≡ text.old.items) }
+
+    // The room grows where there was too little, and is never given back.
+    ensures full { OnErr result (vec_capacity text.old < length text.old.items + 2 * length bytes.now) }
+    ensures room { vec_capacity text.old ≤ vec_capacity text.new }
+{
+    let start = text.len();
+    let Some(end) = start.checked_add(2 * bytes.len()) else {
+        return Err(AllocError);
+    };
+    text.resize(end, 0)?;
+    let (_, room) = text.split_at_mut(start);
+    encode_all(bytes, room);
+    Ok(())
+}

@@ -1,0 +1,2 @@
+mod ReadAgain
+pub mod ReadPackets

@@ -1,0 +1,72 @@
+//! The datagrams that orders ask for.
+ghost use Rattle.std.specs.Prelude.{◌≡◌, ◌<◌, ◌++◌, ◌↔◌, ◌+◌, IsOk, IsTrue, IfOk, OnOk, OnErr, length, vec_len, vec_capacity};
+ghost use Rattle.rams_model.specs.Orders.{datagram, sent_again};
+ghost use Rattle.rams_model.specs.Rtp.{packet_at};
+ghost use Rattle.order_datagrams.specs.Rendering.{Renders, IsRetransmission};
+
+use channel_config::Config;
+use ram_io::NoMemory;
+use rams_model::Order;
+use rams_tlv::append_info;
+use rtp_record::Rtp;
+use rtx_payload::append_rtx;
+use std::alloc::Global;
+
+/// The datagram of an order. The packet of a retransmission reads as one, as each does that a
+/// channel holds.
+pub fn render_order(alloc: Global, config: &Config, order: &Order) -> Result<Vec<u8>, NoMemory>
+    requires { Renders order.now }
+    ensures { IfOk result (λ bytes. bytes.items ≡ datagram config.now order.now) }
+{
+    let mut text = Vec::new(alloc);
+    append_order(&mut text, config, order)?;
+    Ok(text)
+}
+
+/// `render_order`, behind what is there: a retransmission packet (RFC 4588, 4), or a RAMS-I (RFC
+/// 6285, 7.3). An error in a retransmission changes nothing, and comes only where the vector lacks
+/// the room; one in a RAMS-I may leave a part of the message.
+#[tactic(auto, unfolding(rams_model::specs::Orders::datagram))]
+pub fn append_order(text: &mut Vec<u8>, config: &Config, order: &Order) -> Result<(), NoMemory>
+    requires { Renders order.now }
+    ensures text { OnOk result (text.new.items ≡ text.old.items ++ datagram config.now order.now) }
+    ensures same { IsRetransmission order.now → OnErr result (text.new.items ≡ text.old.items) }
+    ensures full { IsRetransmission order.now
+        → OnErr result (vec_capacity text.old < vec_len text.old + length (datagram config.now order.now)) }
+{
+    let channel = config.channel();
+    match order {
+        Order::Rtx { seq, packet, .. } => append_retransmission(text, packet, channel.rtx, *seq),
+        Order::Info { info, .. } => append_info(text, channel.server, channel.ssrc, info),
+    }
+}
+
+/// The retransmission of a packet, which reads as one.
+fn append_retransmission(
+    text: &mut Vec<u8>,
+    packet: &[u8],
+    rtx: u8,
+    seq: u16,
+) -> Result<(), NoMemory>
+    requires reads { IsOk (packet_at packet.now) }
+    requires kind { rtx < 128 }
+    ensures text { OnOk result (text.new.items ≡ text.old.items ++ sent_again rtx seq (packet_at packet.now)) }
+    ensures same { OnErr result (text.new.items ≡ text.old.items) }
+    ensures full { OnErr result
+        (vec_capacity text.old < vec_len text.old + length (sent_again rtx seq (packet_at packet.now))) }
+{
+    match Rtp::read(packet) {
+        Ok(original) => append_rtx(text, &original, rtx, seq),
+        Err(_) => unreachable!(),
+    }
+}
+
+/// Whether an order's packet reads as one; a RAMS-I always renders.
+pub fn renders(order: &Order) -> bool
+    ensures { IsTrue result ↔ Renders order.now }
+{
+    match order {
+        Order::Rtx { packet, .. } => Rtp::read(packet).is_ok(),
+        Order::Info { .. } => true,
+    }
+}

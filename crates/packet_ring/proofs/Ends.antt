@@ -1,0 +1,105 @@
+-- The longest end of some packets whose numbers follow one another, as one more comes.
+use Rattle.std.proofs.Common.{◌≡◌, ℕ, zero, suc, ◌+◌, ◌-◌, ◌<◌, ◌≤◌, ◌≢◌, false, ◌&&◌, List, [], ◌∷◌, ◌++◌, length, drop, refl, ap, sym, ◌∙◌, arith, eqb, length-append}
+use Rattle.std.proofs.lemmas.Bool.{cond_both, cond-true, cond-false, eqb-true, eqb-false, eq-eqb, ne_eqb}
+use Rattle.std.proofs.lemmas.List.{length-drop, drop-drop, drop-append-le}
+use Rattle.std.proofs.Math.Seq.{drop-nil}
+use Rattle.std.proofs.Math.Bool.{and-true, and-false, and_assoc}
+use Rattle.rams_model.specs.declared.held.Held.{Held}
+use Rattle.rams_model.specs.Hold.{hi, last_of}
+use Rattle.rams_model.specs.Source.{is_consecutive, consecutive_end}
+use Rattle.rams_model.specs.Laws.{Rises}
+use Rattle.packet_ring.specs.Seen.{Seen, with_next, StandsFor}
+
+-- ---- the test
+-- one more packet follows where its number is the next
+one_more : (k : Held) (hs : List Held) (h : Held) → is_consecutive (k ∷ hs ++ h ∷ []) ≡ (is_consecutive (k ∷ hs) && eqb h.n (hi (k ∷ hs)))
+unfolding hi
+one_more k [] h = and-true (eqb h.n (k.n + 1))
+one_more k (j ∷ hs) h = ap (λ b. eqb j.n (k.n + 1) && b) (one_more j hs h) ∙ sym (and_assoc (eqb j.n (k.n + 1)) (is_consecutive (j ∷ hs)) (eqb h.n (hi (j ∷ hs))))
+
+follows_still : (k : Held) (hs : List Held) (h : Held) → h.n ≡ hi (k ∷ hs) → is_consecutive (k ∷ hs ++ h ∷ []) ≡ is_consecutive (k ∷ hs)
+follows_still k hs h next = one_more k hs h ∙ (ap (λ b. is_consecutive (k ∷ hs) && b) (eq-eqb h.n (hi (k ∷ hs)) next) ∙ and-true (is_consecutive (k ∷ hs)))
+
+follows_no_more : (k : Held) (hs : List Held) (h : Held) → h.n ≢ hi (k ∷ hs) → is_consecutive (k ∷ hs ++ h ∷ []) ≡ false
+follows_no_more k hs h other = one_more k hs h ∙ (ap (λ b. is_consecutive (k ∷ hs) && b) (ne_eqb h.n (hi (k ∷ hs)) other) ∙ and-false (is_consecutive (k ∷ hs)))
+
+-- ---- the longest end
+end_goes_on : (hs : List Held) (h : Held) → h.n ≡ hi hs → consecutive_end (hs ++ h ∷ []) ≡ consecutive_end hs ++ h ∷ []
+unfolding hi consecutive_end
+end_goes_on [] h next = refl
+end_goes_on (k ∷ []) h next = cond-true (is_consecutive (k ∷ h ∷ [])) (k ∷ h ∷ []) (h ∷ []) (follows_still k [] h next)
+end_goes_on (k ∷ j ∷ hs) h next =
+    cond_both (is_consecutive (k ∷ j ∷ hs)) (k ∷ j ∷ hs) (consecutive_end (j ∷ hs)) (λ l. consecutive_end (k ∷ j ∷ hs ++ h ∷ []) ≡ l ++ h ∷ [])
+    (λ t. cond-true (is_consecutive (k ∷ j ∷ hs ++ h ∷ [])) (k ∷ j ∷ hs ++ h ∷ []) (consecutive_end (j ∷ hs ++ h ∷ [])) (follows_still k (j ∷ hs) h next ∙ t))
+    (λ f. cond-false (is_consecutive (k ∷ j ∷ hs ++ h ∷ [])) (k ∷ j ∷ hs ++ h ∷ []) (consecutive_end (j ∷ hs ++ h ∷ [])) (follows_still k (j ∷ hs) h next ∙ f) ∙ end_goes_on (j ∷ hs) h next)
+
+end_begins : (hs : List Held) (h : Held) → h.n ≢ hi hs → consecutive_end (hs ++ h ∷ []) ≡ h ∷ []
+unfolding hi consecutive_end
+end_begins [] h other = refl
+end_begins (k ∷ []) h other = cond-false (is_consecutive (k ∷ h ∷ [])) (k ∷ h ∷ []) (h ∷ []) (follows_no_more k [] h other)
+end_begins (k ∷ j ∷ hs) h other =
+    cond-false (is_consecutive (k ∷ j ∷ hs ++ h ∷ [])) (k ∷ j ∷ hs ++ h ∷ []) (consecutive_end (j ∷ hs ++ h ∷ [])) (follows_no_more k (j ∷ hs) h other) ∙ end_begins (j ∷ hs) h other
+
+-- ---- where it ends
+hi-end : (hs : List Held) → hi (consecutive_end hs) ≡ hi hs
+unfolding hi consecutive_end
+hi-end [] = refl
+hi-end (k ∷ []) = refl
+hi-end (k ∷ j ∷ hs) = cond_both (is_consecutive (k ∷ j ∷ hs)) (k ∷ j ∷ hs) (consecutive_end (j ∷ hs)) (λ l. hi l ≡ hi (j ∷ hs)) (λ t. refl) (λ f. hi-end (j ∷ hs))
+
+hi-drop : (k : ℕ) (hs : List Held) → k < length hs → hi (drop k hs) ≡ hi hs
+unfolding hi
+hi-drop zero hs some = refl
+hi-drop (suc k) [] some = absurd (omega arith)
+hi-drop (suc k) (h ∷ []) some = absurd (omega arith)
+hi-drop (suc k) (h ∷ j ∷ hs) some = hi-drop k (j ∷ hs) (omega arith)
+
+pub hi-last_of : (capacity : ℕ) (hs : List Held) → 1 ≤ capacity → hi (last_of capacity hs) ≡ hi hs
+hi-last_of capacity [] room = ap hi (drop-nil (0 - capacity))
+hi-last_of capacity (h ∷ hs) room = hi-drop (length (h ∷ hs) - capacity) (h ∷ hs) (omega arith)
+
+-- ---- the last packets
+-- what was cut away before makes no difference
+last_of-more : (capacity : ℕ) (hs : List Held) (h : Held) → last_of capacity (last_of capacity hs ++ h ∷ []) ≡ last_of capacity (hs ++ h ∷ [])
+last_of-more capacity hs h =
+    let gone = length hs - capacity in
+    let later = length (drop gone hs ++ h ∷ []) - capacity in
+    let same : gone + later ≡ length (hs ++ h ∷ []) - capacity = omega (arith, length-append (drop gone hs) (h ∷ []), length-append hs (h ∷ []), length-drop gone hs) in
+    ap (drop later) (sym (drop-append-le gone hs (h ∷ []) (omega arith)))
+    ∙ (drop-drop later gone (hs ++ h ∷ []) ∙ ap (λ k. drop k (hs ++ h ∷ [])) same)
+
+-- one packet has room
+pub last_of_one : (capacity : ℕ) (h : Held) → 1 ≤ capacity → last_of capacity (h ∷ []) ≡ h ∷ []
+last_of_one capacity h room =
+    let none : length (h ∷ []) - capacity ≡ 0 = omega arith in ap (λ k. drop k (h ∷ [])) none
+
+-- ---- the laws
+pub end_grows : (capacity : ℕ) (source : List Held) (h : Held) → 1 ≤ capacity
+    → last_of capacity (consecutive_end (source ++ h ∷ [])) ≡ with_next capacity (last_of capacity (consecutive_end source)) h
+end_grows capacity source h room =
+    let end = consecutive_end source in
+    let held = last_of capacity end in
+    let ends : hi held ≡ hi source = hi-last_of capacity end room ∙ hi-end source in
+    cond_both (eqb h.n (hi held)) (last_of capacity (held ++ h ∷ [])) (h ∷ []) (λ l. last_of capacity (consecutive_end (source ++ h ∷ [])) ≡ l)
+    (λ t. ap (last_of capacity) (end_goes_on source h (eqb-true h.n (hi held) t ∙ ends)) ∙ sym (last_of-more capacity end h))
+    (λ f. ap (last_of capacity) (end_begins source h (λ next. eqb-false h.n (hi held) f (next ∙ sym ends))) ∙ last_of_one capacity h room)
+
+pub ends_alike : (v : Seen) (source : List Held) → 1 ≤ v.capacity → StandsFor v source → hi v.held ≡ hi source
+ends_alike v source room stood = ap hi stood ∙ (hi-last_of v.capacity (consecutive_end source) room ∙ hi-end source)
+
+next_above : (n : ℕ) (source : List Held) (h : Held) (more : List Held) → Rises n (source ++ h ∷ more) → hi source ≤ h.n
+unfolding hi
+next_above n [] h more rises = omega arith
+next_above n (k ∷ []) h more rises = rises.1.0
+next_above n (k ∷ j ∷ source) h more rises = next_above (k.n + 1) (j ∷ source) h more rises.1
+
+pub next_is_above : (v : Seen) (source : List Held) (h : Held) (more : List Held) → 1 ≤ v.capacity → StandsFor v source → Rises 0 (source ++ h ∷ more) → hi v.held ≤ h.n
+next_is_above v source h more room stood rises = let ends = ends_alike v source room stood in let above = next_above 0 source h more rises in omega (arith, ends, above)
+
+-- a ring stands for its source with one more packet
+pub pushed_stands : (v : Seen) (source : List Held) (h : Held) → 1 ≤ v.capacity → StandsFor v source → with_next v.capacity v.held h ≡ last_of v.capacity (consecutive_end (source ++ h ∷ []))
+pushed_stands v source h room stood = ap (λ held. with_next v.capacity held h) stood ∙ sym (end_grows v.capacity source h room)
+
+pub nothing_stands : (capacity : ℕ) → last_of capacity (consecutive_end []) ≡ []
+unfolding consecutive_end
+nothing_stands capacity = drop-nil (0 - capacity)

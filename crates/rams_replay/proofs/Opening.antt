@@ -1,0 +1,178 @@
+-- The turns of lines that bring no event.
+use Rattle.std.proofs.Common.{◌≡◌, ℕ, ◌+◌, ◌≤◌, Bool, true, false, not, ◌&&◌, ◌||◌, cond, if◌then◌else◌, List, [], ◌∷◌, ◌++◌, map, length, Option, None, Some, Result, Ok, Err, is_some, refl, sym, subst, ap, ◌∙◌, arith, eqb, ltb, leb, codes}
+use Rattle.std.specs.Prelude.{IsSomeAnd, sum, sum_by}
+use Rattle.std.specs.List.{list_any}
+use Rattle.std.proofs.lemmas.Bool.{and_parts, leb-true}
+use Rattle.std.proofs.lemmas.List.{length-map, map-append}
+use Rattle.std.proofs.lemmas.List.Sums.{sum-map}
+use Rattle.rams_model.specs.declared.channel.Channel.{Channel}
+use Rattle.rams_model.specs.declared.fault.ConfigFault.{ConfigFault}
+use Rattle.rams_model.specs.declared.fault.LineFault.{LineFault}
+use Rattle.rams_model.specs.declared.fault.LineFault.TheVariants.{Rule}
+use Rattle.rams_model.specs.Settings.{Settings, settings, checked}
+use Rattle.rams_model.specs.BookText.{spaced}
+use Rattle.rams_model.specs.TraceLine.{TraceLine, head_line, channel_line, end_line, line_in_range}
+use Rattle.rams_model.specs.TraceOrder.{Claim, Head, Reached, tick_of, has_channel, joined, with_channel, accepted}
+use Rattle.server_hub.specs.Seen.{Seen, AllServe, new_hub, settings_of, has_id, shares_of, refused}
+use Rattle.server_hub.specs.Seen.{Serves as CoreServes}
+use Rattle.server_hub.specs.Served.{Served, served}
+use Rattle.server_hub.proofs.Pairing.{same_length}
+use Rattle.trace_text.proofs.Checks.{checked_same}
+use Rattle.trace_book.specs.TraceText.{Stage, eventless}
+use Rattle.rams_replay.specs.declared.replay.Turn.TheVariants.{GoesOn, Done}
+use Rattle.rams_replay.specs.Turns.{HubServes, Serves, Stands, CanOpen, Opens, OpensIn, Comes, Took, claim_of}
+use Rattle.rams_replay.proofs.Telling.{settings_all, settings_stand}
+use Rattle.rams_replay.proofs.Turning.{Accepted, accepted_parts}
+
+-- What a channel line that was accepted says of the lines before it.
+record Joined (r later : Reached) (c : Channel) : Type 0 where
+  head : Head
+  is_head : r.head ≡ Some head
+  lawful : checked (settings c head.tick) ≡ Ok (settings c head.tick)
+  new : list_any (λ k. eqb k.id c.id) r.channels ≡ false
+  fits : leb (sum_by (λ k. k.share) r.channels + c.share) head.link ≡ true
+  few : ltb (length r.channels) 64 ≡ true
+  is_later : record r { channels = r.channels ++ (record { id = c.id; share = c.share } ∷ []) } ≡ later
+
+rules : (fits few : Bool) (r later : Reached) → (if not fits then Err (Rule 4) else if not few then Err (Rule 5) else Ok r) ≡ Ok later → (fits ≡ true) × (few ≡ true) × (r ≡ later)
+rules true true r later h = (refl, refl, cc)
+rules true false r later h = absurd cc
+rules false few r later h = absurd cc
+
+module _ (r later : Reached) (c : Channel) where
+  of_settings : (head : Head) (checks : Result Settings ConfigFault) → checked (settings c head.tick) ≡ checks → r.head ≡ Some head → list_any (λ k. eqb k.id c.id) r.channels ≡ false
+      → joined r head c checks ≡ Ok later → Joined r later c
+  of_settings head (Err fault) checks is new h = absurd cc
+  of_settings head (Ok s) checks is new h =
+      let parts = rules (leb (sum_by (λ k. k.share) r.channels + c.share) head.link) (ltb (length r.channels) 64) _ later h in
+      record { head = head; is_head = is; lawful = checked_same (settings c head.tick) s (sym checks); new = new; fits = parts.0; few = parts.1; is_later = parts.2 }
+
+  of_twice : (head : Head) (twice : Bool) → list_any (λ k. eqb k.id c.id) r.channels ≡ twice → r.head ≡ Some head
+      → (if twice then Err LineFault.Twice else joined r head c (checked (settings c head.tick))) ≡ Ok later → Joined r later c
+  of_twice head true twice is h = absurd cc
+  of_twice head false new is h = of_settings head (checked (settings c head.tick)) refl is new h
+
+  of_head : (o : Option Head) → r.head ≡ o → with_channel r o c ≡ Ok later → Joined r later c
+  of_head None is h = absurd cc
+  of_head (Some head) is h = of_twice head (list_any (λ k. eqb k.id c.id) r.channels) refl is h
+
+  joins : (version : ℕ) → accepted r (channel_line version c) ≡ Ok later → Joined r later c
+  joins version h = of_head r.head refl (accepted_parts r later (channel_line version c) h).does
+
+-- the numbers and shares of the channels are those that the lines kept
+ids_claimed : (id : ℕ) (channels : List Served) → has_id id (settings_all channels) ≡ list_any (λ k. eqb k.id id) (map claim_of channels)
+ids_claimed id [] = refl
+ids_claimed id (c ∷ channels) = ap (λ b. eqb c.settings.channel.id id || b) (ids_claimed id channels)
+
+shares_listed : (channels : List Served) → map (λ s. s.channel.share) (settings_all channels) ≡ map (λ k. k.share) (map claim_of channels)
+shares_listed [] = refl
+shares_listed (c ∷ channels) = ap (λ l. c.settings.channel.share ∷ l) (shares_listed channels)
+
+shares_claimed : (channels : List Served) → shares_of (settings_all channels) ≡ sum_by (λ k. k.share) (map claim_of channels)
+shares_claimed channels =
+    sym (sum-map (λ s. s.channel.share) (settings_all channels)) ∙ ap sum (shares_listed channels) ∙ sum-map (λ k. k.share) (map claim_of channels)
+
+module _ (v : Seen) (r later : Reached) (c : Channel) (channels : List Served) (events : ℕ) (j : Joined r later c) (claims : r.channels ≡ map claim_of channels) where
+  fits : Serves v j.head channels events → refused v (settings c v.tick) ≡ None
+  fits serves =
+      let all = settings_stand v channels serves.stands in
+      let lengths : length v.channels ≡ length r.channels = same_length CoreServes v.channels channels serves.stands ∙ sym (length-map channels claim_of) ∙ ap length (sym claims) in
+      let few : ltb (length v.channels) 64 ≡ true = ap (λ n. ltb n 64) lengths ∙ j.few in
+      let new : has_id c.id (settings_of v) ≡ false = ap (has_id c.id) all ∙ ids_claimed c.id channels ∙ ap (list_any (λ k. eqb k.id c.id)) (sym claims) ∙ j.new in
+      let shares : shares_of (settings_of v) ≡ sum_by (λ k. k.share) r.channels = ap shares_of all ∙ shares_claimed channels ∙ ap (sum_by (λ k. k.share)) (sym claims) in
+      let room : leb (shares_of (settings_of v) + c.share) v.link ≡ true = ap (λ n. leb (n + c.share) v.link) shares ∙ ap (leb (sum_by (λ k. k.share) r.channels + c.share)) serves.link ∙ j.fits in
+      rw (few, new, room) refl
+
+  can_open : (hub : Option Seen) → hub ≡ Some v → HubServes hub r.head channels events → CanOpen v c
+  can_open hub there serves =
+      let at = subst (λ (h : Option Head). HubServes (Some v) h channels events) j.is_head (subst (λ (o : Option Seen). HubServes o r.head channels events) there serves) in
+      record { lawful = subst (λ (n : ℕ). checked (settings c n) ≡ Ok (settings c n)) (sym at.tick) j.lawful; fits = fits at }
+
+-- the channel can be opened
+pub opens_next : (hub : Option Seen) (events version : ℕ) (later : Reached) (c : Channel) (stage : Stage) → Comes hub events later (channel_line version c) stage → IsSomeAnd hub (λ v. CanOpen v c)
+opens_next hub events version later c stage comes = by hub refl
+  where
+    j : Joined stage.reached later c
+    j = joins stage.reached later c version comes.comes
+    nowhere : HubServes None (Some j.head) stage.channels stage.events → ⊥
+    nowhere serves = serves
+    by : (o : Option Seen) → hub ≡ o → IsSomeAnd o (λ v. CanOpen v c)
+    by None is =
+        absurd (nowhere (subst (λ (h : Option Head). HubServes None h stage.channels stage.events) j.is_head (subst (λ (o : Option Seen). HubServes o stage.reached.head stage.channels stage.events) is comes.before.served)))
+    by (Some v) is = can_open v stage.reached later c stage.channels stage.events j comes.before.claims hub is comes.before.served
+
+-- what stands behind the line of a channel
+pub opened_turn : (hub new : Option Seen) (events version number : ℕ) (later : Reached) (c : Channel) (stage : Stage) → OpensIn c hub new → Comes hub events later (channel_line version c) stage
+    → Took (eventless stage later (channel_line version c)) new events later number GoesOn
+opened_turn None new events version number later c stage opens comes = absurd opens
+opened_turn (Some v) None events version number later c stage opens comes = absurd opens
+opened_turn (Some v) (Some w) events version number later c stage opens comes =
+    let r = stage.reached in
+    let j = joins r later c version comes.comes in
+    let at : Serves v j.head stage.channels stage.events = subst (λ (h : Option Head). HubServes (Some v) h stage.channels stage.events) j.is_head comes.before.served in
+    let head : later.head ≡ Some j.head = ap (λ (x : Reached). x.head) (sym j.is_later) ∙ j.is_head in
+    let tick : v.tick ≡ tick_of later.head = at.tick ∙ sym (ap tick_of head) in
+    let more = stage.channels ++ served (settings c (tick_of later.head)) [] ∷ [] in
+    let stands = subst (λ (n : ℕ). AllServe w.channels (stage.channels ++ served (settings c n) [] ∷ [])) tick (opens.stands stage.channels at.stands) in
+    (record {
+      served = subst (λ (h : Option Head). HubServes (Some w) h more stage.events) (sym head)
+          (record { stands = stands; tick = opens.tick ∙ at.tick; link = opens.link ∙ at.link; calls = opens.calls ∙ at.calls });
+      claims =
+          ap (λ (x : Reached). x.channels) (sym j.is_later) ∙ ap (λ (l : List Claim). l ++ (record { id = c.id; share = c.share } ∷ [])) comes.before.claims
+          ∙ sym (map-append claim_of stage.channels (served (settings c (tick_of later.head)) [] ∷ []));
+      counted = comes.before.counted;
+      lines = refl;
+    }, refl, refl)
+
+-- the head line gives the hub
+none_before : (ended head : Bool) → (not ended && not head) ≡ true → head ≡ false
+none_before true head h = absurd cc
+none_before false true h = absurd cc
+none_before false false h = refl
+
+pub head_turn : (hub : Option Seen) (events version tick link number : ℕ) (later : Reached) (stage : Stage) → Comes hub events later (head_line version tick link) stage
+    → Took (eventless stage later (head_line version tick link)) (Some (new_hub tick link)) events later number GoesOn
+head_turn hub events version tick link number later stage comes = (by hub stage.reached.head refl comes.before.served, refl, refl)
+  where
+    parts : Accepted stage.reached later (head_line version tick link)
+    parts = accepted_parts stage.reached later (head_line version tick link) comes.comes
+    later_is : record stage.reached { head = Some (record { version = version; tick = tick; link = link }) } ≡ later
+    later_is =
+        let does : Ok (record stage.reached { head = Some (record { version = version; tick = tick; link = link }) }) ≡ Ok later = parts.does in
+        cc
+    by : (o : Option Seen) (h : Option Head) → stage.reached.head ≡ h → HubServes o h stage.channels stage.events
+        → Stands (Some (new_hub tick link)) events later (record { reached = later; channels = stage.channels; events = stage.events })
+    by None None is serves = record {
+      served = subst (λ (h : Option Head). HubServes (Some (new_hub tick link)) h stage.channels stage.events) (ap (λ (x : Reached). x.head) later_is)
+          (record { stands = subst (λ (l : List Served). AllServe [] l) (sym serves.0) tt; tick = refl; link = refl; calls = sym serves.1 });
+      claims = ap (λ (x : Reached). x.channels) (sym later_is) ∙ comes.before.claims;
+      counted = comes.before.counted;
+      lines = refl;
+    }
+    by (Some v) None is serves = absurd serves
+    by o (Some head) is serves =
+        let none = none_before stage.reached.ended (is_some stage.reached.head) (and_parts _ _ parts.may).0 in
+        let some : is_some stage.reached.head ≡ true = ap is_some is in
+        absurd cc
+
+-- What the head line says is in its range.
+pub record Bounded (tick link : ℕ) : Type 0 where
+  pub tick_least : 1 ≤ tick
+  pub tick_most : tick ≤ 1000
+  pub link_least : 1500 ≤ link
+  pub link_most : link ≤ 1000000000
+
+bounded : (version tick link : ℕ) → line_in_range (head_line version tick link) ≡ true → Bounded tick link
+bounded version tick link h =
+    let both = and_parts _ _ h in
+    let ticks = and_parts _ _ both.0 in
+    let links = and_parts _ _ both.1 in
+    record { tick_least = leb-true 1 tick ticks.0; tick_most = leb-true tick 1000 ticks.1; link_least = leb-true 1500 link links.0; link_most = leb-true link 1000000000 links.1 }
+
+pub head_bounds : (hub : Option Seen) (events version tick link : ℕ) (later : Reached) (stage : Stage) → Comes hub events later (head_line version tick link) stage → Bounded tick link
+head_bounds hub events version tick link later stage comes =
+    bounded version tick link (accepted_parts stage.reached later (head_line version tick link) comes.comes).in_range
+
+-- the last line
+pub end_turn : (hub : Option Seen) (events number : ℕ) (later : Reached) (stage : Stage) → Comes hub events later end_line stage → Took (eventless stage later end_line) hub events later number Done
+end_turn hub events number later stage comes = (refl, ap (λ (n : ℕ). codes "done" ++ spaced n ++ codes "\n") comes.before.counted)

@@ -1,0 +1,15 @@
+use Rattle.std.proofs.Common.{◌++◌, Result, IfErr, sym, subst}
+use Rattle.std.proofs.lemmas.Result.{err_from_is_err_and}
+use Rattle.rams_replay.specs.declared.stop.Stop.{Stop}
+use Rattle.rams_replay.specs.Stops.{StopsIn}
+use Rattle.book_text.specs.NoChannel.{no_channel_line}
+use Rattle.rams_replay.proofs.Writing.{unwritten}
+use Rattle.rams_replay.proofs.writer.write_no_channel.Goals as goal
+
+pub returns-in_err-append_no_channel-clause-front : goal.returns-in_err-append_no_channel-clause-front
+returns-in_err-append_no_channel-clause-front g c =
+    let held = g.K.Sink.held c.args.sink.now in
+    let waits = c.args.writer.now.gather in
+    let text = no_channel_line c.args.event c.args.id in
+    let p = err_from_is_err_and c.from_residual.result c.from_residual.ensures.1 in
+    subst (λ (r : Result (Unit {0}) Stop). IfErr r (StopsIn held held (waits ++ text) waits)) (sym p.1) (unwritten held waits text p.0)

@@ -1,0 +1,170 @@
+//! Sources and sinks that fail, or that move few bytes a call, and input that is cut.
+use crate::bursts::ONE_PACKET_PER_TICK;
+use crate::row::{
+    ACCESS_POINT, BOOK, Calls, OPENING, REQUEST, Row, WHOLE, book_of, check, ran, trace_of,
+};
+use crate::stops::STOP_ACROSS_THE_WRAP;
+use rams_replay::Status;
+use std::alloc::Global;
+use std::process::Abort;
+use std::test::Fail;
+
+/// How the run of a row's trace ends over such a source and such a sink, and how many bytes of the
+/// row's book the sink then holds. It holds no others.
+fn front(
+    rt: &impl Abort,
+    alloc: Global,
+    row: &Row,
+    takes: Calls<'_>,
+    puts: Calls<'_>,
+) -> Result<(Status, usize), Fail> {
+    let trace = trace_of(alloc, row)?;
+    let (status, sink) = ran(rt, alloc, trace.as_bytes(), takes, puts)?;
+    let book = book_of(alloc, row)?;
+    assert!(rt; book.as_bytes().starts_with(sink.held()));
+    Ok((status, sink.held().len()))
+}
+
+/// A source gives a byte a call, and fails at each of its calls in turn. Until the opening is read
+/// the book has its first line at most.
+#[test]
+fn a_source_fails_at_each_byte(rt: HostRuntime) -> Result<(), Fail> {
+    let alloc = rt.alloc();
+    let calls = trace_of(alloc, &STOP_ACROSS_THE_WRAP)?.len();
+    for call in 0..calls {
+        let fails = [call as u64];
+        let takes = Calls {
+            most: 1,
+            fails: &fails,
+        };
+        let (status, length) = front(&rt, alloc, &STOP_ACROSS_THE_WRAP, takes, WHOLE)?;
+        assert_eq!(rt; status, Status::ReadFault, "call {call}");
+        assert!(rt;
+            OPENING.len() <= call || length <= BOOK.len(),
+            "call {call}"
+        );
+    }
+    Ok(())
+}
+
+/// The first call of a source gives the whole trace. The second would fail, and isn't made.
+#[test]
+fn no_more_is_taken_than_needed(rt: HostRuntime) -> Result<(), Fail> {
+    let alloc = rt.alloc();
+    let whole = book_of(alloc, &STOP_ACROSS_THE_WRAP)?.len();
+    let takes = Calls {
+        most: 4_096,
+        fails: &[1],
+    };
+    let got = front(&rt, alloc, &STOP_ACROSS_THE_WRAP, takes, WHOLE)?;
+    assert_eq!(rt; got, (Status::Done, whole));
+    Ok(())
+}
+
+/// A sink takes a byte a call, and fails at each of its calls in turn.
+#[test]
+fn a_sink_fails_at_each_byte(rt: HostRuntime) -> Result<(), Fail> {
+    let alloc = rt.alloc();
+    let whole = book_of(alloc, &STOP_ACROSS_THE_WRAP)?.len();
+    for call in 0..whole {
+        let fails = [call as u64];
+        let puts = Calls {
+            most: 1,
+            fails: &fails,
+        };
+        let got = front(&rt, alloc, &STOP_ACROSS_THE_WRAP, WHOLE, puts)?;
+        assert_eq!(rt; got, (Status::WriteFault, call));
+    }
+    Ok(())
+}
+
+/// A sink takes what it is given, and fails at each of its calls in turn, until one isn't reached.
+/// The second is.
+#[test]
+fn a_sink_fails_at_each_call(rt: HostRuntime) -> Result<(), Fail> {
+    let alloc = rt.alloc();
+    for call in 0..100 {
+        let fails = [call];
+        let puts = Calls {
+            most: 100_000,
+            fails: &fails,
+        };
+        let (status, _) = front(&rt, alloc, &ONE_PACKET_PER_TICK, WHOLE, puts)?;
+        if 1 < call && status == Status::Done {
+            break;
+        }
+        assert_eq!(rt; status, Status::WriteFault, "call {call}");
+    }
+    Ok(())
+}
+
+/// The book doesn't depend on how many bytes a call of the source gives, or one of the sink takes.
+#[test]
+fn pieces_of_any_size(rt: HostRuntime) -> Result<(), Fail> {
+    let alloc = rt.alloc();
+    let whole = book_of(alloc, &ONE_PACKET_PER_TICK)?.len();
+    for most in [1, 2, 3, 7, 4_096] {
+        let pieces = Calls { most, fails: &[] };
+        let got = front(&rt, alloc, &ONE_PACKET_PER_TICK, pieces, pieces)?;
+        assert_eq!(rt; got, (Status::Done, whole), "{most} bytes");
+    }
+    Ok(())
+}
+
+/// A trace is cut behind each of its bytes. It may lack its last line feed, and nothing else.
+#[test]
+fn cut_traces(rt: HostRuntime) -> Result<(), Fail> {
+    let alloc = rt.alloc();
+    let trace = trace_of(alloc, &STOP_ACROSS_THE_WRAP)?;
+    let bytes = trace.as_bytes();
+    for length in 0..bytes.len() {
+        let (status, _) = ran(&rt, alloc, &bytes[..length], WHOLE, WHOLE)?;
+        let whole = bytes[..length].ends_with(b"end");
+        let wanted = if whole {
+            Status::Done
+        } else {
+            Status::BadTrace
+        };
+        assert_eq!(rt; status, wanted, "{length} bytes");
+    }
+    Ok(())
+}
+
+/// A receiver report (8 bytes), a description (16 bytes) and a request (16 bytes).
+const COMPOUND: &str =
+    "80c900010000c00181ca00030000c001010373746200000086cd00030000c0011122334401000000";
+
+/// The fault of the first so many bytes of the compound datagram.
+fn fault_of(length: usize) -> Option<&'static str> {
+    match length {
+        0 => Some("empty"),
+        1..4 | 9..12 | 25..28 => Some("short"),
+        8 | 24 => None,
+        _ => Some("length"),
+    }
+}
+
+/// The first bytes of a compound datagram are refused whole, or have no request, and change
+/// nothing.
+#[test]
+fn cut_datagrams(rt: HostRuntime) -> Result<(), Fail> {
+    let alloc = rt.alloc();
+    for length in 0..COMPOUND.len() / 2 {
+        let cut = match COMPOUND.get(..2 * length) {
+            Some("") | None => "-",
+            Some(digits) => digits,
+        };
+        let trace = format!(in alloc;
+            "{OPENING}{ACCESS_POINT}\nfb 7 5 {cut}\n{REQUEST}\ntick\nend\n"
+        )?;
+        let answer = match fault_of(length) {
+            Some(fault) => format!(in alloc; "2 7 bad-feedback 5 {fault}\n")?,
+            None => String::new(alloc),
+        };
+        let book = format!(in alloc;
+            "{BOOK}1 7 took 65546\n{answer}3 7 accept 5 first 65546 rate 4000 join 1\n4 7 burst 5 65546 500\ndone 4\n"
+        )?;
+        check(&rt, alloc, cut, &trace, &book)?;
+    }
+    Ok(())
+}

@@ -1,0 +1,32 @@
+//! Traces of the command `run` and their books, worked out by hand, as tables.
+//!
+//! `row` says what a row is, and runs it. Each of the other modules has the rows of one subject:
+//! tables of data, and where a trace is long the few functions that write it out.
+#![tactic(auto)]
+
+#[cfg(test)]
+mod budgets;
+#[cfg(test)]
+mod bursts;
+#[cfg(test)]
+mod channels;
+#[cfg(test)]
+mod faults;
+#[cfg(test)]
+mod live;
+#[cfg(test)]
+mod load;
+#[cfg(test)]
+mod queues;
+#[cfg(test)]
+mod refusals;
+#[cfg(test)]
+mod repairs;
+#[cfg(test)]
+mod requests;
+#[cfg(test)]
+mod row;
+#[cfg(test)]
+mod stops;
+#[cfg(test)]
+mod words;

@@ -1,0 +1,147 @@
+//! Lines that a trace may not have, or not there.
+use crate::row::{BOOK, OPENING, Row, check, check_rows, opening_with};
+use std::alloc::Global;
+use std::process::Abort;
+use std::test::Fail;
+
+const ROWS: [Row; 8] = [
+    Row {
+        name: "half a byte",
+        changes: &[],
+        lines: &["tick", "live 7 0"],
+        book: &["refused 4 form"],
+    },
+    Row {
+        name: "a channel twice",
+        changes: &[],
+        lines: &[
+            "channel 7 ssrc 11223344 pt 33 rtx 99 server aabbccdd seq0 500 ring 64 window 0 access marker share 10000 reserve 1500 burst 4000 declared 100 minwire 42 limit 100 idle 100 clients 4",
+        ],
+        book: &["refused 3 twice"],
+    },
+    Row {
+        name: "no end",
+        changes: &[],
+        lines: &[],
+        book: &["refused 3 order"],
+    },
+    Row {
+        name: "what follows the end",
+        changes: &[],
+        lines: &["end", "what"],
+        book: &["done 0"],
+    },
+    // A line has at most 4,096 bytes.
+    Row {
+        name: "the longest line",
+        changes: &[],
+        lines: &["live 65 <2044>", "end"],
+        book: &["1 65 no-channel", "done 1"],
+    },
+    Row {
+        name: "a line too long",
+        changes: &[],
+        lines: &["live 655 <2044>", "end"],
+        book: &["refused 3 form"],
+    },
+    Row {
+        name: "depth and swell in version 1",
+        changes: &[("clients 4", "clients 4 depth 0 swell 1400")],
+        lines: &["end"],
+        book: &["refused 2 order"],
+    },
+    Row {
+        name: "neither depth nor swell in version 2",
+        changes: &[("trace 1", "trace 2")],
+        lines: &["end"],
+        book: &["refused 2 order"],
+    },
+];
+
+#[test]
+fn refused_traces(rt: HostRuntime) -> Result<(), Fail> {
+    check_rows(&rt, rt.alloc(), &ROWS)
+}
+
+/// A trace is refused at a line, for this reason.
+fn refuses(
+    rt: &impl Abort,
+    alloc: Global,
+    trace: &str,
+    number: u64,
+    word: &str,
+) -> Result<(), Fail> {
+    let book = format!(in alloc; "{BOOK}refused {number} {word}\n")?;
+    check(rt, alloc, trace, trace, &book)
+}
+
+#[test]
+fn refused_heads(rt: HostRuntime) -> Result<(), Fail> {
+    let alloc = rt.alloc();
+    for (trace, word) in [
+        ("", "order"),
+        ("rams-trace 3 tick 10 link 1500\n", "form"),
+        ("rams-trace 1 tick 0 link 1500\n", "range"),
+        ("rams-trace 1 tick 1001 link 1500\n", "range"),
+        ("rams-trace 1 tick 10 link 1499\n", "range"),
+        ("tick\n", "order"),
+        ("end\n", "order"),
+    ] {
+        refuses(&rt, alloc, trace, 1, word)?;
+    }
+    Ok(())
+}
+
+/// Channels, each with one setting changed.
+#[test]
+fn refused_channels(rt: HostRuntime) -> Result<(), Fail> {
+    let alloc = rt.alloc();
+    for (from, to, word) in [
+        ("share 10000", "share 5499", "rule-3"),
+        ("share 10000", "share 100001", "rule-4"),
+        ("rtx 99", "rtx 33", "rule-1"),
+        ("declared 100", "declared 2501", "rule-2"),
+        ("ring 64", "ring 0", "range"),
+        ("ring 64", "ring 32769", "range"),
+        ("window 0", "window 65", "range"),
+        ("minwire 42", "minwire 41", "range"),
+        ("clients 4", "clients 1025", "range"),
+        ("ring 64", "ring two", "form"),
+        ("access marker", "access all", "form"),
+    ] {
+        let trace = opening_with(alloc, &[(from, to)])?;
+        refuses(&rt, alloc, &trace, 2, word)?;
+    }
+    Ok(())
+}
+
+/// Lines behind the opening, which is lines 1 and 2.
+#[test]
+fn refused_lines(rt: HostRuntime) -> Result<(), Fail> {
+    let alloc = rt.alloc();
+    for (line, word) in [
+        ("hello", "form"),
+        ("", "form"),
+        ("tick ", "form"),
+        ("live 7  8021000a0000000011223344", "form"),
+        ("live 7 8021000A0000000011223344", "form"),
+        ("live 07 80", "form"),
+        ("tuned 7", "form"),
+        ("channel", "form"),
+        ("tune 7 5", "form"),
+        ("rams-trace 1 tick 0 link 1500", "order"),
+        ("live 0 80", "range"),
+        ("live 65536 80", "range"),
+        ("fb 7 281474976710656 80", "range"),
+        // what a receiver does
+        ("tune 7 5 0000c001", "order"),
+        ("give 0", "order"),
+        ("mcast 7 5 65546", "order"),
+        ("ask 7 5", "order"),
+        ("drop 7 5", "order"),
+    ] {
+        let trace = format!(in alloc; "{OPENING}{line}\n")?;
+        refuses(&rt, alloc, &trace, 3, word)?;
+    }
+    Ok(())
+}

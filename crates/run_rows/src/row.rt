@@ -1,0 +1,176 @@
+//! What a row of a table is, and how it is run.
+use ram_io::{MemSink, MemSource};
+use rams_replay::{Octets, Status, begins_with_run, plain};
+use std::alloc::{AllocError, Global};
+use std::process::Abort;
+use std::str;
+use std::test::Fail;
+
+/// The first two lines of a trace: its head, and channel 7.
+pub const OPENING: &str = "rams-trace 1 tick 10 link 100000
+channel 7 ssrc 11223344 pt 33 rtx 99 server aabbccdd seq0 500 ring 64 window 0 access marker share 10000 reserve 1500 burst 4000 declared 100 minwire 42 limit 100 idle 100 clients 4
+";
+
+/// The first line of a book.
+pub const BOOK: &str = "rams-book 1\n";
+
+/// Packet 10 of the source, with the marker, timestamp 0 and four bytes of payload. Its number is
+/// 65,546, and its retransmission has 46 bytes on the wire.
+pub const ACCESS_POINT: &str = "live 7 80a1000a000000001122334400000000";
+
+/// A request of client 5 for a burst, which wishes for nothing.
+pub const REQUEST: &str = "fb 7 5 86cd00030000c0011122334401000000";
+
+/// The same request of client 6.
+pub const REQUEST_OF_6: &str = "fb 7 6 86cd00030000c0011122334401000000";
+
+/// A trace and its book.
+#[derive(Clone, Copy)]
+pub struct Row {
+    pub name: &'static str,
+    /// Words of the opening, and those that stand in their place here.
+    pub changes: &'static [(&'static str, &'static str)],
+    /// The lines behind the opening. `<COUNT>` stands for so many bytes of 0.
+    pub lines: &'static [&'static str],
+    /// The lines of the book behind its first, without the datagrams that the row doesn't speak of.
+    pub book: &'static [&'static str],
+}
+
+/// The digits of so many bytes of 0.
+pub fn zeros(alloc: Global, count: usize) -> Result<String, AllocError> {
+    let mut digits = String::new(alloc);
+    for _ in 0..count {
+        digits.push_str("00")?;
+    }
+    Ok(digits)
+}
+
+/// The text with bytes of 0 in place of each `<COUNT>`.
+fn spelled(alloc: Global, text: &str) -> Result<String, AllocError> {
+    let mut spelled = String::from_str(alloc, text)?;
+    for (mark, count) in [
+        ("<100>", 100),
+        ("<1458>", 1_458),
+        ("<1459>", 1_459),
+        ("<2044>", 2_044),
+    ] {
+        spelled = spelled.replace(alloc, mark, &zeros(alloc, count)?)?;
+    }
+    Ok(spelled)
+}
+
+/// The text of lines, each of which ends with a line feed.
+fn text_of(alloc: Global, lines: &[&str]) -> Result<String, AllocError> {
+    let mut text = String::new(alloc);
+    for line in lines {
+        text.push_str(line)?;
+        text.push_str("\n")?;
+    }
+    Ok(text)
+}
+
+/// The opening with these changes.
+pub fn opening_with(alloc: Global, changes: &[(&str, &str)]) -> Result<String, AllocError> {
+    let mut opening = String::from_str(alloc, OPENING)?;
+    for (from, to) in changes {
+        opening = opening.replace(alloc, from, to)?;
+    }
+    Ok(opening)
+}
+
+/// The text of a row's trace.
+pub fn trace_of(alloc: Global, row: &Row) -> Result<String, AllocError> {
+    let opening = opening_with(alloc, row.changes)?;
+    let lines = text_of(alloc, row.lines)?;
+    spelled(alloc, &format!(in alloc; "{opening}{lines}")?)
+}
+
+/// The text of a row's book, as far as the row speaks of it.
+pub fn book_of(alloc: Global, row: &Row) -> Result<String, AllocError> {
+    let lines = text_of(alloc, row.book)?;
+    spelled(alloc, &format!(in alloc; "{BOOK}{lines}")?)
+}
+
+/// How many bytes a call moves at most, and which calls fail.
+#[derive(Clone, Copy)]
+pub struct Calls<'a> {
+    pub most: usize,
+    pub fails: &'a [u64],
+}
+
+/// Calls that move all they can, and don't fail.
+pub const WHOLE: Calls<'static> = Calls {
+    most: 10_000_000,
+    fails: &[],
+};
+
+/// How the command `run` ends over a source of this trace, and the sink with what it wrote.
+pub fn ran(
+    rt: &impl Abort,
+    alloc: Global,
+    trace: &[u8],
+    takes: Calls<'_>,
+    puts: Calls<'_>,
+) -> Result<(Status, MemSink), Fail> {
+    let fails = takes.fails.to_vec(alloc)?;
+    let mut source = MemSource::new(trace.to_vec(alloc)?, takes.most.max(1), fails);
+    let fails = puts.fails.to_vec(alloc)?;
+    let sink = MemSink::new(alloc, 10_000_000, puts.most.max(1), fails);
+    let mut sink = sink.ok().ok_or("memory")?;
+    let mut words = Vec::new(alloc);
+    words.push(Octets::of(b"run".to_vec(alloc)?))?;
+    assert!(rt; begins_with_run(&words));
+    let status = plain(alloc, &words, &mut source, &mut sink);
+    Ok((status, sink))
+}
+
+/// How a run ends that writes this book.
+fn status_of(book: &str) -> Status {
+    if book.contains("\nrefused ") {
+        Status::BadTrace
+    } else {
+        Status::Done
+    }
+}
+
+fn is_datagram(line: &str) -> bool {
+    line.contains(" send ")
+}
+
+/// A book has these lines, and no others but datagrams.
+fn compare(rt: &impl Abort, name: &str, book: &str, wanted: &str) {
+    let mut wanted = wanted.lines();
+    let mut next = wanted.next();
+    for line in book.lines() {
+        if is_datagram(line) && !next.is_some_and(is_datagram) {
+            continue;
+        }
+        assert_eq!(rt; Some(line), next, "{name}");
+        next = wanted.next();
+    }
+    assert_eq!(rt; next, None, "{name}");
+}
+
+/// The run of a trace writes this book, but for datagrams that aren't wanted, and ends as it says.
+pub fn check(
+    rt: &impl Abort,
+    alloc: Global,
+    name: &str,
+    trace: &str,
+    book: &str,
+) -> Result<(), Fail> {
+    let (status, sink) = ran(rt, alloc, trace.as_bytes(), WHOLE, WHOLE)?;
+    compare(rt, name, str::from_utf8(sink.held())?, book);
+    assert_eq!(rt; status, status_of(book), "{name}");
+    Ok(())
+}
+
+/// Each row's trace has its book.
+pub fn check_rows(rt: &impl Abort, alloc: Global, rows: &[Row]) -> Result<(), Fail> {
+    for row in rows {
+        let trace = trace_of(alloc, row)?;
+        let book = book_of(alloc, row)?;
+        check(rt, alloc, row.name, &trace, &book)?;
+    }
+    Ok(())
+}

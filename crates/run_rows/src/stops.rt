@@ -1,0 +1,118 @@
+//! Stops of a burst (RFC 6285, RAMS-T): where the multicast took over.
+use crate::row::{REQUEST, Row, check_rows};
+use std::test::Fail;
+
+/// Packets 65,534, 65,535, 0 and 1 of the source, and the first packet that the client got by
+/// multicast is 1. The book is whole.
+pub const STOP_ACROSS_THE_WRAP: Row = Row {
+    name: "stop across the wrap",
+    changes: &[],
+    lines: &[
+        "live 7 80a1fffe000000001122334400000000",
+        "live 7 8021ffff000003841122334400000000",
+        "live 7 80210000000007081122334400000000",
+        "live 7 8021000100000a8c1122334400000000",
+        REQUEST,
+        "fb 7 5 86cd00050000c00111223344030000003d00000400000001",
+        "tick",
+        "end",
+    ],
+    book: &[
+        "1 7 took 131070",
+        "2 7 took 131071",
+        "3 7 took 131072",
+        "4 7 took 131073",
+        "5 7 accept 5 first 131070 rate 4000 join 1",
+        "5 7 send 5 86cd000caabbccdd11223344020000c82000000201f40000210000040000000a22000004000003e823000008000000000030d400",
+        "6 7 stop 5 131073",
+        "7 7 burst 5 131070 500",
+        "7 7 send 5 80e301f40000000011223344fffe00000000",
+        "7 7 burst 5 131071 501",
+        "7 7 send 5 806301f50000038411223344ffff00000000",
+        "7 7 burst 5 131072 502",
+        "7 7 send 5 806301f60000070811223344000000000000",
+        "7 7 end 5 stopped",
+        "7 7 send 5 86cd0003aabbccdd11223344020100c9",
+        "done 7",
+    ],
+};
+
+const ROWS: [Row; 4] = [
+    STOP_ACROSS_THE_WRAP,
+    // All four are sent before the stop, which names the second.
+    Row {
+        name: "stop after the last",
+        changes: &[],
+        lines: &[
+            "live 7 80a1fffe000000001122334400000000",
+            "live 7 8021ffff000003841122334400000000",
+            "live 7 80210000000007081122334400000000",
+            "live 7 8021000100000a8c1122334400000000",
+            REQUEST,
+            "tick",
+            "fb 7 5 86cd00050000c00111223344030000003d0000040000ffff",
+            "fb 7 5 86cd00050000c00111223344030000003d0000040000ffff",
+            "end",
+        ],
+        book: &[
+            "1 7 took 131070",
+            "2 7 took 131071",
+            "3 7 took 131072",
+            "4 7 took 131073",
+            "5 7 accept 5 first 131070 rate 4000 join 1",
+            "6 7 burst 5 131070 500",
+            "6 7 burst 5 131071 501",
+            "6 7 burst 5 131072 502",
+            "6 7 burst 5 131073 503",
+            "7 7 stop 5 131074",
+            "7 7 end 5 stopped",
+            "8 7 stop-idle 5",
+            "done 8",
+        ],
+    },
+    // The stop names the burst's first packet.
+    Row {
+        name: "stop already passed",
+        changes: &[],
+        lines: &[
+            "live 7 80a1fffe000000001122334400000000",
+            "live 7 8021ffff000003841122334400000000",
+            "live 7 80210000000007081122334400000000",
+            "live 7 8021000100000a8c1122334400000000",
+            REQUEST,
+            "fb 7 5 86cd00050000c00111223344030000003d0000040000fffe",
+            "tick",
+            "end",
+        ],
+        book: &[
+            "1 7 took 131070",
+            "2 7 took 131071",
+            "3 7 took 131072",
+            "4 7 took 131073",
+            "5 7 accept 5 first 131070 rate 4000 join 1",
+            "6 7 stop 5 131070",
+            "6 7 end 5 stopped",
+            "done 7",
+        ],
+    },
+    // Only the low 16 bits of the number that a stop names count.
+    Row {
+        name: "stop with high bits",
+        lines: &[
+            "live 7 80a1fffe000000001122334400000000",
+            "live 7 8021ffff000003841122334400000000",
+            "live 7 80210000000007081122334400000000",
+            "live 7 8021000100000a8c1122334400000000",
+            REQUEST,
+            "fb 7 5 86cd00050000c00111223344030000003d00000400090001",
+            "tick",
+            "end",
+        ],
+        ..STOP_ACROSS_THE_WRAP
+    },
+];
+
+#[test]
+fn stops(rt: HostRuntime) -> Result<(), Fail> {
+    check_rows(&rt, rt.alloc(), &ROWS)
+}

@@ -1,0 +1,9 @@
+-- After each tick the channels keep their join times.
+use Rattle.std.proofs.Common.{List, [], ◌∷◌}
+use Rattle.session_core.proofs.JoinTimes.{join_times_are_kept}
+use Rattle.server_hub.specs.Served.{Served, after_tick}
+use Rattle.server_hub.specs.JoinTimes.{AllKeepJoinTimes}
+
+pub all_keep : (channels : List Served) → AllKeepJoinTimes (after_tick channels)
+all_keep [] = tt
+all_keep (c ∷ channels) = (join_times_are_kept c.settings c.events, all_keep channels)

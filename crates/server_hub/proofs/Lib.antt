@@ -1,0 +1,11 @@
+pub mod Pairing
+pub mod Halfway
+pub mod Changing
+pub mod Finding
+pub mod Keeping
+pub mod Adding
+pub mod Ordered
+pub mod Linked
+pub mod Together
+pub mod Stepping
+pub mod JoinTimes

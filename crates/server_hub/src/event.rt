@@ -1,0 +1,87 @@
+//! What comes to a server, and what it answers.
+ghost use Rattle.std.specs.Prelude.{◌≡◌, ◌<◌, [], vec_capacity};
+ghost use Rattle.server_hub.specs.declared.event.AddFault.TheVariants as faults;
+ghost use Rattle.server_hub.specs.Served.{told, told_of};
+
+use ram_io::NoMemory as OutOfMemory;
+use rams_model::{Answer, Octets};
+use std::alloc::{AllocError, AllocFailed};
+
+/// One event of a server.
+#[derive(Debug, Drop)]
+pub enum HubEvent {
+    /// A packet of the multicast of the channel `id`, as it came.
+    Live { id: u16, bytes: Octets },
+    /// A datagram to the feedback target (RFC 4585) of the channel `id` from this client.
+    Feedback { id: u16, client: u64, bytes: Octets },
+    /// A tick of the clock of all channels.
+    Tick,
+}
+
+/// What the channel `id` answers.
+#[derive(Debug, Drop)]
+pub struct At {
+    pub id: u16,
+    pub answer: Answer,
+}
+
+/// What a server answers to an event.
+#[derive(Debug, Drop)]
+pub enum HubAnswer {
+    /// There is no channel of this number.
+    NoChannel(u16),
+    /// The answers of the channels that the event came to, in the order in which they were added.
+    Answers(Vec<At>),
+}
+
+impl HubAnswer {
+    /// What one channel answers, in a vector with room for it; or that there is no channel of this number.
+    pub(crate) fn of_one(id: u16, answer: Option<Answer>, mut room: Vec<At>) -> HubAnswer
+        requires none { room.items ≡ [] }
+        requires room { 0 < vec_capacity room }
+        ensures { told result ≡ told_of id answer }
+    {
+        let Some(answer) = answer else {
+            return HubAnswer::NoChannel(id);
+        };
+        room.push(At { id, answer }).unwrap();
+        HubAnswer::Answers(room)
+    }
+}
+
+/// Why a channel isn't added.
+#[derive(Clone, Copy, Debug, PartialEq, Eq)]
+pub enum AddFault {
+    /// A channel has this number.
+    Twice,
+    /// The shares of the channels, together, would exceed the link.
+    Link,
+    /// There are as many channels as there may be.
+    Full,
+    /// Memory ran out.
+    NoMemory,
+}
+
+impl From<OutOfMemory> for AddFault {
+    ghost from_gives = { λ _ fault. fault ≡ faults.NoMemory };
+
+    fn from(_e: OutOfMemory) -> AddFault {
+        AddFault::NoMemory
+    }
+}
+
+impl From<AllocError> for AddFault {
+    ghost from_gives = { λ _ fault. fault ≡ faults.NoMemory };
+
+    fn from(_e: AllocError) -> AddFault {
+        AddFault::NoMemory
+    }
+}
+
+impl<T: Drop> From<AllocFailed<T>> for AddFault {
+    ghost from_gives = { λ _ fault. fault ≡ faults.NoMemory };
+
+    fn from(_e: AllocFailed<T>) -> AddFault {
+        AddFault::NoMemory
+    }
+}

@@ -1,0 +1,15 @@
+-- After each tick the quiet bursts keep their join times.
+use Rattle.std.specs.Prelude.{List, ◌∷◌}
+use Rattle.rams_model.specs.declared.event.Event.{Event}
+use Rattle.rams_model.specs.declared.event.Event.TheVariants.{Tick}
+use Rattle.rams_model.specs.Settings.{Settings}
+use Rattle.rams_model.specs.Book.{history_of}
+use Rattle.book_laws.proofs.Quiet.Laws.{never_lost, keeps_join_times}
+use Rattle.channel_parts.proofs.Given.{moment}
+use Rattle.session_core.specs.JoinTimes.{JoinTimesAreKept}
+
+pub join_times_are_kept : (s : Settings) (events : List Event) → JoinTimesAreKept s (Tick ∷ events)
+join_times_are_kept s events client accept quiet = record {
+  not_lost = never_lost s (history_of s (Tick ∷ events)) client (moment s (Tick ∷ events)) accept quiet;
+  caught_up = λ b is told. keeps_join_times s events client accept b is quiet told;
+}

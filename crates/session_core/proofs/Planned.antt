@@ -1,0 +1,30 @@
+-- The bounds on what a tick's plan answers.
+use Rattle.std.proofs.Common.{◌≡◌, ℕ, List, refl, sym, subst}
+use Rattle.rams_model.specs.declared.event.Event.{Event}
+use Rattle.rams_model.specs.declared.event.Event.TheVariants.{Tick}
+use Rattle.channel_parts.specs.declared.parts.Parts.{Parts}
+use Rattle.channel_parts.specs.Standing as parts
+use Rattle.tick_core.specs.Plans.{IsPlanFor}
+use Rattle.session_core.specs.Bounds.{SendsShort, IsCountable}
+use Rattle.session_core.specs.Seen.{Seen, IsCore, Planned, IsPlanOf}
+use Rattle.session_core.proofs.Short.{sends_short}
+use Rattle.session_core.proofs.Counting.{tick_countable}
+
+pub record IsBounded (plan : Planned) : Type 0 where
+  pub few : IsCountable plan.answer
+  pub short : SendsShort plan.answer
+
+pub plan_bounded : (p : Parts) (events : List Event) → parts.StandsFor p events → (plan : Planned) → IsPlanFor p events plan → IsBounded plan
+plan_bounded p events st plan is = record {
+  few = subst IsCountable (sym is.answer_is) (tick_countable p.config events st.lawful);
+  short = subst SendsShort (sym is.answer_is) (sends_short p.config events Tick);
+}
+
+abbrev seen : Parts → ℕ → Seen
+seen p calls = record { settings = p.config; calls = calls; parts = p }
+
+-- the plan of a core
+pub core_bounded : (p : Parts) (calls : ℕ) (v : Seen) → IsCore p calls → seen p calls ≡ v → (plan : Planned) → IsPlanOf v plan → IsBounded plan
+core_bounded p calls v core is plan planned =
+    let of_core = subst (λ (w : Seen). IsPlanOf w plan) (sym is) planned in
+    plan_bounded p core.events core.stands plan (of_core.for_all core.events (record { settings_are = refl; parts_stand = core.stands }))

@@ -1,0 +1,22 @@
+-- How much an answer has at most.
+use Rattle.std.specs.Prelude.{ℕ, ◌^◌, ◌<◌, ◌≤◌, length, All}
+use Rattle.rams_model.specs.declared.answer.Order.{Order}
+use Rattle.rams_model.specs.declared.answer.Order.TheVariants.{Rtx, Info}
+use Rattle.rams_model.specs.Answered.{Answered}
+
+-- the packet that it sends again has at most 1,470 bytes
+abbrev pub IsShort : Order → Type 0
+IsShort (Rtx client n sequence packet) = length packet ≤ 1470
+IsShort (Info client info) = Unit {0}
+
+-- So does each packet that the answer sends.
+abbrev pub SendsShort : Answered → Type 0
+SendsShort a = All IsShort a.orders
+
+-- The answer has at most so many notes and so many orders.
+abbrev pub HasAtMost : ℕ → ℕ → Answered → Type 0
+HasAtMost notes orders a = (length a.notes ≤ notes) × (length a.orders ≤ orders)
+
+-- fewer than 2^32 notes, and fewer than as many orders
+abbrev pub IsCountable : Answered → Type 0
+IsCountable a = (length a.notes < 2 ^ 32) × (length a.orders < 2 ^ 32)

@@ -1,0 +1,171 @@
+//! The core of one channel.
+use crate::live::answer_live;
+use crate::stepped::Stepped;
+use channel_config::Config;
+use channel_parts::Parts;
+use feedback_core::answer_feedback;
+use ram_io::NoMemory;
+use rams_model::{Answer, Event};
+use std::alloc::Global;
+use std::marker::Model;
+use tick_core::TickPlan;
+
+/// What a channel keeps between events, and how many came.
+#[derive(Drop)]
+pub struct Core {
+    parts: Parts,
+    calls: u64,
+}
+
+impl Model for Core {
+    ghost use Rattle.session_core.specs.Seen.{Seen, IsCore};
+
+    ghost Value = { Seen };
+
+    ghost view = { λ c. record { settings = c.parts.config; calls = c.calls; parts = c.parts } };
+
+    ghost invariant = { λ c. IsCore c.parts c.calls };
+}
+
+impl Core {
+    ghost use Rattle.std.specs.Prelude.{◌≡◌, ◌+◌, ◌*◌, ◌^◌, ◌<◌, List, [], ◌∷◌, length, IfOk, OnOk, OnErr};
+    ghost use Rattle.rams_model.specs.declared.event.Event.{Event};
+    ghost use Rattle.rams_model.specs.declared.event.Event.TheVariants.{Live, Feedback, Tick};
+    ghost use Rattle.rams_model.specs.Hold.{lo, hi};
+    ghost use Rattle.rams_model.specs.History.{hold};
+    ghost use Rattle.rams_model.specs.Book.{history_of, answer};
+    ghost use Rattle.session_core.specs.Seen.{StandsFor, IsPlanOf};
+    ghost use Rattle.session_core.specs.Bounds.{SendsShort, HasAtMost, IsCountable};
+    ghost use Rattle.session_core.specs.JoinTimes.{JoinTimesAreKept};
+
+    /// The core of a channel to which nothing came yet. It takes the room for the channel's live
+    /// packets, for 4,096 repairs and for as many clients as it may have.
+    pub fn new(alloc: Global, config: &Config) -> Result<Core, NoMemory>
+        ensures value { IfOk result (λ core. (core.settings ≡ config.now) × (core.calls ≡ 0)) }
+        ensures stands { IfOk result (λ core. StandsFor core []) }
+    {
+        Ok(Core {
+            parts: Parts::new(alloc, config)?,
+            calls: 0,
+        })
+    }
+
+    /// The settings, as they were given.
+    pub fn config(&self) -> &Config
+        ensures { result.now ≡ self.now.settings }
+    {
+        &self.parts.config
+    }
+
+    /// The number of the oldest packet that is held; 0 while none is.
+    pub fn lo(&self) -> u64
+        ensures { (events : List Event) → StandsFor self.now events →
+            result ≡ lo (hold self.now.settings (history_of self.now.settings events)) }
+    {
+        self.parts.cache.lo()
+    }
+
+    /// One above the number of the newest packet that is held; 0 while none is.
+    pub fn hi(&self) -> u64
+        ensures { (events : List Event) → StandsFor self.now events →
+            result ≡ hi (hold self.now.settings (history_of self.now.settings events)) }
+    {
+        self.parts.cache.hi()
+    }
+
+    /// A live packet, as it came (RFC 3550): what became of it. After want of memory all is as before.
+    pub fn live(&mut self, alloc: Global, bytes: &[u8]) -> Result<Answer, NoMemory>
+        requires calls { self.old.calls < 2 ^ 40 }
+        ensures stands { (events : List Event) → StandsFor self.old events →
+            IfOk result (λ a. (a ≡ answer self.old.settings events (Live bytes.now))
+            × StandsFor self.new (Live bytes.now ∷ events)) }
+        ensures one_note { IfOk result (λ a. (length a.notes ≡ 1) × (a.orders ≡ [])) }
+        ensures settings { self.new.settings ≡ self.old.settings }
+        ensures calls { OnOk result (self.new.calls ≡ self.old.calls + 1) }
+        ensures same { OnErr result (self.new ≡ self.old) }
+    {
+        let answer = answer_live(alloc, &mut self.parts, bytes)?;
+        self.calls += 1;
+        Ok(answer)
+    }
+
+    /// A feedback datagram (RFC 4585) of a client, as it came: the answers to its messages, in their
+    /// order. After want of memory all is as before.
+    pub fn feedback(&mut self, alloc: Global, client: u64, bytes: &[u8]) -> Result<Answer, NoMemory>
+        requires calls { self.old.calls < 2 ^ 40 }
+        ensures stands { (events : List Event) → StandsFor self.old events →
+            IfOk result (λ a. (a ≡ answer self.old.settings events (Feedback client bytes.now))
+            × StandsFor self.new (Feedback client bytes.now ∷ events)) }
+        ensures few { IfOk result (HasAtMost (5 * length bytes.now + 4) 1) }
+        ensures short { IfOk result SendsShort }
+        ensures settings { self.new.settings ≡ self.old.settings }
+        ensures calls { OnOk result (self.new.calls ≡ self.old.calls + 1) }
+        ensures same { OnErr result (self.new ≡ self.old) }
+    {
+        let answer = answer_feedback(alloc, &mut self.parts, client, bytes)?;
+        self.calls += 1;
+        Ok(answer)
+    }
+
+    /// A tick: what the bursts and the repairs are sent (RFC 6285, 6.2; RFC 4588), which bursts end,
+    /// and whom the channel forgets. After want of memory all is as before.
+    pub fn tick(&mut self, alloc: Global) -> Result<Answer, NoMemory>
+        requires calls { self.old.calls < 2 ^ 40 }
+        ensures stands { (events : List Event) → StandsFor self.old events →
+            IfOk result (λ a. (a ≡ answer self.old.settings events Tick)
+            × StandsFor self.new (Tick ∷ events)) }
+        ensures join_times { (events : List Event) → StandsFor self.old events →
+            OnOk result (JoinTimesAreKept self.old.settings (Tick ∷ events)) }
+        ensures few { IfOk result IsCountable }
+        ensures short { IfOk result SendsShort }
+        ensures settings { self.new.settings ≡ self.old.settings }
+        ensures calls { OnOk result (self.new.calls ≡ self.old.calls + 1) }
+        ensures same { OnErr result (self.new ≡ self.old) }
+    {
+        let plan = self.plan_tick(alloc)?;
+        Ok(self.commit_tick(plan))
+    }
+
+    /// What a tick does, before any of it is done. It changes nothing.
+    pub fn plan_tick(&self, alloc: Global) -> Result<TickPlan, NoMemory>
+        ensures plan { IfOk result (IsPlanOf self.now) }
+        ensures few { IfOk result (λ plan. IsCountable plan.answer) }
+        ensures short { IfOk result (λ plan. SendsShort plan.answer) }
+    {
+        tick_core::plan_tick(alloc, &self.parts)
+    }
+
+    /// Does what was planned for a tick, and answers it. It takes no memory.
+    pub fn commit_tick(&mut self, plan: TickPlan) -> Answer
+        requires calls { self.old.calls < 2 ^ 40 }
+        requires plan { IsPlanOf self.old plan }
+        ensures stands { (events : List Event) → StandsFor self.old events →
+            (result ≡ answer self.old.settings events Tick) × StandsFor self.new (Tick ∷ events) }
+        ensures few { IsCountable result }
+        ensures short { SendsShort result }
+        ensures settings { self.new.settings ≡ self.old.settings }
+        ensures calls { self.new.calls ≡ self.old.calls + 1 }
+    {
+        tick_core::commit_tick(&mut self.parts, &plan);
+        self.calls += 1;
+        plan.answer
+    }
+}
+
+impl Stepped for Core {
+    ghost use Rattle.session_core.specs.Seen.{StandsFor};
+
+    ghost settings = { λ core. core.settings };
+
+    ghost calls = { λ core. core.calls };
+
+    ghost stands = { StandsFor };
+
+    fn step(&mut self, alloc: Global, event: &Event) -> Result<Answer, NoMemory> {
+        match event {
+            Event::Live(bytes) => self.live(alloc, bytes.bytes()),
+            Event::Feedback { client, bytes } => self.feedback(alloc, *client, bytes.bytes()),
+            Event::Tick => self.tick(alloc),
+        }
+    }
+}

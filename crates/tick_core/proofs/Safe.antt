@@ -1,0 +1,64 @@
+-- What the calls of a plan ask of the parts, which stand for some events.
+use Rattle.std.proofs.Common.{◌≡◌, ℕ, true, List, [], Option, Some, None, refl, ap, sym, ◌∙◌, subst, arith}
+use Rattle.std.specs.Option.{option_map}
+use Rattle.rams_model.specs.declared.event.Event.{Event}
+use Rattle.rams_model.specs.Settings.{Settings}
+use Rattle.rams_model.specs.Clients.{known, is_among}
+use Rattle.rams_model.specs.Bursts.{open_burst}
+use Rattle.rams_model.specs.Bursts as model
+use Rattle.rams_model.specs.Book.{history_of}
+use Rattle.rams_model.proofs.Holding.{held_follow}
+use Rattle.book_laws.specs.Moments.{IsMoment}
+use Rattle.channel_config.specs.Lawful.{IsLawful}
+use Rattle.client_table.specs.declared.entry.Burst.{Burst}
+use Rattle.client_table.specs.declared.entry.Entry.{Entry}
+use Rattle.client_table.specs.Clients.{entry_of}
+use Rattle.channel_parts.specs.declared.parts.Parts.{Parts}
+use Rattle.channel_parts.specs.Standing.{burst_kept, StandsFor}
+use Rattle.channel_parts.proofs.Facts.{known_clients_are_idle_for_less, open_bursts_are_within_bounds, open_bursts_have_a_tick_left, held_numbers_are_small}
+use Rattle.channel_parts.proofs.Tables.{entry_among}
+use Rattle.tick_core.specs.Runs.{AreInOrder, IsInTime, AreInTime}
+use Rattle.tick_core.specs.Forgetting.{AreIdleInTime}
+use Rattle.tick_core.specs.Committed.{IsSmallIfOpen, IsSmallIfKnown, AreSmall}
+use Rattle.tick_core.proofs.Planning.{held_stands}
+
+pub at_moment : (s : Settings) (events : List Event) → IsMoment s (history_of s events)
+at_moment s events = record { events = events; later = []; splits = refl }
+
+pub in_order : (p : Parts) (events : List Event) → StandsFor p events → AreInOrder p.cache.held
+in_order p events stands =
+    let before = history_of p.config events in
+    subst AreInOrder (sym (held_stands p events stands)) (record {
+      follows = held_follow p.config before;
+      small = omega (arith, held_numbers_are_small p.config before stands.packets.low (omega (arith, stands.packets.counted, stands.packets.few)));
+    })
+
+burst_in_time : (s : Settings) (k : ℕ) (events : List Event) (burst : Option Burst) (o : Option model.Burst) → IsLawful s → open_burst s k (history_of s events) ≡ o → burst ≡ option_map (burst_kept s) o → IsInTime s burst
+burst_in_time s k events None o lawful open_is is = tt
+burst_in_time s k events (Some eb) None lawful open_is is = absurd cc
+burst_in_time s k events (Some eb) (Some b) lawful open_is is =
+    let same : eb ≡ burst_kept s b = cc in
+    let bounds = open_bursts_are_within_bounds s k b (history_of s events) (at_moment s events) open_is in
+    let lasts = open_bursts_have_a_tick_left s k b events lawful open_is in
+    subst (λ (x : Burst). IsInTime s (Some x)) (sym same) (record { lasts = lasts; budget = omega (arith, bounds.rate_most, lawful.burst_most, lawful.depth_most) })
+
+pub in_time : (p : Parts) (events : List Event) → StandsFor p events → AreInTime p.config p.table
+in_time p events stands client e found =
+    burst_in_time p.config client events e.burst (open_burst p.config client (history_of p.config events)) stands.lawful refl (stands.table.entries client e found).burst_is
+
+pub idle_in_time : (p : Parts) (events : List Event) → StandsFor p events → AreIdleInTime p.table
+idle_in_time p events stands client e found =
+    let is_known : is_among client (known (history_of p.config events)) ≡ true = ap (is_among client) (sym stands.table.clients) ∙ entry_among p.table client e found in
+    let less = known_clients_are_idle_for_less p.config client events stands.lawful is_known in
+    omega (arith, (stands.table.entries client e found).idle_is, less, stands.lawful.idle_most)
+
+small_burst : (s : Settings) (o : Option Burst) → IsLawful s → IsInTime s o → IsSmallIfOpen o
+small_burst s None lawful time = tt
+small_burst s (Some b) lawful time = record { ticks = omega (arith, time.lasts, lawful.limit_most); budget = time.budget }
+
+small_entry : (p : Parts) (events : List Event) (client : ℕ) (o : Option Entry) → StandsFor p events → entry_of p.table client ≡ o → IsSmallIfKnown o
+small_entry p events client None stands is = tt
+small_entry p events client (Some e) stands is = record { idle = idle_in_time p events stands client e is; burst = small_burst p.config e.burst stands.lawful (in_time p events stands client e is) }
+
+pub small_parts : (p : Parts) (events : List Event) → StandsFor p events → AreSmall p.table
+small_parts p events stands client = small_entry p events client (entry_of p.table client) stands refl

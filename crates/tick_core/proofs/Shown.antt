@@ -1,0 +1,95 @@
+-- The notes and orders of the present tick, as it goes on.
+use Rattle.std.proofs.Common.{◌≡◌, ℕ, List, [], ◌∷◌, ◌++◌, Option, Some, None, refl, ap, sym, ◌∙◌, subst, append_assoc, append-nil}
+use Rattle.std.specs.Option.{option_to_list}
+use Rattle.rams_model.specs.declared.answer.Order.{Order}
+use Rattle.rams_model.specs.declared.held.Held.{Held}
+use Rattle.rams_model.specs.declared.message.Info.{Info}
+use Rattle.rams_model.specs.declared.note.Cause.{Cause}
+use Rattle.rams_model.specs.declared.note.Note.{Note}
+use Rattle.rams_model.specs.declared.note.Note.TheVariants.{Burst, Repair, Gone, End, Forgot}
+use Rattle.rams_model.specs.Settings.{Settings}
+use Rattle.rams_model.specs.History.{began, told, noted, History}
+use Rattle.rams_model.specs.Bursts.{size_of, open_burst}
+use Rattle.rams_model.specs.Bursts as model
+use Rattle.rams_model.specs.Buckets.{after_sending, channel_left}
+use Rattle.rams_model.specs.Orders.{order_of, end_order, newest_notes, newest_orders}
+use Rattle.tick_core.specs.Drafts.{Drafted, with_note, with_packet, with_end, told_end}
+
+-- What a history has noted of its newest event, with its orders, and what the channel's budget has left.
+pub record Shows (s : Settings) (history : History) (d : Drafted) : Type 0 where
+  pub notes : newest_notes history [] ≡ d.notes
+  pub orders : newest_orders s history [] ≡ d.orders
+  pub left : channel_left s history ≡ d.left
+
+pub notes_before : (history : History) (later : List Note) → newest_notes history later ≡ newest_notes history [] ++ later
+unfolding newest_notes
+notes_before [] later = refl
+notes_before (began heard ∷ history) later = refl
+notes_before (told client message ∷ history) later = notes_before history later
+notes_before (noted note packet ∷ history) later =
+    notes_before history (note ∷ later) ∙ (sym (append_assoc (newest_notes history []) (note ∷ []) later) ∙ ap (λ (l : List Note). l ++ later) (sym (notes_before history (note ∷ []))))
+
+orders_before : (s : Settings) (history : History) (later : List Order) → newest_orders s history later ≡ newest_orders s history [] ++ later
+unfolding newest_orders
+orders_before s [] later = refl
+orders_before s (began heard ∷ history) later = refl
+orders_before s (told client message ∷ history) later = orders_before s history later
+orders_before s (noted note packet ∷ history) later =
+    let one = option_to_list (order_of s history note packet) in
+    orders_before s history (one ++ later)
+    ∙ (sym (append_assoc (newest_orders s history []) one later) ∙ ap (λ (l : List Order). l ++ later) (ap (λ (l : List Order). newest_orders s history [] ++ l) (sym (append-nil one)) ∙ sym (orders_before s history (one ++ []))))
+
+abbrev more_drafted : Settings → History → Note → Option Held → Drafted → Drafted
+more_drafted s history note packet d = record {
+  notes = d.notes ++ note ∷ [];
+  orders = d.orders ++ option_to_list (order_of s history note packet);
+  left = after_sending note (size_of packet) d.left;
+}
+
+shows_more : (s : Settings) (history : History) (note : Note) (packet : Option Held) (d : Drafted) → Shows s history d → Shows s (noted note packet ∷ history) (more_drafted s history note packet d)
+unfolding newest_notes newest_orders channel_left
+shows_more s history note packet d shows =
+    let one = option_to_list (order_of s history note packet) in
+    record {
+      notes = notes_before history (note ∷ []) ∙ ap (λ (l : List Note). l ++ note ∷ []) shows.notes;
+      orders = orders_before s history (one ++ []) ∙ (ap (λ (l : List Order). newest_orders s history [] ++ l) (append-nil one) ∙ ap (λ (l : List Order). l ++ one) shows.orders);
+      left = ap (after_sending note (size_of packet)) shows.left;
+    }
+
+pub shows_burst : (s : Settings) (history : History) (k seq : ℕ) (h : Held) (d : Drafted) → Shows s history d → Shows s (noted (Burst k h.n seq) (Some h) ∷ history) (with_packet d (Burst k h.n seq) k seq h)
+unfolding order_of
+shows_burst s history k seq h d shows = shows_more s history (Burst k h.n seq) (Some h) d shows
+
+pub shows_repair : (s : Settings) (history : History) (k n seq : ℕ) (h : Held) (d : Drafted) → h.n ≡ n → Shows s history d → Shows s (noted (Repair k n seq) (Some h) ∷ history) (with_packet d (Repair k n seq) k seq h)
+unfolding order_of
+shows_repair s history k n seq h d number shows =
+    subst (λ (m : ℕ). Shows s (noted (Repair k m seq) (Some h) ∷ history) (with_packet d (Repair k m seq) k seq h)) number (shows_more s history (Repair k h.n seq) (Some h) d shows)
+
+no_order : (s : Settings) (history : History) (note : Note) (d : Drafted) → order_of s history note None ≡ None → after_sending note 0 d.left ≡ d.left → Shows s history d → Shows s (noted note None ∷ history) (with_note d note)
+no_order s history note d none same shows =
+    let more = shows_more s history note None d shows in
+    record {
+      notes = more.notes;
+      orders = more.orders ∙ (ap (λ (o : Option Order). d.orders ++ option_to_list o) none ∙ append-nil d.orders);
+      left = more.left ∙ same;
+    }
+
+pub shows_gone : (s : Settings) (history : History) (k n : ℕ) (d : Drafted) → Shows s history d → Shows s (noted (Gone k n) None ∷ history) (with_note d (Gone k n))
+unfolding order_of
+shows_gone s history k n d shows = no_order s history (Gone k n) d refl refl shows
+
+pub shows_forgot : (s : Settings) (history : History) (k : ℕ) (d : Drafted) → Shows s history d → Shows s (noted (Forgot k) None ∷ history) (with_note d (Forgot k))
+unfolding order_of
+shows_forgot s history k d shows = no_order s history (Forgot k) d refl refl shows
+
+pub shows_end : (s : Settings) (history : History) (k : ℕ) (cause : Cause) (b : model.Burst) (last : Option Info) (d : Drafted) → open_burst s k history ≡ Some b → last ≡ Some b.last → Shows s history d
+    → Shows s (noted (End k cause) None ∷ history) (with_end d k last (Some cause))
+unfolding order_of
+shows_end s history k cause b last d open_is last_is shows =
+    let more = shows_more s history (End k cause) None d shows in
+    let same : order_of s history (End k cause) None ≡ told_end k cause last = ap (end_order k cause) open_is ∙ ap (told_end k cause) (sym last_is) in
+    record {
+      notes = more.notes;
+      orders = more.orders ∙ ap (λ (o : Option Order). d.orders ++ option_to_list o) same;
+      left = more.left;
+    }

@@ -1,0 +1,22 @@
+use Rattle.tick_core.proofs.Made.{IsMade, by_calls}
+use Rattle.tick_core.proofs.plan.plan_of.Goals as goal
+
+pub returns : goal.returns
+returns c =
+    let p = c.args.parts.now in
+    let made : IsMade p c.left.result c.open_tick.new.self c.new-draft.result c.serve_clients.new.draft c.finish-draft.result.0 c.forget_clients.new.draft c.in_ok-allowances.allowances.items
+    c.new-repairs.result c.repair_all.new.self c.finish-draft.result.1.items c.finish.result = record {
+      budget_is = c.open_tick.ensures;
+      left_is = c.left.ensures.value;
+      begun_is = c.new-draft.ensures;
+      allowed_is = c.in_ok-allowances.ensures.allowances;
+      runs_are = c.in_ok-allowances.ensures.draft;
+      unrepaired = c.new-repairs.ensures;
+      repairs_are = c.in_ok-repair_all.ensures;
+      draft_is = c.finish-draft.ensures.draft;
+      done_is = c.finish-draft.ensures.done;
+      end_is = c.in_ok-forget_clients.ensures;
+      answer_is = c.finish.ensures;
+    } in
+    let plan = by_calls p _ _ _ _ _ _ _ _ _ _ _ made in
+    record { answer_is = plan.0; done_is = plan.1 }

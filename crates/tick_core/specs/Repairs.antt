@@ -1,0 +1,72 @@
+-- What the pending repairs come to in a tick.
+use Rattle.std.specs.Prelude.{◌≡◌, ℕ, ◌<◌, ◌-◌, Bool, true, false, ◌&&◌, ◌==◌, nat_le, if◌then◌else◌, List, [], ◌∷◌, ◌++◌, Option, Some, None, find, map, length, slice_index_or}
+use Rattle.std.specs.List.{AllByRecursion}
+use Rattle.rams_model.specs.declared.held.Held.{Held}
+use Rattle.rams_model.specs.declared.note.Note.TheVariants.{Repair, Gone}
+use Rattle.rams_model.specs.Numbering.{following}
+use Rattle.rams_model.specs.Pending.{Wanted}
+use Rattle.tick_core.specs.declared.allowance.Allowance.{Allowance}
+use Rattle.tick_core.specs.Drafts.{Drafted, with_note, with_packet}
+
+-- the repairs so far: the notes, what each client's repairs may still take, and which of them are over
+pub record Repaired : Type 0 where
+  pub draft : Drafted
+  pub allowances : List Allowance
+  pub done : List Bool
+
+-- a packet was sent again
+abbrev pub after_repair : Allowance → ℕ → Allowance
+after_repair a size = record a { may_take = a.may_take - size; seq = following a.seq }
+
+-- what a client's repairs may take
+abbrev pub allowance_for : ℕ → List Allowance → Option Allowance
+allowance_for client allowances = find (λ a. a.client == client) allowances
+
+-- the allowances after a packet of this size was sent again to a client
+unfoldable pub with_taken : ℕ → ℕ → List Allowance → List Allowance
+with_taken client size [] = []
+with_taken client size (a ∷ rest) = if a.client == client then after_repair a size ∷ rest else a ∷ with_taken client size rest
+
+-- it fits into what its client's repairs may take, and into what the channel has left
+abbrev pub fits : Held → Allowance → Drafted → Bool
+fits h a d = nat_le h.wire a.may_take && nat_le h.wire d.left
+
+-- one that isn't over
+abbrev pub waiting : Repaired → Repaired
+waiting r = record r { done = r.done ++ false ∷ [] }
+
+-- a packet is sent again where it fits
+abbrev pub with_repair : Wanted → Held → Option Allowance → Repaired → Repaired
+with_repair w h None r = waiting r
+with_repair w h (Some a) r =
+    if fits h a r.draft
+    then record {
+      draft = with_packet r.draft (Repair w.client w.n a.seq) w.client a.seq h;
+      allowances = with_taken w.client h.wire r.allowances;
+      done = r.done ++ true ∷ [];
+    }
+    else waiting r
+
+-- a repair, by the packet of its number
+abbrev pub with_wanted : Wanted → Option Held → Repaired → Repaired
+with_wanted w None r = record r { draft = with_note r.draft (Gone w.client w.n); done = r.done ++ true ∷ [] }
+with_wanted w (Some h) r = with_repair w h (allowance_for w.client r.allowances) r
+
+-- these repairs, one after another
+unfoldable pub with_all_wanted : List Held → List Wanted → Repaired → Repaired
+with_all_wanted held [] r = r
+with_all_wanted held (w ∷ ws) r = with_all_wanted held ws (with_wanted w (find (λ h. h.n == w.n) held) r)
+
+-- whose they are
+abbrev pub clients_of : List Allowance → List ℕ
+clients_of allowances = map (λ a. a.client) allowances
+
+-- each number is below those after it
+abbrev pub Rise : List ℕ → Type 0
+Rise [] = Unit {0}
+Rise (k ∷ ks) = AllByRecursion (λ j. k < j) ks × Rise ks
+
+-- the client's allowance stands there
+pub record IsPlaceOf (client : ℕ) (allowances : List Allowance) (place : ℕ) : Type 0 where
+  pub within : place < length allowances
+  pub there : (d : Allowance) → (slice_index_or allowances place d).client ≡ client

@@ -1,0 +1,142 @@
+//! A planned tick is done.
+ghost use Rattle.std.specs.Prelude.{◌≡◌, ◌-◌, ◌<◌, ◌^◌, List, ◌∷◌};
+ghost use Rattle.rams_model.specs.declared.event.Event.{Event};
+ghost use Rattle.rams_model.specs.declared.event.Event.TheVariants.{Tick};
+ghost use Rattle.rams_model.specs.Bursts.{size_of};
+ghost use Rattle.channel_parts.specs.Standing.{StandsFor};
+ghost use Rattle.tick_core.specs.Plans.{IsPlanFor};
+ghost use Rattle.client_table.specs.Clients.{entry_of, without};
+ghost use Rattle.packet_ring.specs.Seen.{packet_of};
+ghost use Rattle.tick_core.specs.Committed.{committing, amount_of, amount_for, IsNextSmallIfKnown, with_sending, with_closed, with_committed, with_all_committed, MayEnd, MayCommit, MayCommitAll};
+
+use crate::entries::{begin_entries, close_entry, end_entries, send_to};
+use crate::plan::TickPlan;
+use channel_config::Config;
+use channel_parts::{Cache, Parts, Table};
+use client_table::Burst;
+use link_budget::Budget;
+use rams_model::Note;
+
+/// The bytes that the packet of a number takes on the wire.
+fn size_of(cache: &Cache, n: u64) -> u64
+    ensures { result ≡ size_of (packet_of n cache.now.held) }
+{
+    match cache.held(n) {
+        Some(held) => u64::from(held.wire),
+        None => 0,
+    }
+}
+
+/// Takes the size of a packet that was sent from what the channel has left.
+fn spend(budget: &mut Budget, size: u64)
+    ensures { budget.new ≡ record budget.old { left = budget.old.left - size } }
+{
+    // At most all that is left, so it always fits.
+    let size = size.min(budget.left());
+    let _ = budget.spend(size, size);
+}
+
+/// A packet was sent to a client, and so many of its burst.
+fn commit_sending(
+    cache: &Cache,
+    table: &mut Table,
+    budget: &mut Budget,
+    client: u64,
+    n: u64,
+    count: u64,
+)
+    requires { IsNextSmallIfKnown count (entry_of table.old client) }
+    ensures { committing table.new budget.new ≡ with_sending client count (size_of (packet_of n cache.now.held)) (committing table.old budget.old) }
+{
+    let size = size_of(cache, n);
+    send_to(table, client, count, size);
+    spend(budget, size);
+}
+
+/// What a burst has reserved: its rate, and what it may keep.
+fn amount_of(depth: u64, burst: Option<Burst>) -> u64
+    requires { amount_of depth burst < 2 ^ 64 }
+    ensures { result ≡ amount_of depth burst }
+{
+    match burst {
+        Some(burst) => burst.rate + depth,
+        None => 0,
+    }
+}
+
+/// What the burst of a client has reserved.
+fn amount_for(depth: u64, table: &Table, client: u64) -> u64
+    requires { amount_for depth (entry_of table.now client) < 2 ^ 64 }
+    ensures { result ≡ amount_for depth (entry_of table.now client) }
+{
+    match table.find(client) {
+        Some(entry) => amount_of(depth, entry.burst),
+        None => 0,
+    }
+}
+
+/// A client's burst ended: what it had reserved is given back.
+fn commit_end(depth: u64, table: &mut Table, budget: &mut Budget, client: u64)
+    requires { MayEnd depth (entry_of table.old client) budget.old }
+    ensures { committing table.new budget.new ≡ with_closed depth client (committing table.old budget.old) }
+{
+    budget.release(amount_for(depth, table, client));
+    close_entry(table, client);
+}
+
+/// What a note of a tick says is done.
+fn commit_note(config: &Config, cache: &Cache, table: &mut Table, budget: &mut Budget, note: &Note)
+    requires { MayCommit config.now note.now (committing table.old budget.old) }
+    ensures { committing table.new budget.new ≡ with_committed config.now cache.now.held note.now (committing table.old budget.old) }
+{
+    match *note {
+        Note::Burst { client, n, .. } => commit_sending(cache, table, budget, client, n, 1),
+        Note::Repair { client, n, .. } => commit_sending(cache, table, budget, client, n, 0),
+        Note::End { client, .. } => commit_end(config.channel().depth, table, budget, client),
+        Note::Forgot { client } => forget(table, client),
+        _ => {}
+    }
+}
+
+/// A client is no longer known.
+fn forget(table: &mut Table, client: u64)
+    ensures { table.new ≡ without table.old client }
+{
+    let _ = table.remove(client);
+}
+
+/// What the notes of a tick say is done, in their order.
+fn commit_notes(
+    config: &Config,
+    cache: &Cache,
+    table: &mut Table,
+    budget: &mut Budget,
+    notes: &[Note],
+)
+    requires { MayCommitAll config.now cache.now.held notes.now (committing table.old budget.old) }
+    ensures { committing table.new budget.new ≡ with_all_committed config.now cache.now.held notes.now (committing table.old budget.old) }
+{
+    for note in notes {
+        commit_note(config, cache, table, budget, note);
+    }
+}
+
+/// Does what a tick's plan says. It takes no memory.
+pub fn commit_tick(parts: &mut Parts, plan: &TickPlan)
+    // The parts stand for some events, and the plan is that of the tick after them.
+    requires plan { (events : List Event) × StandsFor parts.old events × IsPlanFor parts.old events plan.now }
+    ensures stands { (events : List Event) → StandsFor parts.old events → IsPlanFor parts.old events plan.now → StandsFor parts.new (Tick ∷ events) }
+    ensures settings { parts.new.config ≡ parts.old.config }
+{
+    parts.budget.open_tick();
+    begin_entries(&mut parts.table, &parts.queue);
+    commit_notes(
+        &parts.config,
+        &parts.cache,
+        &mut parts.table,
+        &mut parts.budget,
+        &plan.answer.notes,
+    );
+    end_entries(&mut parts.table, parts.config.channel().depth);
+    parts.queue.settle(&plan.done);
+}

@@ -1,0 +1,133 @@
+//! The notes and orders of a tick, as they are made.
+ghost use Rattle.std.specs.Prelude.{◌≡◌, IfOk};
+ghost use Rattle.rams_model.specs.Answered.{answered};
+ghost use Rattle.tick_core.specs.Drafts.{new_draft, with_note, with_packet, with_end, told_end};
+
+use ram_io::NoMemory;
+use rams_model::{Answer, Cause, Held, Info, Note, Order};
+use std::alloc::Global;
+use std::marker::Model;
+
+/// The notes and orders of a tick so far, and the bytes that the channel's budget has left.
+#[derive(Drop)]
+pub struct Draft {
+    notes: Vec<Note>,
+    orders: Vec<Order>,
+    left: u64,
+}
+
+impl Model for Draft {
+    ghost use Rattle.tick_core.specs.Drafts.{Drafted};
+
+    ghost Value = { Drafted };
+
+    ghost view = { λ d. record { notes = d.notes.items; orders = d.orders.items; left = d.left } };
+}
+
+impl Draft {
+    /// Nothing is noted yet.
+    pub fn new(alloc: Global, left: u64) -> Draft
+        ensures { result ≡ new_draft left }
+    {
+        Draft {
+            notes: Vec::new(alloc),
+            orders: Vec::new(alloc),
+            left,
+        }
+    }
+
+    /// What the channel's budget has left.
+    pub fn left(&self) -> u64
+        ensures { result ≡ self.now.left }
+    {
+        self.left
+    }
+
+    /// Makes a note that has no order.
+    pub fn note(&mut self, note: Note) -> Result<(), NoMemory>
+        ensures { IfOk result (λ _. self.new ≡ with_note self.old note) }
+    {
+        self.notes.push(note)?;
+        Ok(())
+    }
+
+    /// Makes a note that sends the packet to the client, under this number of its retransmission stream
+    /// (RFC 4588, 4).
+    pub fn send(&mut self, note: Note, client: u64, seq: u16, held: &Held) -> Result<(), NoMemory>
+        ensures { IfOk result (λ _. self.new ≡ with_packet self.old note client seq held.now) }
+    {
+        let packet = held.packet.clone()?;
+        self.notes.push(note)?;
+        self.orders.push(Order::Rtx {
+            client,
+            n: held.n,
+            seq,
+            packet,
+        })?;
+        self.left = self.left.saturating_sub(u64::from(held.wire));
+        Ok(())
+    }
+
+    /// Notes the end of a client's burst, where there is a cause, and tells the client (RFC 6285, 7.3).
+    pub fn end(
+        &mut self,
+        client: u64,
+        last: Option<Info>,
+        cause: Option<Cause>,
+    ) -> Result<(), NoMemory>
+        ensures { IfOk result (λ _. self.new ≡ with_end self.old client last cause) }
+    {
+        let Some(cause) = cause else {
+            return Ok(());
+        };
+        self.notes.push(Note::End { client, cause })?;
+        if let Some(order) = end_order(client, cause, last) {
+            self.orders.push(order)?;
+        }
+        Ok(())
+    }
+
+    /// The answer that was drafted.
+    pub fn finish(self) -> Answer
+        ensures { result ≡ answered self.notes self.orders }
+    {
+        Answer::new(self.notes, self.orders)
+    }
+}
+
+/// What a client is told of the end of its burst (RFC 6285, 7.3), after what it was told last.
+fn end_order(client: u64, cause: Cause, last: Option<Info>) -> Option<Order>
+    ensures { result ≡ told_end client cause last }
+{
+    let last = last?;
+    let info = end_info(&last, cause)?;
+    Some(Order::Info { client, info })
+}
+
+ghost use Rattle.rams_model.specs.Infos.{bare_info, end_info};
+
+// A code alone, or nothing for a client that left.
+fn end_info(last: &Info, cause: Cause) -> Option<Info>
+    ensures { result ≡ end_info last.now cause }
+{
+    let code = match cause {
+        Cause::Stopped => 201,
+        Cause::Limit => 201,
+        Cause::Lost => 502,
+        Cause::Bye => return None,
+    };
+    Some(bare_info(last.msn.wrapping_add(1), code))
+}
+
+fn bare_info(msn: u8, code: u16) -> Info
+    ensures { result ≡ bare_info msn code }
+{
+    Info {
+        msn,
+        code,
+        first: None,
+        join_ms: None,
+        length_ms: None,
+        bps: None,
+    }
+}

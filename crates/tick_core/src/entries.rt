@@ -1,0 +1,113 @@
+//! What is kept of the clients, as a tick begins, goes on and ends.
+ghost use Rattle.std.specs.Prelude.{◌≡◌, option_map};
+ghost use Rattle.client_table.specs.Clients.{entry_of};
+ghost use Rattle.tick_core.specs.Committed.{burst_begun, entry_begun, IsSmallIfOpen, IsSmallEntry, burst_ended, entry_ended, burst_sent, entry_sent, entry_closed, IsNextSmall, IsNextSmallIfKnown, changed, AreSmall, AreAllChanged};
+
+use crate::forgetting::idle_after;
+use client_table::{Burst, Entry, Table};
+use repair_queue::Queue;
+
+/// An open burst as a tick begins. Until the tick ends, `kept` is all that it may still be sent.
+fn begun_burst(burst: Option<Burst>) -> Option<Burst>
+    requires { IsSmallIfOpen burst }
+    ensures { result ≡ option_map burst_begun burst }
+{
+    let burst = burst?;
+    Some(Burst {
+        ticks: burst.ticks + 1,
+        kept: burst.rate + burst.kept,
+        ..burst
+    })
+}
+
+/// An open burst as a tick ends: it keeps at most the depth.
+fn ended_burst(depth: u64, burst: Option<Burst>) -> Option<Burst>
+    ensures { result ≡ option_map (burst_ended depth) burst }
+{
+    let burst = burst?;
+    Some(Burst {
+        kept: depth.min(burst.kept),
+        ..burst
+    })
+}
+
+/// An open burst after a packet of this size, and so many of its own.
+fn sent_burst(count: u64, size: u64, burst: Option<Burst>) -> Option<Burst>
+    requires { IsNextSmall count burst }
+    ensures { result ≡ option_map (burst_sent count size) burst }
+{
+    let burst = burst?;
+    Some(Burst {
+        next: burst.next + count,
+        kept: burst.kept.saturating_sub(size),
+        ..burst
+    })
+}
+
+/// What is kept of a client as a tick begins.
+fn begun_entry(queue: &Queue, client: u64, entry: &Entry) -> Entry
+    requires { IsSmallEntry entry.now }
+    ensures { result ≡ entry_begun queue.now client entry.now }
+{
+    Entry {
+        idle: idle_after(queue, client, entry),
+        burst: begun_burst(entry.burst),
+        ..*entry
+    }
+}
+
+/// What is kept of a client as a tick ends.
+fn ended_entry(depth: u64, entry: &Entry) -> Entry
+    ensures { result ≡ entry_ended depth entry.now }
+{
+    Entry {
+        burst: ended_burst(depth, entry.burst),
+        ..*entry
+    }
+}
+
+/// What is kept of a client that was sent a packet of this size, and so many of its burst.
+fn sent_entry(count: u64, size: u64, entry: &Entry) -> Entry
+    requires { IsNextSmall count entry.now.burst }
+    ensures { result ≡ entry_sent count size entry.now }
+{
+    Entry {
+        seq: entry.seq.wrapping_add(1),
+        burst: sent_burst(count, size, entry.burst),
+        ..*entry
+    }
+}
+
+/// The same, where the client is known.
+pub fn send_to(table: &mut Table, client: u64, count: u64, size: u64)
+    requires { IsNextSmallIfKnown count (entry_of table.old client) }
+    ensures { table.new ≡ changed (entry_sent count size) table.old client }
+{
+    if let Some(entry) = table.find_mut(client) {
+        *entry = sent_entry(count, size, entry);
+    }
+}
+
+/// A client's burst ends.
+pub fn close_entry(table: &mut Table, client: u64)
+    ensures { table.new ≡ changed entry_closed table.old client }
+{
+    if let Some(entry) = table.find_mut(client) {
+        entry.burst = None;
+    }
+}
+
+/// What is kept of all clients as a tick begins.
+pub fn begin_entries(table: &mut Table, queue: &Queue)
+    requires { AreSmall table.old }
+    ensures { AreAllChanged (entry_begun queue.now) table.old table.new }
+{
+    table.change_all(|client, entry| begun_entry(queue, client, &entry));
+}
+
+/// What is kept of all clients as a tick ends.
+pub fn end_entries(table: &mut Table, depth: u64)
+    ensures { AreAllChanged (λ _. entry_ended depth) table.old table.new }
+{
+    table.change_all(|_, entry| ended_entry(depth, &entry));
+}

@@ -1,0 +1,56 @@
+//! The clients that are forgotten.
+ghost use Rattle.std.specs.Prelude.{◌≡◌, ◌+◌, ◌<◌, ◌^◌, IfOk};
+ghost use Rattle.tick_core.specs.Forgetting.{idle_after, AreIdleInTime, with_forgotten, with_all_forgotten};
+
+use crate::draft::Draft;
+use channel_config::Config;
+use client_table::{Entry, Table};
+use ram_io::NoMemory;
+use rams_model::Note;
+use repair_queue::Queue;
+
+/// A client's idle count after a tick: one more, unless it had an open burst or a pending repair as the
+/// tick began.
+pub fn idle_after(queue: &Queue, client: u64, entry: &Entry) -> u32
+    requires { entry.now.idle + 1 < 2 ^ 32 }
+    ensures { result ≡ idle_after queue.now client entry.now }
+{
+    if entry.burst.is_some() || queue.has(client) {
+        0
+    } else {
+        entry.idle + 1
+    }
+}
+
+/// Notes that a client is forgotten, where it has been idle for so many ticks.
+fn forget_client(
+    config: &Config,
+    queue: &Queue,
+    client: u64,
+    entry: &Entry,
+    draft: &mut Draft,
+) -> Result<(), NoMemory>
+    requires { entry.now.idle + 1 < 2 ^ 32 }
+    ensures { IfOk result (λ _. draft.new ≡ with_forgotten config.now queue.now client entry.now draft.old) }
+{
+    if idle_after(queue, client, entry) == config.channel().idle {
+        draft.note(Note::Forgot { client })?;
+    }
+    Ok(())
+}
+
+/// Notes who is forgotten, by rising number.
+pub fn forget_clients(
+    config: &Config,
+    queue: &Queue,
+    table: &Table,
+    draft: &mut Draft,
+) -> Result<(), NoMemory>
+    requires { AreIdleInTime table.now }
+    ensures { IfOk result (λ _. draft.new ≡ with_all_forgotten config.now queue.now table.now.known draft.old) }
+{
+    for (client, entry) in table.iter() {
+        forget_client(config, queue, client, entry, draft)?;
+    }
+    Ok(())
+}

@@ -1,0 +1,19 @@
+//! A tick of a channel: what it sends, whom it forgets, and what its parts are after it.
+#![tactic(auto)]
+
+mod allowance;
+mod commit;
+mod draft;
+mod entries;
+mod forgetting;
+mod plan;
+mod repairs;
+mod runs;
+#[cfg(test)]
+mod tests;
+
+pub use channel_parts::Parts;
+pub use commit::commit_tick;
+pub use plan::{TickPlan, plan_tick};
+pub use ram_io::NoMemory;
+pub use rams_model::{Answer, Note, Order};

@@ -1,0 +1,90 @@
+-- The events of a trace are made of bytes.
+use Rattle.std.proofs.Common.{◌≡◌, ℕ, ◌<◌, List, [], ◌∷◌, Option, Some, None, suc, refl, eqb, arith}
+use Rattle.std.specs.Prelude.{All, IfSome, Result, Ok, Err, filter_map, option_and_then, if◌then◌else◌, ◌==◌}
+use Rattle.std.specs.List.{cons_option}
+use mathlib.Core.List.{reverse_aux}
+use Rattle.std.proofs.lemmas.Bool.{cond_both}
+use Rattle.std.proofs.lemmas.List.Elements.{All-nil, All-cons}
+use Rattle.hex.specs.Hex.{IsBytes, decode_of}
+use Rattle.hex.specs.declared.error.FromHexError.{FromHexError}
+use Rattle.hex.proofs.HexLemmas.{decode_of-ok}
+use Rattle.rams_model.specs.declared.event.Event.{Event}
+use Rattle.rams_model.specs.declared.event.Event.TheVariants as event
+use Rattle.rams_model.specs.Words.{decoded, bytes_in}
+use Rattle.rams_model.specs.TraceLine.{TraceLine, head_line, channel_line, live_line, feedback_line, tick_line, end_line, tune_line, give_line, mcast_line, ask_line, drop_line, line_of}
+use Rattle.server_hub.specs.declared.event.HubEvent.{HubEvent}
+use Rattle.server_hub.specs.declared.event.HubEvent.TheVariants.{Live, Feedback, Tick}
+use Rattle.server_hub.specs.Coming.{events_of}
+use Rattle.trace_book.specs.TraceText.{event_of}
+use Rattle.trace_book.specs.Promises.{IsOfBytes}
+use Rattle.trace_book.specs.Runs.{event_at, taken, came}
+
+abbrev AreBytes : List ℕ → Type 0
+AreBytes bytes = All (λ b. b < 256) bytes
+
+all_bytes : (bytes : List ℕ) → IsBytes bytes → AreBytes bytes
+all_bytes [] h = All-nil (λ b. b < 256)
+all_bytes (b ∷ bytes) h = All-cons (λ x. x < 256) b bytes (h 0) (all_bytes bytes (λ i. h (suc i)))
+
+decoded_bytes : (word : List ℕ) (r : Result (List ℕ) FromHexError) → decode_of word ≡ r → AreBytes (decoded r)
+decoded_bytes word (Err fault) e = All-nil (λ b. b < 256)
+decoded_bytes word (Ok bytes) e = all_bytes bytes (decode_of-ok word bytes e).3
+
+hex_bytes : (word : List ℕ) → AreBytes (bytes_in word)
+hex_bytes word = decoded_bytes word (decode_of word) refl
+
+-- so of an event of the server
+abbrev IsHubOfBytes : HubEvent → Type 0
+IsHubOfBytes (Live id bytes) = AreBytes bytes
+IsHubOfBytes (Feedback id client bytes) = AreBytes bytes
+IsHubOfBytes Tick = Unit {0}
+
+line_brings : (line : TraceLine) → IfSome (event_of line) IsHubOfBytes
+line_brings (live_line id hex) = hex_bytes hex
+line_brings (feedback_line id client hex) = hex_bytes hex
+line_brings tick_line = tt
+line_brings (head_line version tick link) = tt
+line_brings (channel_line version c) = tt
+line_brings end_line = tt
+line_brings (tune_line id client ssrc) = tt
+line_brings (give_line n) = tt
+line_brings (mcast_line id client n) = tt
+line_brings (ask_line id client) = tt
+line_brings (drop_line id client) = tt
+
+read_brings : (o : Option TraceLine) → IfSome (option_and_then event_of o) IsHubOfBytes
+read_brings None = tt
+read_brings (Some line) = line_brings line
+
+one_more : (o : Option HubEvent) (events : List HubEvent) → IfSome o IsHubOfBytes → All IsHubOfBytes events → All IsHubOfBytes (cons_option o events)
+one_more None events i a = a
+one_more (Some e) events i a = All-cons IsHubOfBytes e events i a
+
+lines_bring : (lines : List (List ℕ)) → All IsHubOfBytes (filter_map event_at lines)
+lines_bring [] = All-nil IsHubOfBytes
+lines_bring (bytes ∷ lines) = one_more (event_at bytes) (filter_map event_at lines) (read_brings (line_of bytes)) (lines_bring lines)
+
+-- the rest of what holds of each
+others : (e : HubEvent) (events : List HubEvent) → All IsHubOfBytes (e ∷ events) → All IsHubOfBytes events
+others e events a = λ k d less. a (suc k) d (omega (arith, less))
+
+reversed : (events past : List HubEvent) → All IsHubOfBytes events → All IsHubOfBytes past → All IsHubOfBytes (reverse_aux events past)
+reversed [] past a b = b
+reversed (e ∷ events) past a b = reversed events (e ∷ past) (others e events a) (All-cons IsHubOfBytes e past (a 0 e (omega arith)) b)
+
+-- so of the events of a channel
+with_one : (id other : ℕ) (e : Event) (events : List Event) → IsOfBytes e → All IsOfBytes events → All IsOfBytes (if id == other then e ∷ events else events)
+with_one id other e events i a = cond_both (eqb id other) (e ∷ events) events (All IsOfBytes) (λ t. All-cons IsOfBytes e events i a) (λ f. a)
+
+channel_gets : (id : ℕ) (events : List HubEvent) → All IsHubOfBytes events → All IsOfBytes (events_of id events)
+unfolding events_of
+channel_gets id [] a = All-nil IsOfBytes
+channel_gets id (Live other bytes ∷ events) a =
+    with_one id other (event.Live bytes) (events_of id events) (a 0 Tick (omega arith)) (channel_gets id events (others (Live other bytes) events a))
+channel_gets id (Feedback other client bytes ∷ events) a =
+    with_one id other (event.Feedback client bytes) (events_of id events) (a 0 Tick (omega arith)) (channel_gets id events (others (Feedback other client bytes) events a))
+channel_gets id (Tick ∷ events) a = All-cons IsOfBytes event.Tick (events_of id events) tt (channel_gets id events (others Tick events a))
+
+-- what comes to a channel of a trace is made of bytes
+pub trace_bytes : (trace : List ℕ) (id : ℕ) → All IsOfBytes (events_of id (came trace))
+trace_bytes trace id = channel_gets id (came trace) (reversed (filter_map event_at (taken trace)) [] (lines_bring (taken trace)) (All-nil IsHubOfBytes))

@@ -1,0 +1,70 @@
+//! Laws of every trace: of its stages, its channels, their link, and its text.
+ghost use Rattle.trace_book.specs.Links.{TracesStayWithinTheLink};
+ghost use Rattle.trace_book.specs.Promises.{TracesAreServedLawfully};
+ghost use Rattle.trace_book.specs.Runs.{TracesAreServedByTheirLines, TracesEndSo};
+ghost use Rattle.trace_book.specs.Stages.{TheOpeningIsAStage, StagesAreKept};
+
+use book_laws::{budgets, join_times, numbers, one_book, refusals, sendings, stops};
+use rams_model::clients_are_since;
+use server_hub::laws::{
+    channels_get_their_events, channels_stay_within_the_link, ticks_stay_within_the_link,
+};
+
+/// What holds of the stages of a trace holds before its first line, and each line that goes on keeps
+/// it.
+pub fn stages_are_kept()
+    ensures opening { TheOpeningIsAStage }
+    ensures kept { StagesAreKept }
+{}
+
+/// Whatever the trace, each channel that it is served by keeps its promises: the laws of every lawful
+/// book hold at each of its moments.
+pub fn traces_are_served_lawfully()
+    ensures { TracesAreServedLawfully }
+{
+    traces_are_served_by_their_lines();
+    one_book::exactly_one_book();
+    one_book::books_tell_the_history();
+    sendings::first_sendings_are_consecutive();
+    sendings::a_burst_begins_at_an_eligible_access_point();
+    sendings::each_datagram_is_the_retransmission_of_a_source_packet();
+    numbers::the_first_sending_has_the_number_that_the_accept_named();
+    stops::the_stop_is_respected();
+    stops::each_burst_ends_or_is_open();
+    stops::a_stop_is_what_was_named();
+    budgets::clients_stay_within_their_budgets();
+    budgets::channels_stay_within_their_budgets();
+    budgets::reserves_fit_the_share();
+    budgets::runs_are_covered();
+    budgets::budgets_are_kept_over_ticks();
+    refusals::refusals_are_true();
+    refusals::requests_are_answered_by_the_table();
+    refusals::nacks_are_answered_by_the_table();
+    refusals::stops_and_byes_are_answered_exactly();
+    refusals::what_is_counted_stands_once();
+    join_times::quiet_bursts_keep_their_join_times();
+    clients_are_since();
+}
+
+/// Whatever the trace, its channels together stay within the link of its head line, in each tick and
+/// over ticks.
+pub fn traces_stay_within_the_link()
+    ensures { TracesStayWithinTheLink }
+{
+    ticks_stay_within_the_link();
+    channels_stay_within_the_link();
+}
+
+/// A trace is served by the channels and the events of its lines, up to the one that ends it: to each
+/// channel come its own packets and datagrams, and each tick.
+pub fn traces_are_served_by_their_lines()
+    ensures { TracesAreServedByTheirLines }
+{
+    channels_get_their_events();
+}
+
+/// A trace ends at the first line that doesn't go on: with `end`, with a line that is refused or
+/// missing, or with event 1,000,001. Its book is what its events are answered with.
+pub fn traces_end_so()
+    ensures { TracesEndSo }
+{}
