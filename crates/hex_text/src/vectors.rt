@@ -22,7 +22,7 @@ pub fn decode_to(out: &mut Vec<u8>, text: &[u8]) -> Result<bool, AllocError>
     ensures full { OnErr result (vec_capacity out.old < length text.now / 2) }
     ensures room { vec_capacity out.old ≤ vec_capacity out.new }
 {
-    out.resize(text.len() / 2, 0)?;
+    resize(out, text)?;
     let good = decode_all(text, out);
     if !good {
         out.clear();
@@ -43,11 +43,28 @@ pub fn append_encoded(text: &mut Vec<u8>, bytes: &[u8]) -> Result<(), AllocError
     ensures room { vec_capacity text.old ≤ vec_capacity text.new }
 {
     let start = text.len();
-    let Some(end) = start.checked_add(2 * bytes.len()) else {
-        return Err(AllocError);
-    };
-    text.resize(end, 0)?;
+    text.try_reserve(2 * bytes.len())?;
+    // What the digits are then written over is the bytes themselves, twice: a copy is cheap.
+    text.extend_from_slice(bytes)?;
+    text.extend_from_slice(bytes)?;
     let (_, room) = text.split_at_mut(start);
     encode_all(bytes, room);
     Ok(())
+}
+
+// Makes `out` half as long as the text. What it is lengthened by is digits of the text, which are
+// written over then: a copy is cheap.
+fn resize(out: &mut Vec<u8>, text: &[u8]) -> Result<(), AllocError>
+    ensures ok { OnOk result (length out.new.items ≡ length text.now / 2) }
+    ensures err { OnErr result (out.new.items ≡ out.old.items) }
+    ensures full { OnErr result (vec_capacity out.old < length text.now / 2) }
+    ensures room { vec_capacity out.old ≤ vec_capacity out.new }
+{
+    let wanted = text.len() / 2;
+    let had = out.len();
+    if wanted <= had {
+        out.truncate(wanted);
+        return Ok(());
+    }
+    out.extend_from_slice(&text[..wanted - had])
 }
