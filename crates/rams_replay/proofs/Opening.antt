@@ -94,8 +94,10 @@ opens_next hub events version later c stage comes = by hub refl
   where
     j : Joined stage.reached later c
     j = joins stage.reached later c version comes.comes
+
     nowhere : HubServes None (Some j.head) stage.channels stage.events → ⊥
     nowhere serves = serves
+
     by : (o : Option Seen) → hub ≡ o → IsSomeAnd o (λ v. CanOpen v c)
     by None is =
         absurd (nowhere (subst (λ (h : Option Head). HubServes None h stage.channels stage.events) j.is_head (subst (λ (o : Option Seen). HubServes o stage.reached.head stage.channels stage.events) is comes.before.served)))
@@ -113,16 +115,19 @@ opened_turn (Some v) (Some w) events version number later c stage opens comes =
     let head : later.head ≡ Some j.head = ap (λ (x : Reached). x.head) (sym j.is_later) ∙ j.is_head in
     let tick : v.tick ≡ tick_of later.head = at.tick ∙ sym (ap tick_of head) in
     let more = stage.channels ++ served (settings c (tick_of later.head)) [] ∷ [] in
-    let stands = subst (λ (n : ℕ). AllServe w.channels (stage.channels ++ served (settings c n) [] ∷ [])) tick (opens.stands stage.channels at.stands) in
-    (record {
-      served = subst (λ (h : Option Head). HubServes (Some w) h more stage.events) (sym head)
-          (record { stands = stands; tick = opens.tick ∙ at.tick; link = opens.link ∙ at.link; calls = opens.calls ∙ at.calls });
-      claims =
-          ap (λ (x : Reached). x.channels) (sym j.is_later) ∙ ap (λ (l : List Claim). l ++ (record { id = c.id; share = c.share } ∷ [])) comes.before.claims
-          ∙ sym (map-append claim_of stage.channels (served (settings c (tick_of later.head)) [] ∷ []));
-      counted = comes.before.counted;
-      lines = refl;
-    }, refl, refl)
+    let stands = subst (λ (n : ℕ). AllServe w.channels (stage.channels ++ served (settings c n) [] ∷ [])) tick (opens.stands stage.channels at.stands) in (
+      record {
+        served = subst (λ (h : Option Head). HubServes (Some w) h more stage.events) (sym head)
+            (record { stands = stands; tick = opens.tick ∙ at.tick; link = opens.link ∙ at.link; calls = opens.calls ∙ at.calls });
+        claims =
+            ap (λ (x : Reached). x.channels) (sym j.is_later) ∙ ap (λ (l : List Claim). l ++ (record { id = c.id; share = c.share } ∷ [])) comes.before.claims
+            ∙ sym (map-append claim_of stage.channels (served (settings c (tick_of later.head)) [] ∷ []));
+        counted = comes.before.counted;
+        lines = refl;
+      },
+      refl,
+      refl,
+    )
 
 -- the head line gives the hub
 none_before : (ended head : Bool) → (not ended && not head) ≡ true → head ≡ false
@@ -136,10 +141,12 @@ head_turn hub events version tick link number later stage comes = (by hub stage.
   where
     parts : Accepted stage.reached later (head_line version tick link)
     parts = accepted_parts stage.reached later (head_line version tick link) comes.comes
+
     later_is : record stage.reached { head = Some (record { version = version; tick = tick; link = link }) } ≡ later
     later_is =
         let does : Ok (record stage.reached { head = Some (record { version = version; tick = tick; link = link }) }) ≡ Ok later = parts.does in
         cc
+
     by : (o : Option Seen) (h : Option Head) → stage.reached.head ≡ h → HubServes o h stage.channels stage.events
         → Stands (Some (new_hub tick link)) events later (record { reached = later; channels = stage.channels; events = stage.events })
     by None None is serves = record {

@@ -48,6 +48,7 @@ accepts line (Ok r) read later h = (ap first h, ap second h)
     first : Result (TraceLine × Reached) LineFault → TraceLine
     first (Ok both) = both.0
     first (Err fault) = line
+
     second : Result (TraceLine × Reached) LineFault → Result Reached LineFault
     second (Ok both) = Ok both.1
     second (Err fault) = Err fault
@@ -173,6 +174,7 @@ too_long_turn hub events e many stage number stands =
   where
     ltb-not : (a b : ℕ) → b ≤ a → ltb a b ≡ false
     ltb-not a b h = grind arith
+
     by : ltb stage.events most_events ≡ false → Took (counted stage stage.reached e) hub events stage.reached number TooLong
     by e = rw e (refl, refl)
 
@@ -187,14 +189,17 @@ served_turn v w events e t few counts tells stage number stands = by_head stage.
     by_head None is serves = absurd serves
     by_head (Some head) is serves =
         let told = tells stage.channels serves.stands in
-        rw (lt-ltb stage.events most_events (omega (arith, stands.counted)))
-        (record {
-          served = subst (λ (h : Option Head). HubServes (Some w) h (after_event e stage.channels) (stage.events + 1)) (sym is)
-              (record { stands = told.stands; tick = counts.tick ∙ serves.tick; link = counts.link ∙ serves.link; calls = counts.calls ∙ ap (λ n. n + 1) serves.calls });
-          claims = stands.claims ∙ sym (claims_kept e stage.channels);
-          counted = ap (λ n. n + 1) stands.counted;
-          lines = refl;
-        }, told.goes_on, told.text (events + 1) number ∙ ap (λ n. event_text (n + 1) e stage.channels) stands.counted)
+        rw (lt-ltb stage.events most_events (omega (arith, stands.counted))) (
+          record {
+            served = subst (λ (h : Option Head). HubServes (Some w) h (after_event e stage.channels) (stage.events + 1)) (sym is)
+                (record { stands = told.stands; tick = counts.tick ∙ serves.tick; link = counts.link ∙ serves.link; calls = counts.calls ∙ ap (λ n. n + 1) serves.calls });
+            claims = stands.claims ∙ sym (claims_kept e stage.channels);
+            counted = ap (λ n. n + 1) stands.counted;
+            lines = refl;
+          },
+          told.goes_on,
+          told.text (events + 1) number ∙ ap (λ n. event_text (n + 1) e stage.channels) stands.counted,
+        )
 
 -- where a turn goes on, the hub stands for the stage behind it
 pub goes_somewhere : (was : text.Turn) (hub : Option Seen) (events : ℕ) (reached : Reached) (number : ℕ) (t : Turn) → Took was hub events reached number t → ending t ≡ None

@@ -12,7 +12,6 @@ use order_datagrams::{Config, append_order};
 use ram_io::NoMemory;
 use rams_model::{Cause, Note, Order};
 
-
 /// Appends the lines of a note; `orders` are those of this note and of the notes after it. The
 /// datagram is made in `room`.
 pub fn append_entry(

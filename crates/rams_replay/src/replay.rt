@@ -108,12 +108,7 @@ fn after_line(alloc: Global, replay: &mut Replay, line: Line<'_>) -> Result<Turn
             let heard = Heard::Feedback(id, client, &replay.bytes);
             serve(alloc, &mut replay.hub, &mut replay.events, heard)
         }
-        Line::Tick => serve(
-            alloc,
-            &mut replay.hub,
-            &mut replay.events,
-            Heard::Tick,
-        ),
+        Line::Tick => serve(alloc, &mut replay.hub, &mut replay.events, Heard::Tick),
         Line::End => Ok(Turn::Done),
         // No trace of `run` has these.
         Line::Tune { .. }
