@@ -2,6 +2,8 @@
 ghost use Rattle.std.specs.Prelude.{◌≡◌, ◌*◌, ◌<◌, ◌≤◌, length, take, drop, slice_index};
 ghost use Rattle.hex.specs.Hex.{encode_lower, lower_digits};
 
+use crate::block::encode_block;
+
 /// Writes two lower-case hexadecimal digits for each byte into the front of `out`, the high one
 /// first. The rest of `out` stays.
 pub fn encode_into(bytes: &[u8], out: &mut [u8])
@@ -12,8 +14,19 @@ pub fn encode_into(bytes: &[u8], out: &mut [u8])
     encode_all(bytes, &mut out[..2 * bytes.len()]);
 }
 
-/// Writes two digits for each byte over all of `out`.
+/// Writes two digits for each byte over all of `out`. All but the last few bytes go in blocks of 16.
 pub(crate) fn encode_all(bytes: &[u8], out: &mut [u8])
+    requires { length out.old ≡ 2 * length bytes.now }
+    ensures { out.new ≡ encode_lower bytes.now }
+{
+    let blocks = bytes.len() / 16;
+    'parts: for k in 0..blocks {
+        encode_block(&bytes[16 * k..16 * k + 16], &mut out[32 * k..32 * k + 32]);
+    }
+    encode_bytes(&bytes[16 * blocks..], &mut out[32 * blocks..]);
+}
+
+fn encode_bytes(bytes: &[u8], out: &mut [u8])
     requires { length out.old ≡ 2 * length bytes.now }
     ensures { out.new ≡ encode_lower bytes.now }
 {
@@ -24,8 +37,9 @@ pub(crate) fn encode_all(bytes: &[u8], out: &mut [u8])
     }
 }
 
+/// The digit of a number below 16.
 #[inline]
-fn digit(n: u8) -> u8
+pub(crate) fn digit(n: u8) -> u8
     requires { n < 16 }
     ensures { result ≡ slice_index lower_digits n }
 {

@@ -85,7 +85,7 @@ impl Queue {
     pub fn has(&self, client: u64) -> bool
         ensures { result ≡ nat_lt 0 (count_of client self.now) }
     {
-        self.index.count(client) > 0
+        !self.pending.is_empty() && self.index.count(client) > 0
     }
 
     /// The repairs whose flag is set are no longer pending; the others keep their order. There is one

@@ -1,10 +1,6 @@
 use Rattle.std.proofs.Common.{arith}
-use Rattle.hex.specs.Hex.{lower_digits}
-use Rattle.hex.proofs.Pairs.{encode_step, encode_done}
+use Rattle.hex_text.proofs.Blocks.{block_more}
 use Rattle.hex_text.proofs.encode.encode_all.Goals as goal
 
-pub bytes-preserved : goal.bytes-preserved
-bytes-preserved c = encode_step lower_digits _ _ c.bytes.i _ _ (omega arith) (omega arith) c.digit.ensures c.digit-in-bytes.ensures c.bytes.invariant
-
-pub returns : goal.returns
-returns c = encode_done lower_digits _ _ c.bytes.i (omega arith) (omega arith) c.bytes.invariant
+pub parts-preserved : goal.parts-preserved
+parts-preserved c = block_more c.args.bytes.now c.parts.out _ c.parts.k _ _ (omega arith) (omega arith) (omega arith) c.encode_block.ensures c.parts.invariant
