@@ -1,18 +1,11 @@
 -- Every second item of a list.
-use Rattle.std.proofs.Common.{◌≡◌, ℕ, ◌+◌, ◌*◌, ◌<◌, List, [], ◌∷◌, ◌++◌, length, take, drop, get_or, arith, refl, suc, zero}
+use Rattle.std.proofs.Common.{◌≡◌, ℕ, ◌+◌, List, [], ◌∷◌, ◌++◌, length, take, drop, get_or, arith, suc, zero}
 use Rattle.std.proofs.lemmas.List.{take_all, length-drop, length-take-le, take-append-drop}
 
 -- n items, the first at a place and each two places behind the one before
 abbrev pub each_second : List ℕ → ℕ → ℕ → List ℕ
 each_second xs at zero = []
 each_second xs at (suc n) = get_or xs at 0 ∷ each_second xs (at + 2) n
-
-pub each_second-at : (xs : List ℕ) (at n i : ℕ) → i < n → get_or (each_second xs at n) i 0 ≡ get_or xs (2 * i + at) 0
-each_second-at xs at zero i within = absurd (omega arith)
-each_second-at xs at (suc n) zero within = let same : 2 * 0 + at ≡ at = omega arith in rw same refl
-each_second-at xs at (suc n) (suc i) within =
-    let same : 2 * suc i + at ≡ 2 * i + (at + 2) = omega arith in
-    rw same (each_second-at xs (at + 2) n i (omega arith))
 
 -- the halves of 32 items, read as a pair of vectors
 pub halves : (xs : List ℕ) → length xs ≡ 32 → take 16 (take 16 xs) ++ take 16 (drop 16 xs) ≡ xs

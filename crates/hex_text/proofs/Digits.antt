@@ -1,5 +1,5 @@
 -- One lower-case digit: what it stands for, and how it is written.
-use Rattle.std.proofs.Common.{◌≡◌, ℕ, ◌%◌, ◌<◌, Bool, true, false, ◌&&◌, ◌||◌, ◌==◌, not, nat_lt, slice_index, Some, refl, arith, suc, zero, inl, inr}
+use Rattle.std.proofs.Common.{◌≡◌, ℕ, ◌%◌, ◌+◌, ◌/◌, ◌^◌, bit_and, ◌<◌, Bool, true, false, ◌&&◌, ◌||◌, ◌==◌, not, nat_lt, slice_index, Some, refl, arith, suc, zero, inl, inr}
 use Rattle.std.proofs.lemmas.Bool.{and_parts, cases_lt, eqb-true}
 use Rattle.std.proofs.lemmas.Bool.Decides.{nat_tests}
 use Rattle.hex.specs.Hex.{lower_digits, hex_digit_value}
@@ -46,3 +46,9 @@ lower_digits-value_of c h =
 -- the digit of a number below 16 is lower-case
 pub is_lower-lower_digits : (d : ℕ) → d < 16 → is_lower_digit (slice_index lower_digits d) ≡ true
 is_lower-lower_digits d lt = below_at (λ k. is_lower_digit (slice_index lower_digits k)) 16 d refl lt
+
+-- what it stands for, by its bits
+pub computed_value : (c : ℕ) → is_lower_digit c ≡ true → (bit_and c 15 + (c / 2 ^ 6 + bit_and (c / 2 ^ 3) 8) % 2 ^ 8) % 2 ^ 8 ≡ value_of c
+computed_value c h =
+    let test = below_at (λ k. not (is_lower_digit k) || ((bit_and k 15 + (k / 2 ^ 6 + bit_and (k / 2 ^ 3) 8) % 2 ^ 8) % 2 ^ 8 == value_of k)) 103 c refl (below_103 c h) in
+    eqb-true _ (value_of c) (implied (is_lower_digit c) _ h test)

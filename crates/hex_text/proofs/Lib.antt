@@ -1,6 +1,7 @@
 pub mod Apart
 pub mod Blocks
 pub mod Digits
-pub mod InTurn
+pub mod Lanes
+pub mod Values
 pub mod Reading
 pub mod Written

@@ -1,11 +1,10 @@
 -- Steps of the loops over pairs of digits, and what the pairs of a text decode to.
 use Rattle.std.proofs.Common.{◌≡◌, ℕ, ◌+◌, ◌-◌, ◌*◌, ◌/◌, ◌%◌, ◌<◌, ◌≤◌, Bool, true, false, ◌&&◌, ◌==◌, nat_lt, List, [], ◌∷◌, ◌++◌, length, take, drop, slice_index, slice_set, Ok, refl, sym, ap, ◌∙◌, arith, suc, zero}
 use Rattle.std.proofs.lemmas.Bool.{and_parts, eqb-true}
-use Rattle.std.proofs.lemmas.List.{append_assoc, append-nil, drop_all, take_all, take_more_set, length-drop, take-append-drop, take_rest, drop-drop}
+use Rattle.std.proofs.lemmas.List.{append_assoc, append-nil, drop_all, take_all, take_more_set, length-drop, drop-drop}
 use Rattle.std.proofs.lemmas.Slice.{take-put_mid}
-use Rattle.std.proofs.Math.Seq.{take-add}
 use borrow.Rule.Slice.PartMut.{put_mid}
-use Rattle.std.proofs.lemmas.List.Folds.{list_all_more, list_all-append}
+use Rattle.std.proofs.lemmas.List.Folds.{list_all_more}
 use Rattle.std.specs.Bool.{OnTrue}
 use Rattle.std.specs.List.{list_all}
 use Rattle.hex.specs.Hex.{decode_of, decode_pairs, pair_value}
@@ -96,13 +95,6 @@ pair_bytes-split (suc i) (high ∷ low ∷ rest) within =
     let two : 2 * suc i ≡ suc (suc (2 * i)) = omega arith in
     rw two (ap (λ bytes. pair_byte high low ∷ bytes) (pair_bytes-split i rest (omega arith)))
 
--- 32 digits more
-pub digits_part : (text : List ℕ) (k size : ℕ) (good part : Bool) → size ≡ 32 → good ≡ list_all is_lower_digit (take (32 * k) text)
-    → part ≡ list_all is_lower_digit (take size (drop (32 * k) text)) → (good && part) ≡ list_all is_lower_digit (take (32 * (k + 1)) text)
-digits_part text k size good part is_32 inv is =
-    let more : 32 * (k + 1) ≡ 32 * k + size = omega arith in
-    rw (more, take-add (32 * k) size text, list_all-append, inv, is) refl
-
 -- 16 bytes more
 pub bytes_part : (text out block : List ℕ) (k size room : ℕ) → size ≡ 32 → 32 * k + 32 ≤ length text → 16 * k ≤ length out → length block ≡ 16
     → block ≡ pair_bytes (take size (drop (32 * k) text)) → take (16 * k) out ++ pair_bytes (drop (32 * k) text) ≡ pair_bytes text
@@ -115,11 +107,3 @@ bytes_part text out block k size room is_32 fits within long is inv =
     let split = pair_bytes-split 16 (drop (32 * k) text) (omega arith) in
     let whole : pair_bytes (drop (32 * k) text) ≡ block ++ pair_bytes (drop (32 * (k + 1)) text) = rw (rest, is, is_32) split in
     rw (front, append_assoc) (rw whole at inv)
-
--- and the digits that are left
-pub digits_all : (text : List ℕ) (k n : ℕ) (good rest : Bool) → k ≡ n → good ≡ list_all is_lower_digit (take (32 * k) text)
-    → rest ≡ list_all is_lower_digit (take (length text - 32 * n) (drop (32 * n) text)) → (good && rest) ≡ list_all is_lower_digit text
-digits_all text k n good rest same inv is =
-    let e : list_all is_lower_digit text ≡ (list_all is_lower_digit (take (32 * n) text) && list_all is_lower_digit (drop (32 * n) text)) =
-    ap (list_all is_lower_digit) (sym (take-append-drop (32 * n) text)) ∙ list_all-append is_lower_digit (take (32 * n) text) (drop (32 * n) text) in
-    rw (inv, is, same, take_rest text (32 * n)) (sym e)

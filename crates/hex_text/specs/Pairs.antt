@@ -18,9 +18,3 @@ unfoldable pub pair_bytes : List ℕ → List ℕ
 pair_bytes [] = []
 pair_bytes (digit ∷ []) = []
 pair_bytes (high ∷ low ∷ rest) = pair_byte high low ∷ pair_bytes rest
-
--- the first item of the one, the first of the other, the second of the one, and so on
-unfoldable pub in_turn : List ℕ → List ℕ → List ℕ
-in_turn [] others = []
-in_turn (x ∷ xs) [] = []
-in_turn (x ∷ xs) (y ∷ ys) = x ∷ y ∷ in_turn xs ys

@@ -1,43 +1,36 @@
-//! Digits in blocks of 32, whose pairs are taken apart at once: a loop that reads `text[2 * i]` is
-//! built to load the digits one by one, and that is most of its time.
-ghost use Rattle.std.specs.Prelude.{◌≡◌, ◌+◌, ◌*◌, ◌/◌, ◌%◌, ◌<◌, ℕ, length, slice_index};
+//! Digits and bytes in blocks: 32 digits and their 16 bytes, in vectors.
+ghost use Rattle.std.specs.Prelude.{◌≡◌, ◌<◌, true, length, map, slice_index};
 ghost use Rattle.std.specs.List.{list_all};
+ghost use lib.Lanes.{Each1};
 ghost use Rattle.hex.specs.Hex.{encode_lower, lower_digits};
 ghost use Rattle.hex_text.specs.HexText.{is_lower_digit};
-ghost use Rattle.hex_text.specs.Pairs.{pair_bytes, in_turn};
+ghost use Rattle.hex_text.specs.Pairs.{pair_bytes, value_of};
 
-use crate::decode::value;
-use crate::encode::digit;
 use std::simd::u8x16;
 
-/// Writes the 16 bytes of 32 digits over `out`, and says whether they are lower-case digits.
+/// Writes the 16 bytes of 32 digits over `out`.
 #[inline]
-pub(crate) fn decode_block(text: &[u8], out: &mut [u8]) -> bool
-    requires text { length text.now ≡ 32 }
+pub(crate) fn decode_block(digits: &[u8], out: &mut [u8])
+    requires count { length digits.now ≡ 32 }
+    requires lower { list_all is_lower_digit digits.now ≡ true }
     requires room { length out.old ≡ 16 }
-    ensures digits { result ≡ list_all is_lower_digit text.now }
-    ensures bytes { out.new ≡ pair_bytes text.now }
+    ensures { out.new ≡ pair_bytes digits.now }
 {
-    let (highs, lows) = taken_apart(text);
-    let mut good = true;
-    'pairs: for i in 0..16 {
-        let high = value(highs[i]);
-        let low = value(lows[i]);
-        good = good & ((high < 16) & (low < 16));
-        out[i] = high % 16 * 16 + low % 16;
-    }
-    good
+    let front = u8x16::from_slice(&digits[..16]);
+    let (highs, lows) = front.deinterleave(u8x16::from_slice(&digits[16..]));
+    let bytes = (values_of(highs) << u8x16::splat(4)) + values_of(lows);
+    out.copy_from_slice(&bytes.to_array());
 }
 
-// The first digits of 16 pairs, and the second ones.
+// What digits stand for. Of their bits the sixth is set in letters alone, which makes nine there: `a`
+// ends in the bits of 1.
 #[inline]
-fn taken_apart(text: &[u8]) -> ([u8; 16], [u8; 16])
-    requires { length text.now ≡ 32 }
-    ensures highs { (i : ℕ) → i < 16 → slice_index result.0 i ≡ slice_index text.now (2 * i) }
-    ensures lows { (i : ℕ) → i < 16 → slice_index result.1 i ≡ slice_index text.now (2 * i + 1) }
+fn values_of(digits: u8x16) -> u8x16
+    requires { Each1 (λ d. is_lower_digit d ≡ true) digits }
+    ensures { result ≡ map value_of digits }
 {
-    let (highs, lows) = u8x16::from_slice(&text[..16]).deinterleave(u8x16::from_slice(&text[16..]));
-    (highs.to_array(), lows.to_array())
+    let nines = (digits >> u8x16::splat(6)) + ((digits >> u8x16::splat(3)) & u8x16::splat(8));
+    (digits & u8x16::splat(15)) + nines
 }
 
 /// Writes the 32 digits of 16 bytes over `out`.
@@ -47,23 +40,20 @@ pub(crate) fn encode_block(bytes: &[u8], out: &mut [u8])
     requires room { length out.old ≡ 32 }
     ensures { out.new ≡ encode_lower bytes.now }
 {
-    let mut highs = [0; 16];
-    let mut lows = [0; 16];
-    'digits: for i in 0..16 {
-        highs[i] = digit(bytes[i] / 16);
-        lows[i] = digit(bytes[i] % 16);
-    }
-    put_in_turn(highs, lows, out);
-}
-
-// The first of the one, the first of the other, the second of the one, and so on.
-#[inline]
-fn put_in_turn(firsts: [u8; 16], seconds: [u8; 16], out: &mut [u8])
-    requires { length out.old ≡ 32 }
-    ensures { out.new ≡ in_turn firsts seconds }
-{
-    let (front, back) = u8x16::from_array(firsts).interleave(u8x16::from_array(seconds));
+    let bytes = u8x16::from_slice(bytes);
+    let highs = digits_of(bytes >> u8x16::splat(4));
+    let lows = digits_of(bytes & u8x16::splat(15));
+    let (front, back) = highs.interleave(lows);
     let (left, right) = out.split_at_mut(16);
     left.copy_from_slice(&front.to_array());
     right.copy_from_slice(&back.to_array());
+}
+
+// The digits of numbers below 16.
+#[inline]
+fn digits_of(numbers: u8x16) -> u8x16
+    requires { Each1 (λ n. n < 16) numbers }
+    ensures { result ≡ map (slice_index lower_digits) numbers }
+{
+    u8x16::from_array(*b"0123456789abcdef").swizzle_dyn(numbers)
 }

@@ -1,5 +1,5 @@
 //! Bytes of digits.
-ghost use Rattle.std.specs.Prelude.{◌≡◌, ◌*◌, ◌/◌, ◌≤◌, length, take, drop, Ok};
+ghost use Rattle.std.specs.Prelude.{◌≡◌, ◌*◌, ◌/◌, ◌≤◌, true, length, take, drop, Ok};
 ghost use Rattle.std.specs.Bool.{OnTrue};
 ghost use Rattle.std.specs.List.{list_all};
 ghost use Rattle.hex.specs.Hex.{decode_of};
@@ -21,27 +21,35 @@ pub fn decode_into(text: &[u8], out: &mut [u8]) -> bool
 }
 
 /// Writes the bytes of a text over all of `out`, and says whether the text is lower-case digits.
-pub(crate) fn decode_all(text: &[u8], out: &mut [u8]) -> bool
+fn decode_all(text: &[u8], out: &mut [u8]) -> bool
     requires { length out.old ≡ length text.now / 2 }
     ensures digits { result ≡ is_lower_hex text.now }
     ensures bytes { OnTrue result (decode_of text.now ≡ Ok out.new) }
 {
     let (pairs, odd) = text.split_at(2 * out.len());
-    decode_blocks(pairs, out) & odd.is_empty()
+    decode_pairs(pairs, out) & odd.is_empty()
 }
 
-// All but the last few pairs go in blocks of 16, four times as fast.
-fn decode_blocks(text: &[u8], out: &mut [u8]) -> bool
-    requires { length text.now ≡ 2 * length out.old }
-    ensures digits { result ≡ list_all is_lower_digit text.now }
-    ensures bytes { out.new ≡ pair_bytes text.now }
+/// Writes the bytes of lower-case digits, two a byte, over all of `out`.
+pub(crate) fn decode_known(digits: &[u8], out: &mut [u8])
+    requires lower { is_lower_hex digits.now ≡ true }
+    requires room { length out.old ≡ length digits.now / 2 }
+    ensures { decode_of digits.now ≡ Ok out.new }
+{
+    decode_blocks(digits, out);
+}
+
+// All but the last few bytes go in blocks of 16.
+fn decode_blocks(digits: &[u8], out: &mut [u8])
+    requires lower { list_all is_lower_digit digits.now ≡ true }
+    requires room { length digits.now ≡ 2 * length out.old }
+    ensures { out.new ≡ pair_bytes digits.now }
 {
     let blocks = out.len() / 16;
-    let mut good = true;
     'parts: for k in 0..blocks {
-        good = good & decode_block(&text[32 * k..32 * k + 32], &mut out[16 * k..16 * k + 16]);
+        decode_block(&digits[32 * k..32 * k + 32], &mut out[16 * k..16 * k + 16]);
     }
-    good & decode_pairs(&text[32 * blocks..], &mut out[16 * blocks..])
+    decode_pairs(&digits[32 * blocks..], &mut out[16 * blocks..]);
 }
 
 fn decode_pairs(text: &[u8], out: &mut [u8]) -> bool
@@ -61,7 +69,7 @@ fn decode_pairs(text: &[u8], out: &mut [u8]) -> bool
 
 /// What a lower-case digit stands for; 255 for any other byte.
 #[inline]
-pub(crate) fn value(digit: u8) -> u8
+fn value(digit: u8) -> u8
     ensures { result ≡ value_of digit }
 {
     match digit {

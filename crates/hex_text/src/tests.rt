@@ -1,5 +1,5 @@
 //! Digits against the crate `hex` and std's formatting, and texts that are refused.
-use crate::{append_encoded, decode_into, decode_to, encode_into};
+use crate::{append_encoded, decode_digits, decode_into, encode_into};
 use std::alloc::{AllocError, Global};
 use std::test::Fail;
 
@@ -30,7 +30,7 @@ fn a_packet_is_its_digits(rt: HostRuntime) -> Result<(), Fail> {
         b"live 7 8021000a00000384fedcba98".as_slice()
     );
     let mut bytes = Vec::new(alloc);
-    assert!(rt; decode_to(&mut bytes, b"8021000a00000384fedcba98")?);
+    decode_digits(&mut bytes, b"8021000a00000384fedcba98")?;
     assert_eq!(rt; bytes.as_slice(), packet.as_slice());
     Ok(())
 }
@@ -54,6 +54,7 @@ fn each_byte_is_as_std_formats_it(rt: HostRuntime) -> Result<(), Fail> {
 fn long_texts_are_as_hex_has_them(rt: HostRuntime) -> Result<(), Fail> {
     let alloc = rt.alloc();
     let mut text = Vec::new(alloc);
+    let mut room = Vec::new(alloc);
     let mut back = Vec::new(alloc);
     for len in LENGTHS {
         let bytes = bytes_of(alloc, len)?;
@@ -61,7 +62,10 @@ fn long_texts_are_as_hex_has_them(rt: HostRuntime) -> Result<(), Fail> {
         text.clear();
         append_encoded(&mut text, &bytes)?;
         assert_eq!(rt; text.as_slice(), wanted.as_bytes(), "{len}");
-        assert!(rt; decode_to(&mut back, &text)?);
+        room.resize(text.len() / 2, 0)?;
+        assert!(rt; decode_into(&text, &mut room));
+        assert_eq!(rt; room.as_slice(), bytes.as_slice(), "{len}");
+        decode_digits(&mut back, &text)?;
         assert_eq!(rt; back.as_slice(), bytes.as_slice(), "{len}");
     }
     Ok(())
@@ -70,15 +74,14 @@ fn long_texts_are_as_hex_has_them(rt: HostRuntime) -> Result<(), Fail> {
 #[test]
 fn one_wrong_digit_is_found(rt: HostRuntime) -> Result<(), Fail> {
     let alloc = rt.alloc();
-    let mut bytes = Vec::new(alloc);
+    let mut bytes = [0; 34];
     for wrong in *b"/:`gAFG \n\x00\x80\xff" {
         for place in [0, 1, 30, 31, 32, 33, 34, 62, 63, 64, 66, 67] {
             let mut text = [b'7'; 68];
             text[place] = wrong;
-            assert!(rt; !decode_to(&mut bytes, &text)?, "{wrong} at {place}");
-            assert!(rt; bytes.is_empty());
+            assert!(rt; !decode_into(&text, &mut bytes), "{wrong} at {place}");
             text[place] = b'f';
-            assert!(rt; decode_to(&mut bytes, &text)?);
+            assert!(rt; decode_into(&text, &mut bytes));
         }
     }
     Ok(())
@@ -87,9 +90,13 @@ fn one_wrong_digit_is_found(rt: HostRuntime) -> Result<(), Fail> {
 #[test]
 fn an_odd_digit_is_refused(rt: HostRuntime) -> Result<(), Fail> {
     let text = [b'c'; 67];
-    let mut bytes = Vec::new(rt.alloc());
+    let mut bytes = [0; 34];
     for len in 0..68 {
-        assert_eq!(rt; decode_to(&mut bytes, &text[..len])?, len % 2 == 0, "{len}");
+        assert_eq!(rt;
+            decode_into(&text[..len], &mut bytes),
+            len % 2 == 0,
+            "{len}"
+        );
     }
     Ok(())
 }

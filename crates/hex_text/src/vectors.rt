@@ -1,33 +1,29 @@
 //! Digits and bytes in vectors that are used again.
-ghost use Rattle.std.specs.Prelude.{◌≡◌, ◌+◌, ◌*◌, ◌/◌, ◌<◌, ◌≤◌, ◌++◌, [], Ok, length, IfOk, OnOk, OnErr, vec_capacity};
-ghost use Rattle.std.specs.Bool.{MatchBool};
+ghost use Rattle.std.specs.Prelude.{◌≡◌, ◌+◌, ◌*◌, ◌/◌, ◌<◌, ◌≤◌, ◌++◌, true, Ok, length, OnOk, OnErr, vec_capacity};
 ghost use Rattle.hex.specs.Hex.{decode_of, encode_lower};
 ghost use Rattle.hex_text.specs.HexText.{is_lower_hex};
 
-use crate::decode::decode_all;
+use crate::decode::decode_known;
 use crate::encode::encode_all;
 use std::alloc::AllocError;
 
-/// Puts the bytes of a text in place of what `out` holds, and says whether the text is lower-case
-/// hexadecimal digits, two a byte. Where it isn't, `out` is empty then.
+/// Puts the bytes that lower-case hexadecimal digits stand for, two a byte, in place of what `out`
+/// holds.
 ///
 /// It fails only where `out` had too little room and there is no memory for more; `out` then holds
 /// what it held.
-pub fn decode_to(out: &mut Vec<u8>, text: &[u8]) -> Result<bool, AllocError>
-    ensures digits { IfOk result (λ good. good ≡ is_lower_hex text.now) }
-    ensures bytes { IfOk result (λ good. MatchBool good (decode_of text.now ≡ Ok out.new.items) (out.new.items ≡ [])) }
+pub fn decode_digits(out: &mut Vec<u8>, digits: &[u8]) -> Result<(), AllocError>
+    requires { is_lower_hex digits.now ≡ true }
+    ensures ok { OnOk result (decode_of digits.now ≡ Ok out.new.items) }
     ensures err { OnErr result (out.new.items ≡ out.old.items) }
 
     // The room grows where there was too little, and is never given back.
-    ensures full { OnErr result (vec_capacity out.old < length text.now / 2) }
+    ensures full { OnErr result (vec_capacity out.old < length digits.now / 2) }
     ensures room { vec_capacity out.old ≤ vec_capacity out.new }
 {
-    resize(out, text)?;
-    let good = decode_all(text, out);
-    if !good {
-        out.clear();
-    }
-    Ok(good)
+    resize(out, digits)?;
+    decode_known(digits, out);
+    Ok(())
 }
 
 /// Appends two lower-case hexadecimal digits for each byte, the high one first.

@@ -26,6 +26,6 @@ pub fn decode_to(hex: &[u8], room: &mut Vec<u8>) -> Result<(), NoMemory>
         room.clear();
         return Ok(());
     }
-    hex_text::decode_to(room, hex)?;
+    hex_text::decode_digits(room, hex)?;
     Ok(())
 }

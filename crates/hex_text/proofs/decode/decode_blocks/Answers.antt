@@ -1,12 +1,10 @@
-use Rattle.std.proofs.Common.{arith}
-use Rattle.hex_text.proofs.Reading.{digits_part, bytes_part, digits_all}
+use Rattle.std.proofs.Common.{◌+◌, ◌-◌, ◌*◌, drop, arith}
+use Rattle.hex_text.proofs.Reading.{bytes_part}
+use Rattle.hex_text.proofs.Values.{lower_front, lower_rest}
 use Rattle.hex_text.proofs.decode.decode_blocks.Goals as goal
 
 pub parts-preserved : goal.parts-preserved
-parts-preserved c = record {
-  digits = digits_part c.args.text.now c.parts.k _ _ _ (omega arith) c.parts.invariant.digits c.decode_block-good.ensures.digits;
-  bytes = bytes_part c.args.text.now c.parts.out _ c.parts.k _ _ (omega arith) (omega arith) (omega arith) (omega arith) c.decode_block-good.ensures.bytes c.parts.invariant.bytes;
-}
+parts-preserved c = bytes_part c.args.digits.now c.parts.out _ c.parts.k _ _ (omega arith) (omega arith) (omega arith) (omega arith) c.decode_block.ensures c.parts.invariant
 
-pub returns-clause-digits : goal.returns-clause-digits
-returns-clause-digits c = digits_all c.args.text.now c.parts.k _ _ _ (omega arith) c.parts.invariant.digits c.decode_pairs.ensures.digits
+pub decode_block-requires-clause-lower : goal.decode_block-requires-clause-lower
+decode_block-requires-clause-lower c = lower_front (32 * c.parts.k + 32 - 32 * c.parts.k) (drop (32 * c.parts.k) c.args.digits.now) (lower_rest (32 * c.parts.k) c.args.digits.now c.requires.lower)
