@@ -1,5 +1,5 @@
 //! The clients that are forgotten.
-ghost use Rattle.std.specs.Prelude.{◌≡◌, ◌+◌, ◌<◌, ◌^◌, IfOk};
+ghost use Rattle.std.specs.Prelude.{◌≡◌, ◌+◌, ◌<◌, ◌^◌, ◌==◌, IfOk};
 ghost use Rattle.tick_core.specs.Forgetting.{idle_after, AreIdleInTime, with_forgotten, with_all_forgotten};
 
 use crate::draft::Draft;
@@ -22,6 +22,16 @@ pub fn idle_after(queue: &Queue, client: u64, entry: &Entry) -> u32
     }
 }
 
+/// Whether a client has been idle for so many ticks. An idle count is 0 or one more than it was, so the
+/// queue is asked only where one more is enough.
+fn is_idle(config: &Config, queue: &Queue, client: u64, entry: &Entry) -> bool
+    requires { entry.now.idle + 1 < 2 ^ 32 }
+    ensures { result ≡ (idle_after queue.now client entry.now == config.now.channel.idle) }
+{
+    let idle = config.channel().idle;
+    entry.idle + 1 == idle && idle_after(queue, client, entry) == idle
+}
+
 /// Notes that a client is forgotten, where it has been idle for so many ticks.
 fn forget_client(
     config: &Config,
@@ -33,7 +43,7 @@ fn forget_client(
     requires { entry.now.idle + 1 < 2 ^ 32 }
     ensures { IfOk result (λ _. draft.new ≡ with_forgotten config.now queue.now client entry.now draft.old) }
 {
-    if idle_after(queue, client, entry) == config.channel().idle {
+    if is_idle(config, queue, client, entry) {
         draft.note(Note::Forgot { client })?;
     }
     Ok(())
