@@ -2,8 +2,8 @@
 use Rattle.std.specs.Prelude.{◌≡◌, ℕ, ◌%◌, ◌<◌, ◌≤◌, ◌≢◌, IsTrue, IfSome, List, [], ◌∷◌, ◌++◌, length, Contains, Option, Some, None, IsSomeAnd}
 use Rattle.rams_model.specs.declared.event.Event.{Event}
 use Rattle.rams_model.specs.declared.held.Held.{Held}
-use Rattle.rams_model.specs.declared.Note.{Note}
-use Rattle.rams_model.specs.declared.Note.TheVariants.{Unheld, Early, Already, TableFull, ClientFull, QueueFull, Queued, ForeignNack}
+use Rattle.rams_model.specs.declared.note.Note.{Note}
+use Rattle.rams_model.specs.declared.note.Note.TheVariants.{Unheld, Early, Already, TableFull, ClientFull, QueueFull, Queued, ForeignNack}
 use Rattle.rams_model.specs.Settings.{Settings}
 use Rattle.rams_model.specs.Messages.{nack}
 use Rattle.rams_model.specs.History.{told, noted, History, hold}

@@ -4,7 +4,7 @@ use Rattle.std.specs.Prelude.{slice_index}
 use Rattle.std.proofs.lemmas.Bool.{cond_both, ltb-false}
 use Rattle.rams_model.specs.declared.fault.FrameFault.{FrameFault}
 use Rattle.rams_model.specs.Joined.{unless_fault, onto, pieces_from}
-use Rattle.rams_model.specs.Rtcp.{Framed, packet_size, padding_size, framed_first, packet_fault, packet_format, framed}
+use Rattle.rams_model.specs.Rtcp.{Framed, packet_size, rtcp_padding, framed_first, packet_fault, packet_format, framed}
 use Rattle.feedback_core.specs.Counting.{most_of, most_notes}
 
 -- the packet in front is whole
@@ -16,7 +16,7 @@ whole bytes e =
     (λ b. cond_both (ltb (length bytes) (packet_size bytes)) _ _ P (λ t q. absurd cc) (λ c q. ltb-false (length bytes) (packet_size bytes) c))) e
 
 body_within : (bytes : List ℕ) → length (framed_first bytes).body ≤ packet_size bytes - 4
-body_within bytes = omega (arith, length-take (packet_size bytes - padding_size bytes - 4) (drop 4 bytes))
+body_within bytes = omega (arith, length-take (packet_size bytes - rtcp_padding bytes - 4) (drop 4 bytes))
 
 most_first : (bytes : List ℕ) → most_of (framed_first bytes) ≤ 5 * packet_size bytes
 most_first bytes =

@@ -8,7 +8,7 @@ use Rattle.std.proofs.lemmas.Bool.{ne_eqb, and_parts, eqb-true, eqb-false, ltb-t
 use Rattle.std.proofs.lemmas.Bool.Decides.{nat_tests}
 use Rattle.rams_model.specs.Joined.{Joins}
 use Rattle.rams_model.specs.Packet.{flag}
-use Rattle.rams_model.specs.Rtcp.{Framed, IsPacket, packet_text, packet_format, packet_fault, packet_size, padding_size, is_padded, is_padding_right, least_body, framed_first, framed, IsCompound}
+use Rattle.rams_model.specs.Rtcp.{Framed, IsRtcpPacket, packet_text, packet_format, packet_fault, packet_size, rtcp_padding, is_padded, is_padding_right, least_body, framed_first, framed, IsCompound}
 use Rattle.rams_model.specs.RamsInfo.{transport_feedback}
 use Rattle.rams_model.specs.Feedback.{Feedback, FramesAs}
 use Rattle.rams_model.proofs.JoinedLaws.{joins_one, Spells, ReadsAs, spelled_as_read, read_as_spelled}
@@ -20,7 +20,7 @@ record IsWhole (bytes : List ℕ) : Type 0 where
   version : get_or bytes 0 0 / 64 ≡ 2
   within : packet_size bytes ≤ length bytes
   padding : is_padding_right bytes ≡ true
-  body : least_body (get_or bytes 1 0) (get_or bytes 0 0 % 32) ≤ packet_size bytes - padding_size bytes - 4
+  body : least_body (get_or bytes 1 0) (get_or bytes 0 0 % 32) ≤ packet_size bytes - rtcp_padding bytes - 4
 
 whole_packet : (bytes : List ℕ) → packet_fault bytes ≡ None → IsWhole bytes
 whole_packet bytes h = record {
@@ -88,7 +88,7 @@ text_of a k h l w n p rest fits again body_len padding_len first =
 
 packet_is : (a k h l w n p last : ℕ) (rest : List ℕ) → Pads a (4 * (w + 1)) last p → n + p ≡ 4 * w → 4 * w ≤ length rest → to_be_bytes w16 w ≡ h ∷ l ∷ [] → w < 65536
     → last ≡ get_or (a ∷ k ∷ h ∷ l ∷ rest) (4 * (w + 1) - 1) 0 → least_body k (a % 32) ≤ n
-    → IsPacket (take (4 * (w + 1)) (a ∷ k ∷ h ∷ l ∷ rest)) (record { kind = k; count = a % 32; body = take n rest })
+    → IsRtcpPacket (take (4 * (w + 1)) (a ∷ k ∷ h ∷ l ∷ rest)) (record { kind = k; count = a % 32; body = take n rest })
 packet_is a k h l w n p last rest pads fits within again few el least =
     let body_len : length (take n rest) ≡ n = simp length-take (omega arith) in
     let padding_len : length (take p (drop n rest)) ≡ p = simp (length-take, length-drop) (omega arith) in
@@ -105,12 +105,12 @@ packet_is a k h l w n p last rest pads fits within again few el least =
       body = omega (arith, least);
     }
 
-spelled_packet : (bytes : List ℕ) → ((i : ℕ) → get_or bytes i 0 < 256) → packet_fault bytes ≡ None → IsPacket (take (packet_size bytes) bytes) (framed_first bytes)
+spelled_packet : (bytes : List ℕ) → ((i : ℕ) → get_or bytes i 0 < 256) → packet_fault bytes ≡ None → IsRtcpPacket (take (packet_size bytes) bytes) (framed_first bytes)
 spelled_packet (a ∷ k ∷ h ∷ l ∷ rest) small ok =
     let bytes = a ∷ k ∷ h ∷ l ∷ rest in
     let whole = whole_packet bytes ok in
     let w = from_be_bytes w16 (h ∷ l ∷ []) in
-    let p = padding_size bytes in
+    let p = rtcp_padding bytes in
     let last = get_or bytes (packet_size bytes - 1) 0 in
     let pads = padding_said (is_padded bytes) a (packet_size bytes) last refl whole.version (small 0) whole.padding in
     let again = be_bytes_2 (h ∷ l ∷ []) w refl (pair_below h l (small 2) (small 3)) refl in
@@ -121,13 +121,13 @@ spelled_packet (a ∷ k ∷ []) small ok = absurd (omega (arith, (whole_packet (
 spelled_packet (a ∷ k ∷ h ∷ []) small ok = absurd (omega (arith, (whole_packet (a ∷ k ∷ h ∷ []) ok).header))
 
 no_fault : (bytes : List ℕ) → 4 ≤ length bytes → get_or bytes 0 0 / 64 ≡ 2 → packet_size bytes ≤ length bytes → is_padding_right bytes ≡ true
-    → least_body (get_or bytes 1 0) (get_or bytes 0 0 % 32) ≤ packet_size bytes - padding_size bytes - 4 → packet_fault bytes ≡ None
+    → least_body (get_or bytes 1 0) (get_or bytes 0 0 % 32) ≤ packet_size bytes - rtcp_padding bytes - 4 → packet_fault bytes ≡ None
 no_fault bytes header version within padding body =
     let a : ltb (length bytes) 4 ≡ false = le-ltb (length bytes) 4 header in
     let b : (get_or bytes 0 0 / 64 == 2) ≡ true = eq-eqb (get_or bytes 0 0 / 64) 2 version in
     let c : ltb (length bytes) (packet_size bytes) ≡ false = le-ltb (length bytes) (packet_size bytes) within in
-    let d : ltb (packet_size bytes - padding_size bytes - 4) (least_body (get_or bytes 1 0) (get_or bytes 0 0 % 32)) ≡ false =
-    le-ltb (packet_size bytes - padding_size bytes - 4) (least_body (get_or bytes 1 0) (get_or bytes 0 0 % 32)) body in
+    let d : ltb (packet_size bytes - rtcp_padding bytes - 4) (least_body (get_or bytes 1 0) (get_or bytes 0 0 % 32)) ≡ false =
+    le-ltb (packet_size bytes - rtcp_padding bytes - 4) (least_body (get_or bytes 1 0) (get_or bytes 0 0 % 32)) body in
     rw (a, b, c, padding, d) refl
 
 -- the last byte of the padding is the last of the packet
@@ -142,7 +142,7 @@ last_said a k h l size body padding rest e some =
 -- what is said of the padding of a packet that is spelled so
 padding_read : (count kind h l : ℕ) (body padding rest : List ℕ) → count < 32 → length padding % 4 ≡ 0 → (0 < length padding → get_or padding (length padding - 1) 0 ≡ length padding)
     → packet_size ((128 + 32 * flag padding + count) ∷ kind ∷ h ∷ l ∷ (body ++ padding ++ rest)) ≡ 4 + length body + length padding
-    → (padding_size ((128 + 32 * flag padding + count) ∷ kind ∷ h ∷ l ∷ (body ++ padding ++ rest)) ≡ length padding)
+    → (rtcp_padding ((128 + 32 * flag padding + count) ∷ kind ∷ h ∷ l ∷ (body ++ padding ++ rest)) ≡ length padding)
     × (is_padding_right ((128 + 32 * flag padding + count) ∷ kind ∷ h ∷ l ∷ (body ++ padding ++ rest)) ≡ true)
 padding_read count kind h l body [] rest few whole counted size =
     let bit : ((128 + 32 * 0 + count) / 32 % 2 == 1) ≡ false = ne_eqb ((128 + 32 * 0 + count) / 32 % 2) 1 (λ e. omega arith) in
@@ -152,13 +152,13 @@ padding_read count kind h l body (x ∷ padding) rest few whole counted size =
     let all = (128 + 32 * 1 + count) ∷ kind ∷ h ∷ l ∷ (body ++ x ∷ padding ++ rest) in
     let bit : ((128 + 32 * 1 + count) / 32 % 2 == 1) ≡ true = eq-eqb ((128 + 32 * 1 + count) / 32 % 2) 1 (omega arith) in
     let last : get_or all (packet_size all - 1) 0 ≡ m = last_said (128 + 32 * 1 + count) kind h l (packet_size all) body (x ∷ padding) rest size (omega arith) ∙ counted (omega arith) in
-    let said : padding_size all ≡ m = ap (λ (b : Bool). if b then get_or all (packet_size all - 1) 0 else 0) bit ∙ last in
+    let said : rtcp_padding all ≡ m = ap (λ (b : Bool). if b then get_or all (packet_size all - 1) 0 else 0) bit ∙ last in
     let some : ltb 0 m ≡ true = lt-ltb 0 m (omega arith) in
     let words : (m % 4 == 0) ≡ true = eq-eqb (m % 4) 0 whole in
     let most : leb m (packet_size all - 4) ≡ true = le-leb m (packet_size all - 4) (omega arith) in
     let right : (nat_lt 0 m && m % 4 == 0 && nat_le m (packet_size all - 4)) ≡ true = rw (some, words, most) refl in (
       said,
-      ap (λ (b : Bool). not b || (nat_lt 0 (padding_size all) && padding_size all % 4 == 0 && nat_le (padding_size all) (packet_size all - 4))) bit
+      ap (λ (b : Bool). not b || (nat_lt 0 (rtcp_padding all) && rtcp_padding all % 4 == 0 && nat_le (rtcp_padding all) (packet_size all - 4))) bit
           ∙ ap (λ (q : ℕ). nat_lt 0 q && q % 4 == 0 && nat_le q (packet_size all - 4)) said ∙ right,
     )
 
@@ -170,7 +170,7 @@ same_framed : (kind : ℕ) {c d : ℕ} {xs ys : List ℕ} → c ≡ d → xs ≡
 same_framed kind e h = cc
 
 -- bytes are no packets only where there are none
-not_none : (b : ℕ) (bytes : List ℕ) (ps : List Framed) → Joins IsPacket (b ∷ bytes) ps → 0 < length ps
+not_none : (b : ℕ) (bytes : List ℕ) (ps : List Framed) → Joins IsRtcpPacket (b ∷ bytes) ps → 0 < length ps
 not_none b bytes [] h = cc
 not_none b bytes (p ∷ ps) h = omega arith
 
@@ -191,7 +191,7 @@ packet_read kind count body padding rest few words short whole counted least =
     let kept = flag_below padding in
     let low : first % 32 ≡ count = omega arith in
     let long : length all ≡ 4 + n + m + length rest = omega (arith, length-append (body ++ padding) rest, length-append body padding) in
-    let behind : packet_size all - padding_size all - 4 ≡ n = omega (arith, pads.0) in
+    let behind : packet_size all - rtcp_padding all - 4 ≡ n = omega (arith, pads.0) in
     record {
       fault = no_fault all (omega arith) (omega arith) (omega arith) pads.1 (rw (low, behind) least);
       piece = same_framed kind low
@@ -201,7 +201,7 @@ packet_read kind count body padding rest few words short whole counted least =
     }
 
 -- a packet in front of other bytes is read, and nothing of what follows it
-pub packets_are_spelled : Spells packet_format IsPacket
+pub packets_are_spelled : Spells packet_format IsRtcpPacket
 packets_are_spelled = record {
   long = λ bytes. omega arith;
   spelled = spelled_packet;
@@ -212,14 +212,14 @@ packets_are_spelled = record {
 pub datagram_spelled : (datagram : List ℕ) (ps : List Framed) → ((i : ℕ) → get_or datagram i 0 < 256) → framed datagram ≡ Ok ps → IsCompound datagram ps
 datagram_spelled [] ps small h = cc
 datagram_spelled (b ∷ bytes) ps small h =
-    let joins = spelled_as_read packet_format IsPacket packets_are_spelled (b ∷ bytes) small ps h in
+    let joins = spelled_as_read packet_format IsRtcpPacket packets_are_spelled (b ∷ bytes) small ps h in
     (not_none b bytes ps joins, joins)
 
 -- what is spelled so is read
 pub datagram_read : (datagram : List ℕ) (ps : List Framed) → IsCompound datagram ps → framed datagram ≡ Ok ps
 datagram_read [] [] h = absurd (omega (arith, h.0))
 datagram_read [] (p ∷ ps) (some, (front, rest, packet, e, joins)) = absurd (omega (arith, (packets_are_spelled.read front rest p packet).long, ap length e, length-append front rest))
-datagram_read (b ∷ bytes) ps h = read_as_spelled packet_format IsPacket packets_are_spelled (b ∷ bytes) ps h.1
+datagram_read (b ∷ bytes) ps h = read_as_spelled packet_format IsRtcpPacket packets_are_spelled (b ∷ bytes) ps h.1
 
 -- ---- what is written is read back
 
@@ -229,7 +229,7 @@ same_feedback format fci h k = cc
 
 pub packet_written_back : (p : Framed) → p.count < 32 → length p.body % 4 ≡ 0 → length p.body < 262144 → least_body p.kind p.count ≤ length p.body → framed (packet_text p []) ≡ Ok (p ∷ [])
 packet_written_back p few words short least =
-    let is : IsPacket (packet_text p []) p = record {
+    let is : IsRtcpPacket (packet_text p []) p = record {
       padding = [];
       text = refl;
       count = few;
@@ -239,7 +239,7 @@ packet_written_back p few words short least =
       counted = λ h. absurd (omega arith);
       body = least;
     } in
-    datagram_read (packet_text p []) (p ∷ []) (omega arith, joins_one IsPacket (packet_text p []) p is)
+    datagram_read (packet_text p []) (p ∷ []) (omega arith, joins_one IsRtcpPacket (packet_text p []) p is)
 
 -- feedback as it is framed
 pub feedback_written_back : (format sender media : ℕ) (fci : List ℕ) → format < 32 → sender < 2 ^ 32 → media < 2 ^ 32 → length fci % 4 ≡ 0 → length fci < 262136

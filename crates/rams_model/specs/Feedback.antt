@@ -5,6 +5,7 @@ use Rattle.rams_model.specs.declared.fault.NackFault.{NackFault}
 use Rattle.rams_model.specs.declared.fault.NackFault.TheVariants.{Empty, Length}
 use Rattle.rams_model.specs.Rtcp.{Framed, framed}
 use Rattle.rams_model.specs.RamsInfo.{transport_feedback}
+use Rattle.rams_model.specs.declared.rtcp.TheConstants.{RTPFB, FMT_NACK}
 
 -- the SSRCs of the packet's sender and of the media source, the format, and the feedback control information
 pub record Feedback : Type 0 where
@@ -16,7 +17,7 @@ pub record Feedback : Type 0 where
 -- the transport layer feedback that a packet is
 abbrev pub feedback_of : Framed → Option Feedback
 feedback_of p =
-    if p.kind == 205 && nat_le 8 (length p.body)
+    if p.kind == RTPFB && nat_le 8 (length p.body)
     then Some (record { sender = from_be_bytes w32 p.body; media = from_be_bytes w32 (drop 4 p.body); format = p.count; fci = drop 8 p.body })
     else None
 
@@ -65,4 +66,4 @@ nack_words (n ∷ ns) = words_from n 0 0 ns
 
 -- a generic NACK
 abbrev pub nack_packet : ℕ → ℕ → List ℕ → List ℕ
-nack_packet sender media numbers = transport_feedback 1 sender media (nack_words numbers)
+nack_packet sender media numbers = transport_feedback FMT_NACK sender media (nack_words numbers)

@@ -6,6 +6,8 @@ use Rattle.rams_model.specs.declared.message.Stop.{Stop}
 use Rattle.rams_model.specs.Rtcp.{Framed}
 use Rattle.rams_model.specs.Feedback.{Feedback, feedback_of, nack_numbers}
 use Rattle.rams_model.specs.Rams.{Request, request_at, stop_at}
+use Rattle.rams_model.specs.declared.rtcp.TheConstants.{BYE, FMT_NACK, FMT_RAMS}
+use Rattle.rams_model.specs.declared.rams.TheConstants.{SFMT_RAMS_R, SFMT_RAMS_T}
 
 -- A message that is answered.
 pub data Message : Type 0 where
@@ -26,19 +28,19 @@ named (Err fault) = []
 -- a RAMS message by its first byte, the SFMT: a RAMS-R or a RAMS-T
 abbrev pub rams_message : Feedback → Option Message
 rams_message f =
-    if slice_index f.fci 0 == 1 then Some (asks f.sender (request_at f.fci))
-    else if slice_index f.fci 0 == 3 then Some (stops (stop_at f.fci))
+    if slice_index f.fci 0 == SFMT_RAMS_R then Some (asks f.sender (request_at f.fci))
+    else if slice_index f.fci 0 == SFMT_RAMS_T then Some (stops (stop_at f.fci))
     else None
 
--- transport layer feedback of format 1 is a generic NACK, of format 6 a RAMS message
+-- transport layer feedback is a generic NACK or a RAMS message by its format
 abbrev pub feedback_message : Option Feedback → Option Message
 feedback_message None = None
 feedback_message (Some f) =
-    if f.format == 1 then Some (nack f.media f.sender (named (nack_numbers f.fci))) else if f.format == 6 then rams_message f else None
+    if f.format == FMT_NACK then Some (nack f.media f.sender (named (nack_numbers f.fci))) else if f.format == FMT_RAMS then rams_message f else None
 
 -- the message of an RTCP packet; all other packets are skipped
 unfoldable pub message_of : Framed → Option Message
-message_of p = if p.kind == 203 then Some (bye p) else feedback_message (feedback_of p)
+message_of p = if p.kind == BYE then Some (bye p) else feedback_message (feedback_of p)
 
 -- a RAMS-R or a RAMS-T
 abbrev pub is_rams : Message → Bool

@@ -8,6 +8,8 @@ use Rattle.rams_model.specs.declared.message.Info.{Info}
 use Rattle.rams_model.specs.declared.message.Stop.{Stop}
 use Rattle.rams_model.specs.Joined.{Format, pieces_of, Joins, map_ok, words32}
 use Rattle.rams_model.specs.RamsInfo.{transport_feedback, tlv, optional_tlv}
+use Rattle.rams_model.specs.declared.rtcp.TheConstants.{FMT_RAMS}
+use Rattle.rams_model.specs.declared.rams.TheConstants.{SFMT_RAMS_R, SFMT_RAMS_I, SFMT_RAMS_T, TLV_MEDIA_SENDERS, TLV_MIN_BUFFER_FILL, TLV_MAX_BUFFER_FILL, TLV_MAX_RECEIVE_BITRATE, TLV_PREAMBLE_ONLY, TLV_FIRST_SEQUENCE, TLV_JOIN_TIME, TLV_BURST_DURATION, TLV_MAX_TRANSMIT_BITRATE, TLV_FIRST_MULTICAST}
 
 -- a TLV: its type and its value
 pub record Tlv : Type 0 where
@@ -17,23 +19,23 @@ pub record Tlv : Type 0 where
 -- whether the value of a type that RAMS-R reads has its length (RFC 6285, 7.2); other types have any
 abbrev pub request_length : ℕ → ℕ → Bool
 request_length kind n =
-    if kind == 1 then n % 4 == 0
-    else if kind == 2 || kind == 3 then n == 4
-    else if kind == 4 then n == 8
-    else if kind == 5 then n == 0
+    if kind == TLV_MEDIA_SENDERS then n % 4 == 0
+    else if kind == TLV_MIN_BUFFER_FILL || kind == TLV_MAX_BUFFER_FILL then n == 4
+    else if kind == TLV_MAX_RECEIVE_BITRATE then n == 8
+    else if kind == TLV_PREAMBLE_ONLY then n == 0
     else true
 
 -- the same for RAMS-I (RFC 6285, 7.3)
 abbrev pub info_length : ℕ → ℕ → Bool
 info_length kind n =
-    if kind == 32 then n == 2
-    else if kind == 33 || kind == 34 then n == 4
-    else if kind == 35 then n == 8
+    if kind == TLV_FIRST_SEQUENCE then n == 2
+    else if kind == TLV_JOIN_TIME || kind == TLV_BURST_DURATION then n == 4
+    else if kind == TLV_MAX_TRANSMIT_BITRATE then n == 8
     else true
 
 -- the same for RAMS-T (RFC 6285, 7.4)
 abbrev pub stop_length : ℕ → ℕ → Bool
-stop_length kind n = if kind == 61 then n == 4 else true
+stop_length kind n = if kind == TLV_FIRST_MULTICAST then n == 4 else true
 
 --  0                   1                   2                   3
 --  0 1 2 3 4 5 6 7 8 9 0 1 2 3 4 5 6 7 8 9 0 1 2 3 4 5 6 7 8 9 0 1
@@ -109,36 +111,36 @@ ssrcs_back (Some (s ∷ ssrcs)) = Some (s ∷ ssrcs)
 -- what the TLVs of a RAMS-R say: of a type that is repeated the first counts
 abbrev pub request_of : List Tlv → Request
 request_of ts = record {
-  ssrcs = ssrcs_in (first_value 1 ts);
-  min_ms = number_of w32 2 ts;
-  max_ms = number_of w32 3 ts;
-  bps = number_of w64 4 ts;
-  preamble = is_some (first_value 5 ts);
+  ssrcs = ssrcs_in (first_value TLV_MEDIA_SENDERS ts);
+  min_ms = number_of w32 TLV_MIN_BUFFER_FILL ts;
+  max_ms = number_of w32 TLV_MAX_BUFFER_FILL ts;
+  bps = number_of w64 TLV_MAX_RECEIVE_BITRATE ts;
+  preamble = is_some (first_value TLV_PREAMBLE_ONLY ts);
 }
 
 abbrev pub request_at : List ℕ → Result Request TlvFault
-request_at fci = map_ok request_of (tlvs_at 1 request_length fci)
+request_at fci = map_ok request_of (tlvs_at SFMT_RAMS_R request_length fci)
 
 -- what a RAMS-I says: its number, its response, and its TLVs
 abbrev pub info_of : List ℕ → List Tlv → Info
 info_of fci ts = record {
   msn = slice_index fci 1;
   code = from_be_bytes w16 (drop 2 fci);
-  first = number_of w16 32 ts;
-  join_ms = number_of w32 33 ts;
-  length_ms = number_of w32 34 ts;
-  bps = number_of w64 35 ts;
+  first = number_of w16 TLV_FIRST_SEQUENCE ts;
+  join_ms = number_of w32 TLV_JOIN_TIME ts;
+  length_ms = number_of w32 TLV_BURST_DURATION ts;
+  bps = number_of w64 TLV_MAX_TRANSMIT_BITRATE ts;
 }
 
 abbrev pub info_at : List ℕ → Result Info TlvFault
-info_at fci = map_ok (info_of fci) (tlvs_at 2 info_length fci)
+info_at fci = map_ok (info_of fci) (tlvs_at SFMT_RAMS_I info_length fci)
 
 -- what the TLVs of a RAMS-T say
 abbrev pub stop_of : List Tlv → Stop
-stop_of ts = record { first_multicast = number_of w32 61 ts }
+stop_of ts = record { first_multicast = number_of w32 TLV_FIRST_MULTICAST ts }
 
 abbrev pub stop_at : List ℕ → Result Stop TlvFault
-stop_at fci = map_ok stop_of (tlvs_at 3 stop_length fci)
+stop_at fci = map_ok stop_of (tlvs_at SFMT_RAMS_T stop_length fci)
 
 -- whether a list that may be missing or empty, and then means every SSRC, has this one
 abbrev pub is_listed : ℕ → Option (List ℕ) → Bool
@@ -152,21 +154,21 @@ names r ssrc = is_listed ssrc r.ssrcs
 
 abbrev pub ssrcs_tlv : Option (List ℕ) → List ℕ
 ssrcs_tlv None = []
-ssrcs_tlv (Some ssrcs) = tlv 1 (flat_map (to_be_bytes w32) ssrcs)
+ssrcs_tlv (Some ssrcs) = tlv TLV_MEDIA_SENDERS (flat_map (to_be_bytes w32) ssrcs)
 
 abbrev pub preamble_tlv : Bool → List ℕ
-preamble_tlv true = tlv 5 []
+preamble_tlv true = tlv TLV_PREAMBLE_ONLY []
 preamble_tlv false = []
 
--- SFMT 1, reserved bits, TLVs in rising type (RFC 6285, 7.2)
+-- SFMT, reserved bits, TLVs in rising type (RFC 6285, 7.2)
 abbrev pub request_fci : Request → List ℕ
 request_fci r =
-    1 ∷ 0 ∷ 0 ∷ 0 ∷ (ssrcs_tlv r.ssrcs
-    ++ optional_tlv 2 w32 r.min_ms ++ optional_tlv 3 w32 r.max_ms ++ optional_tlv 4 w64 r.bps ++ preamble_tlv r.preamble)
+    SFMT_RAMS_R ∷ 0 ∷ 0 ∷ 0 ∷ (ssrcs_tlv r.ssrcs
+    ++ optional_tlv TLV_MIN_BUFFER_FILL w32 r.min_ms ++ optional_tlv TLV_MAX_BUFFER_FILL w32 r.max_ms ++ optional_tlv TLV_MAX_RECEIVE_BITRATE w64 r.bps ++ preamble_tlv r.preamble)
 
--- SFMT 3, reserved bits, TLVs (RFC 6285, 7.4)
+-- SFMT, reserved bits, TLVs (RFC 6285, 7.4)
 abbrev pub stop_fci : Stop → List ℕ
-stop_fci s = 3 ∷ 0 ∷ 0 ∷ 0 ∷ optional_tlv 61 w32 s.first_multicast
+stop_fci s = SFMT_RAMS_T ∷ 0 ∷ 0 ∷ 0 ∷ optional_tlv TLV_FIRST_MULTICAST w32 s.first_multicast
 
 -- an optional number fits its width
 abbrev pub FitsIn : ℕ → Option ℕ → Type 0
@@ -193,7 +195,7 @@ pub record FitsInfo (i : Info) : Type 0 where
 
 -- the whole messages
 unfoldable pub rams_request : ℕ → ℕ → Request → List ℕ
-rams_request sender media r = transport_feedback 6 sender media (request_fci r)
+rams_request sender media r = transport_feedback FMT_RAMS sender media (request_fci r)
 
 unfoldable pub rams_stop : ℕ → ℕ → Stop → List ℕ
-rams_stop sender media s = transport_feedback 6 sender media (stop_fci s)
+rams_stop sender media s = transport_feedback FMT_RAMS sender media (stop_fci s)

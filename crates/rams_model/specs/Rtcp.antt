@@ -6,6 +6,7 @@ use Rattle.rams_model.specs.declared.fault.FrameFault.{FrameFault}
 use Rattle.rams_model.specs.declared.fault.FrameFault.TheVariants.{Empty, Short, Version, Length, Padding, Body}
 use Rattle.rams_model.specs.Packet.{flag}
 use Rattle.rams_model.specs.Joined.{Format, pieces_of, Joins, words32}
+use Rattle.rams_model.specs.declared.rtcp.TheConstants.{RR, SDES, BYE, RTPFB, PSFB}
 
 -- a packet: its type, its 5-bit count or format, and its body, without padding
 pub record Framed : Type 0 where
@@ -23,10 +24,10 @@ packet_text p padding = (128 + 32 * flag padding + p.count) ∷ p.kind ∷ (to_b
 
 -- the fewest bytes of a body: BYE names its sources (RFC 3550, 6.6), feedback has two (RFC 4585, 6.1)
 abbrev pub least_body : ℕ → ℕ → ℕ
-least_body kind count = if kind == 203 then 4 * count else if kind == 205 || kind == 206 then 8 else 0
+least_body kind count = if kind == BYE then 4 * count else if kind == RTPFB || kind == PSFB then 8 else 0
 
 -- These bytes are the packet. Its padding is none, or whole words whose last byte counts their bytes.
-pub record IsPacket (bytes : List ℕ) (p : Framed) : Type 0 where
+pub record IsRtcpPacket (bytes : List ℕ) (p : Framed) : Type 0 where
   pub padding : List ℕ
   pub text : bytes ≡ packet_text p padding
   pub count : p.count < 32
@@ -38,7 +39,7 @@ pub record IsPacket (bytes : List ℕ) (p : Framed) : Type 0 where
 
 -- The datagram is these packets joined end to end, one or more (RFC 3550, 6.1).
 abbrev pub IsCompound : List ℕ → List Framed → Type 0
-IsCompound datagram ps = (0 < length ps) × Joins IsPacket datagram ps
+IsCompound datagram ps = (0 < length ps) × Joins IsRtcpPacket datagram ps
 
 -- the bytes that the packet in front says that it takes
 abbrev pub packet_size : List ℕ → ℕ
@@ -49,19 +50,19 @@ abbrev pub is_padded : List ℕ → Bool
 is_padded bytes = slice_index bytes 0 / 32 % 2 == 1
 
 -- the padding bytes that its last byte counts
-abbrev pub padding_size : List ℕ → ℕ
-padding_size bytes = if is_padded bytes then slice_index bytes (packet_size bytes - 1) else 0
+abbrev pub rtcp_padding : List ℕ → ℕ
+rtcp_padding bytes = if is_padded bytes then slice_index bytes (packet_size bytes - 1) else 0
 
 -- whether there is padding where the bit is set: whole words, no more than stand behind the first
 abbrev pub is_padding_right : List ℕ → Bool
 is_padding_right bytes =
-    not (is_padded bytes) || (nat_lt 0 (padding_size bytes) && padding_size bytes % 4 == 0 && nat_le (padding_size bytes) (packet_size bytes - 4))
+    not (is_padded bytes) || (nat_lt 0 (rtcp_padding bytes) && rtcp_padding bytes % 4 == 0 && nat_le (rtcp_padding bytes) (packet_size bytes - 4))
 
 abbrev pub framed_first : List ℕ → Framed
 framed_first bytes = record {
   kind = slice_index bytes 1;
   count = slice_index bytes 0 % 32;
-  body = slice_range bytes 4 (packet_size bytes - padding_size bytes);
+  body = slice_range bytes 4 (packet_size bytes - rtcp_padding bytes);
 }
 
 -- what is wrong with the packet in front
@@ -71,7 +72,7 @@ packet_fault bytes =
     else if not (slice_index bytes 0 / 64 == 2) then Some Version
     else if nat_lt (length bytes) (packet_size bytes) then Some Length
     else if not (is_padding_right bytes) then Some Padding
-    else if nat_lt (packet_size bytes - padding_size bytes - 4) (least_body (slice_index bytes 1) (slice_index bytes 0 % 32)) then Some Body
+    else if nat_lt (packet_size bytes - rtcp_padding bytes - 4) (least_body (slice_index bytes 1) (slice_index bytes 0 % 32)) then Some Body
     else None
 
 abbrev pub packet_format : Format Framed FrameFault
@@ -84,16 +85,16 @@ framed (b ∷ bytes) = pieces_of packet_format (b ∷ bytes)
 
 -- whether a BYE names the source; a reason behind its sources isn't looked at (RFC 3550, 6.6)
 abbrev pub bye_names : Framed → ℕ → Bool
-bye_names p ssrc = p.kind == 203 && list_any (λ s. s == ssrc) (take p.count (words32 p.body))
+bye_names p ssrc = p.kind == BYE && list_any (λ s. s == ssrc) (take p.count (words32 p.body))
 
 -- a receiver report without blocks (RFC 3550, 6.4.2)
 abbrev pub rr_packet : ℕ → List ℕ
-rr_packet ssrc = packet_text (record { kind = 201; count = 0; body = to_be_bytes w32 ssrc }) []
+rr_packet ssrc = packet_text (record { kind = RR; count = 0; body = to_be_bytes w32 ssrc }) []
 
 -- a source description of one source: item 1, the canonical name, and zeros up to a whole word (RFC 3550, 6.5)
 abbrev pub sdes_packet : ℕ → List ℕ
-sdes_packet ssrc = packet_text (record { kind = 202; count = 1; body = to_be_bytes w32 ssrc ++ 1 ∷ 3 ∷ codes "stb" ++ 0 ∷ 0 ∷ 0 ∷ [] }) []
+sdes_packet ssrc = packet_text (record { kind = SDES; count = 1; body = to_be_bytes w32 ssrc ++ 1 ∷ 3 ∷ codes "stb" ++ 0 ∷ 0 ∷ 0 ∷ [] }) []
 
 -- a goodbye of one source (RFC 3550, 6.6)
 abbrev pub bye_packet : ℕ → List ℕ
-bye_packet ssrc = packet_text (record { kind = 203; count = 1; body = to_be_bytes w32 ssrc }) []
+bye_packet ssrc = packet_text (record { kind = BYE; count = 1; body = to_be_bytes w32 ssrc }) []

@@ -15,7 +15,10 @@ mod message;
 mod mode;
 mod note;
 mod octets;
+mod rams;
+mod rtcp;
 mod status;
+mod wire;
 
 pub use answer::{Answer, Order};
 pub use channel::{Access, Channel};
@@ -37,4 +40,11 @@ pub use message::{Info, Stop};
 pub use mode::{LineKind, Mode};
 pub use note::{Cause, LiveNote, Note};
 pub use octets::Octets;
+pub use rams::{
+    SFMT_RAMS_I, SFMT_RAMS_R, SFMT_RAMS_T, TLV_BURST_DURATION, TLV_FIRST_MULTICAST,
+    TLV_FIRST_SEQUENCE, TLV_JOIN_TIME, TLV_MAX_BUFFER_FILL, TLV_MAX_RECEIVE_BITRATE,
+    TLV_MAX_TRANSMIT_BITRATE, TLV_MEDIA_SENDERS, TLV_MIN_BUFFER_FILL, TLV_PREAMBLE_ONLY,
+};
+pub use rtcp::{BYE, FMT_NACK, FMT_RAMS, PSFB, RR, RTPFB, SDES};
 pub use status::Status;
+pub use wire::{IP_UDP_HEADERS, MOST_ON_WIRE, MOST_PACKET, RTX_OVERHEAD};

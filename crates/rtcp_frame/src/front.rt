@@ -1,6 +1,6 @@
 //! The packet in front of some bytes (RFC 3550, 6.1).
 ghost use Rattle.std.specs.Prelude.{◌≡◌, ◌≤◌, drop, length};
-ghost use Rattle.rams_model.specs.Rtcp.{framed_first, least_body, packet_fault, packet_size, padding_size};
+ghost use Rattle.rams_model.specs.Rtcp.{framed_first, least_body, packet_fault, packet_size, rtcp_padding};
 ghost use Rattle.rtcp_frame.specs.Shown.{shown_packet};
 
 use crate::packet::Packet;
@@ -19,7 +19,7 @@ fn size(bytes: &[u8]) -> usize
 fn padding(bytes: &[u8]) -> usize
     requires header { 4 ≤ length bytes.now }
     requires within { packet_size bytes.now ≤ length bytes.now }
-    ensures { result ≡ padding_size bytes.now }
+    ensures { result ≡ rtcp_padding bytes.now }
 {
     if bytes[0] / 32 % 2 == 1 {
         usize::from(bytes[size(bytes) - 1])
