@@ -3,12 +3,9 @@ use Rattle.std.proofs.Common.{◌≡◌, ℕ, ◌+◌, ◌-◌, ◌<◌, ◌≤�
 use Rattle.std.proofs.lemmas.Bool.Decides.{nat_tests}
 use Rattle.std.proofs.lemmas.List.{map-append}
 use Rattle.std.proofs.lemmas.List.Elements.{filter-append}
-use Rattle.rams_model.specs.Access.{age_ms}
-use Rattle.access_index.specs.declared.choice.Choice.{Choice}
+use Rattle.rams_model.specs.Packets.{age_ms}
+use Rattle.access_index.specs.{Choice, Point, AccessPoint, leaves_room, age_at, newest, start_unless, start_at, choice_among, shown, RiseIn}
 use Rattle.access_index.specs.declared.choice.Choice.TheVariants.{NoStart, MinUnmet}
-use Rattle.access_index.specs.declared.index.Point.{Point}
-use Rattle.access_index.specs.Seen.{AccessPoint, leaves_room, age_at, newest, start_unless, start_at, choice_among}
-use Rattle.access_index.specs.Kept.{shown, RiseIn}
 
 -- the points that are old enough
 abbrev pub of_age : ℕ → ℕ → List AccessPoint → List AccessPoint
@@ -18,10 +15,6 @@ of_age last least ps = filter (λ q. nat_le least (age_at last q)) ps
 abbrev pub choice_or : Choice → ℕ → ℕ → Option ℕ → List AccessPoint → Choice
 choice_or none last least most [] = none
 choice_or none last least most (p ∷ ps) = start_at last most (newest (of_age last least (p ∷ ps)))
-
-pub or_no_start : (last least : ℕ) (most : Option ℕ) (ps : List AccessPoint) → choice_or NoStart last least most ps ≡ choice_among last least most ps
-or_no_start last least most [] = refl
-or_no_start last least most (p ∷ ps) = refl
 
 pub newest-append : (ps : List AccessPoint) (p : AccessPoint) → newest (ps ++ p ∷ []) ≡ Some p
 newest-append [] p = refl

@@ -3,12 +3,9 @@ use Rattle.std.proofs.Common.{◌≡◌, ℕ, ◌+◌, ◌<◌, ◌≤◌, ◌�
 use Rattle.std.proofs.lemmas.Bool.{cases_lt}
 use Rattle.std.proofs.lemmas.Bool.Decides.{nat_tests}
 use Rattle.std.proofs.lemmas.List.Sums.{sum_by_push}
-use Rattle.rams_model.specs.declared.held.Held.{Held}
-use Rattle.rams_model.specs.Hold.{wires, from_number}
-use Rattle.rams_model.specs.Access.{behind, last_timestamp}
-use Rattle.rams_model.specs.Source.{Follows}
-use Rattle.access_index.specs.Seen.{AccessPoint, more_behind}
-use Rattle.access_index.specs.Marks.{point_of, points_of}
+use Rattle.rams_model.specs.Types.{Held}
+use Rattle.rams_model.specs.Packets.{wires, from_number, behind, last_timestamp, Follows}
+use Rattle.access_index.specs.{AccessPoint, more_behind, point_of, points_of}
 
 -- an access point in front of others
 abbrev pub in_front : Bool → AccessPoint → List AccessPoint → List AccessPoint

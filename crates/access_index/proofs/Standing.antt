@@ -1,15 +1,12 @@
 -- An index goes on to stand for its marks, and chooses among them.
 use Rattle.std.proofs.Common.{◌≡◌, ℕ, ◌+◌, ◌*◌, ◌<◌, min, max, Bool, true, false, ◌&&◌, ◌==◌, nat_le, if◌then◌else◌, List, [], ◌∷◌, ◌++◌, length, map, filter, Option, Ok, Err, refl, sym, ◌∙◌, ap, subst, length-append, arith}
 use Rattle.std.proofs.lemmas.Bool.Decides.{nat_tests}
-use Rattle.rams_model.specs.declared.channel.Channel.{Channel}
-use Rattle.rams_model.specs.declared.held.Held.{Held}
-use Rattle.rams_model.specs.Hold.{from_number}
-use Rattle.rams_model.specs.Access.{behind, last_timestamp, age, is_eligible, is_at_most, not_too_old, chosen_of, chosen}
-use Rattle.rams_model.specs.Access as access
-use Rattle.rams_model.specs.Source.{Follows}
+use Rattle.rams_model.specs.Types.{Channel, Held}
+use Rattle.rams_model.specs.Packets.{from_number, behind, last_timestamp, age, is_eligible, is_at_most, not_too_old, chosen_of, chosen, Follows}
+use Rattle.rams_model.specs.Packets.Access as access
 use Rattle.access_index.specs.declared.choice.Choice.TheVariants.{Start, MaxUnmet}
-use Rattle.access_index.specs.Seen.{AccessPoint, Seen, more_behind, pushed, left_from, leaves_room, newest, start_at, choice_among, choice}
-use Rattle.access_index.specs.Marks.{point_of, points_of, StandsFor, choice_of}
+use Rattle.access_index.specs.{AccessPoint, more_behind, pushed, left_from, leaves_room, newest, start_at, choice_among, choice, point_of, points_of, StandsFor, choice_of}
+use Rattle.access_index.specs.Seen.{Seen}
 use Rattle.access_index.proofs.Choosing.{of_age}
 use Rattle.access_index.proofs.Packets.{points_same, follows-append, last-append, own_point, points-append, points_from-from, follows-from, length-from, last-from}
 

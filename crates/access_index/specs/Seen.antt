@@ -1,6 +1,6 @@
 -- What contracts see of an index, and what each call makes of it.
 use Rattle.std.specs.Prelude.{ℕ, ◌+◌, min, max, Bool, ◌==◌, nat_le, if◌then◌else◌, List, [], ◌∷◌, ◌++◌, map, filter, Option, Some, None}
-use Rattle.rams_model.specs.Access.{age_ms, is_at_most}
+use Rattle.rams_model.specs.Packets.{age_ms, is_at_most}
 use Rattle.access_index.specs.declared.choice.Choice.{Choice}
 use Rattle.access_index.specs.declared.choice.Choice.TheVariants.{Start, NoStart, MinUnmet, MaxUnmet}
 

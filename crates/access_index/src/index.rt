@@ -1,13 +1,9 @@
 //! The index of one channel's access points.
 ghost use Rattle.std.specs.Prelude.{◌≡◌, ◌-◌, ◌*◌, ◌^◌, ◌<◌, ◌≤◌, List, [], ◌∷◌, ◌++◌, IfOk};
-ghost use Rattle.rams_model.specs.declared.channel.Channel.{Channel};
-ghost use Rattle.rams_model.specs.declared.held.Held.{Held};
-ghost use Rattle.rams_model.specs.Hold.{from_number};
-ghost use Rattle.rams_model.specs.Access.{chosen};
+ghost use Rattle.rams_model.specs.Types.{Channel, Held};
+ghost use Rattle.rams_model.specs.Packets.{from_number, chosen};
 ghost use Rattle.std.specs.VecDeque.{deque_capacity};
-ghost use Rattle.access_index.specs.Kept.{above};
-ghost use Rattle.access_index.specs.Seen.{new_index, pushed, left_from, start_unless, choice};
-ghost use Rattle.access_index.specs.Marks.{StandsFor, choice_of};
+ghost use Rattle.access_index.specs.{above, new_index, pushed, left_from, start_unless, choice, StandsFor, choice_of};
 
 use crate::Choice;
 use ext_seq::age_ms;
@@ -47,7 +43,7 @@ impl Model for Index {
     ghost use Rattle.std.specs.Prelude.{◌*◌, ◌^◌, ◌≤◌};
     ghost use Rattle.std.specs.VecDeque.{deque_capacity};
     ghost use Rattle.access_index.specs.Seen.{Seen};
-    ghost use Rattle.access_index.specs.Kept.{seen_of, RiseIn};
+    ghost use Rattle.access_index.specs.{seen_of, RiseIn};
 
     ghost Value = { Seen };
 

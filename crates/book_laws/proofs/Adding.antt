@@ -1,16 +1,11 @@
 -- What an event adds to a history: that it began, and messages and notes after that.
 use Rattle.std.proofs.Common.{◌≡◌, ℕ, List, [], ◌∷◌, ◌++◌, None, refl, ap, sym, ◌∙◌, append_assoc}
-use Rattle.rams_model.specs.declared.note.Note.{Note}
+use Rattle.rams_model.specs.Types.{Note}
 use Rattle.rams_model.specs.declared.note.Note.TheVariants as note
-use Rattle.rams_model.specs.Settings.{Settings}
-use Rattle.rams_model.specs.Source.{live_note}
-use Rattle.rams_model.specs.Messages.{Message}
-use Rattle.rams_model.specs.Heard.{Heard, live, dropped, feedback, unframed, tick}
-use Rattle.rams_model.specs.History.{began, told, noted, History, stream}
-use Rattle.rams_model.specs.Answers.{after_message, after_messages}
-use Rattle.rams_model.specs.Book.{after_hearing}
+use Rattle.rams_model.specs.Service.{Settings, Message, Heard, live, dropped, feedback, unframed, tick, began, told, noted, History, stream, after_message, after_messages, after_hearing}
+use Rattle.rams_model.specs.Packets.{live_note}
 use Rattle.rams_model.specs.Laws.{NoneIs, is_event}
-use Rattle.book_laws.specs.Answering.{AreNotes}
+use Rattle.book_laws.specs.{AreNotes}
 use Rattle.book_laws.proofs.Items.{Puts, message_puts, tick_puts}
 
 -- One history is another and what came after it, where no event began.

@@ -1,15 +1,10 @@
 -- Each message that was told is followed by its whole answer, and a note's message is the last that was told.
 use Rattle.std.proofs.Common.{◌≡◌, ℕ, inl, inr, ◌⊎◌, ⊎_elim, List, [], ◌∷◌, ◌++◌, Option, Some, None, refl, ap, sym, ◌∙◌, subst, append_assoc}
-use Rattle.rams_model.specs.declared.event.Event.{Event}
+use Rattle.rams_model.specs.Types.{Event}
 use Rattle.rams_model.specs.declared.note.Note.TheVariants.{Live as LiveNoted, BadFeedback}
-use Rattle.rams_model.specs.Settings.{Settings}
-use Rattle.rams_model.specs.Source.{live_note}
-use Rattle.rams_model.specs.Messages.{Message}
-use Rattle.rams_model.specs.Heard.{Heard, live, dropped, feedback, unframed, tick, heard_of}
-use Rattle.rams_model.specs.History.{Item, began, told, noted, History, stream}
-use Rattle.rams_model.specs.Answers.{after_message, after_messages}
-use Rattle.rams_model.specs.Book.{after_hearing, history_of}
-use Rattle.book_laws.specs.Answering.{AreNotes, IsAnswered, IsNoNote, BeginAnew}
+use Rattle.rams_model.specs.Service.{Settings, Message, Heard, live, dropped, feedback, unframed, tick, heard_of, Item, began, told, noted, History, stream, after_message, after_messages, after_hearing, history_of}
+use Rattle.rams_model.specs.Packets.{live_note}
+use Rattle.book_laws.specs.{AreNotes, IsAnswered, IsNoNote, BeginAnew}
 use Rattle.book_laws.proofs.Legal.{Answers, newest_told}
 use Rattle.book_laws.proofs.Items.{message_puts, tick_puts}
 

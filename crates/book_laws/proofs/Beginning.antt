@@ -2,24 +2,16 @@
 use Rattle.std.proofs.Common.{◌≡◌, ℕ, ◌+◌, ◌-◌, not, List, Option, Some, None, refl, subst, eqb, zero-le}
 use Rattle.std.specs.Prelude.{Result, Ok, Err, unwrap_or}
 use Rattle.std.proofs.lemmas.Bool.{cond_both}
-use Rattle.rams_model.specs.declared.fault.TlvFault.{TlvFault}
-use Rattle.rams_model.specs.declared.held.Held.{Held}
-use Rattle.rams_model.specs.declared.note.Note.{Note}
+use Rattle.rams_model.specs.Types.{TlvFault, Held, Note}
 use Rattle.rams_model.specs.declared.note.Note.TheVariants as note
-use Rattle.rams_model.specs.Settings.{Settings}
-use Rattle.rams_model.specs.Hold.{lo}
-use Rattle.rams_model.specs.Access.{chosen}
-use Rattle.rams_model.specs.Rams.{Request, names}
-use Rattle.rams_model.specs.Messages.{asks}
-use Rattle.rams_model.specs.History.{History, hold}
-use Rattle.rams_model.specs.Bursts.{Burst, open_burst}
-use Rattle.rams_model.specs.Buckets.{reserved}
-use Rattle.rams_model.specs.Verdict.{asked_rate, is_slow, is_too_much, is_full, begins, changes, on_burst, on_request, verdict}
+use Rattle.rams_model.specs.Service.{Settings, asks, History, hold, Burst, open_burst, reserved, asked_rate, is_slow, is_too_much, is_full, begins, changes, on_burst, on_request, verdict}
+use Rattle.rams_model.specs.Packets.{lo, chosen}
+use Rattle.rams_model.specs.Formats.{Request, names}
 use Rattle.rams_model.specs.Laws.{IsChoice}
 use Rattle.rams_model.proofs.Rising.{lower}
 use Rattle.rams_model.proofs.Holding.{held_follow, rises_from}
 use Rattle.rams_model.proofs.Choosing.{newest_chosen}
-use Rattle.book_laws.specs.Sendings.{BeginsAsAsked}
+use Rattle.book_laws.specs.{BeginsAsAsked}
 use Rattle.book_laws.proofs.Legal.{Answers, IsVerdict}
 use Rattle.book_laws.proofs.Answering.{is_answered}
 

@@ -4,37 +4,19 @@ use Rattle.std.specs.Prelude.{filter_map, Result, Ok, Err, filter, option_map, o
 use Rattle.std.specs.List.{cons_option}
 use Rattle.std.proofs.lemmas.Bool.{cond_both, true≢false}
 use Rattle.std.proofs.lemmas.List.Elements.{All-nil, All-cons, All-filter, All-contains, All-contains_itself, Contains-append_left, Contains-append_right, Contains-append_cases, Contains-push_cases}
-use Rattle.rams_model.specs.declared.answer.Order.{Order}
+use Rattle.rams_model.specs.Types.{Order, Channel, Event, FrameFault, RtpFault, Held, Info, Cause, LiveNote, Note}
 use Rattle.rams_model.specs.declared.answer.Order.TheVariants as order
-use Rattle.rams_model.specs.declared.channel.Channel.{Channel}
-use Rattle.rams_model.specs.declared.event.Event.{Event}
 use Rattle.rams_model.specs.declared.event.Event.TheVariants.{Live, Feedback, Tick}
-use Rattle.rams_model.specs.declared.fault.FrameFault.{FrameFault}
-use Rattle.rams_model.specs.declared.fault.RtpFault.{RtpFault}
-use Rattle.rams_model.specs.declared.held.Held.{Held}
-use Rattle.rams_model.specs.declared.message.Info.{Info}
-use Rattle.rams_model.specs.declared.note.Cause.{Cause}
-use Rattle.rams_model.specs.declared.note.LiveNote.{LiveNote}
 use Rattle.rams_model.specs.declared.note.LiveNote.TheVariants.{Took, Restart, TooBig}
-use Rattle.rams_model.specs.declared.note.Note.{Note}
 use Rattle.rams_model.specs.declared.note.Note.TheVariants as note
-use Rattle.rams_model.specs.Settings.{Settings}
-use Rattle.rams_model.specs.Packet.{Packet, stripped, retransmission}
-use Rattle.rams_model.specs.Rtp.{packet_at, IsPacket}
-use Rattle.rams_model.specs.Rtcp.{Framed, framed}
-use Rattle.rams_model.specs.Source.{Arrival, Stream, held_as, with_packet, awaited, live_note, stream_after, stream_of}
-use Rattle.rams_model.specs.Source as sources
-use Rattle.rams_model.specs.CatchUp.{source}
-use Rattle.rams_model.specs.Heard.{Heard, live, dropped, feedback, unframed, tick, heard_packet, heard_live, heard_feedback, heard_of}
-use Rattle.rams_model.specs.History.{began, told, noted, History, arrivals, stream, hold}
-use Rattle.rams_model.specs.Bursts.{Burst, open_burst}
-use Rattle.rams_model.specs.Infos.{end_info}
-use Rattle.rams_model.specs.Orders.{info_order, packet_order, again_order, update_order, end_order, order_of, newest_notes, newest_orders, newest_answer, sent_again, datagram}
-use Rattle.rams_model.specs.Book.{after_hearing, history_of, answer, Entry, Book, IsLawful, events_of}
-use Rattle.rams_model.specs.Laws.{NoneIs, is_event}
+use Rattle.rams_model.specs.Service.{Settings, Heard, live, dropped, feedback, unframed, tick, heard_packet, heard_live, heard_feedback, heard_of, began, told, noted, History, arrivals, stream, hold, Burst, open_burst, end_info, info_order, packet_order, again_order, update_order, end_order, order_of, newest_notes, newest_orders, newest_answer, sent_again, datagram, after_hearing, history_of, answer, Entry, Book, IsLawful, events_of}
+use Rattle.rams_model.specs.Formats.{Packet, stripped, retransmission, packet_at, IsPacket, Framed, framed}
+use Rattle.rams_model.specs.Packets.{Arrival, Stream, held_as, with_packet, awaited, live_note, stream_after, stream_of}
+use Rattle.rams_model.specs.Packets.Source as sources
+use Rattle.rams_model.specs.Laws.{source, NoneIs, is_event}
 use Rattle.rams_model.proofs.PlainPackets.{below_at}
 use Rattle.rams_model.proofs.RtpPackets.{spelled_so, read_so}
-use Rattle.book_laws.specs.Sendings.{IsTakenAs, Retransmits, IsOfTheSource, Sent, note_sends, order_sends}
+use Rattle.book_laws.specs.{IsTakenAs, Retransmits, IsOfTheSource, Sent, note_sends, order_sends}
 use Rattle.book_laws.proofs.Legal.{in_tick, is_tick, Allows, IsLegal}
 use Rattle.book_laws.proofs.Legality.{legal_history, in_tick_from_runs}
 use Rattle.book_laws.proofs.Adding.{adds_hearing}

@@ -4,20 +4,14 @@ use Rattle.std.specs.Prelude.{Contains}
 use Rattle.std.specs.List.{AllByRecursion as Each}
 use Rattle.std.proofs.lemmas.Bool.{and_parts, or_parts, not-true, ltb-true, eqb-false}
 use Rattle.std.proofs.lemmas.List.Elements.{All-from_recursion, All-contains, Contains-append_right}
-use Rattle.rams_model.specs.declared.held.Held.{Held}
-use Rattle.rams_model.specs.declared.note.Cause.{Cause}
+use Rattle.rams_model.specs.Types.{Held, Cause}
 use Rattle.rams_model.specs.declared.note.Cause.TheVariants as cause
 use Rattle.rams_model.specs.declared.note.Note.TheVariants as note
-use Rattle.rams_model.specs.Settings.{Settings}
-use Rattle.rams_model.specs.Hold.{hi}
-use Rattle.rams_model.specs.Source.{has_number}
-use Rattle.rams_model.specs.Messages.{bye}
-use Rattle.rams_model.specs.History.{noted, History, hold}
-use Rattle.rams_model.specs.Bursts.{Burst, next, if_open, newest_open, open_burst}
-use Rattle.rams_model.specs.Tick.{is_lost}
+use Rattle.rams_model.specs.Service.{Settings, bye, noted, History, hold, Burst, next, if_open, newest_open, open_burst, is_lost}
+use Rattle.rams_model.specs.Packets.{hi, has_number}
 use Rattle.rams_model.specs.Laws.{ticks_begun}
 use Rattle.rams_model.proofs.LastAccept.{last_accept}
-use Rattle.book_laws.specs.Moments.{LastAccept}
+use Rattle.book_laws.specs.{LastAccept}
 use Rattle.book_laws.specs.Stops.{next_number, IsLost, Leaves, EndsBecause}
 use Rattle.book_laws.proofs.Legal.{IsLegal, IsBye, EndsFor, Ends}
 use Rattle.book_laws.proofs.Answering.{is_answered}

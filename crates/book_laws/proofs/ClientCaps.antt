@@ -1,15 +1,11 @@
 -- What a client is sent in a tick is within its cap.
 use Rattle.std.proofs.Common.{◌≡◌, ℕ, ◌+◌, ◌-◌, ◌≤◌, Bool, true, false, cond, [], ◌∷◌, Option, Some, None, refl, ap, subst, arith, eqb}
 use Rattle.std.proofs.lemmas.Bool.{eqb-true}
-use Rattle.rams_model.specs.declared.held.Held.{Held}
+use Rattle.rams_model.specs.Types.{Held}
 use Rattle.rams_model.specs.declared.note.Note.TheVariants as note
-use Rattle.rams_model.specs.Settings.{Settings}
-use Rattle.rams_model.specs.Heard.{tick}
-use Rattle.rams_model.specs.History.{began, told, noted, History, hold, as_tick_began}
-use Rattle.rams_model.specs.Bursts.{Burst, size_of, bursts, open_burst}
-use Rattle.rams_model.specs.Buckets.{is_burst_of, is_repair_of, sent_now, budget_of, cap, may_take}
+use Rattle.rams_model.specs.Service.{Settings, tick, began, told, noted, History, hold, as_tick_began, Burst, size_of, bursts, open_burst, is_burst_of, is_repair_of, sent_now, budget_of, cap, may_take}
 use Rattle.rams_model.specs.Laws.{is_sending_to, sizes_sent}
-use Rattle.book_laws.specs.Budgets.{left_of}
+use Rattle.book_laws.specs.{left_of}
 use Rattle.book_laws.proofs.Legal.{in_tick, Sends, Repairs, IsLegal}
 use Rattle.book_laws.proofs.BurstAmounts.{left_falls, left_taken}
 use Rattle.book_laws.proofs.Shares.{sends_within}

@@ -5,15 +5,10 @@ use Rattle.std.specs.List.{list_any}
 use Rattle.std.proofs.lemmas.Bool.{both_ways, or_left, or_right, and_from, eq-eqb}
 use Rattle.std.proofs.lemmas.List.Sums.{sum_by-cons}
 use Rattle.std.proofs.lemmas.List.Folds.{list_any_at}
-use Rattle.rams_model.specs.Settings.{Settings}
-use Rattle.rams_model.specs.History.{History}
-use Rattle.rams_model.specs.Clients.{known, opened, is_among}
-use Rattle.rams_model.specs.Bursts.{open_burst, has_open}
-use Rattle.rams_model.specs.Pending.{Wanted, wanted, is_wanted, pending}
-use Rattle.rams_model.specs.Buckets.{most_of}
+use Rattle.rams_model.specs.Service.{Settings, History, known, opened, is_among, open_burst, has_open, Wanted, wanted, is_wanted, pending, most_of}
 use Rattle.rams_model.proofs.Since.{opened_stands}
 use Rattle.rams_model.proofs.LastAccept.{open_stands}
-use Rattle.book_laws.specs.Counted.{StandOnce, SumsTo, CountsEachOnce}
+use Rattle.book_laws.specs.{StandOnce, SumsTo, CountsEachOnce}
 use Rattle.book_laws.proofs.Legal.{IsLegal}
 use Rattle.book_laws.proofs.Legality.{EachOnce, same_repair, some_of, known_once, opened_once, pending_once, pending_contains}
 use Rattle.book_laws.proofs.RequestTable.{listed_contains, contains_listed}

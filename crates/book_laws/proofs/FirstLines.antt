@@ -1,6 +1,6 @@
 -- The first line of a table that applies: how it is found, and that there is one.
 use Rattle.std.proofs.Common.{◌≡◌, List, [], ◌∷◌, ◌++◌, refl, ap, sym, ◌∙◌, subst}
-use Rattle.book_laws.specs.Answering.{NoneApplies, IsFirst}
+use Rattle.book_laws.specs.{NoneApplies, IsFirst}
 
 pub first_here : {Line : Type 0} (Applies : Line → Type 0) (line : Line) (lines : List Line) → Applies line → IsFirst Applies (line ∷ lines) line
 first_here Applies line lines a = record { earlier = []; later = lines; splits = refl; none = tt; applies = a }

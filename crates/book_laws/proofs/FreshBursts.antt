@@ -2,31 +2,12 @@
 use Rattle.std.proofs.Common.{◌≡◌, ℕ, ◌+◌, ◌-◌, ◌%◌, ◌<◌, ◌≤◌, ◌≢◌, Bool, true, false, cond, not, ◌&&◌, ◌⊎◌, inl, inr, ⊎_elim, List, [], ◌∷◌, ◌++◌, length, Option, Some, None, refl, ap, sym, ◌∙◌, subst, arith, eqb, leb, ltb}
 use Rattle.std.specs.Prelude.{find, is_some, Result, Ok, Err}
 use Rattle.std.proofs.lemmas.Bool.{cond_both, cond-true, cond-false, both_ways, and_from, or_cases, cases_Bool, eqb-true, eqb-false, eq-eqb, ltb-false, lt-ltb, le-leb, true≢false}
-use Rattle.rams_model.specs.declared.event.Event.{Event}
-use Rattle.rams_model.specs.declared.fault.TlvFault.{TlvFault}
-use Rattle.rams_model.specs.declared.held.Held.{Held}
-use Rattle.rams_model.specs.declared.message.Stop.{Stop}
-use Rattle.rams_model.specs.declared.note.Cause.{Cause}
+use Rattle.rams_model.specs.Types.{Event, TlvFault, Held, Stop, Cause, Note}
 use Rattle.rams_model.specs.declared.note.Cause.TheVariants as cause
-use Rattle.rams_model.specs.declared.note.Note.{Note}
 use Rattle.rams_model.specs.declared.note.Note.TheVariants as note
-use Rattle.rams_model.specs.Settings.{Settings}
-use Rattle.rams_model.specs.Rams.{Request, names}
-use Rattle.rams_model.specs.Rtcp.{Framed}
-use Rattle.rams_model.specs.Hold.{lo, hi, from_number}
-use Rattle.rams_model.specs.Source.{has_number, Follows}
-use Rattle.rams_model.specs.Rates.{stop_of}
-use Rattle.rams_model.specs.Messages.{Message, bye, nack, asks, stops}
-use Rattle.rams_model.specs.Heard.{Heard, live, dropped, feedback, unframed, tick, heard_of}
-use Rattle.rams_model.specs.History.{began, told, noted, History, arrivals, hold}
-use Rattle.rams_model.specs.Clients.{known, opened, is_among, sendings, sequence, ssrc}
-use Rattle.rams_model.specs.Bursts.{Burst, next, begun, in_tick, after_note, newest_changed, size_of, bursts, if_open, newest_open, open_burst, has_open}
-use Rattle.rams_model.specs.Pending.{Wanted, pending, pending_of, is_pending, idle}
-use Rattle.rams_model.specs.Buckets.{reserved, channel_left, may_take}
-use Rattle.rams_model.specs.Verdict.{asked_rate, is_slow, is_too_much, is_full, begins, changes, on_burst, on_request, verdict}
-use Rattle.rams_model.specs.Answers.{is_before, is_early, Room, room, held_answer, number_answer, after_numbers, after_nack, stop_set, on_stop, stop_burst, after_stop, is_bye_of, after_bye, after_message, after_messages}
-use Rattle.rams_model.specs.Tick.{run, send, is_lost, is_stop, after_run, run_sent, burst_served, all_served, repaired, all_repaired, all_forgotten, bursts_served, repairs_sent, idle_forgotten, after_tick}
-use Rattle.rams_model.specs.Book.{after_hearing, history_of}
+use Rattle.rams_model.specs.Service.{Settings, stop_of, Message, bye, nack, asks, stops, Heard, live, dropped, feedback, unframed, tick, heard_of, began, told, noted, History, arrivals, hold, known, opened, is_among, sendings, sequence, ssrc, Burst, next, begun, in_tick, after_note, newest_changed, size_of, bursts, if_open, newest_open, open_burst, has_open, Wanted, pending, pending_of, is_pending, idle, reserved, channel_left, may_take, asked_rate, is_slow, is_too_much, is_full, begins, changes, on_burst, on_request, verdict, is_before, is_early, Room, room, held_answer, number_answer, after_numbers, after_nack, stop_set, on_stop, stop_burst, after_stop, is_bye_of, after_bye, after_message, after_messages, run, send, is_lost, is_stop, after_run, run_sent, burst_served, all_served, repaired, all_repaired, all_forgotten, bursts_served, repairs_sent, idle_forgotten, after_tick, after_hearing, history_of}
+use Rattle.rams_model.specs.Formats.{Request, names, Framed}
+use Rattle.rams_model.specs.Packets.{lo, hi, from_number, has_number, Follows}
 use Rattle.rams_model.specs.Laws.{Rises, IsAmong, IsChoice}
 use Rattle.rams_model.proofs.Since.{opened_stands}
 use Rattle.rams_model.proofs.LastAccept.{open_stands}
@@ -35,8 +16,7 @@ use Rattle.rams_model.proofs.Holding.{held_follow, held_from}
 use Rattle.rams_model.proofs.Choosing.{newest_chosen}
 use Rattle.book_laws.proofs.Legality.{open_sent}
 use Rattle.book_laws.proofs.RequestTable.{held_rises}
-use Rattle.book_laws.specs.Answering.{AreNotes}
-use Rattle.book_laws.specs.Moments.{IsMoment}
+use Rattle.book_laws.specs.{AreNotes, IsMoment}
 use Rattle.book_laws.proofs.Items.{Puts, message_puts, tick_puts}
 use Rattle.book_laws.proofs.HeldPackets.{AreSmall, ArriveSmall, HearsSmall, small_from, small_held, heard_small, hi_grows}
 

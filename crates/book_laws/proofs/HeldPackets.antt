@@ -3,23 +3,13 @@ use Rattle.std.proofs.Common.{◌≡◌, ℕ, zero, suc, ◌+◌, ◌-◌, ◌<�
 use Rattle.std.specs.Prelude.{filter, Result, Ok, Err}
 use Rattle.std.proofs.lemmas.Bool.{cond_both, ltb-false}
 use Rattle.std.proofs.lemmas.List.{drop_all, length-take, length-drop, length-append}
-use Rattle.rams_model.specs.declared.channel.Channel.{Channel}
-use Rattle.rams_model.specs.declared.event.Event.{Event}
+use Rattle.rams_model.specs.Types.{Channel, Event, FrameFault, RtpFault, Held, LiveNote}
 use Rattle.rams_model.specs.declared.event.Event.TheVariants.{Live, Feedback, Tick}
-use Rattle.rams_model.specs.declared.fault.FrameFault.{FrameFault}
-use Rattle.rams_model.specs.declared.fault.RtpFault.{RtpFault}
-use Rattle.rams_model.specs.declared.held.Held.{Held}
-use Rattle.rams_model.specs.declared.note.LiveNote.{LiveNote}
 use Rattle.rams_model.specs.declared.note.LiveNote.TheVariants.{Took, Restart, Jump, TooBig, ForeignSsrc, ForeignType}
-use Rattle.rams_model.specs.Settings.{Settings}
-use Rattle.rams_model.specs.Packet.{Packet, header, spelling, stripped, wire_size}
-use Rattle.rams_model.specs.Rtp.{packet_at, fields_of}
-use Rattle.rams_model.specs.Rtcp.{Framed, framed}
-use Rattle.rams_model.specs.Hold.{hi, from_number}
-use Rattle.rams_model.specs.Source.{Arrival, Stream, held_as, with_packet, awaited, live_note, stream_after, stream_of, consecutive_end, source}
-use Rattle.rams_model.specs.Source as sources
-use Rattle.rams_model.specs.Heard.{Heard, live, dropped, arrival, heard_packet, heard_feedback, heard_of}
-use Rattle.rams_model.specs.History.{began, History, arrivals, hold}
+use Rattle.rams_model.specs.Service.{Settings, Heard, live, dropped, arrival, heard_packet, heard_feedback, heard_of, began, History, arrivals, hold}
+use Rattle.rams_model.specs.Formats.{Packet, header, spelling, stripped, wire_size, packet_at, fields_of, Framed, framed}
+use Rattle.rams_model.specs.Packets.{hi, from_number, Arrival, Stream, held_as, with_packet, awaited, live_note, stream_after, stream_of, consecutive_end, source}
+use Rattle.rams_model.specs.Packets.Source as sources
 use Rattle.rams_model.specs.Laws.{Rises}
 use Rattle.rams_model.proofs.RtpPackets.{read_has_no_fault}
 use Rattle.rams_model.proofs.Rising.{below_hi}

@@ -2,16 +2,11 @@
 use Rattle.std.proofs.Common.{◌≡◌, ℕ, ◌*◌, ◌≤◌, ◌≢◌, true, [], ◌∷◌, ◌++◌, Option, Some, None, refl, ap, arith}
 use Rattle.std.specs.Prelude.{IsSomeAnd}
 use Rattle.std.proofs.lemmas.Bool.{true≢false}
-use Rattle.rams_model.specs.declared.held.Held.{Held}
+use Rattle.rams_model.specs.Types.{Held}
 use Rattle.rams_model.specs.declared.note.Note.TheVariants as note
-use Rattle.rams_model.specs.Settings.{Settings}
-use Rattle.rams_model.specs.Heard.{Heard, live, dropped, feedback, unframed, tick}
-use Rattle.rams_model.specs.History.{began, told, noted, History}
-use Rattle.rams_model.specs.Clients.{opened}
-use Rattle.rams_model.specs.Bursts.{Burst, open_burst}
-use Rattle.rams_model.specs.Buckets.{channel_left}
+use Rattle.rams_model.specs.Service.{Settings, Heard, live, dropped, feedback, unframed, tick, began, told, noted, History, opened, Burst, open_burst, channel_left}
 use Rattle.rams_model.specs.Laws.{NoneIs, is_event, is_sending, sizes_sent, ticks_begun}
-use Rattle.book_laws.specs.Budgets.{is_tick_start, is_past_runs, gain, gains_in, left_of, IsOpenAtEachTick}
+use Rattle.book_laws.specs.{is_tick_start, is_past_runs, gain, gains_in, left_of, IsOpenAtEachTick}
 use Rattle.book_laws.proofs.Legal.{is_tick, in_tick, in_runs, IsLegal}
 use Rattle.book_laws.proofs.Legality.{in_tick_from_runs}
 use Rattle.book_laws.proofs.Sums.{part_of_sum}

@@ -2,26 +2,14 @@
 use Rattle.std.proofs.Common.{◌≡◌, ℕ, List, [], ◌∷◌, ◌++◌, Option, Some, None, refl, ap, sym, ◌∙◌, append_assoc}
 use Rattle.std.specs.Prelude.{◌==◌, ◌&&◌, not, nat_le, if◌then◌else◌, find, Result, Ok, Err}
 use Rattle.std.proofs.lemmas.Bool.{cond_both}
-use Rattle.rams_model.specs.declared.fault.TlvFault.{TlvFault}
-use Rattle.rams_model.specs.declared.held.Held.{Held}
-use Rattle.rams_model.specs.declared.message.Stop.{Stop}
-use Rattle.rams_model.specs.declared.note.Note.{Note}
+use Rattle.rams_model.specs.Types.{TlvFault, Held, Stop, Note}
 use Rattle.rams_model.specs.declared.note.Note.TheVariants as note
 use Rattle.rams_model.specs.declared.note.Cause.TheVariants as cause
-use Rattle.rams_model.specs.Settings.{Settings}
-use Rattle.rams_model.specs.Rtcp.{Framed}
-use Rattle.rams_model.specs.Rates as rates
-use Rattle.rams_model.specs.Hold.{from_number}
-use Rattle.rams_model.specs.Messages.{Message, bye, nack, asks, stops}
-use Rattle.rams_model.specs.History.{began, told, noted, History, hold}
-use Rattle.rams_model.specs.Clients.{known, opened, is_among, sequence, ssrc}
-use Rattle.rams_model.specs.Bursts.{Burst, next, open_burst, has_open}
-use Rattle.rams_model.specs.Pending.{Wanted, pending, idle}
-use Rattle.rams_model.specs.Buckets.{channel_left, may_take}
-use Rattle.rams_model.specs.Verdict.{verdict}
-use Rattle.rams_model.specs.Answers.{room, number_answer, is_bye_of, after_numbers, after_nack, stop_set, on_stop, stop_burst, after_stop, after_bye, after_message}
-use Rattle.rams_model.specs.Tick.{run, send, is_lost, is_stop, after_run, run_sent, burst_served, all_served, repaired, all_repaired, all_forgotten, bursts_served, repairs_sent, idle_forgotten, after_tick}
-use Rattle.book_laws.specs.Answering.{AreNotes}
+use Rattle.rams_model.specs.Service.{Settings, Message, bye, nack, asks, stops, began, told, noted, History, hold, known, opened, is_among, sequence, ssrc, Burst, next, open_burst, has_open, Wanted, pending, idle, channel_left, may_take, verdict, room, number_answer, is_bye_of, after_numbers, after_nack, stop_set, on_stop, stop_burst, after_stop, after_bye, after_message, run, send, is_lost, is_stop, after_run, run_sent, burst_served, all_served, repaired, all_repaired, all_forgotten, bursts_served, repairs_sent, idle_forgotten, after_tick}
+use Rattle.rams_model.specs.Formats.{Framed}
+use Rattle.rams_model.specs.Service.Rates as rates
+use Rattle.rams_model.specs.Packets.{from_number}
+use Rattle.book_laws.specs.{AreNotes}
 
 -- only notes stand in front
 pub record Puts (before after : History) : Type 0 where

@@ -1,19 +1,11 @@
 -- Each answer to a RAMS-R keeps the table, and each RAMS-R has one.
 use Rattle.std.proofs.Common.{◌≡◌, ℕ, inl, inr, ◌⊎◌, ⊎_elim, List, [], ◌∷◌, ◌++◌, Option, Some, None, refl, ap, sym, ◌∙◌, subst}
 use Rattle.std.specs.Prelude.{IsSomeAnd, IsOkAnd, Result, Ok, Err}
-use Rattle.rams_model.specs.declared.event.Event.{Event}
-use Rattle.rams_model.specs.declared.fault.TlvFault.{TlvFault}
-use Rattle.rams_model.specs.declared.note.Note.{Note}
+use Rattle.rams_model.specs.Types.{Event, TlvFault, Note}
 use Rattle.rams_model.specs.declared.note.Note.TheVariants.{Update, Again, Refuse}
-use Rattle.rams_model.specs.Settings.{Settings}
-use Rattle.rams_model.specs.Rams.{Request}
-use Rattle.rams_model.specs.Messages.{Message, asks, stops}
-use Rattle.rams_model.specs.History.{Item, began, told, noted, History}
-use Rattle.rams_model.specs.Bursts.{Burst, next, open_burst}
-use Rattle.rams_model.specs.Verdict.{verdict}
-use Rattle.rams_model.specs.Answers.{after_message}
-use Rattle.rams_model.specs.Book.{history_of}
-use Rattle.book_laws.specs.Answering.{AreNotes, items_of, AnsweredBy, IsFirst}
+use Rattle.rams_model.specs.Service.{Settings, Message, asks, stops, Item, began, told, noted, History, Burst, next, open_burst, verdict, after_message, history_of}
+use Rattle.rams_model.specs.Formats.{Request}
+use Rattle.book_laws.specs.{AreNotes, items_of, AnsweredBy, IsFirst}
 use Rattle.book_laws.specs.Refusals.{Line, again, update, accept, table, code_of, asked, Applies, joins_in, Begins, Gives, IsByTable, IsRefusedWith, IsRequestRefused, IsStopRefused, IsAccept, IsUpdate, IsAnsweredExactly}
 use Rattle.book_laws.proofs.Legal.{IsVerdict, IsUnread}
 use Rattle.book_laws.proofs.FirstLines.{one_first}

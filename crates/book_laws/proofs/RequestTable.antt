@@ -6,27 +6,19 @@ use Rattle.std.proofs.lemmas.Bool.{cond_both, both_ways, and_parts, and_from, or
 use Rattle.std.proofs.lemmas.List.Elements.{Contains-append_right}
 use Rattle.std.proofs.lemmas.List.Sums.{sum_by-cons}
 use Rattle.std.proofs.lemmas.List.Folds.{list_any_at}
-use Rattle.rams_model.specs.declared.fault.TlvFault.{TlvFault}
-use Rattle.rams_model.specs.declared.held.Held.{Held}
-use Rattle.rams_model.specs.declared.note.Note.{Note}
+use Rattle.rams_model.specs.Types.{TlvFault, Held, Note}
 use Rattle.rams_model.specs.declared.note.Note.TheVariants.{Update, Again, Refuse}
-use Rattle.rams_model.specs.Settings.{Settings}
-use Rattle.rams_model.specs.Rams.{Request, is_listed, names}
-use Rattle.rams_model.specs.Access.{is_eligible, age, is_at_most, chosen}
-use Rattle.rams_model.specs.Rates.{rate_of}
-use Rattle.rams_model.specs.History.{History, hold}
-use Rattle.rams_model.specs.Clients.{known, opened, is_among}
-use Rattle.rams_model.specs.Bursts.{Burst, next, open_burst, has_open}
-use Rattle.rams_model.specs.Buckets.{most_of, reserved}
-use Rattle.rams_model.specs.Verdict.{is_slow, is_too_much, is_full, join_from, begins, changes, on_burst, on_request, verdict}
+use Rattle.rams_model.specs.Service.{Settings, rate_of, History, hold, known, opened, is_among, Burst, next, open_burst, has_open, most_of, reserved, is_slow, is_too_much, is_full, join_from, begins, changes, on_burst, on_request, verdict}
+use Rattle.rams_model.specs.Formats.{Request, is_listed, names}
+use Rattle.rams_model.specs.Packets.{is_eligible, age, is_at_most, chosen}
 use Rattle.rams_model.specs.Laws.{Rises, IsAmong, IsNewest, NonePasses, is_old_enough, IsRefusedFor, IsChoice}
-use Rattle.rams_model.specs.Laws as laws
+use Rattle.rams_model.specs.Laws.Meaning as laws
 use Rattle.rams_model.proofs.Since.{opened_stands}
 use Rattle.rams_model.proofs.LastAccept.{open_stands}
 use Rattle.rams_model.proofs.Holding.{held_follow, rises_from}
 use Rattle.rams_model.proofs.Rising.{lower}
 use Rattle.rams_model.proofs.Choosing.{newest_chosen}
-use Rattle.book_laws.specs.Answering.{IsFirst}
+use Rattle.book_laws.specs.{IsFirst}
 use Rattle.book_laws.specs.Refusals.{Line, unread, preamble, foreign, again, slow_update, large_update, update, full, no_start, young, old, slow, large, accept, table, asked, NamesOthers, IsSlow, AsksNoOther, IsLargeInPlace, HasBurst, IsFull, least_age, IsTooOld, Applies, joins_in, Gives}
 use Rattle.book_laws.proofs.FirstLines.{first_here, first_later}
 

@@ -3,20 +3,11 @@ use Rattle.std.proofs.Common.{◌≡◌, ℕ, ◌+◌, ◌-◌, ◌≤◌, true,
 use Rattle.std.specs.Prelude.{Result, Ok, Err, unwrap_or, if◌then◌else◌}
 use Rattle.std.specs.List.{sum_by}
 use Rattle.std.proofs.lemmas.Bool.{cond_both, cond-true, cond-false, cases_Bool, eqb-true, eqb-false, ne_eqb, eq-eqb, ltb-false, or_left}
-use Rattle.rams_model.specs.declared.fault.TlvFault.{TlvFault}
-use Rattle.rams_model.specs.declared.held.Held.{Held}
-use Rattle.rams_model.specs.declared.note.Note.{Note}
+use Rattle.rams_model.specs.Types.{TlvFault, Held, Note}
 use Rattle.rams_model.specs.declared.note.Note.TheVariants as note
-use Rattle.rams_model.specs.Settings.{Settings}
-use Rattle.rams_model.specs.Rams.{Request, names}
-use Rattle.rams_model.specs.Access.{chosen}
-use Rattle.rams_model.specs.Rates.{rate_of}
-use Rattle.rams_model.specs.Heard.{tick}
-use Rattle.rams_model.specs.History.{began, told, noted, History, hold}
-use Rattle.rams_model.specs.Clients.{opened, is_among, placed, with_client, without}
-use Rattle.rams_model.specs.Bursts.{Burst, next, bursts, open_burst, has_open}
-use Rattle.rams_model.specs.Buckets.{most_of, reserved}
-use Rattle.rams_model.specs.Verdict.{asked_rate, is_slow, is_too_much, is_full, join_from, begins, changes, on_burst, on_request, verdict}
+use Rattle.rams_model.specs.Service.{Settings, rate_of, tick, began, told, noted, History, hold, opened, is_among, placed, with_client, without, Burst, next, bursts, open_burst, has_open, most_of, reserved, asked_rate, is_slow, is_too_much, is_full, join_from, begins, changes, on_burst, on_request, verdict}
+use Rattle.rams_model.specs.Formats.{Request, names}
+use Rattle.rams_model.specs.Packets.{chosen}
 use Rattle.book_laws.proofs.Legal.{IsVerdict, IsLegal}
 use Rattle.book_laws.proofs.Sums.{one_at, times, all_sum, sum_without, sum_placed, times-none, times-among, others_sum, one_changed, part_of_sum}
 use Rattle.book_laws.proofs.BurstAmounts.{opened_open, open_among, closed_among, most_falls, most_begun, most_changed, most_at_tick, of_others}

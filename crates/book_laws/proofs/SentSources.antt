@@ -4,17 +4,15 @@ use Rattle.std.specs.Prelude.{IsSomeAnd, All, Contains}
 use Rattle.std.proofs.lemmas.Bool.{cond_both}
 use Rattle.std.proofs.lemmas.List.{take-append-drop}
 use Rattle.std.proofs.lemmas.List.Elements.{All-nil, All-push, All-weaker, Contains-append_left, Contains-append_right}
-use Rattle.rams_model.specs.declared.held.Held.{Held}
+use Rattle.rams_model.specs.Types.{Held}
 use Rattle.rams_model.specs.declared.note.Note.TheVariants as note
-use Rattle.rams_model.specs.Settings.{Settings}
-use Rattle.rams_model.specs.Source.{Stream, consecutive_end, stream_of}
-use Rattle.rams_model.specs.Source as sources
-use Rattle.rams_model.specs.CatchUp.{source}
-use Rattle.rams_model.specs.Heard.{live}
-use Rattle.rams_model.specs.History.{Item, began, told, noted, History, arrivals, hold}
+use Rattle.rams_model.specs.Service.{Settings, live, Item, began, told, noted, History, arrivals, hold}
+use Rattle.rams_model.specs.Packets.{Stream, consecutive_end, stream_of}
+use Rattle.rams_model.specs.Packets.Source as sources
+use Rattle.rams_model.specs.Laws.{source}
 use Rattle.rams_model.proofs.Growing.{source_grows}
 use Rattle.rams_model.proofs.Holding.{longest_end}
-use Rattle.book_laws.specs.Sendings.{Sending, sending, first_sendings, IsPacketOf}
+use Rattle.book_laws.specs.{Sending, sending, first_sendings, IsPacketOf}
 use Rattle.book_laws.proofs.Legal.{IsLegal, Sends}
 
 -- what is held is of the source

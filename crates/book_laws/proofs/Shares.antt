@@ -2,17 +2,11 @@
 use Rattle.std.proofs.Common.{◌≡◌, ℕ, ◌≤◌, true, [], ◌∷◌, Option, refl, ap, arith}
 use Rattle.std.specs.List.{sum_by}
 use Rattle.std.proofs.lemmas.Bool.{eq-eqb}
-use Rattle.rams_model.specs.declared.held.Held.{Held}
-use Rattle.rams_model.specs.declared.note.Note.{Note}
+use Rattle.rams_model.specs.Types.{Held, Note}
 use Rattle.rams_model.specs.declared.note.Note.TheVariants as note
-use Rattle.rams_model.specs.Settings.{Settings}
-use Rattle.rams_model.specs.Heard.{tick}
-use Rattle.rams_model.specs.History.{began, told, noted, History}
-use Rattle.rams_model.specs.Clients.{opened}
-use Rattle.rams_model.specs.Bursts.{size_of, open_burst}
-use Rattle.rams_model.specs.Buckets.{most_of, channel_left}
+use Rattle.rams_model.specs.Service.{Settings, tick, began, told, noted, History, opened, size_of, open_burst, most_of, channel_left}
 use Rattle.rams_model.specs.Laws.{is_sending}
-use Rattle.book_laws.specs.Budgets.{left_of}
+use Rattle.book_laws.specs.{left_of}
 use Rattle.book_laws.proofs.Legal.{in_runs, Sends, IsLegal}
 use Rattle.book_laws.proofs.Sums.{all_sum, less_by, part_of_sum, sum_without}
 use Rattle.book_laws.proofs.BurstAmounts.{open_among, left_falls, left_taken, left_at_tick}

@@ -3,19 +3,12 @@ use Rattle.std.proofs.Common.{◌≡◌, ℕ, zero, suc, add-zero, ◌+◌, ◌�
 use Rattle.std.specs.List.{range_with_len}
 use Rattle.std.proofs.lemmas.Bool.{both_ways, cond-true, eqb-true, eq-eqb, ltb-true}
 use Rattle.std.proofs.lemmas.List.{map-append, length_push}
-use Rattle.rams_model.specs.declared.held.Held.{Held}
-use Rattle.rams_model.specs.declared.note.Cause.{Cause}
+use Rattle.rams_model.specs.Types.{Held, Cause}
 use Rattle.rams_model.specs.declared.note.Cause.TheVariants as cause
 use Rattle.rams_model.specs.declared.note.Note.TheVariants as note
-use Rattle.rams_model.specs.Settings.{Settings}
-use Rattle.rams_model.specs.Rates.{stop_of}
-use Rattle.rams_model.specs.Heard.{tick}
-use Rattle.rams_model.specs.History.{began, told, noted, History}
-use Rattle.rams_model.specs.Clients.{sequence}
-use Rattle.rams_model.specs.Bursts.{Burst, next, begun, in_tick, after_note, newest_changed, size_of, bursts, if_open, newest_open}
-use Rattle.rams_model.specs.Answers.{is_before}
+use Rattle.rams_model.specs.Service.{Settings, stop_of, tick, began, told, noted, History, sequence, Burst, next, begun, in_tick, after_note, newest_changed, size_of, bursts, if_open, newest_open, is_before}
 use Rattle.rams_model.specs.Laws.{NoneIs, is_accept_of, IsByStop}
-use Rattle.book_laws.specs.Sendings.{Sending, sending, first_sendings, AreNumberedFrom}
+use Rattle.book_laws.specs.{Sending, sending, first_sendings, AreNumberedFrom}
 use Rattle.book_laws.proofs.Legal.{IsLegal, Sends, Stops, Ends, EndsFor}
 
 -- the number of the newest StopAt of the client

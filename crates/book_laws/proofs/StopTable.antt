@@ -2,26 +2,15 @@
 use Rattle.std.proofs.Common.{◌≡◌, ℕ, true, false, cond, not, ◌&&◌, List, [], ◌∷◌, ◌++◌, Option, Some, None, refl, sym, eqb}
 use Rattle.std.specs.Prelude.{IsSomeAnd, Result, Ok, Err}
 use Rattle.std.proofs.lemmas.Bool.{cond_both, both_ways, and_parts, and_from, not-true, not-false, eqb-true, eqb-false, true≢false}
-use Rattle.rams_model.specs.declared.event.Event.{Event}
-use Rattle.rams_model.specs.declared.fault.TlvFault.{TlvFault}
-use Rattle.rams_model.specs.declared.message.Stop.{Stop}
+use Rattle.rams_model.specs.Types.{Event, TlvFault, Stop, Note}
 use Rattle.rams_model.specs.declared.note.Cause.TheVariants as cause
-use Rattle.rams_model.specs.declared.note.Note.{Note}
 use Rattle.rams_model.specs.declared.note.Note.TheVariants as note
-use Rattle.rams_model.specs.Settings.{Settings}
-use Rattle.rams_model.specs.Rtcp.{Framed, bye_names}
-use Rattle.rams_model.specs.Rates.{stop_of}
-use Rattle.rams_model.specs.Numbering.{least_from}
-use Rattle.rams_model.specs.Messages.{bye, stops}
-use Rattle.rams_model.specs.History.{told, noted, History}
-use Rattle.rams_model.specs.Clients.{known, is_among, ssrc}
-use Rattle.rams_model.specs.Bursts.{Burst, next, open_burst, has_open}
-use Rattle.rams_model.specs.Answers.{stop_set, on_stop, stop_burst, after_stop, is_bye_of, after_bye}
-use Rattle.rams_model.specs.Book.{history_of}
+use Rattle.rams_model.specs.Service.{Settings, stop_of, bye, stops, told, noted, History, known, is_among, ssrc, Burst, next, open_burst, has_open, stop_set, on_stop, stop_burst, after_stop, is_bye_of, after_bye, history_of}
+use Rattle.rams_model.specs.Formats.{Framed, bye_names}
+use Rattle.rams_model.specs.Packets.{least_from}
 use Rattle.rams_model.proofs.Stopping.{least_named}
-use Rattle.book_laws.specs.Answering.{AreNotes, items_of, AnsweredBy}
+use Rattle.book_laws.specs.{AreNotes, items_of, AnsweredBy, AnswersStop, unread, idle, kept, set, passed, Leaves, AnswersBye, other, left, ended}
 use Rattle.book_laws.specs.Stops.{IsStopFor}
-use Rattle.book_laws.specs.StopAnswers.{AnswersStop, unread, idle, kept, set, passed, Leaves, AnswersBye, other, left, ended}
 use Rattle.book_laws.proofs.Answering.{are_whole}
 use Rattle.book_laws.proofs.RequestAnswers.{answered_by}
 

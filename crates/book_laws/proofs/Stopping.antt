@@ -4,23 +4,16 @@ use Rattle.std.specs.Prelude.{is_some, Ok, All}
 use Rattle.std.specs.List.{range_with_len}
 use Rattle.std.proofs.lemmas.Bool.{both_ways, cond-true, cond-false, or_from, and_right, cond_both, eqb-true, eq-eqb, true≢false}
 use Rattle.std.proofs.lemmas.List.Elements.{All-nil, All-cons, All-weaker}
-use Rattle.rams_model.specs.declared.held.Held.{Held}
-use Rattle.rams_model.specs.declared.note.Cause.{Cause}
+use Rattle.rams_model.specs.Types.{Held, Cause, Note}
 use Rattle.rams_model.specs.declared.note.Cause.TheVariants as cause
-use Rattle.rams_model.specs.declared.note.Note.{Note}
 use Rattle.rams_model.specs.declared.note.Note.TheVariants as note
-use Rattle.rams_model.specs.Settings.{Settings}
-use Rattle.rams_model.specs.Numbering.{least_from}
-use Rattle.rams_model.specs.Rates.{stop_of}
-use Rattle.rams_model.specs.Messages.{stops}
-use Rattle.rams_model.specs.History.{Item, began, told, noted, History}
-use Rattle.rams_model.specs.Bursts.{Burst, next, bursts, if_open, newest_open, open_burst, has_open}
+use Rattle.rams_model.specs.Service.{Settings, stop_of, stops, Item, began, told, noted, History, Burst, next, bursts, if_open, newest_open, open_burst, has_open}
+use Rattle.rams_model.specs.Packets.{least_from}
 use Rattle.rams_model.specs.Laws.{NoneIs, is_accept_of, is_end_of, IsByStop}
 use Rattle.rams_model.proofs.Since.{stands, stands_from, stands_to}
 use Rattle.rams_model.proofs.LastAccept.{open_stands}
 use Rattle.rams_model.proofs.Stopping.{least_named}
-use Rattle.book_laws.specs.Moments.{LastAccept}
-use Rattle.book_laws.specs.Sendings.{Sending, sending, first_sendings, AreNumberedFrom}
+use Rattle.book_laws.specs.{LastAccept, Sending, sending, first_sendings, AreNumberedFrom}
 use Rattle.book_laws.specs.Stops.{Stands, next_number, EndsAtItsStop, HasEnded, IsStopFor, is_any_stop, StopsAsNamed}
 use Rattle.book_laws.proofs.Legal.{IsLegal, legal_part, Sends, Stops, Ends}
 use Rattle.book_laws.proofs.Answering.{is_answered}

@@ -5,7 +5,7 @@ use Rattle.std.proofs.Math.Bool.{not-not}
 use Rattle.std.proofs.lemmas.Bool.{cond_both, cond-true, cond-false, cases_Bool, or_cases, or_parts, eqb-true}
 use Rattle.std.proofs.lemmas.List.Sums.{sum_by-cons, sum_by-le-sum_by}
 use Rattle.std.proofs.lemmas.List.Filters.{sum_by-filter_both}
-use Rattle.rams_model.specs.Clients.{is_among, placed, without}
+use Rattle.rams_model.specs.Service.{is_among, placed, without}
 
 -- a client's part is within the sum
 pub part_of_sum : (f : ℕ → ℕ) (k : ℕ) (ks : List ℕ) → is_among k ks ≡ true → f k ≤ sum_by f ks

@@ -1,8 +1,7 @@
 -- Which message a note answers, what notes answer a message, and which line of a table is the first that applies.
 use Rattle.std.specs.Prelude.{◌≡◌, ℕ, List, [], ◌∷◌, ◌++◌, None}
-use Rattle.rams_model.specs.declared.note.Note.{Note}
-use Rattle.rams_model.specs.Messages.{Message}
-use Rattle.rams_model.specs.History.{Item, told, noted, History}
+use Rattle.rams_model.specs.Types.{Note}
+use Rattle.rams_model.specs.Service.{Message, Item, told, noted, History}
 
 -- these items are notes
 abbrev pub AreNotes : History → Type 0

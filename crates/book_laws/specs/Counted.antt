@@ -1,11 +1,6 @@
 -- What the tables count: the known clients, the open bursts and what they reserve, the pending repairs.
 use Rattle.std.specs.Prelude.{◌≡◌, ℕ, ◌+◌, IsTrue, ◌↔◌, List, [], ◌∷◌, Contains}
-use Rattle.rams_model.specs.Settings.{Settings}
-use Rattle.rams_model.specs.History.{History}
-use Rattle.rams_model.specs.Clients.{known, opened, is_among}
-use Rattle.rams_model.specs.Bursts.{has_open}
-use Rattle.rams_model.specs.Pending.{wanted, pending, is_pending}
-use Rattle.rams_model.specs.Buckets.{reserved}
+use Rattle.rams_model.specs.Service.{Settings, History, known, opened, is_among, has_open, wanted, pending, is_pending, reserved}
 use Rattle.book_laws.specs.Moments.{IsMoment}
 use Rattle.book_laws.specs.Refusals.{HasBurst}
 

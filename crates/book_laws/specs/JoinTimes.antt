@@ -1,17 +1,12 @@
 -- The join time that a client is told is kept where its burst is quiet.
 use Rattle.std.specs.Prelude.{◌≡◌, ℕ, ◌+◌, ◌≤◌, Bool, ◌==◌, if◌then◌else◌, List, [], ◌∷◌, Some}
-use Rattle.rams_model.specs.declared.event.Event.{Event}
+use Rattle.rams_model.specs.Types.{Event}
 use Rattle.rams_model.specs.declared.event.Event.TheVariants.{Tick}
 use Rattle.rams_model.specs.declared.note.Cause.TheVariants.{Lost}
 use Rattle.rams_model.specs.declared.note.Note.TheVariants.{Accept, Update, End}
-use Rattle.rams_model.specs.Settings.{Settings}
-use Rattle.rams_model.specs.Hold.{hi}
-use Rattle.rams_model.specs.Heard.{tick}
-use Rattle.rams_model.specs.History.{Item, began, noted, History, hold}
-use Rattle.rams_model.specs.Bursts.{Burst, next, open_burst}
-use Rattle.rams_model.specs.Book.{history_of}
-use Rattle.rams_model.specs.CatchUp.{IsQuietBurst, told_join}
-use Rattle.rams_model.specs.Laws.{NoneIs}
+use Rattle.rams_model.specs.Service.{Settings, tick, Item, began, noted, History, hold, Burst, next, open_burst, history_of}
+use Rattle.rams_model.specs.Packets.{hi}
+use Rattle.rams_model.specs.Laws.{IsQuietBurst, told_join, NoneIs}
 use Rattle.book_laws.specs.Moments.{IsMoment, LastAccept}
 
 -- an End of the client's burst because its next packet is no longer held

@@ -1,14 +1,11 @@
 -- Worked examples: a burst that is quiet, and one that is lost, which was not.
 use Rattle.std.specs.Prelude.{◌≡◌, true, false, List, [], ◌∷◌}
-use Rattle.rams_model.specs.declared.event.Event.{Event}
+use Rattle.rams_model.specs.Types.{Event}
 use Rattle.rams_model.specs.declared.event.Event.TheVariants.{Feedback, Tick}
 use Rattle.rams_model.specs.declared.note.Cause.TheVariants.{Lost}
 use Rattle.rams_model.specs.declared.note.Note.TheVariants.{End}
-use Rattle.rams_model.specs.Settings.{Settings}
-use Rattle.rams_model.specs.Bursts.{has_open}
-use Rattle.rams_model.specs.Orders.{newest_answer}
-use Rattle.rams_model.specs.Book.{history_of}
-use Rattle.rams_model.specs.CatchUp.{IsQuietBurst, told_join}
+use Rattle.rams_model.specs.Service.{Settings, has_open, newest_answer, history_of}
+use Rattle.rams_model.specs.Laws.{IsQuietBurst, told_join}
 use Rattle.rams_model.specs.Worked.Setting.{channel, with_ticks, packet}
 use Rattle.book_laws.specs.JoinTimes.{ticks_since_told}
 

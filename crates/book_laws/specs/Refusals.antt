@@ -1,20 +1,10 @@
 -- The table by which a RAMS-R is answered (RFC 6285, 6.2 and 7.2), line by line, and that each answer keeps it.
 use Rattle.std.specs.Prelude.{◌≡◌, ℕ, ◌+◌, ◌*◌, ◌/◌, ◌<◌, ◌≤◌, min, IsTrue, IsFalse, ◌⊎◌, ◌↔◌, List, [], ◌∷◌, ◌++◌, length, Contains, Option, Some, None, IsSomeAnd, unwrap_or, Result, Err, IsErr, IsOkAnd}
-use Rattle.rams_model.specs.declared.event.Event.{Event}
-use Rattle.rams_model.specs.declared.fault.TlvFault.{TlvFault}
-use Rattle.rams_model.specs.declared.held.Held.{Held}
-use Rattle.rams_model.specs.declared.note.Note.{Note}
+use Rattle.rams_model.specs.Types.{Event, TlvFault, Held, Note}
 use Rattle.rams_model.specs.declared.note.Note.TheVariants.{Accept, Update, Again, Refuse}
-use Rattle.rams_model.specs.Settings.{Settings}
-use Rattle.rams_model.specs.Rams.{Request}
-use Rattle.rams_model.specs.Access.{is_eligible, age, behind}
-use Rattle.rams_model.specs.Rates.{join_ticks}
-use Rattle.rams_model.specs.Messages.{asks, stops}
-use Rattle.rams_model.specs.History.{told, noted, History, hold}
-use Rattle.rams_model.specs.Clients.{known, is_among}
-use Rattle.rams_model.specs.Bursts.{Burst, next, open_burst}
-use Rattle.rams_model.specs.Buckets.{reserved}
-use Rattle.rams_model.specs.Book.{history_of}
+use Rattle.rams_model.specs.Service.{Settings, join_ticks, asks, stops, told, noted, History, hold, known, is_among, Burst, next, open_burst, reserved, history_of}
+use Rattle.rams_model.specs.Formats.{Request}
+use Rattle.rams_model.specs.Packets.{is_eligible, age, behind}
 use Rattle.rams_model.specs.Laws.{IsNewest, NonePasses, is_old_enough}
 use Rattle.book_laws.specs.Moments.{IsMoment}
 use Rattle.book_laws.specs.Answering.{IsAnswered, AnsweredBy, IsFirst}

@@ -1,23 +1,14 @@
 -- What clients are sent of their bursts.
 use Rattle.std.specs.Prelude.{◌≡◌, ℕ, ◌<◌, Bool, ◌==◌, if◌then◌else◌, ◌⊎◌, List, [], ◌∷◌, ◌++◌, length, map, filter_map, Option, Some, None, IsSomeAnd, Ok, unwrap_or, All, Contains}
 use Rattle.std.specs.List.{range_with_len}
-use Rattle.rams_model.specs.declared.answer.Order.{Order}
+use Rattle.rams_model.specs.Types.{Order, Held, Note}
 use Rattle.rams_model.specs.declared.answer.Order.TheVariants as order
 use Rattle.rams_model.specs.declared.event.Event.TheVariants.{Live}
-use Rattle.rams_model.specs.declared.held.Held.{Held}
 use Rattle.rams_model.specs.declared.note.LiveNote.TheVariants.{Took, Restart}
-use Rattle.rams_model.specs.declared.note.Note.{Note}
 use Rattle.rams_model.specs.declared.note.Note.TheVariants as note
-use Rattle.rams_model.specs.Settings.{Settings}
-use Rattle.rams_model.specs.Packet.{Packet, retransmission}
-use Rattle.rams_model.specs.Rtp.{packet_at}
-use Rattle.rams_model.specs.Rams.{Request}
-use Rattle.rams_model.specs.Messages.{asks}
-use Rattle.rams_model.specs.History.{noted, History, hold}
-use Rattle.rams_model.specs.CatchUp.{source}
-use Rattle.rams_model.specs.Orders.{datagram}
-use Rattle.rams_model.specs.Book.{Entry, Book, IsLawful}
-use Rattle.rams_model.specs.Laws.{IsChoice, StandsWithout, is_accept_of, is_end_of}
+use Rattle.rams_model.specs.Service.{Settings, asks, noted, History, hold, datagram, Entry, Book, IsLawful}
+use Rattle.rams_model.specs.Formats.{Packet, retransmission, packet_at, Request}
+use Rattle.rams_model.specs.Laws.{source, IsChoice, StandsWithout, is_accept_of, is_end_of}
 use Rattle.book_laws.specs.Moments.{IsMoment, LastAccept}
 use Rattle.book_laws.specs.Answering.{IsAnswered}
 

@@ -1,6 +1,6 @@
 //! Laws of budgets. A budget is a bucket: each tick adds to it, a packet takes its wire size, and
 //! at most a depth is kept from tick to tick.
-ghost use Rattle.book_laws.specs.Budgets.{ClientsStayWithinTheirBudgets, ClientsAreSentAtMostRateAndDepth, ChannelsStayWithinTheirBudgets, ChannelsSendAtMostShareAndSwell, OnlyTicksSend, ReservesFitTheShare, EachOpenBurstCountsOnce, RunsAreCovered, EachRunIsCovered, RunsComeFirst, ClientsAreSentAtMostTheirGains, BurstsAreSentAtMostTheirRates, ClientsAreSentAtMostBurst, ChannelsSendAtMostTheirShares};
+ghost use Rattle.book_laws.specs.{ClientsStayWithinTheirBudgets, ClientsAreSentAtMostRateAndDepth, ChannelsStayWithinTheirBudgets, ChannelsSendAtMostShareAndSwell, OnlyTicksSend, ReservesFitTheShare, EachOpenBurstCountsOnce, RunsAreCovered, EachRunIsCovered, RunsComeFirst, ClientsAreSentAtMostTheirGains, BurstsAreSentAtMostTheirRates, ClientsAreSentAtMostBurst, ChannelsSendAtMostTheirShares};
 
 /// In each tick a client is sent at most the rate of its open burst and what that burst kept, or
 /// `burst` where it has none.

@@ -1,6 +1,5 @@
 //! Why the join time that a client is told is kept: after it the burst has caught up with the source.
-ghost use Rattle.book_laws.specs.JoinTimes.{QuietBurstsAreNeverLost, QuietBurstsKeepTheirJoinTimes};
-ghost use Rattle.book_laws.specs.QuietBurst.{QuietForThreeTicks, LostWhereTooMuchComes};
+ghost use Rattle.book_laws.specs.{QuietBurstsAreNeverLost, QuietBurstsKeepTheirJoinTimes, QuietForThreeTicks, LostWhereTooMuchComes};
 
 /// A burst is quiet where, from its Accept until its End or until now, nothing is missing in the
 /// source from its first packet on, no packet there is smaller than `minwire`, and no tick adds more

@@ -1,5 +1,5 @@
 //! The sequence numbers of what a client is sent, and the one that an Accept names.
-ghost use Rattle.book_laws.specs.Numbers.{TheFirstSendingHasTheNumberThatTheAcceptNamed, RepairsComeAfterTheFirstSending};
+ghost use Rattle.book_laws.specs.{TheFirstSendingHasTheNumberThatTheAcceptNamed, RepairsComeAfterTheFirstSending};
 
 /// The first sending of a burst has the sequence number that TLV 32 of the Accept's RAMS-I names,
 /// and what the client is sent from then on has the ones after it (RFC 6285, 7.3).

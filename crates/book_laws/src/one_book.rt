@@ -1,5 +1,5 @@
 //! There is one book, and the laws on moments speak of it.
-ghost use Rattle.book_laws.specs.OneBook.{ExactlyOneBook, EarlierPartsAreLawful, BooksTellTheHistory, EachNoteWasMadeAtAMoment, EachMomentIsInABook};
+ghost use Rattle.book_laws.specs.{ExactlyOneBook, EarlierPartsAreLawful, BooksTellTheHistory, EachNoteWasMadeAtAMoment, EachMomentIsInABook};
 
 /// For each list of events there is exactly one lawful book, and nothing that was answered changes
 /// later.

@@ -1,8 +1,6 @@
 //! Laws of the answers to feedback: each is that of the first line of its table that applies.
-ghost use Rattle.book_laws.specs.Counted.{WhatIsCountedStandsOnce};
-ghost use Rattle.book_laws.specs.Nacks.{NackAnswersAreTrue, ForeignNacksAreTrue, NacksAreAnsweredInOrder};
+ghost use Rattle.book_laws.specs.{WhatIsCountedStandsOnce, NackAnswersAreTrue, ForeignNacksAreTrue, NacksAreAnsweredInOrder, StopsAreAnsweredExactly, ByesAreAnsweredExactly};
 ghost use Rattle.book_laws.specs.Refusals.{RefusalsAreTrue, AcceptsAreByTheTable, UpdatesAreByTheTable, AgainsAreByTheTable, RequestsAreAnsweredExactly, OneLineIsFirst};
-ghost use Rattle.book_laws.specs.StopAnswers.{StopsAreAnsweredExactly, ByesAreAnsweredExactly};
 
 /// The cause of each refusal was true in what stood before it, and no earlier line of the table
 /// was.

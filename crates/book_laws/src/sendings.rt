@@ -1,5 +1,5 @@
 //! What clients are sent of their bursts.
-ghost use Rattle.book_laws.specs.Sendings.{FirstSendingsAreConsecutive, WhatIsSentIsHeld, NothingIsSentUnasked, WhoeverWasAcceptedHasALastAccept, ABurstBeginsAtAnEligibleAccessPoint, EachDatagramIsTheRetransmissionOfASourcePacket, EachSendingIsOrderedOnce};
+ghost use Rattle.book_laws.specs.{FirstSendingsAreConsecutive, WhatIsSentIsHeld, NothingIsSentUnasked, WhoeverWasAcceptedHasALastAccept, ABurstBeginsAtAnEligibleAccessPoint, EachDatagramIsTheRetransmissionOfASourcePacket, EachSendingIsOrderedOnce};
 
 /// The packets sent of a burst are numbered from the one that its Accept named, without a gap, and
 /// are the source's.

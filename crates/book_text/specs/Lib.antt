@@ -1,1 +1,3 @@
 pub mod NoChannel
+
+unfoldable pub use NoChannel.*

@@ -1,8 +1,7 @@
 //! A line's beginning, and the lines that are no notes.
 ghost use Rattle.std.specs.Prelude.{◌≡◌, ◌+◌, ◌≤◌, ◌++◌, OnOk, codes, decimal, length};
-ghost use Rattle.book_text.specs.NoChannel.{no_channel_line};
-ghost use Rattle.rams_model.specs.BookText.{spaced, send_line, line_fault_word, refused_line};
-ghost use Rattle.rams_model.specs.Words.{hex_word};
+ghost use Rattle.book_text.specs.{no_channel_line};
+ghost use Rattle.rams_model.specs.Texts.{spaced, send_line, line_fault_word, refused_line, hex_word};
 
 use crate::tail::Tail;
 use hex_text::append_encoded;
@@ -21,7 +20,7 @@ pub fn begin(line: &mut Tail, event: u64, id: u16)
 }
 
 /// The line of a datagram to a client: `EVENT ID send CLIENT HEX`, with `-` for no bytes.
-#[tactic(auto, unfolding(rams_model::specs::BookText::send_line))]
+#[tactic(auto, unfolding(rams_model::specs::Texts::BookText::send_line))]
 pub fn append_send(
     text: &mut Vec<u8>,
     event: u64,

@@ -1,6 +1,6 @@
 //! The lines of notes.
 ghost use Rattle.std.specs.Prelude.{◌≡◌, ◌∷◌, ◌++◌, ◌+◌, ◌≤◌, OnOk, codes, length};
-ghost use Rattle.rams_model.specs.BookText.{spaced, of_number, of_word, live_words, note_words, note_line, rtp_fault_word, frame_fault_word, cause_word};
+ghost use Rattle.rams_model.specs.Texts.{spaced, of_number, of_word, live_words, note_words, note_line, rtp_fault_word, frame_fault_word, cause_word};
 
 use crate::line::begin;
 use crate::tail::Tail;
@@ -8,7 +8,7 @@ use ram_io::NoMemory;
 use rams_model::{Cause, FrameFault, LiveNote, Note, RtpFault};
 
 /// The line of a note: `EVENT ID`, and the note's words, as `5 7 burst 5 65547 500`.
-#[tactic(auto, unfolding(rams_model::specs::BookText::note_line))]
+#[tactic(auto, unfolding(rams_model::specs::Texts::BookText::note_line))]
 pub fn append_note(text: &mut Vec<u8>, event: u64, id: u16, note: &Note) -> Result<(), NoMemory>
     ensures { OnOk result (text.new.items ≡ text.old.items ++ note_line event id note.now) }
 {

@@ -1,6 +1,6 @@
 //! The end of a line, which grows at its front.
 ghost use Rattle.std.specs.Prelude.{◌≡◌, ◌+◌, ◌≤◌, ◌<◌, ◌++◌, [], ◌∷◌, OnOk, length, decimal};
-ghost use Rattle.rams_model.specs.BookText.{spaced, of_number};
+ghost use Rattle.rams_model.specs.Texts.{spaced, of_number};
 
 use itoa::write_digits;
 use ram_io::NoMemory;

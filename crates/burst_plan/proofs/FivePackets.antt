@@ -1,7 +1,7 @@
 -- The worked example computes.
 use Rattle.std.proofs.Common.{refl, lit≤}
-use Rattle.rams_model.specs.Tick.{run}
-use Rattle.burst_plan.specs.Example.{CatchesUpInThreeTicks}
+use Rattle.rams_model.specs.Service.{run}
+use Rattle.burst_plan.specs.{CatchesUpInThreeTicks}
 
 pub three_ticks_suffice : CatchesUpInThreeTicks
 unfolding run

@@ -2,8 +2,8 @@
 use Rattle.std.proofs.Common.{◌≡◌, ℕ, suc, ◌+◌, ◌-◌, ◌*◌, ◌/◌, ◌%◌, ◌<◌, ◌≤◌, min, arith}
 use Rattle.std.proofs.Math.Nat.{suc-mul, lt-div-mul-add, div-lt_iff_lt-mul, lt_of_mul-lt-mul_right}
 use Rattle.std.proofs.lemmas.Grind.{div_ceil_times}
-use Rattle.rams_model.specs.Rates.{ceiling, join_ticks}
-use Rattle.burst_plan.specs.JoinTime.{gain, IsLeastTicks, JoinTimesAreLeast, JoinTimesAreKept}
+use Rattle.rams_model.specs.Service.{ceiling, join_ticks}
+use Rattle.burst_plan.specs.{gain, IsLeastTicks, JoinTimesAreLeast, JoinTimesAreKept}
 use Rattle.rams_model.proofs.Catching.{catching_up_ends}
 
 -- a number divided and rounded up is the least multiple that reaches it

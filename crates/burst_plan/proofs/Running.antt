@@ -3,16 +3,11 @@ use Rattle.std.proofs.Common.{◌≡◌, ℕ, ◌+◌, ◌-◌, ◌<◌, ◌≤�
 use Rattle.std.proofs.lemmas.List.Sums.{sum_by-cons, sum_by-append}
 use Rattle.std.proofs.lemmas.Bool.{cond_both, both_ways, lt-ltb, ltb-true, leb-true, eq-eqb, eqb-false, and_parts, and_from}
 use Rattle.std.proofs.lemmas.Bool.Decides.{leb_tells}
-use Rattle.rams_model.specs.declared.held.Held.{Held}
-use Rattle.rams_model.specs.Hold.{wires}
-use Rattle.rams_model.specs.Answers.{is_before}
-use Rattle.rams_model.specs.Rates.{waste}
-use Rattle.rams_model.specs.Tick.{run, is_stop}
-use Rattle.rams_model.specs.Laws.{IsByStop}
-use Rattle.rams_model.specs.Source.{Follows}
-use Rattle.rams_model.specs.CatchUp.{ComesNearer, CatchesUp}
-use Rattle.burst_plan.specs.JoinTime.{gain}
-use Rattle.burst_plan.specs.QuietTicks.{Burst, Tick, AreAtMost, sent, unsent, after, IsLawful, AreQuiet, pair, pairs_after, AreWithin, QuietTicksComeNearer, QuietBurstsKeepTheirJoinTime, QuietBurstsFallBackNoFurther}
+use Rattle.rams_model.specs.Types.{Held}
+use Rattle.rams_model.specs.Packets.{wires, Follows}
+use Rattle.rams_model.specs.Service.{is_before, waste, run, is_stop}
+use Rattle.rams_model.specs.Laws.{IsByStop, ComesNearer, CatchesUp}
+use Rattle.burst_plan.specs.{gain, Burst, Tick, AreAtMost, sent, unsent, after, IsLawful, AreQuiet, pair, pairs_after, AreWithin, QuietTicksComeNearer, QuietBurstsKeepTheirJoinTime, QuietBurstsFallBackNoFurther}
 use Rattle.burst_plan.proofs.JoinTimes.{kept_join}
 
 wires-cons : (h : Held) (hs : List Held) → wires (h ∷ hs) ≡ h.wire + wires hs

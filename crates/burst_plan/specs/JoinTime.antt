@@ -1,7 +1,7 @@
 -- What the join time of a burst means.
 use Rattle.std.specs.Prelude.{ℕ, ◌+◌, ◌-◌, ◌*◌, ◌≤◌, List, ◌∷◌, drop}
-use Rattle.rams_model.specs.Rates.{waste, join_ticks}
-use Rattle.rams_model.specs.CatchUp.{CatchesUp, NothingIsLeft}
+use Rattle.rams_model.specs.Service.{waste, join_ticks}
+use Rattle.rams_model.specs.Laws.{CatchesUp, NothingIsLeft}
 
 -- What a tick gains on the source at least: its rate, less what is lost where a packet doesn't fit, and what the source adds.
 abbrev pub gain : ℕ → ℕ → ℕ → ℕ

@@ -1,12 +1,9 @@
 -- The ticks of a burst that is quiet, over plain numbers and the runs that they send: how it catches up.
 use Rattle.std.specs.Prelude.{ℕ, ◌+◌, ◌-◌, ◌<◌, ◌≤◌, min, IsFalse, List, [], ◌∷◌, ◌++◌, length, drop, Option}
-use Rattle.rams_model.specs.declared.held.Held.{Held}
-use Rattle.rams_model.specs.Hold.{wires}
-use Rattle.rams_model.specs.Rates.{join_ticks}
-use Rattle.rams_model.specs.Tick.{run, is_stop}
-use Rattle.rams_model.specs.Laws.{IsByStop}
-use Rattle.rams_model.specs.Source.{Follows}
-use Rattle.rams_model.specs.CatchUp.{ComesNearer, NothingIsLeft}
+use Rattle.rams_model.specs.Types.{Held}
+use Rattle.rams_model.specs.Packets.{wires, Follows}
+use Rattle.rams_model.specs.Service.{join_ticks, run, is_stop}
+use Rattle.rams_model.specs.Laws.{IsByStop, ComesNearer, NothingIsLeft}
 use Rattle.burst_plan.specs.JoinTime.{gain}
 
 -- A burst between two ticks: what a tick may send it, what it may keep, the number of its next packet, what it keeps, and the packets that are held from that number on.

@@ -2,10 +2,8 @@
 //!
 //! A law is the contract of a function that does nothing. Its words stand in `specs/` and, of lists
 //! that catch up, in the definitions of the channel.
-ghost use Rattle.rams_model.specs.CatchUp.{CatchingUpEnds};
-ghost use Rattle.burst_plan.specs.JoinTime.{JoinTimesAreLeast, JoinTimesAreKept};
-ghost use Rattle.burst_plan.specs.Example.{CatchesUpInThreeTicks};
-ghost use Rattle.burst_plan.specs.QuietTicks.{QuietTicksComeNearer, QuietBurstsKeepTheirJoinTime, QuietBurstsFallBackNoFurther};
+ghost use Rattle.rams_model.specs.Laws.{CatchingUpEnds};
+ghost use Rattle.burst_plan.specs.{JoinTimesAreLeast, JoinTimesAreKept, CatchesUpInThreeTicks, QuietTicksComeNearer, QuietBurstsKeepTheirJoinTime, QuietBurstsFallBackNoFurther};
 
 /// Of a list of pairs, bytes behind and bytes kept, that catches up by a gain, nothing is left after
 /// as many steps as gain what stood before the first.

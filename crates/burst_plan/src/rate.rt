@@ -1,6 +1,6 @@
 //! What a burst may be sent in a tick, and after how many ticks it has caught up.
 ghost use Rattle.std.specs.Prelude.{◌≡◌, ◌+◌, ◌≤◌, ◌^◌};
-ghost use Rattle.rams_model.specs.Rates.{rate_of, join_ticks, bits_of};
+ghost use Rattle.rams_model.specs.Service.{rate_of, join_ticks, bits_of};
 
 /// Bits per second of one byte in a tick of one ms.
 const BITS_BY_MS: u64 = 8000;

@@ -1,7 +1,7 @@
 //! Where a burst stops.
 ghost use Rattle.std.specs.Prelude.{◌≡◌, ◌<◌, ◌^◌};
-ghost use Rattle.rams_model.specs.Numbering.{least_from};
-ghost use Rattle.rams_model.specs.Rates.{stop_of};
+ghost use Rattle.rams_model.specs.Packets.{least_from};
+ghost use Rattle.rams_model.specs.Service.{stop_of};
 
 /// How many numbers 16 bits tell apart.
 const NUMBERS: u64 = 65536;

@@ -1,14 +1,10 @@
 -- A live packet in a channel's book.
 use Rattle.std.proofs.Common.{◌≡◌, ◌∷◌, Some, None, refl, ap, ◌∙◌}
-use Rattle.rams_model.specs.declared.note.LiveNote.{LiveNote}
+use Rattle.rams_model.specs.Types.{LiveNote}
 use Rattle.rams_model.specs.declared.note.Note.TheVariants.{Live as LiveNoted}
-use Rattle.rams_model.specs.Settings.{Settings}
-use Rattle.rams_model.specs.Source.{stream_of, live_note}
-use Rattle.rams_model.specs.Heard.{Heard, live, dropped, feedback, unframed, tick, heard_live, heard_of}
-use Rattle.rams_model.specs.History.{History, began, noted, arrivals}
-use Rattle.rams_model.specs.Book.{after_hearing}
-use Rattle.channel_cache.specs.Arrivals.{note_heard, arrivals_heard}
-use Rattle.channel_cache.specs.Laws.{NotesAreOfTheBook}
+use Rattle.rams_model.specs.Service.{Settings, Heard, live, dropped, feedback, unframed, tick, heard_live, heard_of, History, began, noted, arrivals, after_hearing}
+use Rattle.rams_model.specs.Packets.{stream_of, live_note}
+use Rattle.channel_cache.specs.{note_heard, arrivals_heard, NotesAreOfTheBook}
 
 entered : (s : Settings) (h : Heard) (history : History) (note : LiveNote) → note_heard s.channel.window (arrivals history) h ≡ Some note → after_hearing s h history ≡ noted (LiveNoted note) None ∷ began h ∷ history
 unfolding after_hearing

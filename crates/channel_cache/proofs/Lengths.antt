@@ -1,7 +1,7 @@
 -- A packet without its padding is no longer.
 use Rattle.std.proofs.Common.{◌≡◌, ℕ, ◌≤◌, List, [], ◌++◌, length, refl, ap, arith}
 use Rattle.std.proofs.lemmas.List.{length-append}
-use Rattle.rams_model.specs.Packet.{Packet, header, spelling, stripped}
+use Rattle.rams_model.specs.Formats.{Packet, header, spelling, stripped}
 
 header_length : (p : Packet) → length (header (record p { padding = [] })) ≡ length (header p)
 unfolding header

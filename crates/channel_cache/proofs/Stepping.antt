@@ -1,23 +1,16 @@
 -- A packet's number, and the packets in time after it.
 use Rattle.std.proofs.Common.{◌≡◌, ℕ, ◌+◌, ◌-◌, ◌^◌, ◌<◌, ◌≤◌, ◌⊎◌, max, Bool, true, false, nat_lt, if◌then◌else◌, List, [], ◌∷◌, ◌++◌, length, Option, Some, None, refl, sym, ap, ◌∙◌, subst, inl, inr, arith, append-nil}
 use Rattle.std.proofs.lemmas.Bool.Decides.{nat_tests}
-use Rattle.rams_model.specs.declared.held.Held.{Held}
-use Rattle.rams_model.specs.declared.note.LiveNote.{LiveNote}
+use Rattle.rams_model.specs.Types.{Held, LiveNote}
 use Rattle.rams_model.specs.declared.note.LiveNote.TheVariants.{Took, Restart as Restarted, Jump as Jumped}
-use Rattle.rams_model.specs.Hold.{hi}
-use Rattle.rams_model.specs.Numbering.{Numbered, first, forward, behind, jump, restart, ahead, is_kept, numbered}
-use Rattle.rams_model.specs.Source.{Arrival, Stream, held_as, with_packet, greatest, in_time, note_of, live_note, stream_after, stream_of}
+use Rattle.rams_model.specs.Packets.{hi, Numbered, first, forward, backward, jump, restart, ahead, is_kept, numbered, Arrival, Stream, held_as, with_packet, greatest, in_time, note_of, live_note, stream_after, stream_of}
 use Rattle.packet_ring.specs.Seen as rings
-use Rattle.ext_seq.specs.declared.numbering.Noted.{Noted}
+use Rattle.ext_seq.specs.{Noted, noted, moved, IsWithin, IsNumberWithin}
 use Rattle.ext_seq.specs.declared.numbering.Noted.TheVariants.{First, Forward, Behind, Jump, Restart}
-use Rattle.ext_seq.specs.Numbers.{noted, moved, IsWithin, IsNumberWithin}
 use Rattle.ext_seq.specs.Numbers as numbers
-use Rattle.reorder_window.specs.Seen.{first_free}
+use Rattle.reorder_window.specs.{first_free}
 use Rattle.reorder_window.specs.Seen as windows
-use Rattle.channel_cache.specs.declared.intake.Intake.{Intake}
-use Rattle.channel_cache.specs.Waiting.{IsIntake}
-use Rattle.channel_cache.specs.Brought.{due, Brings, UnlessTaken}
-use Rattle.channel_cache.specs.Step.{IsTop, AreInStep, Stand, kept_other}
+use Rattle.channel_cache.specs.{Intake, IsIntake, due, Brings, UnlessTaken, IsTop, AreInStep, Stand, kept_other}
 
 -- ---- what the numbering may say after a greatest number
 abbrev pub Suits : Option ℕ → Noted → Type 0
@@ -30,7 +23,7 @@ Suits (Some g) Jump = Unit {0}
 Suits (Some g) (Restart n) = g < n
 
 suits_step : (g u : ℕ) (near far again : Bool) → nat_lt u 3000 ≡ near
-    → Suits (Some g) (noted (if near then forward (g + u) else if far then behind (g - (65536 - u)) else if again then restart (g + u) else jump))
+    → Suits (Some g) (noted (if near then forward (g + u) else if far then backward (g - (65536 - u)) else if again then restart (g + u) else jump))
 suits_step g u true far again test = omega arith
 suits_step g u false true again test = omega arith
 suits_step g u false false true test = let far : 3000 ≤ u = grind (arith, nat_tests) in omega arith
@@ -43,7 +36,7 @@ suits_numbered (Some g) kept sequence = let u = ahead sequence g in suits_step g
 
 -- ---- the numbers stay small
 within_step : (g u calls : ℕ) (near far again : Bool) → u < 65536 → IsWithin calls (Some g)
-    → IsNumberWithin (calls + 1) (noted (if near then forward (g + u) else if far then behind (g - (65536 - u)) else if again then restart (g + u) else jump))
+    → IsNumberWithin (calls + 1) (noted (if near then forward (g + u) else if far then backward (g - (65536 - u)) else if again then restart (g + u) else jump))
 within_step g u calls true far again low within = (omega (arith, within.0), omega (arith, within.1))
 within_step g u calls false true again low within = tt
 within_step g u calls false false true low within = (omega (arith, within.0), omega (arith, within.1))
@@ -197,7 +190,7 @@ says v width arrivals sequence r stood is =
 is_first : (x : Numbered) (n : ℕ) → noted x ≡ First n → x ≡ first n
 is_first (first m) n is = let same : m ≡ n = cc in ap first same
 is_first (forward m) n is = absurd cc
-is_first (behind m) n is = absurd cc
+is_first (backward m) n is = absurd cc
 is_first jump n is = absurd cc
 is_first (restart m) n is = absurd cc
 
@@ -206,8 +199,8 @@ is_near width present (first m) n (inl is) = absurd cc
 is_near width present (first m) n (inr is) = absurd cc
 is_near width present (forward m) n (inl is) = let same : m ≡ n = cc in ap (in_time width present) same
 is_near width present (forward m) n (inr is) = absurd cc
-is_near width present (behind m) n (inl is) = absurd cc
-is_near width present (behind m) n (inr is) = let same : m ≡ n = cc in ap (in_time width present) same
+is_near width present (backward m) n (inl is) = absurd cc
+is_near width present (backward m) n (inr is) = let same : m ≡ n = cc in ap (in_time width present) same
 is_near width present jump n (inl is) = absurd cc
 is_near width present jump n (inr is) = absurd cc
 is_near width present (restart m) n (inl is) = absurd cc
@@ -216,14 +209,14 @@ is_near width present (restart m) n (inr is) = absurd cc
 is_jump : (x : Numbered) → noted x ≡ Jump → x ≡ jump
 is_jump (first m) is = absurd cc
 is_jump (forward m) is = absurd cc
-is_jump (behind m) is = absurd cc
+is_jump (backward m) is = absurd cc
 is_jump jump is = refl
 is_jump (restart m) is = absurd cc
 
 is_restart : (x : Numbered) (n : ℕ) → noted x ≡ Restart n → x ≡ restart n
 is_restart (first m) n is = absurd cc
 is_restart (forward m) n is = absurd cc
-is_restart (behind m) n is = absurd cc
+is_restart (backward m) n is = absurd cc
 is_restart jump n is = absurd cc
 is_restart (restart m) n is = let same : m ≡ n = cc in ap restart same
 

@@ -2,12 +2,11 @@
 use Rattle.std.proofs.Common.{◌≡◌, ℕ, zero, suc, ◌+◌, ◌-◌, ◌<◌, ◌≤◌, Bool, true, false, ◌==◌, nat_le, if◌then◌else◌, List, [], ◌∷◌, ◌++◌, length, drop, refl, sym, ap, ◌∙◌, subst, arith}
 use Rattle.std.proofs.lemmas.List.{length-append}
 use Rattle.std.proofs.lemmas.Bool.Decides.{nat_tests}
-use Rattle.rams_model.specs.declared.held.Held.{Held}
-use Rattle.rams_model.specs.Hold.{lo, hi, last_of, from_number}
-use Rattle.rams_model.specs.Source.{Follows}
-use Rattle.packet_ring.specs.Seen.{with_next, pushed, IsRing}
+use Rattle.rams_model.specs.Types.{Held}
+use Rattle.rams_model.specs.Packets.{lo, hi, last_of, from_number, Follows}
+use Rattle.packet_ring.specs.{with_next, pushed, IsRing}
 use Rattle.packet_ring.specs.Seen as rings
-use Rattle.access_index.specs.Marks.{StandsFor}
+use Rattle.access_index.specs.{StandsFor}
 use Rattle.access_index.specs.Seen as indexes
 use Rattle.ext_seq.proofs.Tops.{hi_one, hi_end}
 

@@ -1,12 +1,11 @@
 -- Packets that are held stay whole.
 use Rattle.std.proofs.Common.{◌≡◌, ℕ, zero, suc, ◌-◌, ◌≤◌, Bool, true, false, if◌then◌else◌, List, [], ◌∷◌, ◌++◌, length, drop, Option, Some, None, Bor, refl, sym, subst, inl}
 use Rattle.std.specs.Prelude.{find, IfSome, option_copied}
-use Rattle.rams_model.specs.declared.held.Held.{Held}
-use Rattle.rams_model.specs.Hold.{last_of}
-use Rattle.rams_model.specs.Packet.{Packet, stripped}
-use Rattle.rams_model.specs.Rtp.{IsPacket}
+use Rattle.rams_model.specs.Types.{Held}
+use Rattle.rams_model.specs.Packets.{last_of}
+use Rattle.rams_model.specs.Formats.{Packet, stripped, IsPacket}
 use Rattle.rams_model.proofs.RtpPackets.{read_so}
-use Rattle.channel_cache.specs.Whole.{IsBare, IsWhole, AreWhole}
+use Rattle.channel_cache.specs.{IsBare, IsWhole, AreWhole}
 
 -- a packet without its padding is bare
 pub stripped_bare : (p : Packet) → IsPacket p → length (stripped p) ≤ 1470 → IsBare (stripped p)

@@ -1,11 +1,10 @@
 -- The packets in time that were brought to a channel, as its definitions have them.
 use Rattle.std.specs.Prelude.{◌≡◌, ℕ, false, nat_lt, List, [], ◌∷◌, ◌++◌, filter}
-use Rattle.rams_model.specs.declared.held.Held.{Held}
-use Rattle.rams_model.specs.declared.note.LiveNote.{LiveNote}
+use Rattle.rams_model.specs.Types.{Held, LiveNote}
 use Rattle.rams_model.specs.declared.note.LiveNote.TheVariants.{Took, Restart}
-use Rattle.rams_model.specs.Source.{Stream, awaited}
+use Rattle.rams_model.specs.Packets.{Stream, awaited}
 use Rattle.packet_ring.specs.Seen as rings
-use Rattle.reorder_window.specs.Packets.{items_of, start_of}
+use Rattle.reorder_window.specs.{items_of, start_of}
 use Rattle.reorder_window.specs.Seen as windows
 use Rattle.channel_cache.specs.declared.intake.Intake.{Intake}
 

@@ -1,12 +1,9 @@
 -- A live packet in the history of a channel.
 use Rattle.std.specs.Prelude.{◌≡◌, ℕ, List, ◌∷◌, Some, None}
 use Rattle.rams_model.specs.declared.event.Event.TheVariants.{Live}
-use Rattle.rams_model.specs.declared.note.LiveNote.{LiveNote}
+use Rattle.rams_model.specs.Types.{LiveNote}
 use Rattle.rams_model.specs.declared.note.Note.TheVariants.{Live as LiveNoted}
-use Rattle.rams_model.specs.Settings.{Settings}
-use Rattle.rams_model.specs.Heard.{heard_live}
-use Rattle.rams_model.specs.History.{History, began, noted, arrivals}
-use Rattle.rams_model.specs.Book.{after}
+use Rattle.rams_model.specs.Service.{Settings, heard_live, History, began, noted, arrivals, after}
 use Rattle.channel_cache.specs.Arrivals.{live_note_of, arrivals_after}
 
 -- What a lawful book notes of a live packet is this note alone, and the live packets are then those before it, with it.

@@ -1,12 +1,12 @@
 -- What contracts see of a cache, and the live packets that it stands for.
 use Rattle.std.specs.Prelude.{◌≡◌, ℕ, ◌^◌, ◌≤◌, List, []}
-use Rattle.rams_model.specs.declared.held.Held.{Held}
-use Rattle.rams_model.specs.Settings.{Settings}
-use Rattle.rams_model.specs.Source.{Arrival, stream_of, hold}
+use Rattle.rams_model.specs.Types.{Held}
+use Rattle.rams_model.specs.Service.{Settings}
+use Rattle.rams_model.specs.Packets.{Arrival, stream_of, hold}
 use Rattle.packet_ring.specs.Seen as rings
-use Rattle.ext_seq.specs.Numbers.{new_numbering}
+use Rattle.ext_seq.specs.{new_numbering}
 use Rattle.ext_seq.specs.Numbers as numbers
-use Rattle.reorder_window.specs.Seen.{new_window}
+use Rattle.reorder_window.specs.{new_window}
 use Rattle.reorder_window.specs.Seen as windows
 use Rattle.channel_cache.specs.declared.intake.Intake.{Intake}
 use Rattle.channel_cache.specs.Brought.{Waits}

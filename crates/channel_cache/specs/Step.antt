@@ -1,10 +1,10 @@
 -- The numbering and the packets in time, step by step.
 use Rattle.std.specs.Prelude.{◌≡◌, ℕ, ◌+◌, false, List, [], length, Option, Some, None}
-use Rattle.rams_model.specs.declared.held.Held.{Held}
-use Rattle.rams_model.specs.Source.{Arrival, stream_of}
-use Rattle.ext_seq.specs.Numbers.{IsWithin}
+use Rattle.rams_model.specs.Types.{Held}
+use Rattle.rams_model.specs.Packets.{Arrival, stream_of}
+use Rattle.ext_seq.specs.{IsWithin}
 use Rattle.ext_seq.specs.Numbers as numbers
-use Rattle.reorder_window.specs.Seen.{first_free}
+use Rattle.reorder_window.specs.{first_free}
 use Rattle.reorder_window.specs.Seen as windows
 use Rattle.channel_cache.specs.declared.intake.Intake.{Intake}
 use Rattle.channel_cache.specs.Waiting.{IsIntake}

@@ -1,10 +1,10 @@
 -- What contracts see of the packets that are held.
 use Rattle.std.specs.Prelude.{◌≡◌, ℕ, ◌+◌}
-use Rattle.rams_model.specs.declared.held.Held.{Held}
-use Rattle.packet_ring.specs.Seen.{empty_ring, pushed, IsRing}
+use Rattle.rams_model.specs.Types.{Held}
+use Rattle.packet_ring.specs.{empty_ring, pushed, IsRing}
 use Rattle.packet_ring.specs.Seen as rings
 use Rattle.access_index.specs.Seen as indexes
-use Rattle.access_index.specs.Marks.{StandsFor}
+use Rattle.access_index.specs.{StandsFor}
 use Rattle.channel_cache.specs.Whole.{AreWhole}
 
 -- what is held

@@ -1,15 +1,9 @@
 //! The cache of one channel.
 ghost use Rattle.std.specs.Prelude.{◌≡◌, ◌+◌, ◌^◌, ◌<◌, ◌≤◌, ◌↔◌, List, [], Some, ◌∷◌, option_copied, length, IfOk, IfSome, IsSome, OnOk, OnErr};
-ghost use Rattle.rams_model.specs.Access.{chosen};
-ghost use Rattle.rams_model.specs.Hold.{lo, hi};
-ghost use Rattle.rams_model.specs.Source.{Arrival, live_note, stream_of};
-ghost use Rattle.packet_ring.specs.Seen.{packet_of, IsRing};
-ghost use Rattle.access_index.specs.Marks.{choice_of};
-ghost use Rattle.channel_cache.specs.Arrivals.{arrival_of, live_note_of, arrivals_after};
-ghost use Rattle.channel_cache.specs.Brought.{UnlessTaken};
-ghost use Rattle.channel_cache.specs.Seen.{new_cache, ring_of, StandsFor, DiffersInKept};
-ghost use Rattle.channel_cache.specs.Step.{AreInStep, Stand, count, kept_other};
-ghost use Rattle.channel_cache.specs.Whole.{IsBare, IsWhole};
+ghost use Rattle.rams_model.specs.Packets.{chosen, lo, hi, Arrival, live_note, stream_of};
+ghost use Rattle.packet_ring.specs.{packet_of, IsRing};
+ghost use Rattle.access_index.specs.{choice_of};
+ghost use Rattle.channel_cache.specs.{arrival_of, live_note_of, arrivals_after, UnlessTaken, new_cache, ring_of, StandsFor, DiffersInKept, AreInStep, Stand, count, kept_other, IsBare, IsWhole};
 
 use crate::incoming::{Incoming, read_live};
 use crate::intake::Intake;
@@ -33,7 +27,8 @@ pub struct Cache {
 }
 
 impl Model for Cache {
-    ghost use Rattle.channel_cache.specs.Seen.{Seen, IsCache};
+    ghost use Rattle.channel_cache.specs.{IsCache};
+    ghost use Rattle.channel_cache.specs.Seen.{Seen};
 
     ghost Value = { Seen };
 

@@ -1,12 +1,9 @@
 //! Live packets as they come, before they have a number.
 ghost use Rattle.std.specs.Prelude.{◌≡◌, ℕ, ◌+◌, ◌<◌, ◌≤◌, length, IfOk, MatchResult};
-ghost use Rattle.rams_model.specs.Access.{is_access_point};
-ghost use Rattle.rams_model.specs.Heard.{heard_live, arrival, live, dropped};
-ghost use Rattle.rams_model.specs.Packet.{stripped};
-ghost use Rattle.rams_model.specs.Rtp.{IsPacket};
-ghost use Rattle.rams_model.specs.Source.{held_as};
-ghost use Rattle.channel_cache.specs.Arrivals.{arrival_of};
-ghost use Rattle.channel_cache.specs.Whole.{IsBare, IsWhole};
+ghost use Rattle.rams_model.specs.Packets.{is_access_point, held_as};
+ghost use Rattle.rams_model.specs.Service.{heard_live, arrival, live, dropped};
+ghost use Rattle.rams_model.specs.Formats.{stripped, IsPacket};
+ghost use Rattle.channel_cache.specs.{arrival_of, IsBare, IsWhole};
 
 use bytes::Bytes;
 use channel_config::{Access, Channel};

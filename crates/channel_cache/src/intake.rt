@@ -1,13 +1,11 @@
 //! Packets that come in time, on their way into the stock.
 ghost use Rattle.std.specs.Prelude.{◌≡◌, ℕ, ◌+◌, ◌^◌, ◌<◌, ◌≤◌, List, [], ◌∷◌, ◌++◌, None, true, false, length, IfOk};
-ghost use Rattle.rams_model.specs.declared.held.Held.{Held};
-ghost use Rattle.rams_model.specs.Hold.{hi};
+ghost use Rattle.rams_model.specs.Types.{Held};
+ghost use Rattle.rams_model.specs.Packets.{hi};
 ghost use Rattle.packet_ring.specs.Seen as rings;
-ghost use Rattle.reorder_window.specs.Starts.{Start, came, start_after};
-ghost use Rattle.reorder_window.specs.Seen.{begun, came_of, arrived, first_free};
+ghost use Rattle.reorder_window.specs.{Start, came, start_after, begun, came_of, arrived, first_free};
 ghost use Rattle.reorder_window.specs.Seen as windows;
-ghost use Rattle.channel_cache.specs.Waiting.{new_intake, packets_of, IsIntake, UnlessKept, Holds};
-ghost use Rattle.channel_cache.specs.Whole.{IsWhole};
+ghost use Rattle.channel_cache.specs.{new_intake, packets_of, IsIntake, UnlessKept, Holds, IsWhole};
 
 use crate::stock::Stock;
 use ram_io::NoMemory;

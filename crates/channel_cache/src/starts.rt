@@ -1,16 +1,11 @@
 //! Packets under their numbers, start by start.
 ghost use Rattle.std.specs.Prelude.{◌≡◌, ℕ, ◌+◌, ◌^◌, ◌<◌, ◌≤◌, max, List, [], ◌∷◌, Option, None, false, length};
-ghost use Rattle.rams_model.specs.declared.held.Held.{Held};
+ghost use Rattle.rams_model.specs.Types.{Held};
 ghost use Rattle.rams_model.specs.declared.note.LiveNote.TheVariants as notes;
-ghost use Rattle.rams_model.specs.Hold.{hi};
-ghost use Rattle.rams_model.specs.Source.{Stream, held_as, in_time, stream_after};
+ghost use Rattle.rams_model.specs.Packets.{hi, Stream, held_as, in_time, stream_after};
 ghost use Rattle.packet_ring.specs.Seen as rings;
-ghost use Rattle.reorder_window.specs.Packets.{note_of};
-ghost use Rattle.reorder_window.specs.Seen.{first_free};
-ghost use Rattle.channel_cache.specs.Arrivals.{arrival_of};
-ghost use Rattle.channel_cache.specs.Waiting.{IsIntake};
-ghost use Rattle.channel_cache.specs.Whole.{IsBare};
-ghost use Rattle.channel_cache.specs.Brought.{Brings, UnlessTaken};
+ghost use Rattle.reorder_window.specs.{note_of, first_free};
+ghost use Rattle.channel_cache.specs.{arrival_of, IsIntake, IsBare, Brings, UnlessTaken};
 
 use crate::incoming::Incoming;
 use crate::intake::Intake;

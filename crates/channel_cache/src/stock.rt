@@ -1,12 +1,11 @@
 //! The packets that a channel holds, with the access points among them.
 ghost use Rattle.std.specs.Prelude.{◌≡◌, ◌+◌, ◌^◌, ◌<◌, ◌≤◌, ◌↔◌, List, [], ◌∷◌, ◌++◌, option_copied, IfOk, IfSome, IsSome};
-ghost use Rattle.rams_model.specs.declared.held.Held.{Held};
-ghost use Rattle.rams_model.specs.Access.{chosen};
-ghost use Rattle.rams_model.specs.Hold.{lo, hi};
-ghost use Rattle.packet_ring.specs.Seen.{packet_of, IsRing, StandsFor};
-ghost use Rattle.access_index.specs.Marks.{choice_of};
+ghost use Rattle.rams_model.specs.Types.{Held};
+ghost use Rattle.rams_model.specs.Packets.{chosen, lo, hi};
+ghost use Rattle.packet_ring.specs.{packet_of, IsRing, StandsFor};
+ghost use Rattle.access_index.specs.{choice_of};
 ghost use Rattle.channel_cache.specs.Stocked.{empty_stock, stocked};
-ghost use Rattle.channel_cache.specs.Whole.{IsWhole};
+ghost use Rattle.channel_cache.specs.{IsWhole};
 
 use access_index::{Choice, Index};
 use channel_config::Channel;

@@ -1,8 +1,8 @@
 -- Lawful settings and their tests.
 use Rattle.std.proofs.Common.{◌≡◌, ◌≢◌, ◌+◌, ◌≤◌, true, ◌&&◌, Ok, arith}
 use Rattle.std.proofs.lemmas.Bool.Decides.{nat_tests}
-use Rattle.rams_model.specs.Settings.{Settings, checked, channel_in_range, tick_in_range}
-use Rattle.channel_config.specs.Lawful.{IsLawful}
+use Rattle.rams_model.specs.Service.{Settings, checked, channel_in_range, tick_in_range}
+use Rattle.channel_config.specs.{IsLawful}
 
 -- settings are lawful where the tests of their ranges and of their rules hold
 pub lawful_from_tests : (s : Settings) → (tick_in_range s.tick && channel_in_range s.channel) ≡ true → s.channel.pt ≢ s.channel.rtx → s.channel.declared + 1500 ≤ s.channel.burst → s.channel.reserve + s.channel.burst + s.channel.depth ≤ s.channel.share → IsLawful s

@@ -1,6 +1,6 @@
 -- What lawful settings are, number by number.
 use Rattle.std.specs.Prelude.{◌≡◌, ◌≢◌, ◌+◌, ◌≤◌, Ok}
-use Rattle.rams_model.specs.Settings.{Settings, checked}
+use Rattle.rams_model.specs.Service.{Settings, checked}
 
 -- each number of the settings is in its range, and the three rules hold
 pub record IsLawful (s : Settings) : Type 0 where

@@ -1,1 +1,3 @@
 pub mod Lawful
+
+unfoldable pub use Lawful.*

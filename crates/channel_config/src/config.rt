@@ -1,8 +1,8 @@
 //! Settings that were checked.
 ghost use Rattle.std.specs.Prelude.{◌≡◌, ◌&&◌};
-ghost use Rattle.rams_model.specs.Settings.{settings, checked, names_in_range, bytes_in_range, bounds_in_range, channel_in_range, tick_in_range, most_bytes};
+ghost use Rattle.rams_model.specs.Service.{settings, checked, names_in_range, bytes_in_range, bounds_in_range, channel_in_range, tick_in_range, most_bytes};
 ghost use Rattle.std.specs.Int.{is_in_range as is_between};
-ghost use Rattle.channel_config.specs.Lawful.{IsLawful, PassIfLawful};
+ghost use Rattle.channel_config.specs.{IsLawful, PassIfLawful};
 
 use rams_model::{Channel, ConfigFault};
 use std::marker::Model;
@@ -21,8 +21,8 @@ pub struct Config {
 }
 
 impl Model for Config {
-    ghost use Rattle.rams_model.specs.Settings.{Settings, settings};
-    ghost use Rattle.channel_config.specs.Lawful.{IsLawful};
+    ghost use Rattle.rams_model.specs.Service.{Settings, settings};
+    ghost use Rattle.channel_config.specs.{IsLawful};
 
     ghost Value = { Settings };
 
@@ -37,7 +37,7 @@ impl Config {
     /// `Range` where a number is out of its range, else `Rule(k)` for the first rule k that is broken:
     /// 1, the payload types differ; 2, a burst has room for a packet beside what the source declares;
     /// 3, the share has room for the reserve, a burst and what a burst keeps.
-    #[tactic(auto, unfolding(rams_model::specs::Settings::checked))]
+    #[tactic(auto, unfolding(rams_model::specs::Service::ChannelSettings::checked))]
     pub fn check(c: Channel, tick_ms: u32) -> Result<Config, ConfigFault>
         ensures { result ≡ checked (settings c tick_ms) }
     {

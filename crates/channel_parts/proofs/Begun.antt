@@ -1,22 +1,17 @@
 -- The parts of a channel to which nothing came stand for no events.
 use Rattle.std.proofs.Common.{◌≡◌, ◌<◌, ◌^◌, true, List, [], refl, sym, subst, arith}
 use Rattle.std.proofs.lemmas.List.Elements.{All-nil}
-use Rattle.rams_model.specs.declared.channel.Channel.{Channel}
-use Rattle.rams_model.specs.Settings.{Settings}
-use Rattle.rams_model.specs.Source.{Arrival}
-use Rattle.rams_model.specs.History.{arrivals}
-use Rattle.rams_model.specs.Clients.{known, opened, is_among}
-use Rattle.rams_model.specs.Bursts.{bursts}
-use Rattle.rams_model.specs.Pending.{Wanted, pending}
-use Rattle.rams_model.specs.Buckets.{channel_left}
-use Rattle.rams_model.specs.Book.{history_of}
-use Rattle.channel_config.specs.Lawful.{IsLawful}
-use Rattle.channel_cache.specs.Seen.{new_cache}
+use Rattle.rams_model.specs.Types.{Channel}
+use Rattle.rams_model.specs.Service.{Settings, arrivals, known, opened, is_among, bursts, Wanted, pending, channel_left, history_of}
+use Rattle.rams_model.specs.Packets.{Arrival}
+use Rattle.channel_config.specs.{IsLawful}
+use Rattle.channel_cache.specs.{new_cache}
 use Rattle.channel_cache.specs.Seen as caches
-use Rattle.link_budget.specs.Amounts.{Amounts, amounts}
-use Rattle.client_table.specs.Clients.{Clients, nobody}
-use Rattle.channel_parts.specs.declared.parts.Parts.{Parts}
-use Rattle.channel_parts.specs.Standing.{StandsFor, new_parts}
+use Rattle.link_budget.specs.{amounts}
+use Rattle.link_budget.specs.Amounts.{Amounts}
+use Rattle.client_table.specs.{nobody}
+use Rattle.client_table.specs.Clients.{Clients}
+use Rattle.channel_parts.specs.{Parts, StandsFor, new_parts}
 
 new_stands : (s : Settings) → IsLawful s → caches.StandsFor (new_cache s) [] → StandsFor (new_parts s) []
 unfolding history_of arrivals known opened bursts pending channel_left

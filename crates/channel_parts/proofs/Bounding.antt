@@ -4,23 +4,17 @@ use Rattle.std.specs.Prelude.{Contains, Ok}
 use Rattle.std.specs.List.{AllByRecursion as Each}
 use Rattle.std.proofs.lemmas.Bool.{eqb-true}
 use Rattle.std.proofs.lemmas.List.Elements.{All-contains, All-from_recursion}
-use Rattle.rams_model.specs.declared.held.Held.{Held}
-use Rattle.rams_model.specs.declared.note.Note.{Note}
+use Rattle.rams_model.specs.Types.{Held, Note}
 use Rattle.rams_model.specs.declared.note.Note.TheVariants as note
-use Rattle.rams_model.specs.Settings.{Settings}
-use Rattle.rams_model.specs.Hold.{lo, hi}
-use Rattle.rams_model.specs.Access.{chosen}
-use Rattle.rams_model.specs.Heard.{live, tick}
-use Rattle.rams_model.specs.History.{began, told, noted, History, arrivals, hold}
-use Rattle.rams_model.specs.Clients.{sequence}
-use Rattle.rams_model.specs.Bursts.{Burst, next, begun, bursts, open_burst}
+use Rattle.rams_model.specs.Service.{Settings, live, tick, began, told, noted, History, arrivals, hold, sequence, Burst, next, begun, bursts, open_burst}
+use Rattle.rams_model.specs.Packets.{lo, hi, chosen}
 use Rattle.rams_model.specs.Laws.{Rises, IsChoice}
 use Rattle.rams_model.proofs.Rising.{lower, below_hi}
 use Rattle.rams_model.proofs.Holding.{held_follow, rises_from}
 use Rattle.rams_model.proofs.Choosing.{newest_chosen}
 use Rattle.book_laws.proofs.Legal.{IsVerdict, Allows, IsLegal}
 use Rattle.book_laws.proofs.Reserved.{granted}
-use Rattle.channel_parts.specs.Facts.{IsWithinBounds}
+use Rattle.channel_parts.specs.{IsWithinBounds}
 use Rattle.channel_parts.proofs.Granting.{asked}
 use Rattle.channel_parts.proofs.Numbers.{hi_rises, among_below}
 use Rattle.channel_parts.proofs.Changing.{Holds, Keeps, at_note, at_tick}

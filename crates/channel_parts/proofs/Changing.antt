@@ -1,15 +1,9 @@
 -- What is true of a client's open burst, item by item.
 use Rattle.std.proofs.Common.{◌≡◌, ℕ, Bool, true, false, cond, not, ◌&&◌, ◌||◌, List, [], ◌∷◌, Option, Some, None, refl, ap, sym, ◌∙◌, subst, eqb}
 use Rattle.std.proofs.lemmas.Bool.{cond_both, eq-eqb, eqb-true}
-use Rattle.rams_model.specs.declared.held.Held.{Held}
-use Rattle.rams_model.specs.declared.note.Cause.{Cause}
-use Rattle.rams_model.specs.declared.note.Note.{Note}
+use Rattle.rams_model.specs.Types.{Held, Cause, Note}
 use Rattle.rams_model.specs.declared.note.Note.TheVariants as note
-use Rattle.rams_model.specs.Settings.{Settings}
-use Rattle.rams_model.specs.Heard.{tick}
-use Rattle.rams_model.specs.History.{began, noted, History}
-use Rattle.rams_model.specs.Clients.{sequence}
-use Rattle.rams_model.specs.Bursts.{Burst, begun, in_tick, after_note, newest_changed, size_of, bursts, is_of, if_open, newest_open, open_burst, has_open}
+use Rattle.rams_model.specs.Service.{Settings, tick, began, noted, History, sequence, Burst, begun, in_tick, after_note, newest_changed, size_of, bursts, is_of, if_open, newest_open, open_burst, has_open}
 use Rattle.channel_parts.proofs.Knowing.{open_step}
 use Rattle.channel_parts.proofs.Opening.{none_of}
 
@@ -20,10 +14,6 @@ Holds Q (Some b) = Q b
 
 pub holds_of : (Q : Burst → Type 0) (o : Option Burst) (b : Burst) → Holds Q o → o ≡ Some b → Q b
 holds_of Q o b h e = subst (Holds Q) e h
-
-pub holds_from : (Q : Burst → Type 0) (o : Option Burst) → ((b : Burst) → o ≡ Some b → Q b) → Holds Q o
-holds_from Q None f = tt
-holds_from Q (Some b) f = f b refl
 
 -- a change that ends nothing
 at_end : (Q : Burst → Type 0) (b c : Burst) (e : Option Cause) → (if_open e b ≡ Some b → Q c) → Holds Q (if_open e c)

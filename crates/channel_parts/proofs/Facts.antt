@@ -1,13 +1,10 @@
 -- The facts of a channel's history, each proved.
 use Rattle.std.proofs.Common.{refl, arith}
 use Rattle.std.proofs.lemmas.List.Elements.{All-from_recursion}
-use Rattle.rams_model.specs.History.{hold}
-use Rattle.rams_model.specs.Clients.{known, opened}
-use Rattle.rams_model.specs.Bursts.{bursts, open_burst}
-use Rattle.rams_model.specs.Pending.{pending}
+use Rattle.rams_model.specs.Service.{hold, known, opened, bursts, open_burst, pending}
 use Rattle.book_laws.proofs.Legality.{legal_moment}
 use Rattle.book_laws.proofs.BurstAmounts.{opened_open}
-use Rattle.channel_parts.specs.Facts.{KnownClientsRise, OpenedClientsRise, OpenedHaveBursts, KnownClientsAreFew, OnlyKnownClientsHaveBursts, OpenedAreTheKnownWithBursts, RepairsAreOfKnownClients, RepairsAreWithinLimits, IsWithinBounds, OpenBurstsAreWithinBounds, OpenBurstsHaveATickLeft, KnownClientsAreIdleForLess, ReservedLeavesTheReserve, EachBurstIsReserved, AcceptsReserve, UpdatesReserve, EndsRelease, OtherNotesReserveNothing, EventsReserveNothing, MessagesReserveNothing, LeftIsWithinShareAndSwell, TheEndOfTheHeldNeverFalls, HeldNumbersAreSmall, ReadPacketsHaveLowNumbers, SequencesHave16Bits}
+use Rattle.channel_parts.specs.{KnownClientsRise, OpenedClientsRise, OpenedHaveBursts, KnownClientsAreFew, OnlyKnownClientsHaveBursts, OpenedAreTheKnownWithBursts, RepairsAreOfKnownClients, RepairsAreWithinLimits, IsWithinBounds, OpenBurstsAreWithinBounds, OpenBurstsHaveATickLeft, KnownClientsAreIdleForLess, ReservedLeavesTheReserve, EachBurstIsReserved, AcceptsReserve, UpdatesReserve, EndsRelease, OtherNotesReserveNothing, EventsReserveNothing, MessagesReserveNothing, LeftIsWithinShareAndSwell, TheEndOfTheHeldNeverFalls, HeldNumbersAreSmall, ReadPacketsHaveLowNumbers, SequencesHave16Bits}
 use Rattle.channel_parts.proofs.Ordered.{sorted, known_rise, opened_rise}
 use Rattle.channel_parts.proofs.Waiting.{known_few, pending_within}
 use Rattle.channel_parts.proofs.Knowing.{OfKnown, pending_known}

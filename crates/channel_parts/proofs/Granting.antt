@@ -2,19 +2,11 @@
 use Rattle.std.proofs.Common.{◌≡◌, ℕ, ◌+◌, ◌-◌, ◌<◌, ◌≤◌, false, not, List, length, Option, Some, None, refl, subst, leb, eqb}
 use Rattle.std.specs.Prelude.{Result, Ok, Err, unwrap_or}
 use Rattle.std.proofs.lemmas.Bool.{cond_both, ltb-false, leb-false}
-use Rattle.rams_model.specs.declared.fault.TlvFault.{TlvFault}
-use Rattle.rams_model.specs.declared.held.Held.{Held}
-use Rattle.rams_model.specs.declared.note.Note.{Note}
+use Rattle.rams_model.specs.Types.{TlvFault, Held, Note}
 use Rattle.rams_model.specs.declared.note.Note.TheVariants as note
-use Rattle.rams_model.specs.Settings.{Settings}
-use Rattle.rams_model.specs.Access.{chosen}
-use Rattle.rams_model.specs.Rams.{Request, names}
-use Rattle.rams_model.specs.History.{History, hold}
-use Rattle.rams_model.specs.Bursts.{Burst, open_burst}
-use Rattle.rams_model.specs.Pending.{pending, pending_of, is_pending}
-use Rattle.rams_model.specs.Buckets.{reserved}
-use Rattle.rams_model.specs.Verdict.{asked_rate, is_slow, is_too_much, is_full, begins, changes, on_burst, on_request, verdict}
-use Rattle.rams_model.specs.Answers.{room, is_early, held_answer, number_answer}
+use Rattle.rams_model.specs.Service.{Settings, History, hold, Burst, open_burst, pending, pending_of, is_pending, reserved, asked_rate, is_slow, is_too_much, is_full, begins, changes, on_burst, on_request, verdict, room, is_early, held_answer, number_answer}
+use Rattle.rams_model.specs.Packets.{chosen}
+use Rattle.rams_model.specs.Formats.{Request, names}
 use Rattle.book_laws.proofs.Legal.{IsVerdict, IsNumberAnswer}
 
 -- A burst may begin there: its client is known or can be, the rate is enough, and it is a chosen access point.

@@ -1,13 +1,10 @@
 -- The end of what is held never falls.
 use Rattle.std.proofs.Common.{◌≡◌, ℕ, zero, suc, ◌+◌, ◌-◌, ◌<◌, ◌≤◌, ⊎_elim, List, [], ◌∷◌, ◌++◌, length, drop, refl, ap, sym, ◌∙◌, subst, arith, append-nil, le_refl, zero-le}
 use Rattle.std.proofs.lemmas.Bool.{cond_both}
-use Rattle.rams_model.specs.declared.held.Held.{Held}
-use Rattle.rams_model.specs.Settings.{Settings}
-use Rattle.rams_model.specs.Hold.{hi}
-use Rattle.rams_model.specs.Source.{Arrival, Stream, is_consecutive, consecutive_end, stream_of, source}
-use Rattle.rams_model.specs.Source as sources
-use Rattle.rams_model.specs.Heard.{live}
-use Rattle.rams_model.specs.History.{Item, began, told, noted, History, arrivals, hold}
+use Rattle.rams_model.specs.Types.{Held}
+use Rattle.rams_model.specs.Service.{Settings, live, Item, began, told, noted, History, arrivals, hold}
+use Rattle.rams_model.specs.Packets.{hi, Arrival, Stream, is_consecutive, consecutive_end, stream_of, source}
+use Rattle.rams_model.specs.Packets.Source as sources
 use Rattle.rams_model.specs.Laws.{Rises, IsAmong}
 use Rattle.rams_model.proofs.Rising.{below_hi, hi_of_end}
 use Rattle.rams_model.proofs.Growing.{source_grows, source_rises}

@@ -3,23 +3,13 @@ use Rattle.std.proofs.Common.{◌≡◌, ℕ, ◌≤◌, Bool, true, false, cond
 use Rattle.std.specs.Prelude.{filter, is_some}
 use Rattle.std.proofs.lemmas.Bool.{cond_both, cases_Bool, or_cases, and_parts, not-true, both_ways, eqb-true}
 use Rattle.std.proofs.lemmas.Map.Views.{any-filter_same}
-use Rattle.rams_model.specs.declared.event.Event.{Event}
-use Rattle.rams_model.specs.declared.held.Held.{Held}
+use Rattle.rams_model.specs.Types.{Event, Held, Note}
 use Rattle.rams_model.specs.declared.note.Cause.TheVariants as cause
-use Rattle.rams_model.specs.declared.note.Note.{Note}
 use Rattle.rams_model.specs.declared.note.Note.TheVariants as note
-use Rattle.rams_model.specs.Settings.{Settings}
-use Rattle.rams_model.specs.Rtcp.{Framed}
-use Rattle.rams_model.specs.Messages.{Message, bye, nack, asks, stops}
-use Rattle.rams_model.specs.Heard.{Heard, live, dropped, feedback, unframed, tick, heard_of}
-use Rattle.rams_model.specs.History.{Item, began, told, noted, History}
-use Rattle.rams_model.specs.Clients.{known, opened, is_among, ssrc}
-use Rattle.rams_model.specs.Bursts.{bursts, open_burst, has_open}
-use Rattle.rams_model.specs.Answers.{is_bye_of, after_bye, after_message, after_messages}
-use Rattle.rams_model.specs.Tick.{after_tick}
-use Rattle.rams_model.specs.Book.{after_hearing, history_of}
+use Rattle.rams_model.specs.Service.{Settings, Message, bye, nack, asks, stops, Heard, live, dropped, feedback, unframed, tick, heard_of, Item, began, told, noted, History, known, opened, is_among, ssrc, bursts, open_burst, has_open, is_bye_of, after_bye, after_message, after_messages, after_tick, after_hearing, history_of}
+use Rattle.rams_model.specs.Formats.{Framed}
 use Rattle.rams_model.specs.Laws.{makes_known, ends_known, is_accept_of, is_end_of}
-use Rattle.book_laws.specs.Answering.{AreNotes}
+use Rattle.book_laws.specs.{AreNotes}
 use Rattle.book_laws.proofs.Legal.{newest_told, Allows, IsLegal, legal_part}
 use Rattle.book_laws.proofs.Legality.{legal_history}
 use Rattle.book_laws.proofs.Items.{message_puts, tick_puts}
@@ -175,11 +165,6 @@ unknown_closed_by s history k are out =
 
 pub unknown_closed : (s : Settings) (events : List Event) (k : ℕ) → 1 ≤ s.channel.idle → is_among k (known (history_of s events)) ≡ false → open_burst s k (history_of s events) ≡ None
 unknown_closed s events k some out = unknown_closed_by s (history_of s events) k (open_known s events some) out
-
--- what was noted before later messages are answered was allowed, where all was
-pub legal_so_far : (s : Settings) (k : ℕ) (ms : List Message) (history whole : History) → after_messages s k ms history ≡ whole → IsLegal s whole → IsLegal s history
-legal_so_far s k ms history whole e l =
-    let part = messages_part s k ms history in legal_part s part.later history (subst (IsLegal s) (sym e ∙ part.splits) l)
 
 absorbs : (a b : Bool) → (a ≡ true → b ≡ true) → a ≡ (a && b)
 absorbs true b f = sym (f refl)

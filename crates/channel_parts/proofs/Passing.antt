@@ -2,21 +2,12 @@
 use Rattle.std.proofs.Common.{ℕ, ◌&&◌, List, [], ◌∷◌, ◌++◌, Option, Some, None, sym, subst, eqb, leb}
 use Rattle.std.specs.Prelude.{◌==◌, find}
 use Rattle.std.proofs.lemmas.Bool.{cond_both}
-use Rattle.rams_model.specs.declared.held.Held.{Held}
+use Rattle.rams_model.specs.Types.{Held, Note}
 use Rattle.rams_model.specs.declared.note.Cause.TheVariants as cause
-use Rattle.rams_model.specs.declared.note.Note.{Note}
 use Rattle.rams_model.specs.declared.note.Note.TheVariants as note
-use Rattle.rams_model.specs.Settings.{Settings}
-use Rattle.rams_model.specs.Hold.{from_number}
-use Rattle.rams_model.specs.Messages.{Message}
-use Rattle.rams_model.specs.History.{began, told, noted, History}
-use Rattle.rams_model.specs.Clients.{sequence}
-use Rattle.rams_model.specs.Bursts.{Burst, next, open_burst}
-use Rattle.rams_model.specs.Pending.{Wanted, idle}
-use Rattle.rams_model.specs.Buckets.{channel_left, may_take}
-use Rattle.rams_model.specs.Answers.{after_message, after_messages}
-use Rattle.rams_model.specs.Tick.{run, send, is_lost, is_stop, after_run, run_sent, burst_served, all_served, repaired, all_repaired, all_forgotten}
-use Rattle.book_laws.specs.Answering.{AreNotes}
+use Rattle.rams_model.specs.Service.{Settings, Message, began, told, noted, History, sequence, Burst, next, open_burst, Wanted, idle, channel_left, may_take, after_message, after_messages, run, send, is_lost, is_stop, after_run, run_sent, burst_served, all_served, repaired, all_repaired, all_forgotten}
+use Rattle.rams_model.specs.Packets.{from_number}
+use Rattle.book_laws.specs.{AreNotes}
 use Rattle.book_laws.proofs.Items.{message_puts}
 
 module _ (P : History → Type 0) (step : (n : Note) (packet : Option Held) (history : History) → P history → P (noted n packet ∷ history)) where

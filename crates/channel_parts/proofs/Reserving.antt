@@ -3,21 +3,14 @@ use Rattle.std.proofs.Common.{◌≡◌, ℕ, ◌+◌, ◌-◌, ◌≤◌, Bool,
 use Rattle.std.specs.List.{sum_by}
 use Rattle.std.proofs.lemmas.Bool.{cond_both, cond-false, or_left, or_right, or_cases, or_parts, both_ways, not-true, not-false, eqb-true, eqb-false, eq-eqb, ne_eqb}
 use Rattle.std.proofs.lemmas.List.Sums.{sum_by-cons}
-use Rattle.rams_model.specs.declared.held.Held.{Held}
-use Rattle.rams_model.specs.declared.note.Cause.{Cause}
-use Rattle.rams_model.specs.declared.note.Note.{Note}
+use Rattle.rams_model.specs.Types.{Held, Cause, Note}
 use Rattle.rams_model.specs.declared.note.Note.TheVariants as note
-use Rattle.rams_model.specs.Settings.{Settings}
-use Rattle.rams_model.specs.Heard.{Heard, tick}
-use Rattle.rams_model.specs.History.{began, told, noted, History}
-use Rattle.rams_model.specs.Clients.{opened, is_among, placed, with_client, without}
-use Rattle.rams_model.specs.Bursts.{Burst, after_note, newest_changed, size_of, bursts, in_tick, if_open, newest_open, open_burst}
-use Rattle.rams_model.specs.Buckets.{most_of, reserved, channel_left}
+use Rattle.rams_model.specs.Service.{Settings, Heard, tick, began, told, noted, History, opened, is_among, placed, with_client, without, Burst, after_note, newest_changed, size_of, bursts, in_tick, if_open, newest_open, open_burst, most_of, reserved, channel_left}
 use Rattle.book_laws.proofs.Legal.{IsLegal}
 use Rattle.book_laws.proofs.Sums.{sum_placed, one_changed, part_of_sum}
 use Rattle.book_laws.proofs.BurstAmounts.{open_among, closed_among, most_begun, most_changed, of_others}
 use Rattle.book_laws.proofs.Reserved.{times-opened, fits}
-use Rattle.channel_parts.specs.Facts.{is_of_reserved}
+use Rattle.channel_parts.specs.{is_of_reserved}
 use Rattle.channel_parts.proofs.Ordered.{Rise, opened_rise, not_below}
 
 -- a client's burst in the sum

@@ -4,25 +4,17 @@ use Rattle.std.specs.Prelude.{All, Result, Ok, Err}
 use Rattle.std.specs.List.{AllByRecursion as Each}
 use Rattle.std.proofs.lemmas.Bool.{cond_both}
 use Rattle.std.proofs.lemmas.List.Elements.{All-cons, recursion_from_All}
-use Rattle.rams_model.specs.declared.channel.Channel.{Channel}
-use Rattle.rams_model.specs.declared.held.Held.{Held}
-use Rattle.rams_model.specs.declared.fault.RtpFault.{RtpFault}
-use Rattle.rams_model.specs.declared.note.LiveNote.{LiveNote}
+use Rattle.rams_model.specs.Types.{Channel, Held, RtpFault, LiveNote}
 use Rattle.rams_model.specs.declared.note.LiveNote.TheVariants.{Took, Restart, Late, Twice, Jump, TooBig}
-use Rattle.rams_model.specs.Settings.{Settings}
-use Rattle.rams_model.specs.Packet.{Packet}
-use Rattle.rams_model.specs.Rtp.{packet_at}
-use Rattle.rams_model.specs.Hold.{hi}
-use Rattle.rams_model.specs.Numbering.{Numbered, forward, behind, jump, restart, ahead, is_kept, after_greatest, numbered}
-use Rattle.rams_model.specs.Source.{Arrival, Stream, held_as, has_number, with_packet, awaited, greatest, in_time, note_of, live_note, stream_after, stream_of, source}
-use Rattle.rams_model.specs.Source as sources
-use Rattle.rams_model.specs.Heard.{dropped, arrival, heard_packet}
-use Rattle.rams_model.specs.History.{History, arrivals, hold}
+use Rattle.rams_model.specs.Service.{Settings, dropped, arrival, heard_packet, History, arrivals, hold}
+use Rattle.rams_model.specs.Formats.{Packet, packet_at}
+use Rattle.rams_model.specs.Packets.{hi, Numbered, forward, backward, jump, restart, ahead, is_kept, after_greatest, numbered, Arrival, Stream, held_as, has_number, with_packet, awaited, greatest, in_time, note_of, live_note, stream_after, stream_of, source}
+use Rattle.rams_model.specs.Packets.Source as sources
 use Rattle.rams_model.proofs.PlainPackets.{below_at}
 use Rattle.rams_model.proofs.RtpPackets.{spelled_so}
-use Rattle.channel_cache.specs.Arrivals.{arrivals_heard, arrivals_after}
+use Rattle.channel_cache.specs.{arrivals_heard, arrivals_after}
 use Rattle.book_laws.proofs.Legality.{each_passed, each_weaker}
-use Rattle.channel_parts.specs.Facts.{HaveLowNumbers}
+use Rattle.channel_parts.specs.{HaveLowNumbers}
 use Rattle.channel_parts.proofs.Numbers.{hi-hold, hi-hold_none}
 
 -- their numbers are below a bound
@@ -76,9 +68,9 @@ takes : (most window g u : ℕ) (present : List Held) (kept : Option ℕ) (seque
     → Takes (most + 65536) (note_of window present (after_greatest g kept sequence u))
 takes most window g u present kept sequence lt small =
     let P : Numbered → Type 0 = λ n. Takes (most + 65536) (note_of window present n) in
-    cond_both (ltb u 3000) (forward (g + u)) (cond (ltb 65436 u) (behind (g - (65536 - u))) (cond (is_kept kept sequence) (restart (g + u)) jump)) P
+    cond_both (ltb u 3000) (forward (g + u)) (cond (ltb 65436 u) (backward (g - (65536 - u))) (cond (is_kept kept sequence) (restart (g + u)) jump)) P
     (λ t. in_time_takes (most + 65536) window (g + u) present (omega (arith, lt, small)))
-    (λ f. cond_both (ltb 65436 u) (behind (g - (65536 - u))) (cond (is_kept kept sequence) (restart (g + u)) jump) P
+    (λ f. cond_both (ltb 65436 u) (backward (g - (65536 - u))) (cond (is_kept kept sequence) (restart (g + u)) jump) P
     (λ t. in_time_takes (most + 65536) window (g - (65536 - u)) present (omega (arith, lt)))
     (λ f2. cond_both (is_kept kept sequence) (restart (g + u)) jump P (λ t. omega (arith, lt, small)) (λ f3. tt)))
 

@@ -4,40 +4,21 @@ use Rattle.std.specs.Prelude.{Result, Ok, Err}
 use Rattle.std.specs.List.{AllByRecursion as Each}
 use Rattle.std.proofs.lemmas.Bool.{cond_both}
 use Rattle.std.proofs.lemmas.List.Elements.{All-from_recursion}
-use Rattle.rams_model.specs.declared.channel.Channel.{Channel}
-use Rattle.rams_model.specs.declared.event.Event.{Event}
+use Rattle.rams_model.specs.Types.{Channel, Event, FrameFault, RtpFault, LiveNote}
 use Rattle.rams_model.specs.declared.event.Event.TheVariants.{Live, Feedback, Tick}
-use Rattle.rams_model.specs.declared.fault.FrameFault.{FrameFault}
-use Rattle.rams_model.specs.declared.fault.RtpFault.{RtpFault}
-use Rattle.rams_model.specs.declared.note.LiveNote.{LiveNote}
 use Rattle.rams_model.specs.declared.note.LiveNote.TheVariants.{TooBig}
 use Rattle.rams_model.specs.declared.note.Note.TheVariants.{Live as LiveNoted}
-use Rattle.rams_model.specs.Settings.{Settings}
-use Rattle.rams_model.specs.Packet.{Packet}
-use Rattle.rams_model.specs.Rtp.{packet_at}
-use Rattle.rams_model.specs.Rtcp.{Framed, framed}
-use Rattle.rams_model.specs.Messages.{Message, messages}
-use Rattle.rams_model.specs.Source.{Arrival}
-use Rattle.rams_model.specs.Heard.{Heard, live, dropped, feedback, unframed, tick, heard_packet, heard_live, heard_feedback, heard_of}
-use Rattle.rams_model.specs.History.{began, noted, History, arrivals}
-use Rattle.rams_model.specs.Clients.{known, opened, sendings, ssrc}
-use Rattle.rams_model.specs.Bursts.{bursts}
-use Rattle.rams_model.specs.Pending.{Wanted, pending, quiet_ticks}
-use Rattle.rams_model.specs.Buckets.{reserved, channel_left}
-use Rattle.rams_model.specs.Answers.{after_messages}
-use Rattle.rams_model.specs.Tick.{after_tick}
-use Rattle.rams_model.specs.Book.{after, after_hearing, history_of}
-use Rattle.channel_config.specs.Lawful.{IsLawful}
-use Rattle.channel_cache.specs.Arrivals.{arrivals_heard, arrivals_after}
+use Rattle.rams_model.specs.Service.{Settings, Message, messages, Heard, live, dropped, feedback, unframed, tick, heard_packet, heard_live, heard_feedback, heard_of, began, noted, History, arrivals, known, opened, sendings, ssrc, bursts, Wanted, pending, quiet_ticks, reserved, channel_left, after_messages, after_tick, after, after_hearing, history_of}
+use Rattle.rams_model.specs.Formats.{Packet, packet_at, Framed, framed}
+use Rattle.rams_model.specs.Packets.{Arrival}
+use Rattle.channel_config.specs.{IsLawful}
+use Rattle.channel_cache.specs.{arrivals_heard, arrivals_after}
 use Rattle.channel_cache.specs.Seen as caches
 use Rattle.channel_cache.proofs.Booked.{noted_so}
-use Rattle.link_budget.specs.Amounts.{amounts}
+use Rattle.link_budget.specs.{amounts}
 use Rattle.client_table.specs.Clients.{Clients}
 use Rattle.book_laws.proofs.Items.{tick_puts}
-use Rattle.channel_parts.specs.declared.parts.Parts.{Parts}
-use Rattle.channel_parts.specs.Facts.{HaveLowNumbers}
-use Rattle.channel_parts.specs.Standing.{IsTable, IsQueue, IsBudget, IsCache, StandsFor}
-use Rattle.channel_parts.specs.Given.{GoOn, OtherEventsLeaveTheCache, LivePacketsChangeTheCache}
+use Rattle.channel_parts.specs.{Parts, HaveLowNumbers, IsTable, IsQueue, IsBudget, IsCache, StandsFor, GoOn, OtherEventsLeaveTheCache, LivePacketsChangeTheCache}
 use Rattle.channel_parts.proofs.Knowing.{OfKnown, pending_known}
 use Rattle.channel_parts.proofs.Passing.{through_notes, through_messages}
 use Rattle.channel_parts.proofs.Small.{reads_low}

@@ -10,9 +10,9 @@ use Rattle.std.specs.Map.{keys_of, lookup, set_value, remove_entry}
 use Rattle.std.specs.BTreeMap.{insert_entry, is_at}
 use Rattle.std.proofs.lemmas.Bool.{cond_both, cond-true, cond-false, cases_order, or_cases, or_parts, not_from_false, not_from_true, both_ways, eqb-true, eq-eqb, ne_eqb, lt-ltb, le-ltb}
 use Rattle.std.proofs.lemmas.Map.Made.{is_some-lookup}
-use Rattle.rams_model.specs.Clients.{is_among, placed, with_client, without}
-use Rattle.client_table.specs.declared.entry.Entry.{Entry}
-use Rattle.client_table.specs.Clients.{Clients, clients_of, entry_of, with_entry}
+use Rattle.rams_model.specs.Service.{is_among, placed, with_client, without}
+use Rattle.client_table.specs.{Entry, clients_of, entry_of, with_entry}
+use Rattle.client_table.specs.Clients.{Clients}
 use Rattle.client_table.specs.Clients as tables
 use Rattle.book_laws.proofs.Legality.{some_of}
 use Rattle.channel_parts.proofs.Ordered.{Rise, not_below}
@@ -48,9 +48,6 @@ has_entry t k = is_some-lookup (is_at (nat_cmp k)) t.known ∙ any_same (clients
 
 pub no_entry : (t : Clients) (k : ℕ) → is_among k (clients_of t) ≡ false → entry_of t k ≡ None
 no_entry t k out = none_of (entry_of t k) (has_entry t k ∙ out)
-
-pub some_entry : (t : Clients) (k : ℕ) → is_among k (clients_of t) ≡ true → (e : Entry) × (entry_of t k ≡ Some e)
-some_entry t k is = some_of (entry_of t k) (has_entry t k ∙ is)
 
 pub entry_among : (t : Clients) (k : ℕ) (e : Entry) → entry_of t k ≡ Some e → is_among k (clients_of t) ≡ true
 entry_among t k e found = sym (has_entry t k) ∙ ap is_some found

@@ -3,12 +3,8 @@ use Rattle.std.proofs.Common.{◌≡◌, ℕ, ◌+◌, ◌≤◌, Bool, false, n
 use Rattle.std.specs.Prelude.{filter}
 use Rattle.std.proofs.lemmas.Bool.{cond_both, and_cases, not-false, leb-false, both_ways}
 use Rattle.rams_model.specs.declared.note.Note.TheVariants as note
-use Rattle.rams_model.specs.Settings.{Settings}
-use Rattle.rams_model.specs.History.{began, told, noted, History}
-use Rattle.rams_model.specs.Clients.{known, is_among, placed, with_client}
-use Rattle.rams_model.specs.Pending.{Wanted, is_wanted, pending}
-use Rattle.rams_model.specs.Verdict.{is_full}
-use Rattle.repair_queue.specs.Queue.{IsWithinLimits}
+use Rattle.rams_model.specs.Service.{Settings, began, told, noted, History, known, is_among, placed, with_client, Wanted, is_wanted, pending, is_full}
+use Rattle.repair_queue.specs.{IsWithinLimits}
 use Rattle.repair_queue.proofs.Pending.{length-filter-le, filter-filter-le, limits_less, limits_push}
 use Rattle.book_laws.proofs.Legal.{IsLegal}
 use Rattle.channel_parts.proofs.Granting.{asked, waits}

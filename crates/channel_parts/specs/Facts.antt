@@ -2,26 +2,14 @@
 use Rattle.std.specs.Prelude.{◌≡◌, ℕ, ◌+◌, ◌-◌, ◌^◌, ◌<◌, ◌≤◌, Bool, true, false, List, ◌∷◌, ◌++◌, length, filter, All, Option, Some, None}
 use Rattle.std.specs.Ordering.{nat_cmp}
 use Rattle.std.specs.List.Sorted.{IsStrictlySortedBy}
-use Rattle.rams_model.specs.declared.event.Event.{Event}
-use Rattle.rams_model.specs.declared.held.Held.{Held}
-use Rattle.rams_model.specs.declared.note.Note.{Note}
+use Rattle.rams_model.specs.Types.{Event, Held, Note, Cause}
 use Rattle.rams_model.specs.declared.note.Note.TheVariants.{Accept, Update, End}
-use Rattle.rams_model.specs.declared.note.Cause.{Cause}
-use Rattle.rams_model.specs.Settings.{Settings}
-use Rattle.rams_model.specs.Hold.{hi}
-use Rattle.rams_model.specs.Source.{Arrival}
-use Rattle.rams_model.specs.Messages.{Message}
-use Rattle.rams_model.specs.Heard.{Heard}
-use Rattle.rams_model.specs.History.{began, told, noted, History, arrivals, hold}
-use Rattle.rams_model.specs.Clients.{known, opened, is_among, sequence}
-use Rattle.rams_model.specs.Bursts.{Burst, next, open_burst, has_open}
-use Rattle.rams_model.specs.Pending.{pending, idle}
-use Rattle.rams_model.specs.Buckets.{reserved, channel_left}
-use Rattle.rams_model.specs.Book.{history_of}
-use Rattle.channel_config.specs.Lawful.{IsLawful}
-use Rattle.repair_queue.specs.Queue.{IsWithinLimits}
-use Rattle.channel_cache.specs.Arrivals.{arrivals_after}
-use Rattle.book_laws.specs.Moments.{IsMoment}
+use Rattle.rams_model.specs.Service.{Settings, Message, Heard, began, told, noted, History, arrivals, hold, known, opened, is_among, sequence, Burst, next, open_burst, has_open, pending, idle, reserved, channel_left, history_of}
+use Rattle.rams_model.specs.Packets.{hi, Arrival}
+use Rattle.channel_config.specs.{IsLawful}
+use Rattle.repair_queue.specs.{IsWithinLimits}
+use Rattle.channel_cache.specs.{arrivals_after}
+use Rattle.book_laws.specs.{IsMoment}
 
 -- The known clients stand by rising number, each once.
 abbrev pub KnownClientsRise : Type 0

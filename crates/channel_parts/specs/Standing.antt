@@ -1,21 +1,15 @@
 -- What the parts of a channel keep between events, and the history that they stand for.
 use Rattle.std.specs.Prelude.{◌≡◌, ℕ, ◌^◌, ◌≤◌, false, true, List, [], length, All, Option, Some, None, option_map}
-use Rattle.rams_model.specs.declared.event.Event.{Event}
-use Rattle.rams_model.specs.Settings.{Settings}
-use Rattle.rams_model.specs.History.{History, arrivals}
-use Rattle.rams_model.specs.Clients.{known, is_among, sequence, ssrc}
-use Rattle.rams_model.specs.Bursts.{next, kept, open_burst}
-use Rattle.rams_model.specs.Bursts as model
-use Rattle.rams_model.specs.Pending.{Wanted, pending, idle}
-use Rattle.rams_model.specs.Buckets.{reserved, channel_left}
-use Rattle.rams_model.specs.Book.{history_of}
-use Rattle.channel_config.specs.Lawful.{IsLawful}
-use Rattle.channel_cache.specs.Seen.{new_cache}
+use Rattle.rams_model.specs.Types.{Event}
+use Rattle.rams_model.specs.Service.{Settings, History, arrivals, known, is_among, sequence, ssrc, next, kept, open_burst, Wanted, pending, idle, reserved, channel_left, history_of}
+use Rattle.rams_model.specs.Service.Bursts as model
+use Rattle.channel_config.specs.{IsLawful}
+use Rattle.channel_cache.specs.{new_cache}
 use Rattle.channel_cache.specs.Seen as caches
-use Rattle.link_budget.specs.Amounts.{Amounts, amounts}
-use Rattle.client_table.specs.declared.entry.Burst.{Burst}
-use Rattle.client_table.specs.declared.entry.Entry.{Entry}
-use Rattle.client_table.specs.Clients.{Clients, nobody, clients_of, entry_of}
+use Rattle.link_budget.specs.{amounts}
+use Rattle.link_budget.specs.Amounts.{Amounts}
+use Rattle.client_table.specs.{Burst, Entry, nobody, clients_of, entry_of}
+use Rattle.client_table.specs.Clients.{Clients}
 use Rattle.channel_parts.specs.declared.parts.Parts.{Parts}
 use Rattle.channel_parts.specs.Facts.{HaveLowNumbers}
 

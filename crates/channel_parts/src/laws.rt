@@ -1,8 +1,7 @@
 //! What is true of each history of a channel.
 //!
 //! A law is the contract of a function that does nothing. Its words stand in `specs/`.
-ghost use Rattle.channel_parts.specs.Facts.{KnownClientsRise, OpenedClientsRise, OpenedHaveBursts, KnownClientsAreFew, OnlyKnownClientsHaveBursts, OpenedAreTheKnownWithBursts, KnownClientsAreIdleForLess, RepairsAreOfKnownClients, RepairsAreWithinLimits, OpenBurstsAreWithinBounds, OpenBurstsHaveATickLeft, ReservedLeavesTheReserve, EachBurstIsReserved, LeftIsWithinShareAndSwell, AcceptsReserve, UpdatesReserve, EndsRelease, OtherNotesReserveNothing, EventsReserveNothing, MessagesReserveNothing, TheEndOfTheHeldNeverFalls, HeldNumbersAreSmall, ReadPacketsHaveLowNumbers, SequencesHave16Bits};
-ghost use Rattle.channel_parts.specs.Given.{HeldPacketsAreInOrder, KnownClientsHaveEntries, EntriesAreOfTheirClients, EntriesAreInBounds, ReservedIsOfTheEntries, LivePacketsChangeTheCache, OtherEventsLeaveTheCache};
+ghost use Rattle.channel_parts.specs.{KnownClientsRise, OpenedClientsRise, OpenedHaveBursts, KnownClientsAreFew, OnlyKnownClientsHaveBursts, OpenedAreTheKnownWithBursts, KnownClientsAreIdleForLess, RepairsAreOfKnownClients, RepairsAreWithinLimits, OpenBurstsAreWithinBounds, OpenBurstsHaveATickLeft, ReservedLeavesTheReserve, EachBurstIsReserved, LeftIsWithinShareAndSwell, AcceptsReserve, UpdatesReserve, EndsRelease, OtherNotesReserveNothing, EventsReserveNothing, MessagesReserveNothing, TheEndOfTheHeldNeverFalls, HeldNumbersAreSmall, ReadPacketsHaveLowNumbers, SequencesHave16Bits, HeldPacketsAreInOrder, KnownClientsHaveEntries, EntriesAreOfTheirClients, EntriesAreInBounds, ReservedIsOfTheEntries, LivePacketsChangeTheCache, OtherEventsLeaveTheCache};
 
 /// The known clients, and those with an open burst, stand by rising number, each once; no more are
 /// known than the settings allow.

@@ -1,6 +1,6 @@
 //! The parts of one channel.
 ghost use Rattle.std.specs.Prelude.{◌≡◌, [], IfOk};
-ghost use Rattle.channel_parts.specs.Standing.{StandsFor, new_parts};
+ghost use Rattle.channel_parts.specs.{StandsFor, new_parts};
 
 use channel_cache::Cache;
 use channel_config::Config;

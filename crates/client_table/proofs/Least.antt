@@ -8,7 +8,7 @@ use Rattle.std.specs.List.Sorted.{IsStrictlySortedBy}
 use Rattle.std.proofs.lemmas.Bool.Decides.{nat_tests}
 use Rattle.std.proofs.lemmas.List.Elements.{All-nil, All-cons, Contains-append_right}
 use Rattle.std.proofs.lemmas.Map.Keys.{sorted_head, sorted_tail}
-use Rattle.client_table.specs.Clients.{is_above, IsLeastAbove}
+use Rattle.client_table.specs.{is_above, IsLeastAbove}
 
 -- where the first entry that passes has this key
 module _ {X : Type 0} (test : ℕ → Bool) where

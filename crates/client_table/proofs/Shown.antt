@@ -1,7 +1,7 @@
 -- What a table shows, and what each call makes of it.
 use Rattle.std.proofs.Common.{◌≡◌, ℕ, Bool, List, Option, Some, None, Result, Ok, Err, ◌<◌, ◌≤◌, ◌+◌, true, false, if◌then◌else◌, length, ap, sym, ◌∙◌, subst, arith}
 use Rattle.std.specs.Result.{IsErrAnd}
-use Rattle.client_table.specs.declared.entry.AdmitFault.{AdmitFault}
+use Rattle.client_table.specs.{AdmitFault, Entry, clients_of, AreRising, entry_of, with_client, with_entry, without, is_above, next_of, IsLeastAbove, entry_at, joined, seen, AreJoined}
 use Rattle.client_table.specs.declared.entry.AdmitFault.TheVariants.{Full, NoMemory}
 use Rattle.std.specs.List.{find}
 use Rattle.std.specs.Option.{option_and_then}
@@ -9,9 +9,7 @@ use Rattle.std.specs.Map.{keys_of, lookup, remove_entry}
 use Rattle.std.specs.BTreeMap.{insert_entry, is_at}
 use Rattle.std.specs.Ordering.{nat_cmp}
 use Rattle.std.specs.List.Sorted.{IsStrictlySortedBy}
-use Rattle.client_table.specs.declared.entry.Entry.{Entry}
-use Rattle.client_table.specs.Clients.{Clients, clients_of, AreRising, entry_of, with_client, with_entry, without, is_above, next_of, IsLeastAbove}
-use Rattle.client_table.specs.Joined.{entry_at, joined, seen, AreJoined}
+use Rattle.client_table.specs.Clients.{Clients}
 use Rattle.client_table.proofs.Found.{keys-joined, length-joined, lookup-joined}
 use Rattle.client_table.proofs.Changed.{SameElsewhere, free_key, joined_set, joined_insert, joined_remove, remove_none}
 use Rattle.client_table.proofs.Least.{least_found}

@@ -1,6 +1,6 @@
 //! What the server keeps of a client.
 ghost use Rattle.std.specs.Prelude.{◌≡◌};
-ghost use Rattle.client_table.specs.Clients.{new_entry};
+ghost use Rattle.client_table.specs.{new_entry};
 ghost use Rattle.client_table.specs.declared.entry.AdmitFault.TheVariants as faults;
 
 use rams_model::Info;

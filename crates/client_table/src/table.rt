@@ -24,7 +24,7 @@ impl Model for Table {
     ghost Value = { Clients };
 
     ghost use Rattle.std.specs.BTreeMap.{IsOrdered};
-    ghost use Rattle.client_table.specs.Joined.{seen, entry_at, AreJoined};
+    ghost use Rattle.client_table.specs.{seen, entry_at, AreJoined, nobody, clients_of, AreRising, entry_of, new_entry, with_client, without, next_of, IsLeastAbove, LendsEntry, clients_left, AreAll, AreChanged};
 
     ghost view = { λ t. seen t.most t.entries.slots t.index.entries };
 
@@ -40,10 +40,7 @@ impl Table {
     ghost use Rattle.std.specs.Prelude.{◌≡◌, ◌≤◌, ◌↔◌, Some, None, Err, All, length, option_copied, IfOk, OnOk, OnErr};
     ghost use Rattle.std.specs.Option.{option_copied_mut};
     ghost use Rattle.std.specs.Borrow.{sem};
-    ghost use Rattle.client_table.specs.Clients.{Clients, nobody, clients_of, AreRising, entry_of, new_entry, with_client, without, next_of, IsLeastAbove};
-    ghost use Rattle.client_table.specs.Lends.{LendsEntry};
-    ghost use Rattle.client_table.specs.Left.{clients_left};
-    ghost use Rattle.client_table.specs.Changes.{AreAll, AreChanged};
+    ghost use Rattle.client_table.specs.Clients.{Clients};
     ghost use Rattle.client_table.specs.declared.entry.AdmitFault.TheVariants.{Full};
 
     /// A table in which nobody is known, for at most so many clients. It takes the room of their entries.
@@ -154,7 +151,7 @@ ghost use Rattle.std.specs.Ordering.{nat_cmp};
 ghost use Rattle.std.specs.Map.{lookup};
 ghost use Rattle.std.specs.BTreeMap.{is_at, keys};
 ghost use Rattle.std.specs.BTreeMap.Range.{is_from_start};
-ghost use Rattle.client_table.specs.Joined.{entry_at, AreReady, AreSlotsChanged};
+ghost use Rattle.client_table.specs.{entry_at, AreReady, AreSlotsChanged};
 
 // The key of a client.
 fn key_of(index: &BTreeMap<u64, usize>, client: u64) -> Option<usize>

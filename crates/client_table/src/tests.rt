@@ -1,6 +1,6 @@
 //! Tables whose clients and entries are told by hand.
 ghost use Rattle.std.specs.Prelude.{◌≡◌, IfNone, IfSome};
-ghost use Rattle.client_table.specs.Clients.{entry_of, with_entry};
+ghost use Rattle.client_table.specs.{entry_of, with_entry};
 
 use crate::{AdmitFault, Burst, Entry, Table};
 use std::alloc::Global;

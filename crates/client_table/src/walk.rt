@@ -1,6 +1,6 @@
 //! Going through the known clients.
 ghost use Rattle.std.specs.Prelude.{◌≡◌, length};
-ghost use Rattle.client_table.specs.Joined.{entry_at, joined};
+ghost use Rattle.client_table.specs.{entry_at, joined};
 
 use crate::entry::Entry;
 use slab::Slab;
@@ -16,7 +16,7 @@ pub struct KnownClients<'a> {
 
 impl<'a> Iterator for KnownClients<'a> {
     ghost use Rattle.std.specs.Iterator.{YieldsFirstBy, item_count};
-    ghost use Rattle.client_table.specs.Left.{shown_client, clients_left};
+    ghost use Rattle.client_table.specs.{shown_client, clients_left};
 
     type Item = (u64, &'a Entry);
 

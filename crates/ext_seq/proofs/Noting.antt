@@ -2,14 +2,11 @@
 use Rattle.std.proofs.Common.{◌≡◌, ℕ, ◌+◌, ◌-◌, ◌<◌, ◌≤◌, ◌⊎◌, Bool, true, false, nat_lt, if◌then◌else◌, List, [], ◌∷◌, ◌++◌, Option, Some, None, refl, sym, ◌∙◌, ap, subst, inl, inr, arith}
 use Rattle.std.proofs.lemmas.Bool.{cases_lt}
 use Rattle.std.proofs.lemmas.Bool.Decides.{nat_tests}
-use Rattle.rams_model.specs.declared.held.Held.{Held}
+use Rattle.rams_model.specs.Types.{Held}
 use Rattle.rams_model.specs.declared.note.LiveNote.TheVariants.{Took, Late, Twice}
-use Rattle.rams_model.specs.Hold.{hi}
-use Rattle.rams_model.specs.Numbering.{Numbered, first, forward, behind, jump, restart, ahead, is_kept, numbered}
-use Rattle.rams_model.specs.Source.{Arrival, Stream, held_as, has_number, with_packet, awaited, greatest, in_time, note_of, live_note, stream_after, stream_of}
-use Rattle.ext_seq.specs.declared.numbering.Noted.{Noted}
+use Rattle.rams_model.specs.Packets.{hi, Numbered, first, forward, backward, jump, restart, ahead, is_kept, numbered, Arrival, Stream, held_as, has_number, with_packet, awaited, greatest, in_time, note_of, live_note, stream_after, stream_of}
+use Rattle.ext_seq.specs.{Noted, Seen, noted, moved, IsWithin, IsNumberWithin, StandsFor}
 use Rattle.ext_seq.specs.declared.numbering.Noted.TheVariants.{First, Forward}
-use Rattle.ext_seq.specs.Numbers.{Seen, noted, moved, IsWithin, IsNumberWithin, StandsFor}
 use Rattle.ext_seq.proofs.Tops.{AreBelow, hi_one, hi-with_higher, hi-with_lower, AreBelow-wider, AreBelow-with, has_none, has_greatest, awaited-end}
 
 pub greatest-from_hi : (hs : List Held) (n : ℕ) → hi hs ≡ n + 1 → greatest hs ≡ Some n
@@ -26,16 +23,16 @@ IsWithin-either calls n x (inr is) within = subst (IsNumberWithin calls) is with
 abbrev pub IsFit : Option ℕ → Numbered → Type 0
 IsFit None (first n) = Unit {0}
 IsFit None (forward n) = ⊥
-IsFit None (behind n) = ⊥
+IsFit None (backward n) = ⊥
 IsFit None jump = ⊥
 IsFit None (restart n) = ⊥
 IsFit (Some g) (first n) = ⊥
 IsFit (Some g) (forward n) = g ≤ n
-IsFit (Some g) (behind n) = n ≤ g
+IsFit (Some g) (backward n) = n ≤ g
 IsFit (Some g) jump = Unit {0}
 IsFit (Some g) (restart n) = Unit {0}
 
-pub fit_step : (g u : ℕ) (near far again : Bool) → IsFit (Some g) (if near then forward (g + u) else if far then behind (g - (65536 - u)) else if again then restart (g + u) else jump)
+pub fit_step : (g u : ℕ) (near far again : Bool) → IsFit (Some g) (if near then forward (g + u) else if far then backward (g - (65536 - u)) else if again then restart (g + u) else jump)
 fit_step g u true far again = omega arith
 fit_step g u false true again = omega arith
 fit_step g u false false true = tt
@@ -104,12 +101,12 @@ follows_alone v ended kept a n top same = record { greatest = top ∙ sym (great
 pub follows_after : (window : ℕ) (v : Seen) (ended present : List Held) (kept : Option ℕ) (a : Arrival) (x : Numbered) → v.greatest ≡ greatest present → v.kept ≡ kept → AreBelow (hi present) present → IsFit (greatest present) x → Follows (moved v a.sequence (noted x)) (stream_after (record { ended = ended; present = present; kept = kept }) a (note_of window present x))
 follows_after window v ended [] kept a (first n) top same below fit = follows_alone (moved v a.sequence (noted (first n))) ended kept a n refl same
 follows_after window v ended [] kept a (forward n) top same below fit = absurd fit
-follows_after window v ended [] kept a (behind n) top same below fit = absurd fit
+follows_after window v ended [] kept a (backward n) top same below fit = absurd fit
 follows_after window v ended [] kept a jump top same below fit = absurd fit
 follows_after window v ended [] kept a (restart n) top same below fit = absurd fit
 follows_after window v ended (h ∷ hs) kept a (first n) top same below fit = absurd fit
 follows_after window v ended (h ∷ hs) kept a (forward n) top same below fit = follows_forward window v ended h hs kept a n same below fit (cases_lt n (hi (h ∷ hs)))
-follows_after window v ended (h ∷ hs) kept a (behind n) top same below fit = follows_behind window v ended h hs kept a n top same below fit
+follows_after window v ended (h ∷ hs) kept a (backward n) top same below fit = follows_behind window v ended h hs kept a n top same below fit
 follows_after window v ended (h ∷ hs) kept a jump top same below fit = record { greatest = top; kept = refl; below = below }
 follows_after window v ended (h ∷ hs) kept a (restart n) top same below fit = follows_alone (moved v a.sequence (noted (restart n))) (ended ++ h ∷ hs) None a n refl refl
 

@@ -1,7 +1,6 @@
 -- What contracts see of a numbering, and the live packets that it stands for.
 use Rattle.std.specs.Prelude.{◌≡◌, ℕ, ◌+◌, ◌*◌, ◌<◌, ◌≤◌, List, length, Option, Some, None}
-use Rattle.rams_model.specs.Numbering.{Numbered, first, forward, behind, jump, restart, following}
-use Rattle.rams_model.specs.Source.{Arrival, stream_of, greatest}
+use Rattle.rams_model.specs.Packets.{Numbered, first, forward, backward, jump, restart, following, Arrival, stream_of, greatest}
 use Rattle.ext_seq.specs.declared.numbering.Noted.{Noted}
 use Rattle.ext_seq.specs.declared.numbering.Noted.TheVariants.{First, Forward, Behind, Jump, Restart}
 
@@ -22,7 +21,7 @@ new_numbering = record { greatest = None; kept = None; calls = 0 }
 abbrev pub noted : Numbered → Noted
 noted (first n) = First n
 noted (forward n) = Forward n
-noted (behind n) = Behind n
+noted (backward n) = Behind n
 noted jump = Jump
 noted (restart n) = Restart n
 

@@ -1,7 +1,6 @@
 //! Distances of numbers that go around.
 ghost use Rattle.std.specs.Prelude.{◌≡◌};
-ghost use Rattle.rams_model.specs.Access.{age_ms};
-ghost use Rattle.rams_model.specs.Numbering.{ahead};
+ghost use Rattle.rams_model.specs.Packets.{age_ms, ahead};
 
 /// Sequence numbers have 16 bits (RFC 3550, 5.1).
 pub const SEQUENCE_NUMBERS: u64 = 65536;

@@ -1,7 +1,7 @@
 //! Numbers that are named by their low 16 bits.
 ghost use Rattle.std.specs.Prelude.{◌≡◌, ℕ, ◌+◌, ◌-◌, ◌^◌, ◌<◌, ◌≤◌, IfSome, IfNone};
-ghost use Rattle.rams_model.specs.Numbering.{least_from};
-ghost use Rattle.ext_seq.specs.LowBits.{IsLeastFrom, IsResolved};
+ghost use Rattle.rams_model.specs.Packets.{least_from};
+ghost use Rattle.ext_seq.specs.{IsLeastFrom, IsResolved};
 
 use crate::distance::ahead;
 

@@ -1,8 +1,7 @@
 //! The numbering of live packets.
 ghost use Rattle.std.specs.Prelude.{◌≡◌, ℕ, ◌+◌, ◌*◌, ◌^◌, ◌<◌, ◌≤◌, List, [], ◌∷◌, IfSome};
-ghost use Rattle.rams_model.specs.Numbering.{numbered};
-ghost use Rattle.rams_model.specs.Source.{Arrival};
-ghost use Rattle.ext_seq.specs.Numbers.{Seen, new_numbering, noted, moved, IsWithin, IsNumberWithin, StandsFor};
+ghost use Rattle.rams_model.specs.Packets.{numbered, Arrival};
+ghost use Rattle.ext_seq.specs.{Seen, new_numbering, noted, moved, IsWithin, IsNumberWithin, StandsFor};
 
 use crate::distance::{SEQUENCE_NUMBERS, ahead};
 use std::marker::Model;
@@ -41,7 +40,7 @@ pub struct Numbering {
 
 impl Model for Numbering {
     ghost use Rattle.std.specs.Prelude.{ℕ, ◌+◌, ◌*◌, ◌≤◌, ◌^◌};
-    ghost use Rattle.ext_seq.specs.Numbers.{Seen, IsWithin};
+    ghost use Rattle.ext_seq.specs.{Seen, IsWithin};
 
     ghost Value = { Seen };
 
@@ -98,7 +97,7 @@ impl Numbering {
 }
 
 /// What the numbering makes of a sequence number.
-#[tactic(auto, unfolding(rams_model::specs::Numbering::numbered))]
+#[tactic(auto, unfolding(rams_model::specs::Packets::Numbering::numbered))]
 fn number_of(greatest: Option<u64>, kept: Option<u16>, seq: u16) -> Noted
     requires { IfSome greatest (λ g. (65536 ≤ g) × (g < 2 ^ 62)) }
     ensures number { result ≡ noted (numbered greatest kept seq) }

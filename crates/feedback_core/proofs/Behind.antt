@@ -3,12 +3,10 @@ use Rattle.std.proofs.Common.{◌≡◌, ℕ, ◌+◌, ◌≤◌, ◌<◌, ⊎_e
 use Rattle.std.specs.Prelude.{length, find, max}
 use Rattle.std.proofs.lemmas.Bool.{cond-true, cond-false, cases_lt, cases_eq, le-leb, lt-leb, eq-eqb, ne_eqb}
 use Rattle.std.proofs.lemmas.List.Sums.{sum_by-cons}
-use Rattle.rams_model.specs.declared.held.Held.{Held}
-use Rattle.rams_model.specs.Hold.{lo, hi, wires, from_number}
-use Rattle.rams_model.specs.Access.{behind}
-use Rattle.rams_model.specs.Source.{Follows}
-use Rattle.packet_ring.specs.Seen.{packet_of}
-use Rattle.feedback_core.specs.Ready.{IsHeldRun}
+use Rattle.rams_model.specs.Types.{Held}
+use Rattle.rams_model.specs.Packets.{lo, hi, wires, from_number, behind, Follows}
+use Rattle.packet_ring.specs.{packet_of}
+use Rattle.feedback_core.specs.{IsHeldRun}
 
 -- all of them from the first number on, or from one below it
 behind_front : (m n : ℕ) (hs : List Held) → Follows m hs → n ≤ m → behind n hs ≡ wires hs

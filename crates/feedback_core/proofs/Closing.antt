@@ -2,39 +2,18 @@
 use Rattle.std.proofs.Common.{◌≡◌, ◌≢◌, ℕ, ◌≤◌, true, List, [], ◌∷◌, length, None, Result, Ok, Err, refl, ap, sym, ◌∙◌, subst, arith, eqb}
 use Rattle.std.specs.Prelude.{IsSome, All, option_map, option_to_list}
 use Rattle.std.proofs.lemmas.Bool.{cond-false, ne_eqb}
-use Rattle.rams_model.specs.declared.answer.Order.{Order}
-use Rattle.rams_model.specs.declared.event.Event.{Event}
+use Rattle.rams_model.specs.Types.{Order, Event, FrameFault, Note}
 use Rattle.rams_model.specs.declared.event.Event.TheVariants.{Feedback}
-use Rattle.rams_model.specs.declared.fault.FrameFault.{FrameFault}
-use Rattle.rams_model.specs.declared.note.Note.{Note}
 use Rattle.rams_model.specs.declared.note.Note.TheVariants.{BadFeedback}
-use Rattle.rams_model.specs.Answered.{answered}
-use Rattle.rams_model.specs.Settings.{Settings}
-use Rattle.rams_model.specs.Source.{Arrival}
-use Rattle.rams_model.specs.Rtcp.{Framed, framed}
-use Rattle.rams_model.specs.Messages.{Message, messages}
-use Rattle.rams_model.specs.Heard.{unframed, heard_feedback, heard_of}
-use Rattle.rams_model.specs.History.{began, noted, History, arrivals}
-use Rattle.rams_model.specs.Clients.{known, is_among, without, sendings, ssrc}
-use Rattle.rams_model.specs.Bursts.{bursts}
-use Rattle.rams_model.specs.Pending.{Wanted, pending, quiet_ticks}
-use Rattle.rams_model.specs.Buckets.{channel_left}
-use Rattle.rams_model.specs.Orders.{info_order, order_of, newest_notes, newest_orders, newest_answer}
-use Rattle.rams_model.specs.Answers.{after_messages}
-use Rattle.rams_model.specs.Book.{after_hearing, history_of, answer}
+use Rattle.rams_model.specs.Service.{answered, Settings, Message, messages, unframed, heard_feedback, heard_of, began, noted, History, arrivals, known, is_among, without, sendings, ssrc, bursts, Wanted, pending, quiet_ticks, channel_left, info_order, order_of, newest_notes, newest_orders, newest_answer, after_messages, after_hearing, history_of, answer}
+use Rattle.rams_model.specs.Packets.{Arrival}
+use Rattle.rams_model.specs.Formats.{Framed, framed}
 use Rattle.channel_cache.specs.Seen as caches
-use Rattle.channel_parts.specs.declared.parts.Parts.{Parts}
-use Rattle.channel_parts.specs.Standing.{IsTable, IsQueue, IsBudget, IsCache, StandsFor}
-use Rattle.channel_parts.specs.Facts.{HaveLowNumbers}
+use Rattle.channel_parts.specs.{Parts, IsTable, IsQueue, IsBudget, IsCache, StandsFor, HaveLowNumbers}
 use Rattle.channel_parts.proofs.Facts.{events_reserve_nothing, other_notes_reserve_nothing, only_known_clients_have_bursts, repairs_are_of_known_clients}
 use Rattle.channel_parts.proofs.Given.{moment}
 use Rattle.channel_parts.proofs.Turning.{OthersAreClosed}
-use Rattle.feedback_core.specs.declared.page.Page.{Page}
-use Rattle.feedback_core.specs.declared.visitor.Visitor.{Visitor}
-use Rattle.feedback_core.specs.Visits.{IsAsBefore, IsClient, IsVisit}
-use Rattle.feedback_core.specs.Framing.{answered_of}
-use Rattle.feedback_core.specs.Pages.{IsTurned}
-use Rattle.feedback_core.specs.Places.{has_place, with_place, with_kept}
+use Rattle.feedback_core.specs.{Page, Visitor, IsAsBefore, IsClient, IsVisit, answered_of, IsTurned, has_place, with_place, with_kept}
 use Rattle.feedback_core.proofs.Beginning.{at_datagram}
 use Rattle.feedback_core.proofs.Places.{place_is, table_ended}
 use Rattle.feedback_core.proofs.Visiting.{entry_as_before}

@@ -4,18 +4,15 @@ use Rattle.std.specs.Prelude.{is_some, IsSome}
 use Rattle.std.specs.Map.{keys_of}
 use Rattle.std.proofs.lemmas.Bool.{cond_both, cond-true, cond-false, cases_Bool, cases_eq, or_from, or_left, or_right, or_cases, both_ways, eqb-true, eqb-false, ne_eqb, lt-ltb, le-ltb, not-true, not_from_true, not_from_false}
 use Rattle.rams_model.specs.declared.note.Note.TheVariants as note
-use Rattle.rams_model.specs.Settings.{Settings}
-use Rattle.rams_model.specs.Clients.{known, is_among, with_client, without}
-use Rattle.rams_model.specs.History.{noted, History}
-use Rattle.client_table.specs.declared.entry.Entry.{Entry}
-use Rattle.client_table.specs.Clients.{Clients, clients_of, entry_of, new_entry, with_entry}
+use Rattle.rams_model.specs.Service.{Settings, known, is_among, with_client, without, noted, History}
+use Rattle.client_table.specs.{Entry, clients_of, entry_of, new_entry, with_entry}
+use Rattle.client_table.specs.Clients.{Clients}
 use Rattle.client_table.specs.Clients as tables
-use Rattle.channel_parts.specs.Standing.{IsEntry, IsTable}
+use Rattle.channel_parts.specs.{IsEntry, IsTable}
 use Rattle.channel_parts.proofs.Ordered.{Rise, known_rise, same_rise}
 use Rattle.channel_parts.proofs.Tables.{has_entry, entry_among, no_entry, clients-with_entry, entry-with_entry, others-with_entry, clients-with_client, entry-with_client, others-with_client, clients-without, others-without}
 use Rattle.channel_parts.proofs.Turning.{OthersAreClosed}
-use Rattle.feedback_core.specs.Visits.{IsAsBefore, IsClient}
-use Rattle.feedback_core.specs.Places.{is_full_table, has_place, with_place, with_kept}
+use Rattle.feedback_core.specs.{IsAsBefore, IsClient, is_full_table, has_place, with_place, with_kept}
 use Rattle.feedback_core.proofs.Others.{without_none, rest_noted, any_left}
 use Rattle.feedback_core.proofs.Visiting.{entry_as_before}
 

@@ -2,32 +2,18 @@
 use Rattle.std.proofs.Common.{◌≡◌, ℕ, ◌+◌, ◌≤◌, Bool, true, not, List, [], ◌∷◌, length, Option, Some, None, Result, Ok, Err, refl, ap, sym, ◌∙◌, subst, arith}
 use Rattle.std.specs.Prelude.{◌*◌, IfOk, is_some, IsSome, option_map, option_to_list}
 use Rattle.std.proofs.lemmas.Bool.{or_left}
-use Rattle.rams_model.specs.declared.event.Event.{Event}
+use Rattle.rams_model.specs.Types.{Event}
 use Rattle.rams_model.specs.declared.event.Event.TheVariants.{Feedback}
-use Rattle.rams_model.specs.Answered.{Answered, answered}
-use Rattle.rams_model.specs.Settings.{Settings}
-use Rattle.rams_model.specs.Rtcp.{Framed, framed}
-use Rattle.rams_model.specs.Messages.{Message}
-use Rattle.rams_model.specs.History.{History, arrivals, hold}
-use Rattle.rams_model.specs.Orders.{info_order}
-use Rattle.rams_model.specs.Answers.{after_messages}
-use Rattle.rams_model.specs.Book.{history_of, answer}
-use Rattle.rams_model.specs.Pending.{Wanted}
+use Rattle.rams_model.specs.Service.{Answered, answered, Settings, Message, History, arrivals, hold, info_order, after_messages, history_of, answer, Wanted}
+use Rattle.rams_model.specs.Formats.{Framed, framed}
 use Rattle.link_budget.specs.Amounts.{Amounts}
-use Rattle.client_table.specs.declared.entry.Entry.{Entry}
-use Rattle.client_table.specs.Clients.{Clients, entry_of}
-use Rattle.channel_parts.specs.declared.parts.Parts.{Parts}
-use Rattle.channel_parts.specs.Standing.{StandsFor}
+use Rattle.client_table.specs.{Entry, entry_of}
+use Rattle.client_table.specs.Clients.{Clients}
+use Rattle.channel_parts.specs.{Parts, StandsFor}
 use Rattle.channel_parts.proofs.Facts.{known_clients_are_few}
 use Rattle.channel_parts.proofs.Given.{moment, held_is}
 use Rattle.channel_parts.proofs.Tables.{has_entry}
-use Rattle.feedback_core.specs.declared.page.Page.{Page}
-use Rattle.feedback_core.specs.declared.visitor.Visitor.{Visitor}
-use Rattle.feedback_core.specs.Visitors.{woken}
-use Rattle.feedback_core.specs.Framing.{answered_of}
-use Rattle.feedback_core.specs.Pages.{IsTurned, Turns, sitting}
-use Rattle.feedback_core.specs.Places.{is_full_table, has_place, with_place, with_kept}
-use Rattle.feedback_core.specs.Ready.{IsReady, IsSafe, AreOfOne}
+use Rattle.feedback_core.specs.{Page, Visitor, woken, answered_of, IsTurned, Turns, sitting, is_full_table, has_place, with_place, with_kept, IsReady, IsSafe, AreOfOne}
 use Rattle.feedback_core.proofs.Beginning.{at_datagram, visit_begun, page_begun, ready_is, safe_begun}
 use Rattle.feedback_core.proofs.Places.{place_is, place_counts}
 use Rattle.feedback_core.proofs.Closing.{stands_after, answer_after}

@@ -2,28 +2,14 @@
 use Rattle.std.proofs.Common.{◌≡◌, ℕ, ◌+◌, ◌-◌, not, List, ◌∷◌, Option, Some, None, Result, Ok, Err, refl, ap, sym, ◌∙◌, subst, eqb}
 use Rattle.std.specs.Prelude.{option_map, unwrap_or}
 use Rattle.std.proofs.lemmas.Bool.{cond_both}
-use Rattle.rams_model.specs.declared.fault.TlvFault.{TlvFault}
-use Rattle.rams_model.specs.declared.held.Held.{Held}
-use Rattle.rams_model.specs.declared.message.Info.{Info}
-use Rattle.rams_model.specs.declared.note.Note.{Note}
+use Rattle.rams_model.specs.Types.{TlvFault, Held, Info, Note}
 use Rattle.rams_model.specs.declared.note.Note.TheVariants as notes
-use Rattle.rams_model.specs.Settings.{Settings}
-use Rattle.rams_model.specs.Rams.{Request, names}
-use Rattle.rams_model.specs.Access.{chosen}
-use Rattle.rams_model.specs.History.{noted, History, hold}
-use Rattle.rams_model.specs.Clients.{sequence}
-use Rattle.rams_model.specs.Infos.{accept_info, refuse_info}
-use Rattle.rams_model.specs.Orders.{info_order, update_order, again_order, order_of}
-use Rattle.rams_model.specs.Bursts.{Burst, begun, after_note, bursts, open_burst}
-use Rattle.rams_model.specs.Buckets.{reserved}
-use Rattle.rams_model.specs.Pending.{Wanted}
-use Rattle.rams_model.specs.Verdict.{asked_rate, is_slow, is_too_much, is_full, begins, on_burst, on_request, verdict}
-use Rattle.client_table.specs.declared.entry.Entry.{Entry}
-use Rattle.channel_parts.specs.Standing.{WasTold}
-use Rattle.feedback_core.specs.declared.visitor.Visitor.{Visitor}
-use Rattle.feedback_core.specs.Visits.{IsClient, IsVisit}
-use Rattle.feedback_core.specs.Saying.{IsSaid}
-use Rattle.feedback_core.specs.Pages.{last_of, info_for}
+use Rattle.rams_model.specs.Service.{Settings, noted, History, hold, sequence, accept_info, refuse_info, info_order, update_order, again_order, order_of, Burst, begun, after_note, bursts, open_burst, reserved, Wanted, asked_rate, is_slow, is_too_much, is_full, begins, on_burst, on_request, verdict}
+use Rattle.rams_model.specs.Formats.{Request, names}
+use Rattle.rams_model.specs.Packets.{chosen}
+use Rattle.client_table.specs.{Entry}
+use Rattle.channel_parts.specs.{WasTold}
+use Rattle.feedback_core.specs.{Visitor, IsClient, IsVisit, IsSaid, last_of, info_for}
 use Rattle.feedback_core.proofs.Sayings.{said_one}
 use Rattle.feedback_core.proofs.Visiting.{open_accepted}
 use Rattle.feedback_core.proofs.Turning.{open_updated}

@@ -2,27 +2,12 @@
 use Rattle.std.proofs.Common.{◌≡◌, ℕ, Bool, true, false, cond, not, ◌&&◌, ◌||◌, ◌⊎◌, ⊎_elim, List, [], ◌∷◌, ◌++◌, Option, Some, None, refl, ap, sym, ◌∙◌, subst, append-nil}
 use Rattle.std.specs.Prelude.{option_map, option_to_list, filter, filter_map}
 use Rattle.std.specs.List.{cons_option}
-use Rattle.rams_model.specs.declared.answer.Order.{Order}
-use Rattle.rams_model.specs.declared.held.Held.{Held}
-use Rattle.rams_model.specs.declared.message.Info.{Info}
-use Rattle.rams_model.specs.declared.note.Note.{Note}
-use Rattle.rams_model.specs.Settings.{Settings}
-use Rattle.rams_model.specs.Rtcp.{Framed}
-use Rattle.rams_model.specs.Messages.{Message, is_rams, message_of, with_one_rams}
-use Rattle.rams_model.specs.Source.{Arrival, stream_of}
-use Rattle.rams_model.specs.Source as sources
-use Rattle.rams_model.specs.History.{told, History, arrivals, hold}
-use Rattle.rams_model.specs.Clients.{newest_sender, sender}
-use Rattle.rams_model.specs.Orders.{info_order, newest_notes, newest_orders}
-use Rattle.rams_model.specs.Answers.{after_message, after_messages}
-use Rattle.rams_model.specs.Pending.{Wanted}
-use Rattle.feedback_core.specs.declared.page.Page.{Page}
-use Rattle.feedback_core.specs.declared.said.Said.{Said}
-use Rattle.feedback_core.specs.declared.visitor.Visitor.{Visitor}
-use Rattle.feedback_core.specs.Visits.{IsVisit}
-use Rattle.feedback_core.specs.Saying.{said_notes, said_orders, IsSaid, AreNoted}
-use Rattle.feedback_core.specs.Pages.{or_info, IsPage, IsTurned}
-use Rattle.feedback_core.specs.Framing.{turn_of, due_after, answered_of}
+use Rattle.rams_model.specs.Types.{Order, Held, Info, Note}
+use Rattle.rams_model.specs.Service.{Settings, Message, is_rams, message_of, with_one_rams, told, History, arrivals, hold, newest_sender, sender, info_order, newest_notes, newest_orders, after_message, after_messages, Wanted}
+use Rattle.rams_model.specs.Formats.{Framed}
+use Rattle.rams_model.specs.Packets.{Arrival, stream_of}
+use Rattle.rams_model.specs.Packets.Source as sources
+use Rattle.feedback_core.specs.{Page, Said, Visitor, IsVisit, said_notes, said_orders, IsSaid, AreNoted, or_info, IsPage, IsTurned, turn_of, due_after, answered_of}
 use Rattle.feedback_core.proofs.Writing.{notes_behind, orders_behind}
 use Rattle.feedback_core.proofs.Visiting.{told_visit}
 
@@ -162,10 +147,6 @@ pub record IsPartway (s : Settings) (held : List Held) (k : ℕ) (before history
   pub turned : IsTurned s before middle queue v page
   pub held_is : hold s middle ≡ held
   pub rest : after_messages s k (answered_of due left) middle ≡ after_messages s k all history
-
-pub at_first : (s : Settings) (held : List Held) (k : ℕ) (before history : History) (due : Bool) (ps : List Framed) (queue : List Wanted) (v : Visitor) (page : Page) → hold s history ≡ held
-    → IsTurned s before history queue v page → IsPartway s held k before history (answered_of due ps) due ps queue v page
-at_first s held k before history due ps queue v page he t = record { middle = history; turned = t; held_is = he; rest = refl }
 
 hold_same : (s : Settings) (before history : History) (v : Visitor) (queue : List Wanted) → IsVisit s before history v queue → hold s history ≡ hold s before
 hold_same s before history v queue w = ap (λ (packets : List Arrival). sources.hold s.channel.window s.channel.ring (stream_of s.channel.window packets)) w.arrivals_are

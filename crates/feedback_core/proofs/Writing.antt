@@ -2,21 +2,9 @@
 use Rattle.std.proofs.Common.{◌≡◌, ℕ, ◌%◌, List, [], ◌∷◌, ◌++◌, Option, Some, None, refl, ap, sym, ◌∙◌, subst, append_assoc, append-nil, length, leb}
 use Rattle.std.specs.Prelude.{◌==◌, option_to_list, find}
 use Rattle.std.proofs.lemmas.Bool.{cond_both}
-use Rattle.rams_model.specs.declared.answer.Order.{Order}
-use Rattle.rams_model.specs.declared.held.Held.{Held}
-use Rattle.rams_model.specs.declared.note.Note.{Note}
-use Rattle.rams_model.specs.Settings.{Settings}
-use Rattle.rams_model.specs.History.{began, told, noted, History, arrivals, hold}
-use Rattle.rams_model.specs.Clients.{newest_sender}
-use Rattle.rams_model.specs.Orders.{order_of, newest_notes, newest_orders}
-use Rattle.rams_model.specs.Answers.{Room, room, is_early, repair_note, held_answer, number_answer, after_numbers}
-use Rattle.rams_model.specs.Bursts.{open_burst}
-use Rattle.rams_model.specs.Pending.{Wanted, pending, pending_of, is_pending}
-use Rattle.rams_model.specs.Verdict.{is_full}
-use Rattle.feedback_core.specs.declared.visitor.Visitor.{Visitor}
-use Rattle.feedback_core.specs.Visits.{IsVisit}
-use Rattle.feedback_core.specs.Ready.{IsAnswered}
-use Rattle.feedback_core.specs.Saying.{AreNoted}
+use Rattle.rams_model.specs.Types.{Order, Held, Note}
+use Rattle.rams_model.specs.Service.{Settings, began, told, noted, History, arrivals, hold, newest_sender, order_of, newest_notes, newest_orders, Room, room, is_early, repair_note, held_answer, number_answer, after_numbers, open_burst, Wanted, pending, pending_of, is_pending, is_full}
+use Rattle.feedback_core.specs.{Visitor, IsVisit, IsAnswered, AreNoted}
 use Rattle.feedback_core.proofs.Others.{IsOf}
 use Rattle.feedback_core.proofs.Visiting.{IsIdle, idle_visit}
 
@@ -69,16 +57,6 @@ pub record IsUnderWay (s : Settings) (held : List Held) (sender k : ℕ) (before
   pub held_is : hold s middle ≡ held
   pub sender_is : newest_sender middle ≡ Some sender
   pub rest : after_numbers s held k left middle ≡ after_numbers s held k all history
-
-pub under_way : (s : Settings) (held : List Held) (sender k : ℕ) (before history : History) (all : List ℕ) (queue : List Wanted) (v : Visitor) (old : List Note) → hold s history ≡ held
-    → newest_sender history ≡ Some sender → IsVisit s before history v queue → IsUnderWay s held sender k before history all all queue v old old
-under_way s held sender k before history all queue v old he from w = record {
-  middle = history;
-  are_noted = record { notes = λ e. e; orders = refl; visit = w };
-  held_is = he;
-  sender_is = from;
-  rest = refl;
-}
 
 pub next_number : (s : Settings) (held : List Held) (sender k : ℕ) (before history : History) (all left rest : List ℕ) (low : ℕ) (queue later : List Wanted) (v w : Visitor)
     (old new added : List Note) (given : Note) (client : ℕ) (u : IsUnderWay s held sender k before history all left queue v old new) → client ≡ k → left ≡ low ∷ rest → added ≡ new ++ given ∷ []

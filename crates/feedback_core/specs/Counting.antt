@@ -1,6 +1,6 @@
 -- How many notes the answers to a datagram make at most.
 use Rattle.std.specs.Prelude.{ℕ, ◌+◌, ◌*◌, ◌/◌, ◌&&◌, ◌==◌, if◌then◌else◌, List, [], ◌∷◌, length}
-use Rattle.rams_model.specs.Rtcp.{Framed}
+use Rattle.rams_model.specs.Formats.{Framed}
 use Rattle.feedback_core.specs.declared.framing.Message.{Message}
 use Rattle.feedback_core.specs.declared.framing.Message.TheVariants.{Nack}
 

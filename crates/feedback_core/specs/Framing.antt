@@ -1,11 +1,10 @@
 -- A message as code has it, and which messages of some packets are answered.
 use Rattle.std.specs.Prelude.{Bool, true, false, ◌&&◌, not, if◌then◌else◌, List, [], ◌∷◌, filter, filter_map, Option, Some, None}
-use Rattle.rams_model.specs.Feedback as model
-use Rattle.rams_model.specs.Rams.{request_at, stop_at}
-use Rattle.rams_model.specs.Rtcp.{Framed}
-use Rattle.rams_model.specs.Messages as messages
-use Rattle.rams_model.specs.Messages.{named, is_rams, message_of, with_one_rams}
-use Rattle.rtcp_frame.specs.Shown.{shown_packet}
+use Rattle.rams_model.specs.Formats.TransportFeedback as model
+use Rattle.rams_model.specs.Formats.{request_at, stop_at, Framed}
+use Rattle.rams_model.specs.Service.Messages as messages
+use Rattle.rams_model.specs.Service.{named, is_rams, message_of, with_one_rams}
+use Rattle.rtcp_frame.specs.{shown_packet}
 use Rattle.feedback_core.specs.declared.framing.Message.{Message}
 use Rattle.feedback_core.specs.declared.framing.Message.TheVariants.{Bye, Nack, Request, Stop}
 

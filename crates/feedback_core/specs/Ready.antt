@@ -1,19 +1,12 @@
 -- What makes the answers to a datagram safe, and what they are.
 use Rattle.std.specs.Prelude.{◌≡◌, ℕ, ◌+◌, ◌<◌, ◌≤◌, ◌^◌, true, List, ◌∷◌, length, Option, Some, None, IsSome, IfSome}
-use Rattle.rams_model.specs.declared.held.Held.{Held}
-use Rattle.rams_model.specs.declared.note.Note.{Note}
-use Rattle.rams_model.specs.Settings.{Settings}
-use Rattle.rams_model.specs.Hold.{lo, hi}
-use Rattle.rams_model.specs.Source.{Follows}
-use Rattle.rams_model.specs.Rates.{rate_of}
-use Rattle.rams_model.specs.History.{noted, History, hold}
-use Rattle.rams_model.specs.Clients.{newest_sender}
-use Rattle.rams_model.specs.Bursts.{open_burst}
-use Rattle.rams_model.specs.Bursts as model
-use Rattle.rams_model.specs.Pending.{Wanted}
+use Rattle.rams_model.specs.Types.{Held, Note}
+use Rattle.rams_model.specs.Service.{Settings, rate_of, noted, History, hold, newest_sender, open_burst, Wanted}
+use Rattle.rams_model.specs.Packets.{lo, hi, Follows}
+use Rattle.rams_model.specs.Service.Bursts as model
 use Rattle.link_budget.specs.Amounts.{Amounts}
 use Rattle.channel_cache.specs.Seen as caches
-use Rattle.channel_parts.specs.Standing.{burst_kept}
+use Rattle.channel_parts.specs.{burst_kept}
 use Rattle.feedback_core.specs.declared.visitor.Open.{Open}
 use Rattle.feedback_core.specs.declared.visitor.Visitor.{Visitor}
 use Rattle.feedback_core.specs.Visitors.{open_of}

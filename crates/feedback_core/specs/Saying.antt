@@ -1,15 +1,8 @@
 -- What is noted of a message that gets one note, which may end the client's burst.
 use Rattle.std.specs.Prelude.{◌≡◌, ℕ, List, [], ◌∷◌, ◌++◌, Option, Some, None, option_map, option_to_list}
-use Rattle.rams_model.specs.declared.answer.Order.{Order}
-use Rattle.rams_model.specs.declared.note.Cause.{Cause}
-use Rattle.rams_model.specs.declared.note.Note.{Note}
+use Rattle.rams_model.specs.Types.{Order, Cause, Note, Held}
 use Rattle.rams_model.specs.declared.note.Note.TheVariants.{End}
-use Rattle.rams_model.specs.Settings.{Settings}
-use Rattle.rams_model.specs.declared.held.Held.{Held}
-use Rattle.rams_model.specs.History.{History, hold}
-use Rattle.rams_model.specs.Clients.{newest_sender}
-use Rattle.rams_model.specs.Orders.{info_order, newest_notes, newest_orders}
-use Rattle.rams_model.specs.Pending.{Wanted}
+use Rattle.rams_model.specs.Service.{Settings, History, hold, newest_sender, info_order, newest_notes, newest_orders, Wanted}
 use Rattle.feedback_core.specs.declared.said.Said.{Said}
 use Rattle.feedback_core.specs.declared.visitor.Visitor.{Visitor}
 use Rattle.feedback_core.specs.Visits.{IsVisit}

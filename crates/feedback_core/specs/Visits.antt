@@ -1,13 +1,9 @@
 -- What a channel's history says of the client of a datagram while its messages are answered.
 use Rattle.std.specs.Prelude.{◌≡◌, ◌≢◌, ℕ, true, false, ◌==◌, nat_lt, List, length, Option, Some, None}
 use Rattle.std.specs.List.{list_any}
-use Rattle.rams_model.specs.Settings.{Settings}
-use Rattle.rams_model.specs.History.{History, arrivals}
-use Rattle.rams_model.specs.Clients.{known, is_among, without, sendings, ssrc}
-use Rattle.rams_model.specs.Bursts.{bursts, open_burst}
-use Rattle.rams_model.specs.Pending.{Wanted, pending, quiet_ticks}
-use Rattle.client_table.specs.declared.entry.Entry.{Entry}
-use Rattle.channel_parts.specs.Standing.{IsEntry, IsBudget}
+use Rattle.rams_model.specs.Service.{Settings, History, arrivals, known, is_among, without, sendings, ssrc, bursts, open_burst, Wanted, pending, quiet_ticks}
+use Rattle.client_table.specs.{Entry}
+use Rattle.channel_parts.specs.{IsEntry, IsBudget}
 use Rattle.feedback_core.specs.declared.visitor.Visitor.{Visitor}
 
 -- A client that isn't known was sent nothing since it last was, and has neither an open burst nor a pending repair.

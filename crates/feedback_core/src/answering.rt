@@ -1,17 +1,9 @@
 //! The answers to the messages of a datagram, in their order.
 ghost use Rattle.std.specs.Prelude.{◌≡◌, ◌+◌, ◌≤◌, ◌<◌, true, None, vec_len, vec_capacity, ◌∷◌, false};
-ghost use Rattle.rams_model.specs.Answers.{after_message, after_messages};
-ghost use Rattle.rams_model.specs.History.{told, noted};
-ghost use Rattle.rams_model.specs.Messages.{is_rams, message_of as model_message};
-ghost use Rattle.rtcp_frame.specs.Left.{packets_left};
-ghost use Rattle.rtcp_frame.specs.Shown.{shown_packet};
-ghost use Rattle.feedback_core.specs.Counting.{most_of, most_of_message, most_notes};
-ghost use Rattle.feedback_core.specs.Framing.{shown_message, turn_of, due_after, answered_of};
-ghost use Rattle.feedback_core.specs.Pages.{IsFresh, Turns, sitting};
-ghost use Rattle.feedback_core.specs.Ready.{IsReady, IsSafe, AreOfOne};
-ghost use Rattle.rams_model.specs.Rams.{request_at};
-ghost use Rattle.rams_model.specs.Verdict.{verdict};
-ghost use Rattle.feedback_core.specs.Saying.{SaysTo};
+ghost use Rattle.rams_model.specs.Service.{after_message, after_messages, told, noted, is_rams, message_of as model_message, verdict};
+ghost use Rattle.rtcp_frame.specs.{packets_left, shown_packet};
+ghost use Rattle.feedback_core.specs.{most_of, most_of_message, most_notes, shown_message, turn_of, due_after, answered_of, IsFresh, Turns, sitting, IsReady, IsSafe, AreOfOne, SaysTo};
+ghost use Rattle.rams_model.specs.Formats.{request_at};
 
 use crate::framing::{Message, message_of};
 use crate::leaving::answer_bye;

@@ -1,16 +1,13 @@
 //! The answer to a datagram.
 ghost use Rattle.std.specs.Prelude.{◌≡◌, ◌+◌, ◌*◌, ◌<◌, ◌≤◌, ◌^◌, ℕ, List, ◌∷◌, length, IfOk, OnErr, Ok, OnOk, []};
-ghost use Rattle.rams_model.specs.declared.event.Event.{Event};
+ghost use Rattle.rams_model.specs.Types.{Event};
 ghost use Rattle.rams_model.specs.declared.event.Event.TheVariants.{Feedback};
-ghost use Rattle.rams_model.specs.Book.{answer};
-ghost use Rattle.rams_model.specs.Rtcp.{framed};
-ghost use Rattle.rtcp_frame.specs.Left.{packets_left};
-ghost use Rattle.channel_parts.specs.Standing.{StandsFor};
-ghost use Rattle.feedback_core.specs.Counting.{most_notes};
-ghost use Rattle.client_table.specs.Clients.{entry_of};
-ghost use Rattle.feedback_core.specs.Visitors.{woken};
-ghost use Rattle.feedback_core.specs.Places.{has_place, with_place};
-ghost use Rattle.rams_model.specs.Answered.{answered};
+ghost use Rattle.rams_model.specs.Service.{answer, answered};
+ghost use Rattle.rams_model.specs.Formats.{framed};
+ghost use Rattle.rtcp_frame.specs.{packets_left};
+ghost use Rattle.channel_parts.specs.{StandsFor};
+ghost use Rattle.feedback_core.specs.{most_notes, woken, has_place, with_place};
+ghost use Rattle.client_table.specs.{entry_of};
 ghost use Rattle.rams_model.specs.declared.note.Note.TheVariants.{BadFeedback};
 
 use crate::answering::answer_packets;

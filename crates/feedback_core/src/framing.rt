@@ -1,11 +1,9 @@
 //! Which packets of a datagram are messages that are answered.
 ghost use Rattle.std.specs.Prelude.{◌≡◌, ◌<◌, ◌≤◌, ◌^◌, ◌==◌, if◌then◌else◌, option_map, IfSome};
-ghost use Rattle.rams_model.specs.Messages.{is_rams, message_of, feedback_message, rams_message};
-ghost use Rattle.rtcp_feedback.specs.Shown.{shown_feedback};
-ghost use Rattle.rtcp_frame.specs.Left.{packets_left};
-ghost use Rattle.rtcp_frame.specs.Shown.{shown_packet};
-ghost use Rattle.feedback_core.specs.Counting.{most_of, most_of_message, most_of_nack, most_notes};
-ghost use Rattle.feedback_core.specs.Framing.{shown_message};
+ghost use Rattle.rams_model.specs.Service.{is_rams, message_of, feedback_message, rams_message};
+ghost use Rattle.rtcp_feedback.specs.{shown_feedback};
+ghost use Rattle.rtcp_frame.specs.{packets_left, shown_packet};
+ghost use Rattle.feedback_core.specs.{most_of, most_of_message, most_of_nack, most_notes, shown_message};
 
 use rtcp_feedback::{Feedback, feedback};
 use rtcp_frame::{Packet, Packets};
@@ -36,7 +34,7 @@ impl Message<'_> {
 }
 
 /// The message that a packet is; all other packets are skipped.
-#[tactic(auto, unfolding(rams_model::specs::Messages::message_of))]
+#[tactic(auto, unfolding(rams_model::specs::Service::Messages::message_of))]
 pub(crate) fn message_of<'a>(packet: &Packet<'a>) -> Option<Message<'a>>
     ensures message { option_map shown_message result ≡ message_of (shown_packet packet.now) }
     ensures few { IfSome result (λ message. most_of_message message ≤ most_of (shown_packet packet.now)) }

@@ -1,9 +1,9 @@
 //! What is held.
 ghost use Rattle.std.specs.Prelude.{◌≡◌};
-ghost use Rattle.packet_ring.specs.Seen.{packet_of};
-ghost use Rattle.rams_model.specs.Access.{behind};
-ghost use Rattle.rams_model.specs.Bursts.{size_of};
-ghost use Rattle.feedback_core.specs.Ready.{IsHeldRun};
+ghost use Rattle.packet_ring.specs.{packet_of};
+ghost use Rattle.rams_model.specs.Packets.{behind};
+ghost use Rattle.rams_model.specs.Service.{size_of};
+ghost use Rattle.feedback_core.specs.{IsHeldRun};
 
 use channel_cache::Cache;
 

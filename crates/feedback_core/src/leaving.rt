@@ -1,9 +1,8 @@
 //! The answer to a BYE (RFC 3550, 6.6).
 ghost use Rattle.std.specs.Prelude.{◌≡◌, None};
-ghost use Rattle.rams_model.specs.Answers.{after_bye};
-ghost use Rattle.rtcp_frame.specs.Shown.{shown_packet};
-ghost use Rattle.feedback_core.specs.Ready.{IsSafe, AreOfOne};
-ghost use Rattle.feedback_core.specs.Saying.{SaysToQueue};
+ghost use Rattle.rams_model.specs.Service.{after_bye};
+ghost use Rattle.rtcp_frame.specs.{shown_packet};
+ghost use Rattle.feedback_core.specs.{IsSafe, AreOfOne, SaysToQueue};
 
 use crate::said::Said;
 use crate::visitor::Visitor;

@@ -1,15 +1,9 @@
 //! The answer to a generic NACK (RFC 4585, 6.2.1).
 ghost use Rattle.std.specs.Prelude.{◌≡◌, ◌+◌, ◌≤◌, ℕ, Some, length, vec_len, vec_capacity};
-ghost use Rattle.rams_model.specs.Answers.{room, number_answer, after_numbers, after_nack};
-ghost use Rattle.rams_model.specs.Feedback.{nack_numbers};
-ghost use Rattle.rams_model.specs.Messages.{named};
-ghost use Rattle.rtcp_feedback.specs.Left.{numbers_left};
-ghost use Rattle.feedback_core.specs.Counting.{most_of_nack};
-ghost use Rattle.feedback_core.specs.Saying.{desk, Notes};
-ghost use Rattle.rams_model.specs.History.{History, hold};
-ghost use Rattle.rams_model.specs.Clients.{newest_sender};
-ghost use Rattle.feedback_core.specs.Ready.{IsReady, IsSafe, AreOfOne, IsAnswered};
-ghost use Rattle.feedback_core.specs.Visits.{IsVisit};
+ghost use Rattle.rams_model.specs.Service.{room, number_answer, after_numbers, after_nack, named, History, hold, newest_sender};
+ghost use Rattle.rams_model.specs.Formats.{nack_numbers};
+ghost use Rattle.rtcp_feedback.specs.{numbers_left};
+ghost use Rattle.feedback_core.specs.{most_of_nack, desk, Notes, IsReady, IsSafe, AreOfOne, IsAnswered, IsVisit};
 
 use crate::visitor::Visitor;
 use channel_cache::Cache;

@@ -1,11 +1,7 @@
 //! The notes of a datagram, and what its client is told.
 ghost use Rattle.std.specs.Prelude.{◌≡◌, ◌+◌, ◌<◌, ◌≤◌, [], ◌++◌, None, true, IfOk, option_map, option_to_list, ◌&&◌, ◌||◌, not, vec_len, vec_capacity, ◌∷◌};
-ghost use Rattle.rams_model.specs.Messages.{is_rams};
-ghost use Rattle.feedback_core.specs.Framing.{shown_message};
-ghost use Rattle.rams_model.specs.Answered.{answered};
-ghost use Rattle.rams_model.specs.Orders.{info_order};
-ghost use Rattle.feedback_core.specs.Saying.{said_notes};
-ghost use Rattle.feedback_core.specs.Pages.{or_info};
+ghost use Rattle.rams_model.specs.Service.{is_rams, answered, info_order};
+ghost use Rattle.feedback_core.specs.{shown_message, said_notes, or_info};
 ghost use Rattle.rams_model.specs.declared.note.Note.TheVariants.{End};
 
 use crate::framing::Message;

@@ -1,7 +1,7 @@
 //! A client's place in the table while its datagram is answered.
 ghost use Rattle.std.specs.Prelude.{◌≡◌, ◌↔◌, IfOk, OnOk, OnErr, IsSome};
-ghost use Rattle.client_table.specs.Clients.{entry_of, with_entry};
-ghost use Rattle.feedback_core.specs.Places.{has_place, with_place, with_kept};
+ghost use Rattle.client_table.specs.{entry_of, with_entry};
+ghost use Rattle.feedback_core.specs.{has_place, with_place, with_kept};
 
 use client_table::{AdmitFault, Entry, Table};
 use ram_io::NoMemory;

@@ -15,7 +15,7 @@ pub(crate) struct Said {
 
 impl Said {
     ghost use Rattle.std.specs.Prelude.{◌≡◌};
-    ghost use Rattle.feedback_core.specs.Saying.{only};
+    ghost use Rattle.feedback_core.specs.{only};
 
     /// The note alone, of which the client isn't told.
     pub fn only(note: Note) -> Said

@@ -1,10 +1,8 @@
 //! The answer to a RAMS-T (RFC 6285, 7.4).
 ghost use Rattle.std.specs.Prelude.{◌≡◌, ℕ};
-ghost use Rattle.rams_model.specs.Answers.{after_stop, stop_burst as after_stop_burst};
-ghost use Rattle.rams_model.specs.Bursts.{open_burst};
-ghost use Rattle.rams_model.specs.Rams.{stop_at};
-ghost use Rattle.feedback_core.specs.Ready.{IsSafe, AreOfOne};
-ghost use Rattle.feedback_core.specs.Saying.{Says};
+ghost use Rattle.rams_model.specs.Service.{after_stop, stop_burst as after_stop_burst, open_burst};
+ghost use Rattle.rams_model.specs.Formats.{stop_at};
+ghost use Rattle.feedback_core.specs.{IsSafe, AreOfOne, Says};
 
 use crate::said::Said;
 use crate::telling::{refuse_info, stopped_info};

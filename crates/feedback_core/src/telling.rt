@@ -1,7 +1,7 @@
 //! What a client is told in a RAMS-I (RFC 6285, 7.3).
 ghost use Rattle.std.specs.Prelude.{◌≡◌, ◌≤◌, ◌^◌};
-ghost use Rattle.feedback_core.specs.Pages.{info_for};
-ghost use Rattle.rams_model.specs.Infos as infos;
+ghost use Rattle.feedback_core.specs.{info_for};
+ghost use Rattle.rams_model.specs.Service.Infos as infos;
 
 use crate::visitor::Visitor;
 use burst_plan::bits_of;

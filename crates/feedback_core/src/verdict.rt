@@ -1,13 +1,12 @@
 //! The answer to a RAMS-R (RFC 6285, 6.2 and 7.2).
 ghost use Rattle.std.specs.Prelude.{◌≡◌, ℕ, ◌<◌, ◌^◌, IsSome, Some, None, Ok, unwrap_or, true, ◌≤◌, List, IsNone};
-ghost use Rattle.rams_model.specs.declared.held.Held.{Held};
-ghost use Rattle.rams_model.specs.Rams.{request_at};
-ghost use Rattle.rams_model.specs.Access.{behind as behind_of};
-ghost use Rattle.rams_tlv.specs.Shown.{shown_request};
-ghost use Rattle.feedback_core.specs.Visitors.{open_of, begun_burst};
-ghost use Rattle.feedback_core.specs.Ready.{IsReady, IsSafe, AreOfOne, Answers, AnswersBurst, rate_for};
+ghost use Rattle.rams_model.specs.Types.{Held};
+ghost use Rattle.rams_model.specs.Formats.{request_at};
+ghost use Rattle.rams_model.specs.Packets.{behind as behind_of};
+ghost use Rattle.rams_tlv.specs.{shown_request};
+ghost use Rattle.feedback_core.specs.{open_of, begun_burst, IsReady, IsSafe, AreOfOne, Answers, AnswersBurst, rate_for};
 ghost use Rattle.rams_model.specs.declared.note.Note.TheVariants.{Refuse};
-ghost use Rattle.rams_model.specs.Verdict as verdicts;
+ghost use Rattle.rams_model.specs.Service.Verdict as verdicts;
 
 use crate::holding::behind;
 use crate::telling::{accept_info, update_info};

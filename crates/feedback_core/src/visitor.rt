@@ -1,6 +1,6 @@
 //! The client of a datagram, while its messages are answered.
 ghost use Rattle.std.specs.Prelude.{◌≡◌, ◌&&◌, not, is_some};
-ghost use Rattle.feedback_core.specs.Visitors.{open_of, entry_under, is_sent_later, woken};
+ghost use Rattle.feedback_core.specs.{open_of, entry_under, is_sent_later, woken};
 
 use client_table::{Burst, Entry, Info};
 use link_budget::Budget;

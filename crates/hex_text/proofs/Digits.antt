@@ -3,8 +3,7 @@ use Rattle.std.proofs.Common.{◌≡◌, ℕ, ◌%◌, ◌+◌, ◌/◌, ◌^◌
 use Rattle.std.proofs.lemmas.Bool.{and_parts, cases_lt, eqb-true}
 use Rattle.std.proofs.lemmas.Bool.Decides.{nat_tests}
 use Rattle.hex.specs.Hex.{lower_digits, hex_digit_value}
-use Rattle.hex_text.specs.HexText.{is_lower_digit}
-use Rattle.hex_text.specs.Pairs.{value_of}
+use Rattle.hex_text.specs.{is_lower_digit, value_of}
 
 -- a test that each number below n passes, computed
 abbrev all_below : (ℕ → Bool) → ℕ → Bool

@@ -10,8 +10,7 @@ use Rattle.std.specs.List.{list_all}
 use Rattle.hex.specs.Hex.{decode_of, decode_pairs, pair_value}
 use Rattle.hex.proofs.HexLemmas.{decode_of-even}
 use Rattle.hex.proofs.Pairs.{cons_byte, decode_pairs-ok_pair, drop-pair}
-use Rattle.hex_text.specs.HexText.{is_lower_digit}
-use Rattle.hex_text.specs.Pairs.{value_of, pair_byte, pair_bytes}
+use Rattle.hex_text.specs.{is_lower_digit, value_of, pair_byte, pair_bytes}
 use Rattle.hex_text.proofs.Digits.{is_lower-value_of, hex_digit_value-lower}
 
 -- two digits more

@@ -6,8 +6,7 @@ use Rattle.std.proofs.lemmas.List.{drop_all, drop_more, length-map}
 use Rattle.std.proofs.lemmas.Simd.{zip2_splat, zip2_of_maps, map-map}
 use Rattle.std.specs.List.{list_all}
 use lib.Lanes.{Each1, zip2}
-use Rattle.hex_text.specs.HexText.{is_lower_digit}
-use Rattle.hex_text.specs.Pairs.{value_of, pair_byte, pair_bytes}
+use Rattle.hex_text.specs.{is_lower_digit, value_of, pair_byte, pair_bytes}
 use Rattle.hex_text.proofs.Apart.{each_second, halves}
 use Rattle.hex_text.proofs.Digits.{computed_value, is_lower-value_of}
 use Rattle.hex_text.proofs.Lanes.{down}

@@ -4,9 +4,7 @@ use Rattle.std.proofs.lemmas.Bool.{and_parts, eqb-true}
 use Rattle.std.specs.List.{list_all}
 use Rattle.hex.specs.Hex.{encode_lower, encode_with, lower_digits, IsBytes}
 use Rattle.hex.proofs.HexLemmas.{decode_of-encode_lower, decode_of-ok, length-encode_with}
-use Rattle.hex_text.specs.HexText.{is_lower_digit}
-use Rattle.hex_text.specs.Laws.{WrittenDecodes, WrittenIsLower, LowerIsWritten}
-use Rattle.hex_text.specs.Pairs.{value_of, pair_byte, pair_bytes}
+use Rattle.hex_text.specs.{is_lower_digit, WrittenDecodes, WrittenIsLower, LowerIsWritten, value_of, pair_byte, pair_bytes}
 use Rattle.hex_text.proofs.Digits.{lower_digits-value_of, is_lower-lower_digits}
 use Rattle.hex_text.proofs.Reading.{decode_of-lower}
 

@@ -3,8 +3,7 @@ ghost use Rattle.std.specs.Prelude.{◌≡◌, ◌<◌, true, length, map, slice
 ghost use Rattle.std.specs.List.{list_all};
 ghost use lib.Lanes.{Each1};
 ghost use Rattle.hex.specs.Hex.{encode_lower, lower_digits};
-ghost use Rattle.hex_text.specs.HexText.{is_lower_digit};
-ghost use Rattle.hex_text.specs.Pairs.{pair_bytes, value_of};
+ghost use Rattle.hex_text.specs.{is_lower_digit, pair_bytes, value_of};
 
 use std::simd::u8x16;
 

@@ -3,8 +3,7 @@ ghost use Rattle.std.specs.Prelude.{◌≡◌, ◌*◌, ◌/◌, ◌≤◌, true
 ghost use Rattle.std.specs.Bool.{OnTrue};
 ghost use Rattle.std.specs.List.{list_all};
 ghost use Rattle.hex.specs.Hex.{decode_of};
-ghost use Rattle.hex_text.specs.HexText.{is_lower_digit, is_lower_hex};
-ghost use Rattle.hex_text.specs.Pairs.{pair_bytes, value_of};
+ghost use Rattle.hex_text.specs.{is_lower_digit, is_lower_hex, pair_bytes, value_of};
 
 use crate::block::decode_block;
 

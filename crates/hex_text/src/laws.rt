@@ -1,5 +1,5 @@
 //! Laws of the definitions: each is the contract of a function that does nothing.
-ghost use Rattle.hex_text.specs.Laws.{WrittenDecodes, WrittenIsLower, LowerIsWritten};
+ghost use Rattle.hex_text.specs.{WrittenDecodes, WrittenIsLower, LowerIsWritten};
 
 /// Texts of lower-case digits, an even number of them, and bytes go together one to one: what is
 /// encoded decodes to itself, and what is decoded is encoded to itself.

@@ -1,7 +1,7 @@
 //! Digits and bytes in vectors that are used again.
 ghost use Rattle.std.specs.Prelude.{◌≡◌, ◌+◌, ◌*◌, ◌/◌, ◌<◌, ◌≤◌, ◌++◌, true, Ok, length, OnOk, OnErr, vec_capacity};
 ghost use Rattle.hex.specs.Hex.{decode_of, encode_lower};
-ghost use Rattle.hex_text.specs.HexText.{is_lower_hex};
+ghost use Rattle.hex_text.specs.{is_lower_hex};
 
 use crate::decode::decode_known;
 use crate::encode::encode_all;

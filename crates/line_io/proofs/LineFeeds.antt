@@ -2,9 +2,9 @@
 use Rattle.std.proofs.Common.{◌≡◌, ℕ, zero, suc, ◌+◌, ◌<◌, ◌≤◌, ◌==◌, Bool, true, false, List, [], ◌∷◌, ◌++◌, length, get_or, take, drop, refl, sym, ap, subst, ◌∙◌, arith, take-append-drop, take-add, drop-drop, get_or-take, length-take, length-drop}
 use Rattle.std.proofs.lemmas.Bool.{eqb-true, eq-eqb}
 use Rattle.std.proofs.lemmas.List.{drop_more}
-use Rattle.rams_model.specs.Words.{lines_of, whole_lines, lines_read, onto_first}
+use Rattle.rams_model.specs.Texts.{lines_of, whole_lines, lines_read, onto_first}
 use Rattle.memchr.specs.Find.{is_byte, Nowhere, NoneBefore, Passes}
-use Rattle.line_io.specs.Feeds.{HasNoFeed, IsCutAt}
+use Rattle.line_io.specs.{HasNoFeed, IsCutAt}
 
 false_from_not_true : (b : Bool) → (b ≡ true → ⊥) → b ≡ false
 false_from_not_true true none = absurd (none refl)

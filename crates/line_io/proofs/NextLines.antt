@@ -2,10 +2,9 @@
 use Rattle.std.proofs.Common.{◌≡◌, ℕ, ◌+◌, ◌<◌, ◌≤◌, List, [], ◌∷◌, ◌++◌, length, take, drop, Option, Some, None, refl, sym, ap, ◌∙◌, arith, append_assoc, append-nil, length-take, length-append, take-append-drop, inl, inr}
 use Rattle.std.proofs.lemmas.List.{take-append-le}
 use Rattle.std.specs.Io.KnownBytes.{Keeps, Consumes, IsAtEnd, prepend_known}
-use Rattle.rams_model.specs.Words.{lines_of}
+use Rattle.rams_model.specs.Texts.{lines_of}
 use Rattle.line_io.specs.declared.reader.Next.TheVariants.{Line, Long, End}
-use Rattle.line_io.specs.Feeds.{HasNoFeed, IsCutAt}
-use Rattle.line_io.specs.Lines.{IsCutOff, TakesNext}
+use Rattle.line_io.specs.{HasNoFeed, IsCutAt, IsCutOff, TakesNext}
 use Rattle.line_io.proofs.LineFeeds.{lines_of-cut, lines_of-all, lines_of-begins}
 
 in_front_of_feed : (kept : List ℕ) (at : ℕ) (xs ys : List ℕ) → IsCutAt kept at → kept ++ ys ≡ xs → xs ≡ take at kept ++ (10 ∷ (drop (at + 1) kept ++ ys))

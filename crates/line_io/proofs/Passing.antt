@@ -12,10 +12,6 @@ Passes-none a text = record { front = []; sink = Appends-nil a; whole = refl }
 pub Passes-all : (a b : Option (List ℕ)) (text : List ℕ) → Appends a b text → Passes a b text []
 Passes-all a b text sent = record { front = text; sink = sent; whole = sym (append-nil text) }
 
--- this front has gone
-pub Passes-front : (a b : Option (List ℕ)) (front rest : List ℕ) → Appends a b front → Passes a b (front ++ rest) rest
-Passes-front a b front rest sent = record { front = front; sink = sent; whole = refl }
-
 -- more text stands behind
 pub Passes-more : (a b : Option (List ℕ)) (text rest more : List ℕ) → Passes a b text rest → Passes a b (text ++ more) (rest ++ more)
 Passes-more a b text rest more p = record {

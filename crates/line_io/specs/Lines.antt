@@ -1,6 +1,6 @@
 -- What a line reader holds, and what reading the next line does.
 use Rattle.std.specs.Prelude.{◌≡◌, ℕ, ◌<◌, ◌≤◌, ◌⊎◌, List, [], ◌∷◌, ◌++◌, length, take, Option, Some, None}
-use Rattle.rams_model.specs.Words.{lines_of}
+use Rattle.rams_model.specs.Texts.{lines_of}
 use Rattle.line_io.specs.Feeds.{HasNoFeed}
 use Rattle.line_io.specs.declared.reader.Next.{Next}
 use Rattle.line_io.specs.declared.reader.Next.TheVariants.{Line, Long, End}

@@ -1,7 +1,7 @@
 //! Text into a sink.
 ghost use Rattle.std.specs.Prelude.{◌≡◌, ◌+◌, ◌≤◌, ◌↔◌, ◌++◌, ℕ, List, [], length, IsTrue, IfOk, OnOk, OnErr, IsOkAnd};
 ghost use Rattle.std.specs.Io.KnownBytes.{Appends};
-ghost use Rattle.ram_io.specs.Faults.{HasCause};
+ghost use Rattle.ram_io.specs.{HasCause};
 ghost use Rattle.line_io.specs.Passes.{Passes};
 
 use ram_io::{Failed, NoMemory, Sink};

@@ -1,9 +1,8 @@
 //! Lines out of a source.
 ghost use Rattle.std.specs.Prelude.{◌≡◌, ◌+◌, ◌<◌, ◌≤◌, ℕ, [], List, Option, length, take, drop, IfOk, OnErr, IsOkAnd, Contains};
 ghost use Rattle.std.specs.Io.KnownBytes.{Keeps, IsAtEnd, prepend_known};
-ghost use Rattle.ram_io.specs.Faults.{HasCause};
-ghost use Rattle.line_io.specs.Feeds.{HasNoFeed, IsCutAt, IsGrown};
-ghost use Rattle.line_io.specs.Lines.{TakesNext, IsShort};
+ghost use Rattle.ram_io.specs.{HasCause};
+ghost use Rattle.line_io.specs.{HasNoFeed, IsCutAt, IsGrown, TakesNext, IsShort};
 
 use crate::window::{LONGEST, find_feed, make_room, take_into};
 use ram_io::{Failed, NoMemory, Source};
@@ -36,8 +35,7 @@ pub struct LineReader {
 
 impl Model for LineReader {
     ghost use Rattle.std.specs.Prelude.{slice_range};
-    ghost use Rattle.line_io.specs.Feeds.{AreRanges};
-    ghost use Rattle.line_io.specs.Lines.{Reading};
+    ghost use Rattle.line_io.specs.{AreRanges, Reading};
 
     ghost Value = { Reading };
 

@@ -1,8 +1,8 @@
 //! The window of a buffer that holds what was taken and isn't handed out yet.
 ghost use Rattle.std.specs.Prelude.{◌≡◌, ◌+◌, ◌-◌, ◌≤◌, ℕ, length, take, drop, slice_range, IfOk, OnErr, IsOkAnd, MatchOption};
 ghost use Rattle.std.specs.Io.KnownBytes.{Consumes, Keeps, IsAtEnd};
-ghost use Rattle.ram_io.specs.Faults.{HasCause};
-ghost use Rattle.line_io.specs.Feeds.{HasNoFeed, IsCutAt};
+ghost use Rattle.ram_io.specs.{HasCause};
+ghost use Rattle.line_io.specs.{HasNoFeed, IsCutAt};
 
 use memchr::memchr;
 use ram_io::{Failed, Source};

@@ -1,1 +1,3 @@
 pub mod Amounts
+
+unfoldable pub use Amounts.*

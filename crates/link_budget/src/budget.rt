@@ -1,7 +1,7 @@
 //! Bytes that are reserved, and bytes that are left.
 ghost use Rattle.std.specs.Prelude.{◌≡◌, ◌+◌, ◌-◌, ◌<◌, ◌≤◌, ◌^◌, ◌↔◌, min, IsTrue};
 ghost use Rattle.std.specs.Bool.{OnTrue, OnFalse};
-ghost use Rattle.link_budget.specs.Amounts.{amounts, HasRoom, Fits};
+ghost use Rattle.link_budget.specs.{amounts, HasRoom, Fits};
 
 use std::marker::Model;
 
@@ -17,7 +17,8 @@ pub struct Budget {
 }
 
 impl Model for Budget {
-    ghost use Rattle.link_budget.specs.Amounts.{Amounts, amounts, AreWithinShare};
+    ghost use Rattle.link_budget.specs.{amounts, AreWithinShare};
+    ghost use Rattle.link_budget.specs.Amounts.{Amounts};
 
     ghost Value = { Amounts };
 

@@ -5,8 +5,7 @@ use Rattle.std.specs.Int.{w16, from_be_bytes}
 use Rattle.std.proofs.lemmas.Bool.{le-ltb}
 use Rattle.std.proofs.lemmas.Bool.Decides.{nat_tests}
 use Rattle.std.proofs.lemmas.List.{append-nil, drop_at, length-append, length-drop, length-take}
-use Rattle.rams_model.specs.Packet.{Packet, flag, header, spelling, stripped}
-use Rattle.rams_model.specs.Rtp.{has_padding, has_extension, csrc_size, behind_header, behind_csrc, fields_of, packet_at}
+use Rattle.rams_model.specs.Formats.{Packet, flag, header, spelling, stripped, has_padding, has_extension, csrc_size, behind_header, behind_csrc, fields_of, packet_at}
 use Rattle.rams_model.proofs.RtpPackets.{HasNoFault, read_has_no_fault, read_without_fault}
 
 -- the bytes, with an extension where x says so, end inside it

@@ -3,43 +3,16 @@ use Rattle.std.proofs.Common.{◌≡◌, ℕ, ◌+◌, Bool, cond, not, List, []
 use Rattle.std.specs.Prelude.{◌==◌, ◌&&◌, if◌then◌else◌, nat_le, filter, find, option_map, option_to_list, All, IsOk}
 use Rattle.std.proofs.lemmas.Bool.{cond_both}
 use Rattle.std.proofs.lemmas.List.Elements.{All-nil, All-cons, All-head, All-tail, All-append, All-filter, All-drop}
-use Rattle.rams_model.specs.declared.answer.Order.{Order}
-use Rattle.rams_model.specs.declared.channel.Channel.{Channel}
-use Rattle.rams_model.specs.declared.event.Event.{Event}
+use Rattle.rams_model.specs.Types.{Order, Channel, Event, FrameFault, RtpFault, TlvFault, Held, Info, Stop, Cause, LiveNote, Note}
 use Rattle.rams_model.specs.declared.event.Event.TheVariants.{Live, Feedback, Tick}
-use Rattle.rams_model.specs.declared.fault.FrameFault.{FrameFault}
-use Rattle.rams_model.specs.declared.fault.RtpFault.{RtpFault}
-use Rattle.rams_model.specs.declared.fault.TlvFault.{TlvFault}
-use Rattle.rams_model.specs.declared.held.Held.{Held}
-use Rattle.rams_model.specs.declared.message.Info.{Info}
-use Rattle.rams_model.specs.declared.message.Stop.{Stop}
-use Rattle.rams_model.specs.declared.note.Cause.{Cause}
 use Rattle.rams_model.specs.declared.note.Cause.TheVariants as cause
-use Rattle.rams_model.specs.declared.note.LiveNote.{LiveNote}
 use Rattle.rams_model.specs.declared.note.LiveNote.TheVariants.{Took, Restart, Jump, ForeignSsrc, ForeignType, TooBig}
-use Rattle.rams_model.specs.declared.note.Note.{Note}
 use Rattle.rams_model.specs.declared.note.Note.TheVariants as note
-use Rattle.rams_model.specs.Settings.{Settings}
-use Rattle.rams_model.specs.Packet.{Packet}
-use Rattle.rams_model.specs.Rtp.{packet_at}
-use Rattle.rams_model.specs.Rtcp.{Framed, framed}
-use Rattle.rams_model.specs.Rates.{stop_of}
-use Rattle.rams_model.specs.Hold.{from_number}
-use Rattle.rams_model.specs.Source.{Arrival, Stream, held_as, with_packet, awaited, is_consecutive, consecutive_end, live_note, stream_after, stream_of, source}
-use Rattle.rams_model.specs.Source as sources
-use Rattle.rams_model.specs.Messages.{Message, bye, nack, asks, stops}
-use Rattle.rams_model.specs.Heard.{Heard, live, dropped, feedback, unframed, tick, arrival, heard_packet, heard_feedback, heard_of}
-use Rattle.rams_model.specs.History.{began, told, noted, History, arrivals, hold}
-use Rattle.rams_model.specs.Clients.{known, opened, is_among, sequence, ssrc}
-use Rattle.rams_model.specs.Bursts.{Burst, next, open_burst, has_open}
-use Rattle.rams_model.specs.Pending.{Wanted, pending, idle}
-use Rattle.rams_model.specs.Buckets.{channel_left, may_take}
-use Rattle.rams_model.specs.Infos.{end_info}
-use Rattle.rams_model.specs.Answers.{is_before, room, number_answer, after_numbers, stop_set, on_stop, stop_burst, after_stop, is_bye_of, after_bye, after_message, after_messages}
-use Rattle.rams_model.specs.Tick.{run, send, is_lost, is_stop, after_run, run_sent, burst_served, all_served, repaired, all_repaired, all_forgotten, bursts_served, repairs_sent, after_tick}
-use Rattle.rams_model.specs.Book.{after_hearing, history_of, answer, Entry, Book, IsLawful, events_of}
-use Rattle.rams_model.specs.Orders.{info_order, packet_order, again_order, update_order, end_order, order_of, newest_orders}
-use Rattle.order_datagrams.specs.Rendering.{Renders}
+use Rattle.rams_model.specs.Service.{Settings, stop_of, Message, bye, nack, asks, stops, Heard, live, dropped, feedback, unframed, tick, arrival, heard_packet, heard_feedback, heard_of, began, told, noted, History, arrivals, hold, known, opened, is_among, sequence, ssrc, Burst, next, open_burst, has_open, Wanted, pending, idle, channel_left, may_take, end_info, is_before, room, number_answer, after_numbers, stop_set, on_stop, stop_burst, after_stop, is_bye_of, after_bye, after_message, after_messages, run, send, is_lost, is_stop, after_run, run_sent, burst_served, all_served, repaired, all_repaired, all_forgotten, bursts_served, repairs_sent, after_tick, after_hearing, history_of, answer, Entry, Book, IsLawful, events_of, info_order, packet_order, again_order, update_order, end_order, order_of, newest_orders}
+use Rattle.rams_model.specs.Formats.{Packet, packet_at, Framed, framed}
+use Rattle.rams_model.specs.Packets.{from_number, Arrival, Stream, held_as, with_packet, awaited, is_consecutive, consecutive_end, live_note, stream_after, stream_of, source}
+use Rattle.rams_model.specs.Packets.Source as sources
+use Rattle.order_datagrams.specs.{Renders}
 use Rattle.order_datagrams.proofs.ReadAgain.{read_again}
 
 -- ---- what is held

@@ -1,1 +1,3 @@
 pub mod Rendering
+
+unfoldable pub use Rendering.*

@@ -1,11 +1,9 @@
 -- Which orders have a datagram.
 use Rattle.std.specs.Prelude.{◌∷◌, List, All, IsOk}
-use Rattle.rams_model.specs.declared.answer.Order.{Order}
+use Rattle.rams_model.specs.Types.{Order, Event}
 use Rattle.rams_model.specs.declared.answer.Order.TheVariants.{Rtx, Info}
-use Rattle.rams_model.specs.declared.event.Event.{Event}
-use Rattle.rams_model.specs.Settings.{Settings}
-use Rattle.rams_model.specs.Rtp.{packet_at}
-use Rattle.rams_model.specs.Book.{answer, Entry, Book, IsLawful}
+use Rattle.rams_model.specs.Service.{Settings, answer, Entry, Book, IsLawful}
+use Rattle.rams_model.specs.Formats.{packet_at}
 
 -- The packet of a retransmission reads as an RTP packet (RFC 3550, 5.1). A RAMS-I always has a datagram.
 abbrev pub Renders : Order → Type 0

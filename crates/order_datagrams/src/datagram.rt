@@ -1,8 +1,8 @@
 //! The datagrams that orders ask for.
 ghost use Rattle.std.specs.Prelude.{◌≡◌, ◌<◌, ◌++◌, ◌↔◌, ◌+◌, IsOk, IsTrue, IfOk, OnOk, OnErr, length, vec_len, vec_capacity};
-ghost use Rattle.rams_model.specs.Orders.{datagram, sent_again};
-ghost use Rattle.rams_model.specs.Rtp.{packet_at};
-ghost use Rattle.order_datagrams.specs.Rendering.{Renders, IsRetransmission};
+ghost use Rattle.rams_model.specs.Service.{datagram, sent_again};
+ghost use Rattle.rams_model.specs.Formats.{packet_at};
+ghost use Rattle.order_datagrams.specs.{Renders, IsRetransmission};
 
 use channel_config::Config;
 use ram_io::NoMemory;
@@ -26,7 +26,7 @@ pub fn render_order(alloc: Global, config: &Config, order: &Order) -> Result<Vec
 /// `render_order`, behind what is there: a retransmission packet (RFC 4588, 4), or a RAMS-I (RFC
 /// 6285, 7.3). An error in a retransmission changes nothing, and comes only where the vector lacks
 /// the room; one in a RAMS-I may leave a part of the message.
-#[tactic(auto, unfolding(rams_model::specs::Orders::datagram))]
+#[tactic(auto, unfolding(rams_model::specs::Service::Orders::datagram))]
 pub fn append_order(text: &mut Vec<u8>, config: &Config, order: &Order) -> Result<(), NoMemory>
     requires { Renders order.now }
     ensures text { OnOk result (text.new.items ≡ text.old.items ++ datagram config.now order.now) }

@@ -1,5 +1,5 @@
 //! Why each order of an answer has a datagram.
-ghost use Rattle.order_datagrams.specs.Rendering.{EachOrderOfAnAnswerRenders, EachOrderOfABookRenders};
+ghost use Rattle.order_datagrams.specs.{EachOrderOfAnAnswerRenders, EachOrderOfABookRenders};
 
 /// Each order that a channel answers has a datagram: the packet of a retransmission is one that came
 /// and was read, without its padding.

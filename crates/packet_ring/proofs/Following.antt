@@ -4,11 +4,11 @@ use Rattle.std.specs.Option.{option_copied, MatchOption}
 use Rattle.std.specs.Borrow.{Bor}
 use Rattle.std.proofs.lemmas.Bool.{cond_both, eqb-true, eqb-false, le-leb, lt-leb, eq-eqb, ne_eqb, cond-true, cond-false}
 use Rattle.std.proofs.lemmas.List.{length-drop}
-use Rattle.rams_model.specs.declared.held.Held.{Held}
-use Rattle.rams_model.specs.Hold.{lo, hi, last_of, from_number}
-use Rattle.rams_model.specs.Source.{Follows}
+use Rattle.rams_model.specs.Types.{Held}
+use Rattle.rams_model.specs.Packets.{lo, hi, last_of, from_number, Follows}
 use Rattle.rams_model.proofs.Rising.{hi_of_end}
-use Rattle.packet_ring.specs.Seen.{Seen, pushed, empty_ring, packet_of, IsRing}
+use Rattle.packet_ring.specs.{pushed, empty_ring, packet_of, IsRing}
+use Rattle.packet_ring.specs.Seen.{Seen}
 use Rattle.packet_ring.proofs.Ends.{hi-last_of}
 
 -- what follows goes on following from its own first

@@ -1,5 +1,5 @@
 //! Laws of the definitions: each is the contract of a function that does nothing.
-ghost use Rattle.packet_ring.specs.Laws.{TheEndGrows, EndsAreAlike, TheNextIsAbove, PacketsStandInOrder};
+ghost use Rattle.packet_ring.specs.{TheEndGrows, EndsAreAlike, TheNextIsAbove, PacketsStandInOrder};
 
 /// What is held of a source with one more packet; it ends where the source does, below the next.
 pub fn held_ends_as_its_source()

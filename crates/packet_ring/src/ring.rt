@@ -1,8 +1,8 @@
 //! The ring of one channel.
 ghost use Rattle.std.specs.Prelude.{◌≡◌, ◌+◌, ◌^◌, ◌<◌, ◌≤◌, List, [], ◌∷◌, ◌++◌, ◌↔◌, option_copied, IfOk, IfSome, IsSome};
-ghost use Rattle.rams_model.specs.declared.held.Held.{Held};
-ghost use Rattle.rams_model.specs.Hold.{lo, hi};
-ghost use Rattle.packet_ring.specs.Seen.{empty_ring, pushed, packet_of, IsRing, StandsFor};
+ghost use Rattle.rams_model.specs.Types.{Held};
+ghost use Rattle.rams_model.specs.Packets.{lo, hi};
+ghost use Rattle.packet_ring.specs.{empty_ring, pushed, packet_of, IsRing, StandsFor};
 
 use circular_buffer::HeapCircularBuffer;
 use ram_io::NoMemory;
@@ -18,7 +18,8 @@ pub struct Ring {
 }
 
 impl Model for Ring {
-    ghost use Rattle.packet_ring.specs.Seen.{Seen, IsRing};
+    ghost use Rattle.packet_ring.specs.{IsRing};
+    ghost use Rattle.packet_ring.specs.Seen.{Seen};
 
     ghost Value = { Seen };
 

@@ -1,8 +1,6 @@
 //! Which calls of an object in memory fail.
 ghost use Rattle.std.specs.Prelude.{◌≡◌, ◌≤◌, ◌↔◌, IsErr, OnErr, OnOk};
-ghost use Rattle.ram_io.specs.Calls.{called, faulted, IsFailing};
-ghost use Rattle.ram_io.specs.Faults.{HasCause};
-ghost use Rattle.ram_io.specs.Memory.{new_counts};
+ghost use Rattle.ram_io.specs.{called, faulted, IsFailing, HasCause, new_counts};
 
 use crate::failed::Failed;
 use std::marker::Model;
@@ -18,7 +16,7 @@ pub(crate) struct Calls {
 }
 
 impl Model for Calls {
-    ghost use Rattle.ram_io.specs.Calls.{Counts};
+    ghost use Rattle.ram_io.specs.{Counts};
 
     ghost Value = { Counts };
 

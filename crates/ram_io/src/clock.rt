@@ -1,6 +1,6 @@
 //! The time.
 ghost use Rattle.std.specs.Prelude.{◌^◌, ◌<◌};
-ghost use Rattle.ram_io.specs.Moments.{GivesNext};
+ghost use Rattle.ram_io.specs.{GivesNext};
 
 /// A clock.
 pub trait Clock {

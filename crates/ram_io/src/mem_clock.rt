@@ -1,6 +1,6 @@
 //! A clock in memory.
 ghost use Rattle.std.specs.Prelude.{◌≡◌, ◌^◌, ◌<◌, All, Some, slice_index};
-ghost use Rattle.ram_io.specs.Moments.{GivesNext, later};
+ghost use Rattle.ram_io.specs.{GivesNext, later};
 
 use crate::clock::Clock;
 use std::marker::Model;

@@ -2,9 +2,7 @@
 ghost use Rattle.std.specs.Prelude.{◌≡◌, ◌-◌, ◌⊎◌, ◌↔◌, ◌<◌, ◌≤◌, ℕ, [], length, min, take, Some, IfOk, IsErr, IsOkAnd, OnErr};
 ghost use Rattle.std.specs.Io.{WritesAtMost};
 ghost use Rattle.std.specs.Io.KnownBytes.{WriteAppends};
-ghost use Rattle.ram_io.specs.Calls.{IsFailing};
-ghost use Rattle.ram_io.specs.Faults.{HasCause};
-ghost use Rattle.ram_io.specs.Memory.{after_failed_put, after_put, IsSteadySink, new_sink};
+ghost use Rattle.ram_io.specs.{IsFailing, HasCause, after_failed_put, after_put, IsSteadySink, new_sink};
 
 use crate::calls::Calls;
 use crate::failed::{Failed, NoMemory};
@@ -25,7 +23,7 @@ pub struct MemSink {
 
 impl Model for MemSink {
     ghost use Rattle.std.specs.Prelude.{◌<◌, ◌≤◌, length, vec_capacity};
-    ghost use Rattle.ram_io.specs.Memory.{SinkState};
+    ghost use Rattle.ram_io.specs.{SinkState};
 
     ghost Value = { SinkState };
 

@@ -2,9 +2,7 @@
 ghost use Rattle.std.specs.Prelude.{◌≡◌, ◌↔◌, ◌<◌, [], length, min, Some, IfOk, IsErr, IsOkAnd, OnErr};
 ghost use Rattle.std.specs.Io.{ReadsAtMost};
 ghost use Rattle.std.specs.Io.KnownBytes.{ReadConsumes};
-ghost use Rattle.ram_io.specs.Calls.{IsFailing};
-ghost use Rattle.ram_io.specs.Faults.{HasCause};
-ghost use Rattle.ram_io.specs.Memory.{after_failed_take, after_take, new_source};
+ghost use Rattle.ram_io.specs.{IsFailing, HasCause, after_failed_take, after_take, new_source};
 
 use crate::calls::Calls;
 use crate::copy::copy_front;
@@ -25,7 +23,7 @@ pub struct MemSource {
 
 impl Model for MemSource {
     ghost use Rattle.std.specs.Prelude.{◌<◌, ◌≤◌, drop, length};
-    ghost use Rattle.ram_io.specs.Memory.{SourceState};
+    ghost use Rattle.ram_io.specs.{SourceState};
 
     ghost Value = { SourceState };
 

@@ -1,9 +1,6 @@
 //! A wire in memory.
 ghost use Rattle.std.specs.Prelude.{◌≡◌, ◌-◌, ◌^◌, ◌⊎◌, ◌↔◌, ◌<◌, ◌≤◌, ℕ, [], All, length, Some, IfOk, IfSome, IsErr, IsOkAnd, OnErr, OnOk};
-ghost use Rattle.ram_io.specs.Calls.{IsFailing};
-ghost use Rattle.ram_io.specs.Faults.{HasCause};
-ghost use Rattle.ram_io.specs.Memory.{after_failed_call, after_receive, after_send, datagrams, IsFromClient, IsFullFor, IsSteadyWire, new_wire};
-ghost use Rattle.ram_io.specs.Wire.{cut, outgoing, seen, SendsOne, TakesNext};
+ghost use Rattle.ram_io.specs.{IsFailing, HasCause, after_failed_call, after_receive, after_send, datagrams, IsFromClient, IsFullFor, IsSteadyWire, new_wire, cut, outgoing, seen, SendsOne, TakesNext};
 
 use crate::calls::Calls;
 use crate::copy::copy_front;
@@ -43,7 +40,7 @@ pub struct MemWire {
 
 impl Model for MemWire {
     ghost use Rattle.std.specs.Prelude.{drop, vec_capacity};
-    ghost use Rattle.ram_io.specs.Memory.{IsWireState, WireState};
+    ghost use Rattle.ram_io.specs.{IsWireState, WireState};
 
     ghost Value = { WireState };
 

@@ -2,7 +2,7 @@
 ghost use Rattle.std.specs.Prelude.{◌-◌, ◌<◌, ◌≤◌, length, IfOk, IsOkAnd};
 ghost use Rattle.std.specs.Io.{WritesAtMost};
 ghost use Rattle.std.specs.Io.KnownBytes.{WriteAppends};
-ghost use Rattle.ram_io.specs.Faults.{HasCause};
+ghost use Rattle.ram_io.specs.{HasCause};
 
 use crate::failed::Failed;
 

@@ -2,7 +2,7 @@
 ghost use Rattle.std.specs.Prelude.{◌<◌, length, IsOkAnd};
 ghost use Rattle.std.specs.Io.{ReadsAtMost};
 ghost use Rattle.std.specs.Io.KnownBytes.{ReadConsumes};
-ghost use Rattle.ram_io.specs.Faults.{HasCause};
+ghost use Rattle.ram_io.specs.{HasCause};
 
 use crate::failed::Failed;
 

@@ -1,6 +1,6 @@
 //! The objects in memory, and the adapters over std, called through their traits.
 ghost use Rattle.std.specs.Prelude.{All, IfOk};
-ghost use Rattle.ram_io.specs.Memory.{IsFromClient};
+ghost use Rattle.ram_io.specs.{IsFromClient};
 
 use crate::{
     Arrival, Clock, Failed, Gate, Incoming, MemClock, MemSink, MemSource, MemWire, Octets, Open,

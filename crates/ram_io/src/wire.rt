@@ -1,7 +1,6 @@
 //! Where datagrams come from and go.
 ghost use Rattle.std.specs.Prelude.{◌≡◌, ◌-◌, ◌^◌, ◌<◌, ◌≤◌, length, IfOk, IfSome, IsOkAnd};
-ghost use Rattle.ram_io.specs.Faults.{HasCause};
-ghost use Rattle.ram_io.specs.Wire.{outgoing, SendsOne, TakesNext};
+ghost use Rattle.ram_io.specs.{HasCause, outgoing, SendsOne, TakesNext};
 
 use crate::failed::Failed;
 use rams_model::Octets;
@@ -27,8 +26,7 @@ pub enum Incoming {
 /// A wire of datagrams.
 pub trait Wire {
     ghost use Rattle.std.specs.Prelude.{ℕ, List, Option};
-    ghost use Rattle.ram_io.specs.declared.wire.Incoming.{Incoming};
-    ghost use Rattle.ram_io.specs.Wire.{Outgoing};
+    ghost use Rattle.ram_io.specs.{Incoming, Outgoing};
 
     /// The answers that are left for `receive`, where the wire tells them. After them comes
     /// nothing.

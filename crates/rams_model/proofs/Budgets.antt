@@ -2,12 +2,7 @@
 use Rattle.std.proofs.Common.{◌≡◌, ℕ, ◌+◌, ◌-◌, min, Bool, true, false, cond, List, [], ◌∷◌, ◌++◌, Option, Some, refl, ap, ◌∙◌, arith, eqb}
 use Rattle.std.proofs.lemmas.Bool.{cond_both, both_ways, true≢false}
 use Rattle.rams_model.specs.declared.note.Note.TheVariants as note
-use Rattle.rams_model.specs.Settings.{Settings}
-use Rattle.rams_model.specs.Heard.{tick}
-use Rattle.rams_model.specs.History.{began, told, noted, History}
-use Rattle.rams_model.specs.Clients.{sequence}
-use Rattle.rams_model.specs.Bursts.{Burst, begun, in_tick, after_note, newest_changed, size_of, bursts}
-use Rattle.rams_model.specs.Buckets.{channel_left}
+use Rattle.rams_model.specs.Service.{Settings, tick, began, told, noted, History, sequence, Burst, begun, in_tick, after_note, newest_changed, size_of, bursts, channel_left}
 use Rattle.rams_model.specs.Laws.{NoneIs, is_event, is_accept_of, is_sending, is_sending_to, sizes_sent, newest_left}
 
 pub channel_has_left : (s : Settings) (later before : History) → NoneIs is_event later

@@ -1,6 +1,6 @@
 -- The law of catching up.
 use Rattle.std.proofs.Common.{◌≡◌, ℕ, zero, suc, ◌+◌, ◌*◌, ◌<◌, ◌≤◌, ◌⊎◌, ⊎_elim, inl, inr, List, [], ◌∷◌, drop, arith, suc-mul}
-use Rattle.rams_model.specs.CatchUp.{CatchesUp, NothingIsLeft}
+use Rattle.rams_model.specs.Laws.{CatchesUp, NothingIsLeft}
 
 abbrev Pair : Type 0
 Pair = ℕ × ℕ

@@ -1,11 +1,9 @@
 -- The source list: each packet stands once, and the list only grows.
 use Rattle.std.proofs.Common.{◌≡◌, ℕ, ◌+◌, ◌-◌, ◌<◌, ◌≤◌, ◌≢◌, false, cond, not, List, [], ◌∷◌, ◌++◌, Option, None, refl, ap, sym, ◌∙◌, subst, arith, append_assoc, append-nil, eqb, ltb, leb}
 use Rattle.std.proofs.lemmas.Bool.{cond_both, cond-false, le-ltb, ltb-false, leb-true, le-leb, and_parts, and_from, not-true, not_from_false, eqb-false, or_parts, or_from}
-use Rattle.rams_model.specs.declared.held.Held.{Held}
+use Rattle.rams_model.specs.Types.{Held}
 use Rattle.rams_model.specs.declared.note.LiveNote.TheVariants.{Took, Late, Twice, Jump}
-use Rattle.rams_model.specs.Hold.{hi}
-use Rattle.rams_model.specs.Numbering.{Numbered, forward, behind, jump, restart, ahead, is_kept, after_greatest, numbered}
-use Rattle.rams_model.specs.Source.{Arrival, Stream, held_as, has_number, with_packet, awaited, in_time, note_of, live_note, stream_after, stream_of, source}
+use Rattle.rams_model.specs.Packets.{hi, Numbered, forward, backward, jump, restart, ahead, is_kept, after_greatest, numbered, Arrival, Stream, held_as, has_number, with_packet, awaited, in_time, note_of, live_note, stream_after, stream_of, source}
 use Rattle.rams_model.specs.Laws.{Rises}
 use Rattle.rams_model.proofs.Rising.{some_of_end, end_of, one_more_after, one_at_end, hi_of_end, below_hi, hi_grows, below, higher_bound, all_is_more, not_below, one_more, not_later}
 use Rattle.rams_model.proofs.Waiting.{from_first, is_missing_itself, none_before}
@@ -125,9 +123,9 @@ after_known window ended h hs kept a g u at r =
     let s : Stream = record { ended = ended; present = h ∷ hs; kept = kept } in
     let jumped : Goes window s (stream_after s a Jump) = (record { rises = r; begins = λ (none : h ∷ hs ≡ []). absurd cc }, stays window s) in
     let P : Numbered → Type 0 = λ n. Goes window s (stream_after s a (note_of window (h ∷ hs) n)) in
-    cond_both (ltb u 3000) (forward (g + u)) (cond (ltb 65436 u) (behind (g - (65536 - u))) (cond (is_kept kept a.sequence) (restart (g + u)) jump)) P
+    cond_both (ltb u 3000) (forward (g + u)) (cond (ltb 65436 u) (backward (g - (65536 - u))) (cond (is_kept kept a.sequence) (restart (g + u)) jump)) P
     (λ t. in_reach window ended h hs kept a (g + u) r)
-    (λ f. cond_both (ltb 65436 u) (behind (g - (65536 - u))) (cond (is_kept kept a.sequence) (restart (g + u)) jump) P
+    (λ f. cond_both (ltb 65436 u) (backward (g - (65536 - u))) (cond (is_kept kept a.sequence) (restart (g + u)) jump) P
     (λ t. in_reach window ended h hs kept a (g - (65536 - u)) r)
     (λ f2. cond_both (is_kept kept a.sequence) (restart (g + u)) jump P
     (λ t. restarts window ended h hs kept a (g + u) r (omega (arith, ltb-false u 3000 f, at))) (λ f3. jumped)))
@@ -150,9 +148,6 @@ is_ordered : (window : ℕ) (arrivals : List Arrival) → IsOrdered (stream_of w
 unfolding stream_of
 is_ordered window [] = record { rises = tt; begins = λ none. refl }
 is_ordered window (a ∷ arrivals) = (goes window (stream_of window arrivals) a (is_ordered window arrivals)).0
-
-pub present_rises : (window : ℕ) (arrivals : List Arrival) → Rises 0 (stream_of window arrivals).present
-present_rises window arrivals = end_of 0 (stream_of window arrivals).ended (stream_of window arrivals).present (is_ordered window arrivals).rises
 
 pub source_rises : (window : ℕ) (arrivals : List Arrival) → Rises 0 (source window (stream_of window arrivals))
 unfolding source

@@ -1,6 +1,6 @@
 -- Pieces joined end to end, one after another.
 use Rattle.std.proofs.Common.{◌≡◌, ℕ, zero, suc, ◌≤◌, ◌<◌, ◌%◌, get_or, Ok, List, [], ◌∷◌, length, drop, refl, ap, arith, length-drop}
-use Rattle.rams_model.specs.Joined.{Format, pieces_from, pieces_of, unless_fault, onto, words32}
+use Rattle.rams_model.specs.Formats.{Format, pieces_from, pieces_of, unless_fault, onto, words32}
 use Rattle.std.specs.List.{flat_map}
 use Rattle.std.specs.Int.{w32, from_be_bytes, to_be_bytes}
 use Rattle.std.proofs.lemmas.Nat.{be_bytes_4}

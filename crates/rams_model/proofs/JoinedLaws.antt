@@ -1,6 +1,6 @@
 -- Pieces joined end to end are read as they are spelled, where each of them is.
 use Rattle.std.proofs.Common.{◌≡◌, ℕ, zero, suc, ◌+◌, ◌≤◌, ◌<◌, List, [], ◌∷◌, ◌++◌, length, take, drop, get_or, Option, None, Some, Result, Ok, Err, refl, sym, ◌∙◌, ap, subst, arith, length-drop, length-append, take-append-drop, get_or-drop, append_assoc, append-nil, drop_at}
-use Rattle.rams_model.specs.Joined.{Format, pieces_from, pieces_of, unless_fault, onto, Joins}
+use Rattle.rams_model.specs.Formats.{Format, pieces_from, pieces_of, unless_fault, onto, Joins}
 
 -- What is read of a piece that stands in front of other bytes.
 pub record ReadsAs {Piece Fault : Type 0} (f : Format Piece Fault) (front rest : List ℕ) (p : Piece) : Type 0 where

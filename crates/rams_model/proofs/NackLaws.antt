@@ -6,7 +6,7 @@ use Rattle.std.specs.Int.{w16, to_be_bytes, from_be_bytes, bit_at}
 use Rattle.std.proofs.Math.Nat.{pow-suc, pow-le-pow_right}
 use Rattle.std.proofs.lemmas.Nat.{shr_high, mod_below, div-add-mod', from_be_bytes-to_be_bytes_2}
 use Rattle.std.proofs.lemmas.Bool.{ne_eqb, and_parts, ltb-true, leb-true, cases_lt}
-use Rattle.rams_model.specs.Feedback.{counted_from, word_numbers, numbers_of, distance, words_from, nack_words, nack_numbers}
+use Rattle.rams_model.specs.Formats.{counted_from, word_numbers, numbers_of, distance, words_from, nack_words, nack_numbers}
 
 -- the numbers that n bits of a word name, from bit i on
 marked : ℕ → ℕ → ℕ → ℕ → List ℕ

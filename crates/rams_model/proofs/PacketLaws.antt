@@ -6,11 +6,7 @@ use Rattle.std.proofs.lemmas.Nat.{be_bytes_2, from_be_bytes-to_be_bytes_2, from_
 use Rattle.std.proofs.lemmas.List.{get_or_append_left}
 use Rattle.std.proofs.lemmas.Bool.{ne_eqb, and_parts, eqb-true, eqb-false, ltb-true, leb-true}
 use Rattle.std.proofs.lemmas.Bool.Decides.{nat_tests}
-use Rattle.rams_model.specs.Joined.{Joins}
-use Rattle.rams_model.specs.Packet.{flag}
-use Rattle.rams_model.specs.Rtcp.{Framed, IsRtcpPacket, packet_text, packet_format, packet_fault, packet_size, rtcp_padding, is_padded, is_padding_right, least_body, framed_first, framed, IsCompound}
-use Rattle.rams_model.specs.RamsInfo.{transport_feedback}
-use Rattle.rams_model.specs.Feedback.{Feedback, FramesAs}
+use Rattle.rams_model.specs.Formats.{Joins, flag, Framed, IsRtcpPacket, packet_text, packet_format, packet_fault, packet_size, rtcp_padding, is_padded, is_padding_right, least_body, framed_first, framed, IsCompound, transport_feedback, Feedback, FramesAs}
 use Rattle.rams_model.proofs.JoinedLaws.{joins_one, Spells, ReadsAs, spelled_as_read, read_as_spelled}
 use Rattle.rams_model.proofs.PlainPackets.{pair_below}
 

@@ -6,7 +6,7 @@ use Rattle.std.proofs.lemmas.Nat.{be_bytes_2, be_bytes_4}
 use Rattle.std.proofs.lemmas.Bool.{eqb-true, and_parts, cases_lt}
 use Rattle.std.proofs.lemmas.List.{append-nil, get_or_past}
 use Rattle.std.proofs.lemmas.Bool.Decides.{nat_tests}
-use Rattle.rams_model.specs.Packet.{header, spelling, stripped, is_plain, packet_of}
+use Rattle.rams_model.specs.Formats.{header, spelling, stripped, is_plain, packet_of}
 
 -- the first byte says the version, and nothing more
 first_byte : (bytes : List ℕ) → is_plain bytes ≡ true → get_or bytes 0 0 ≡ 128

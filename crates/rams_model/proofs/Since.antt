@@ -4,9 +4,7 @@ use Rattle.std.specs.Prelude.{filter}
 use Rattle.std.specs.List.{list_any}
 use Rattle.std.proofs.lemmas.Bool.{cond_both, or_cases, or_left, or_right, and_parts, and_from, not-true, not-false, not_from_false, cases_Bool, eqb-true, eqb-false, eq-eqb, ne_eqb, true≢false}
 use Rattle.rams_model.specs.declared.note.Note.TheVariants as note
-use Rattle.rams_model.specs.History.{Item, began, told, noted, History}
-use Rattle.rams_model.specs.Clients.{known, opened, is_among, placed, with_client, without}
-use Rattle.rams_model.specs.Pending.{Wanted, wanted, is_wanted, pending, is_pending}
+use Rattle.rams_model.specs.Service.{Item, began, told, noted, History, known, opened, is_among, placed, with_client, without, Wanted, wanted, is_wanted, pending, is_pending}
 use Rattle.rams_model.specs.Laws.{NoneIs, StandsWithout, makes_known, ends_known, is_accept_of, is_end_of, is_queued, ends_pending}
 
 -- the same by recursion: the newest item makes it so, or doesn't end it and it was so

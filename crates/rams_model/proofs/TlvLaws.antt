@@ -3,7 +3,7 @@ use Rattle.std.proofs.Common.{◌≡◌, ℕ, suc, ◌+◌, ◌-◌, ◌*◌, �
 use Rattle.std.specs.Int.{w16, to_be_bytes, from_be_bytes}
 use Rattle.std.proofs.lemmas.Nat.{be_bytes_2, from_be_bytes-to_be_bytes_2}
 use Rattle.std.proofs.lemmas.Bool.Decides.{nat_tests}
-use Rattle.rams_model.specs.Rams.{Tlv, IsTlv, tlv_format, tlv_fault, tlv_size, value_length, first_tlv}
+use Rattle.rams_model.specs.Formats.{Tlv, IsTlv, tlv_format, tlv_fault, tlv_size, value_length, first_tlv}
 use Rattle.rams_model.proofs.JoinedLaws.{Spells, ReadsAs}
 use Rattle.rams_model.proofs.PlainPackets.{pair_below}
 

@@ -1,6 +1,6 @@
 //! What a channel answers to an event.
 ghost use Rattle.std.specs.Prelude.{◌≡◌};
-ghost use Rattle.rams_model.specs.Answered.{answered};
+ghost use Rattle.rams_model.specs.Service.{answered};
 
 use crate::message::Info;
 use crate::note::Note;
@@ -32,7 +32,7 @@ pub struct Answer {
 }
 
 impl Model for Answer {
-    ghost use Rattle.rams_model.specs.Answered.{Answered};
+    ghost use Rattle.rams_model.specs.Service.{Answered};
 
     ghost Value = { Answered };
 

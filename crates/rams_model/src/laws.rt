@@ -1,16 +1,9 @@
 //! Laws of the definitions: each is the contract of a function that does nothing.
-ghost use Rattle.rams_model.specs.CatchUp.{CatchingUpEnds};
-ghost use Rattle.rams_model.specs.Laws.{EachPacketStandsOnce, TheSourceOnlyGrows, TheAwaitedIsTheLeast, TheEndIsTheLongest, HeldPacketsFollow, TheRunIsTheLongest, TheChosenIsTheNewest, TheStopIsTheLeast, KnownIsSinceTheLastBye, OpenIsSinceTheLastEnd, PendingIsSinceTheLastRepair, StopIsOfTheLastStopAt, BurstIsSinceTheLastAccept, BurstIsOpenSinceTheLastEnd, ChannelHasLeft, BurstHasLeft, ExactlyOneBook};
-ghost use Rattle.rams_model.specs.PlainPackets.{PlainPacketsAreSpelledAgain};
-ghost use Rattle.rams_model.specs.Rtp.{WhatIsReadIsSpelledSo, WhatIsSpelledSoIsRead};
+ghost use Rattle.rams_model.specs.Laws.{CatchingUpEnds, EachPacketStandsOnce, TheSourceOnlyGrows, TheAwaitedIsTheLeast, TheEndIsTheLongest, HeldPacketsFollow, TheRunIsTheLongest, TheChosenIsTheNewest, TheStopIsTheLeast, KnownIsSinceTheLastBye, OpenIsSinceTheLastEnd, PendingIsSinceTheLastRepair, StopIsOfTheLastStopAt, BurstIsSinceTheLastAccept, BurstIsOpenSinceTheLastEnd, ChannelHasLeft, BurstHasLeft, ExactlyOneBook};
+ghost use Rattle.rams_model.specs.Formats.{PlainPacketsAreSpelledAgain, WhatIsReadIsSpelledSo, WhatIsSpelledSoIsRead, info_fci, Framed, framed, IsCompound, packet_text, least_body, FramesAs, nack_numbers, nack_words, Tlv, IsMessage, tlvs_at, Request, FitsRequest, request_at, request_fci, request_back, FitsInfo, info_at, FitsIn, stop_at, stop_fci};
 ghost use Rattle.std.specs.Prelude.{◌≡◌, ◌%◌, ◌^◌, ◌<◌, ◌≤◌, ℕ, Bool, List, [], ◌∷◌, length, Ok, All};
 ghost use Rattle.std.specs.List.{AllByRecursion};
-ghost use Rattle.rams_model.specs.declared.message.Info.{Info};
-ghost use Rattle.rams_model.specs.declared.message.Stop.{Stop};
-ghost use Rattle.rams_model.specs.RamsInfo.{info_fci};
-ghost use Rattle.rams_model.specs.Rtcp.{Framed, framed, IsCompound, packet_text, least_body};
-ghost use Rattle.rams_model.specs.Feedback.{FramesAs, nack_numbers, nack_words};
-ghost use Rattle.rams_model.specs.Rams.{Tlv, IsMessage, tlvs_at, Request, FitsRequest, request_at, request_fci, request_back, FitsInfo, info_at, FitsIn, stop_at, stop_fci};
+ghost use Rattle.rams_model.specs.Types.{Info, Stop};
 
 /// A packet with a fixed header alone is spelled again, byte for byte, from what is read of it
 /// (RFC 3550, 5.1).

@@ -1,1 +1,3 @@
 pub mod Exit
+
+unfoldable pub use Exit.*

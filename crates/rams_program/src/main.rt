@@ -3,7 +3,7 @@
 #![tactic(auto)]
 
 ghost use Rattle.std.specs.Prelude.{◌≡◌};
-ghost use Rattle.rams_program.specs.Exit.{exit_number};
+ghost use Rattle.rams_program.specs.{exit_number};
 
 use ram_io::{MemClock, MemWire, Octets, Open, StdSink, StdSource};
 use rams_replay::{Status, run};

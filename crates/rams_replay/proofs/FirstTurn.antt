@@ -1,17 +1,14 @@
 -- The next line and its turn.
 use Rattle.std.proofs.Common.{◌≡◌, ℕ, ◌+◌, ◌<◌, List, [], ◌∷◌, length, take, Option, None, Some, MatchOption, refl, sym, ap, ◌∙◌, subst}
-use Rattle.line_io.specs.Lines.{IsCutOff, TakesNext}
+use Rattle.line_io.specs.{IsCutOff, TakesNext}
 use Rattle.line_io.specs.declared.reader.Next.TheVariants.{Line, Long, End}
 use Rattle.rams_model.specs.declared.fault.LineFault.TheVariants.{Order}
-use Rattle.rams_model.specs.TraceOrder.{Reached}
+use Rattle.rams_model.specs.Texts.{Reached, lines_of}
 use Rattle.trace_book.specs.TraceText as text
-use Rattle.trace_book.specs.TraceText.{Stage, Outcome, goes_on, ends, after_turn, turn, text_from}
-use Rattle.rams_model.specs.Words.{lines_of}
+use Rattle.trace_book.specs.{Stage, Outcome, goes_on, ends, after_turn, turn, text_from}
 use Rattle.server_hub.specs.Seen.{Seen}
-use Rattle.rams_replay.specs.declared.replay.Turn.{Turn}
+use Rattle.rams_replay.specs.{Turn, IfBothTold, IsFirstTurn, Took, ending}
 use Rattle.rams_replay.specs.declared.replay.Turn.TheVariants.{Refused}
-use Rattle.rams_replay.specs.Told.{IfBothTold, IsFirstTurn}
-use Rattle.rams_replay.specs.Turns.{Took, ending}
 use Rattle.rams_replay.proofs.LongLines.{turn_by_front, long_ends}
 
 -- either case of a match on an option

@@ -1,10 +1,10 @@
 -- A line that is too long does what its front does.
 use Rattle.std.proofs.Common.{◌≡◌, ℕ, ◌<◌, List, length, take, Err, refl, sym, ap, ◌∙◌, arith, length-take}
 use Rattle.std.proofs.lemmas.Bool.{lt-ltb}
-use Rattle.rams_model.specs.declared.fault.LineFault.{LineFault}
+use Rattle.rams_model.specs.Types.{LineFault}
 use Rattle.rams_model.specs.declared.fault.LineFault.TheVariants.{Form}
-use Rattle.rams_model.specs.TraceOrder.{Reached, judged}
-use Rattle.trace_book.specs.TraceText.{Stage, Outcome, ends, refused, after_judging, turn}
+use Rattle.rams_model.specs.Texts.{Reached, judged}
+use Rattle.trace_book.specs.{Stage, Outcome, ends, refused, after_judging, turn}
 
 -- a line that is too long has no form
 judged_by : (r : Reached) (bytes : List ℕ) → 4096 < length bytes → judged r bytes ≡ Err Form

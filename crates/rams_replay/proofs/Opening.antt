@@ -5,22 +5,18 @@ use Rattle.std.specs.List.{list_any}
 use Rattle.std.proofs.lemmas.Bool.{and_parts, leb-true}
 use Rattle.std.proofs.lemmas.List.{length-map, map-append}
 use Rattle.std.proofs.lemmas.List.Sums.{sum-map}
-use Rattle.rams_model.specs.declared.channel.Channel.{Channel}
-use Rattle.rams_model.specs.declared.fault.ConfigFault.{ConfigFault}
-use Rattle.rams_model.specs.declared.fault.LineFault.{LineFault}
+use Rattle.rams_model.specs.Types.{Channel, ConfigFault, LineFault}
 use Rattle.rams_model.specs.declared.fault.LineFault.TheVariants.{Rule}
-use Rattle.rams_model.specs.Settings.{Settings, settings, checked}
-use Rattle.rams_model.specs.BookText.{spaced}
-use Rattle.rams_model.specs.TraceLine.{TraceLine, head_line, channel_line, end_line, line_in_range}
-use Rattle.rams_model.specs.TraceOrder.{Claim, Head, Reached, tick_of, has_channel, joined, with_channel, accepted}
-use Rattle.server_hub.specs.Seen.{Seen, AllServe, new_hub, settings_of, has_id, shares_of, refused}
-use Rattle.server_hub.specs.Seen.{Serves as CoreServes}
-use Rattle.server_hub.specs.Served.{Served, served}
+use Rattle.rams_model.specs.Service.{Settings, settings, checked}
+use Rattle.rams_model.specs.Texts.{spaced, TraceLine, head_line, channel_line, end_line, line_in_range, Claim, Head, Reached, tick_of, has_channel, joined, with_channel, accepted}
+use Rattle.server_hub.specs.{AllServe, new_hub, settings_of, has_id, shares_of, refused, Serves as CoreServes, served}
+use Rattle.server_hub.specs.Seen.{Seen}
+use Rattle.server_hub.specs.Served.{Served}
 use Rattle.server_hub.proofs.Pairing.{same_length}
 use Rattle.trace_text.proofs.Checks.{checked_same}
-use Rattle.trace_book.specs.TraceText.{Stage, eventless}
+use Rattle.trace_book.specs.{Stage, eventless}
 use Rattle.rams_replay.specs.declared.replay.Turn.TheVariants.{GoesOn, Done}
-use Rattle.rams_replay.specs.Turns.{HubServes, Serves, Stands, CanOpen, Opens, OpensIn, Comes, Took, claim_of}
+use Rattle.rams_replay.specs.{HubServes, Serves, Stands, CanOpen, Opens, OpensIn, Comes, Took, claim_of}
 use Rattle.rams_replay.proofs.Telling.{settings_all, settings_stand}
 use Rattle.rams_replay.proofs.Turning.{Accepted, accepted_parts}
 
@@ -179,7 +175,3 @@ bounded version tick link h =
 pub head_bounds : (hub : Option Seen) (events version tick link : ℕ) (later : Reached) (stage : Stage) → Comes hub events later (head_line version tick link) stage → Bounded tick link
 head_bounds hub events version tick link later stage comes =
     bounded version tick link (accepted_parts stage.reached later (head_line version tick link) comes.comes).in_range
-
--- the last line
-pub end_turn : (hub : Option Seen) (events number : ℕ) (later : Reached) (stage : Stage) → Comes hub events later end_line stage → Took (eventless stage later end_line) hub events later number Done
-end_turn hub events number later stage comes = (refl, ap (λ (n : ℕ). codes "done" ++ spaced n ++ codes "\n") comes.before.counted)

@@ -2,24 +2,14 @@
 use Rattle.std.proofs.Common.{◌≡◌, ℕ, ◌+◌, ◌≤◌, List, [], ◌++◌, length, Option, None, Some, MatchOption, refl, sym, ap, ◌∙◌, subst, append-nil, arith}
 use Rattle.std.specs.Io.KnownBytes.{Keeps, prepend_known}
 use Rattle.line_io.specs.Passes.{Passes}
-use Rattle.rams_model.specs.declared.status.Status.{Status}
-use Rattle.rams_model.specs.TraceOrder.{Reached}
+use Rattle.rams_model.specs.Types.{Status}
+use Rattle.rams_model.specs.Texts.{Reached, lines_of}
 use Rattle.trace_book.specs.TraceText as text
-use Rattle.trace_book.specs.TraceText.{Stage, Outcome, opening, after_text, after_turn, text_from}
-use Rattle.rams_model.specs.Words.{lines_of}
+use Rattle.trace_book.specs.{Stage, Outcome, opening, after_text, after_turn, text_from}
 use Rattle.server_hub.specs.Seen.{Seen}
-use Rattle.rams_replay.specs.declared.replay.Turn.{Turn}
-use Rattle.rams_replay.specs.declared.stop.Stop.{Stop}
-use Rattle.rams_replay.specs.Stops.{StopsIn}
-use Rattle.rams_replay.specs.Told.{IfTold, IfBothTold, GoesOnAfter, EndsIn, IsFirstTurn, Ends, HasLinesText}
-use Rattle.rams_replay.specs.Turns.{Stands, ending, written}
+use Rattle.rams_replay.specs.{Turn, Stop, StopsIn, IfTold, IfBothTold, GoesOnAfter, EndsIn, IsFirstTurn, Ends, HasLinesText, Stands, ending, written}
 use Rattle.rams_replay.proofs.Reading.{HasRead, reading_begins, reading_goes_on, reading_stops}
 use Rattle.rams_replay.proofs.Writing.{IsWriting, unwritten, writing_begins, writing_has_room, writing_goes_on, writing_stops, writing_breaks, writing_ends}
-
--- nothing is kept at first
-keeps_nothing : (kept : List ℕ) (o : Option (List ℕ)) → kept ≡ [] → prepend_known kept o ≡ o
-keeps_nothing kept None e = refl
-keeps_nothing kept (Some xs) e = ap (λ (l : List ℕ). Some (l ++ xs)) e
 
 module _ (stage : Stage) (number : ℕ) (xs : List ℕ) (hub : Option Seen) (events : ℕ) (reached : Reached) (t : Turn) (rest : List ℕ) where
   -- the outcome of the lines, where the first of them goes on

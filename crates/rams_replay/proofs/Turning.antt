@@ -1,27 +1,20 @@
 -- The turns of lines.
 use Rattle.std.proofs.Common.{◌≡◌, ℕ, ◌+◌, ◌<◌, ◌≤◌, Bool, true, false, not, ◌&&◌, cond, if◌then◌else◌, List, [], ◌∷◌, ◌++◌, map, Option, None, Some, Result, Ok, Err, is_some, refl, sym, subst, ap, ◌∙◌, arith, eqb, ltb, length, ◌⊎◌, inl, inr}
 use Rattle.std.proofs.lemmas.Bool.{and_parts, lt-ltb}
-use Rattle.rams_model.specs.declared.event.Event.{Event}
-use Rattle.rams_model.specs.declared.fault.LineFault.{LineFault}
+use Rattle.rams_model.specs.Types.{Event, LineFault, LineKind}
 use Rattle.rams_model.specs.declared.fault.LineFault.TheVariants.{Order, Range}
-use Rattle.rams_model.specs.TraceLine.{TraceLine, line_in_range}
-use Rattle.rams_model.specs.TraceOrder.{Claim, Head, Reached, accepted, has_channel, judged, judged_line, kind_of, kind_may_come, may_come, with_line, with_reached, line_is_served}
-use Rattle.rams_model.specs.declared.mode.LineKind.{LineKind}
+use Rattle.rams_model.specs.Texts.{TraceLine, line_in_range, Claim, Head, Reached, accepted, has_channel, judged, judged_line, kind_of, kind_may_come, may_come, with_line, with_reached, line_is_served}
 use Rattle.rams_model.specs.declared.mode.LineKind.TheVariants as kind
-use Rattle.server_hub.specs.declared.event.At.{At}
-use Rattle.server_hub.specs.declared.event.HubEvent.{HubEvent}
+use Rattle.server_hub.specs.{At, HubEvent, StandsFor, id_of, with_event, after_event, after_event_of, after_tick}
 use Rattle.server_hub.specs.declared.event.HubEvent.TheVariants.{Live, Feedback, Tick}
-use Rattle.server_hub.specs.Seen.{Seen, StandsFor}
-use Rattle.server_hub.specs.Served.{Served, id_of, with_event, after_event, after_event_of, after_tick}
-use Rattle.trace_book.specs.TraceText.{Stage, goes_on, ends, too_long, most_events, after_judging, after_line, counted, event_text, turn}
-use Rattle.trace_book.specs.TraceText.{event_of as brought}
-use Rattle.rams_replay.specs.declared.replay.Turn.{Turn}
+use Rattle.server_hub.specs.Seen.{Seen}
+use Rattle.server_hub.specs.Served.{Served}
+use Rattle.trace_book.specs.{Stage, goes_on, ends, too_long, most_events, after_judging, after_line, counted, event_text, turn, event_of as brought}
+use Rattle.rams_replay.specs.{Turn, Comes, HubServes, Stands, StandsSomewhere, CountsOne, Tells, Took, claim_of, ending, last_line, written}
 use Rattle.rams_replay.specs.declared.replay.Turn.TheVariants.{GoesOn, Answered as AnsweredTurn, NoChannel, Ticked, Refused, TooLong, Done}
 use Rattle.trace_book.specs.TraceText as text
-use Rattle.trace_text.specs.declared.line.Line.{Line}
+use Rattle.trace_text.specs.{Line, shown}
 use Rattle.trace_text.specs.declared.line.Line.TheVariants.{Tune, Give, Mcast, Ask, Drop}
-use Rattle.trace_text.specs.Shown.{shown}
-use Rattle.rams_replay.specs.Turns.{Comes, HubServes, Stands, StandsSomewhere, CountsOne, Tells, Took, claim_of, ending, last_line, written}
 
 -- What an accepted line says of the lines before it, and of those with it.
 pub record Accepted (r later : Reached) (line : TraceLine) : Type 0 where
@@ -165,18 +158,6 @@ event_has_hub hub events later line stage comes is =
     let may = (and_parts _ _ (accepted_parts stage.reached later line comes.comes).may).0 in
     let event : kind_may_come stage.reached kind.Event ≡ true = subst (λ (k : LineKind). kind_may_come stage.reached k ≡ true) is may in
     has_hub hub events stage.reached stage comes.before ((and_parts _ _ (and_parts _ _ event).1).0)
-
--- an event that is one too many
-pub too_long_turn : (hub : Option Seen) (events : ℕ) (e : HubEvent) → 1000000 ≤ events → (stage : Stage) (number : ℕ) → Stands hub events stage.reached stage
-    → Took (counted stage stage.reached e) hub events stage.reached number TooLong
-too_long_turn hub events e many stage number stands =
-    by (ltb-not stage.events most_events (omega (arith, stands.counted)))
-  where
-    ltb-not : (a b : ℕ) → b ≤ a → ltb a b ≡ false
-    ltb-not a b h = grind arith
-
-    by : ltb stage.events most_events ≡ false → Took (counted stage stage.reached e) hub events stage.reached number TooLong
-    by e = rw e (refl, refl)
 
 -- an event that is served
 pub served_turn : (v w : Seen) (events : ℕ) (e : HubEvent) (t : Turn) → events < 1000000 → CountsOne v w

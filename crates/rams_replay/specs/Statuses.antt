@@ -1,10 +1,10 @@
 -- What the status of a command says.
 use Rattle.std.specs.Prelude.{◌≡◌, ℕ, ◌≤◌, Bool, true, false, List, Option, Result, Ok, Err}
 use Rattle.std.specs.Io.KnownBytes.{Appends}
-use Rattle.ram_io.specs.Faults.{Rose}
-use Rattle.rams_model.specs.declared.status.Status.{Status}
+use Rattle.ram_io.specs.{Rose}
+use Rattle.rams_model.specs.Types.{Status}
 use Rattle.rams_model.specs.declared.status.Status.TheVariants.{Done, NoMemory, Words, ReadFault, WriteFault, BadTrace, WireFault, TooLong}
-use Rattle.trace_book.specs.TraceText.{Outcome}
+use Rattle.trace_book.specs.{Outcome}
 use Rattle.rams_replay.specs.declared.stop.Stop.{Stop}
 use Rattle.rams_replay.specs.declared.stop.Stop.TheVariants.{Memory, Read, Write}
 

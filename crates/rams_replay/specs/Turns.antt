@@ -1,27 +1,21 @@
 -- What a line of a trace does, as code has it.
 use Rattle.std.specs.Prelude.{◌≡◌, ℕ, ◌+◌, ◌==◌, List, [], ◌∷◌, ◌++◌, map, find, Option, Some, None, Ok, All}
 use Rattle.std.specs.List.{flat_map}
-use Rattle.rams_model.specs.declared.channel.Channel.{Channel}
-use Rattle.rams_model.specs.declared.status.Status.{Status}
+use Rattle.rams_model.specs.Types.{Channel, Status}
 use Rattle.rams_model.specs.declared.status.Status.TheVariants as statuses
-use Rattle.rams_model.specs.Answered.{Answered}
-use Rattle.rams_model.specs.Settings.{Settings, settings, checked}
-use Rattle.rams_model.specs.BookLines.{answer_text}
-use Rattle.rams_model.specs.TraceLine.{TraceLine}
-use Rattle.rams_model.specs.TraceOrder.{Claim, Head, Reached, accepted}
-use Rattle.book_text.specs.NoChannel.{no_channel_line}
-use Rattle.order_datagrams.specs.Rendering.{Renders}
-use Rattle.server_hub.specs.declared.event.At.{At}
-use Rattle.server_hub.specs.declared.event.HubEvent.{HubEvent}
+use Rattle.rams_model.specs.Service.{Answered, Settings, settings, checked}
+use Rattle.rams_model.specs.Texts.{answer_text, TraceLine, Claim, Head, Reached, accepted}
+use Rattle.book_text.specs.{no_channel_line}
+use Rattle.order_datagrams.specs.{Renders}
+use Rattle.server_hub.specs.{At, HubEvent, StandsFor, settings_of, refused as refused_add, served, after_event}
 use Rattle.server_hub.specs.declared.event.HubEvent.TheVariants as events
-use Rattle.server_hub.specs.Seen.{Seen, StandsFor, settings_of}
-use Rattle.server_hub.specs.Seen.{refused as refused_add}
-use Rattle.server_hub.specs.Served.{Served, served, after_event}
+use Rattle.server_hub.specs.Seen.{Seen}
+use Rattle.server_hub.specs.Served.{Served}
 use Rattle.rams_replay.specs.declared.replay.Heard.{Heard}
 use Rattle.rams_replay.specs.declared.replay.Heard.TheVariants.{Live, Feedback, Tick}
 use Rattle.rams_replay.specs.declared.replay.Turn.{Turn}
 use Rattle.rams_replay.specs.declared.replay.Turn.TheVariants.{GoesOn, Answered as AnsweredTurn, NoChannel, Ticked, Refused, TooLong, Done}
-use Rattle.trace_book.specs.TraceText.{Stage, Outcome, goes_on, ends, refused, too_long, done, event_text}
+use Rattle.trace_book.specs.{Stage, Outcome, goes_on, ends, refused, too_long, done, event_text}
 use Rattle.trace_book.specs.TraceText as text
 
 -- the event that is heard

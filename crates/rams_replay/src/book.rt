@@ -3,11 +3,9 @@ ghost use Rattle.std.specs.Prelude.{◌≡◌, ◌≤◌, Err, List, ℕ, ◌+�
 ghost use Rattle.std.specs.Io.KnownBytes.{Appends, Keeps, prepend_known};
 ghost use Rattle.line_io.specs.Passes.{Passes};
 ghost use Rattle.rams_replay.specs.declared.stop.Stop.TheVariants.{Read, Write};
-ghost use Rattle.rams_model.specs.Words.{lines_of};
-ghost use Rattle.trace_book.specs.TraceText.{Stage, opening, text_from, trace_text};
-ghost use Rattle.rams_replay.specs.Stops.{IsStopped, IsStoppedByRead, OnlyMemoryStops, StopsIn, EndsAs};
-ghost use Rattle.rams_replay.specs.Told.{IfTold, IfBothTold, IsFirstTurn, Ends, HasLinesText, HasReadText};
-ghost use Rattle.rams_replay.specs.Turns.{Stands, StandsSomewhere, CanWrite, IsEnd, ending};
+ghost use Rattle.rams_model.specs.Texts.{lines_of};
+ghost use Rattle.trace_book.specs.{Stage, opening, text_from, trace_text};
+ghost use Rattle.rams_replay.specs.{IsStopped, IsStoppedByRead, OnlyMemoryStops, StopsIn, EndsAs, IfTold, IfBothTold, IsFirstTurn, Ends, HasLinesText, HasReadText, Stands, StandsSomewhere, CanWrite, IsEnd, ending};
 
 use crate::replay::{Replay, Turn, new_replay, take_line};
 use crate::stop::Stop;

@@ -1,13 +1,9 @@
 //! The commands.
 ghost use Rattle.std.specs.Prelude.{◌≡◌, false, true, not, ℕ, All, List, length};
 ghost use Rattle.line_io.specs.Passes.{Passes};
-ghost use Rattle.trace_book.specs.Links.{KeepsTheLink};
-ghost use Rattle.trace_book.specs.Promises.{KeepsPromises};
-ghost use Rattle.trace_book.specs.TraceText.{served_by, trace_text};
+ghost use Rattle.trace_book.specs.{KeepsTheLink, KeepsPromises, served_by, trace_text};
 ghost use Rattle.rams_model.specs.declared.status.Status.TheVariants.{ReadFault};
-ghost use Rattle.rams_replay.specs.CommandWords.{is_run, begins_with_run};
-ghost use Rattle.rams_replay.specs.Statuses.{status_of, is_words, HasText, IsCaused, IsOrLacksMemory};
-ghost use Rattle.rams_replay.specs.Told.{IfTold, IfBothTold, HasReadText};
+ghost use Rattle.rams_replay.specs.{is_run, begins_with_run, status_of, is_words, HasText, IsCaused, IsOrLacksMemory, IfTold, IfBothTold, HasReadText};
 
 use crate::book::write_book;
 use crate::stop::Stop;

@@ -1,11 +1,10 @@
 //! The lines of one note: its own, and that of the datagram that it asks for.
 ghost use Rattle.std.specs.Prelude.{All, ◌≡◌, ◌∷◌, ◌++◌, [], MatchOption, OnOk, drop, if◌then◌else◌, take};
 ghost use Rattle.std.specs.List.{flat_map};
-ghost use Rattle.rams_model.specs.BookText.{order_count};
-ghost use Rattle.rams_model.specs.BookLines.{order_line};
-ghost use Rattle.rams_model.specs.Orders.{client_of};
-ghost use Rattle.order_datagrams.specs.Rendering.{Renders};
-ghost use Rattle.rams_replay.specs.Entries.{entry_text};
+ghost use Rattle.rams_model.specs.Texts.{order_count, order_line};
+ghost use Rattle.rams_model.specs.Service.{client_of};
+ghost use Rattle.order_datagrams.specs.{Renders};
+ghost use Rattle.rams_replay.specs.{entry_text};
 
 use book_text::{append_note, append_send};
 use order_datagrams::{Config, append_order};

@@ -1,11 +1,10 @@
 //! A trace, line by line.
 ghost use Rattle.std.specs.Prelude.{◌≡◌, ◌<◌, ◌^◌, ℕ, true, IfOk, OnOk, IsSomeAnd, None, is_some, List};
-ghost use Rattle.server_hub.specs.Seen.{StandsFor};
+ghost use Rattle.server_hub.specs.{StandsFor};
 ghost use Rattle.server_hub.specs.Served.{Served};
-ghost use Rattle.trace_text.specs.Shown.{shown, HasDigits};
-ghost use Rattle.trace_book.specs.TraceText.{Stage, opening, turn, after_line, counted};
-ghost use Rattle.trace_book.specs.TraceText.{event_of as brought};
-ghost use Rattle.rams_replay.specs.Turns.{Stands, StandsSomewhere, Comes, CanOpen, OpensIn, CountsOne, Tells, Took, CanWrite, ending, event_of, turn_named};
+ghost use Rattle.trace_text.specs.{shown, HasDigits};
+ghost use Rattle.trace_book.specs.{Stage, opening, turn, after_line, counted, event_of as brought};
+ghost use Rattle.rams_replay.specs.{Stands, StandsSomewhere, Comes, CanOpen, OpensIn, CountsOne, Tells, Took, CanWrite, ending, event_of, turn_named};
 
 use channel_config::Config;
 use ram_io::NoMemory;

@@ -1,6 +1,6 @@
 //! The words of the command line.
 ghost use Rattle.std.specs.Prelude.{◌≡◌};
-ghost use Rattle.rams_replay.specs.CommandWords.{is_run, begins_with_run};
+ghost use Rattle.rams_replay.specs.{is_run, begins_with_run};
 
 use ram_io::Octets;
 

@@ -2,12 +2,10 @@
 ghost use Rattle.std.specs.Prelude.{All, ◌≡◌, ℕ, ◌+◌, ◌++◌, IfOk, IfErr, OnOk, List, [], codes, length};
 ghost use Rattle.std.specs.List.{flat_map};
 ghost use Rattle.line_io.specs.Passes.{Passes};
-ghost use Rattle.rams_model.specs.BookLines.{answer_text};
-ghost use Rattle.order_datagrams.specs.Rendering.{Renders};
-ghost use Rattle.book_text.specs.NoChannel.{no_channel_line};
-ghost use Rattle.rams_replay.specs.Entries.{entry_text};
-ghost use Rattle.rams_replay.specs.Turns.{last_line, written, at_text, AllRender, CanWrite};
-ghost use Rattle.rams_replay.specs.Stops.{IsStoppedByWrite, OnlyMemoryStops, StopsIn};
+ghost use Rattle.rams_model.specs.Texts.{answer_text};
+ghost use Rattle.order_datagrams.specs.{Renders};
+ghost use Rattle.book_text.specs.{no_channel_line};
+ghost use Rattle.rams_replay.specs.{entry_text, last_line, written, at_text, AllRender, CanWrite, IsStoppedByWrite, OnlyMemoryStops, StopsIn};
 
 use crate::entry::{after, append_entry};
 use crate::replay::{Replay, Turn};

@@ -4,8 +4,7 @@ use Rattle.std.specs.Prelude.{◌==◌, ◌||◌}
 use Rattle.std.specs.List.{list_any}
 use Rattle.std.specs.Int.{w32, from_be_bytes}
 use Rattle.std.proofs.lemmas.Bool.{ne_eqb}
-use Rattle.rams_model.specs.Joined.{words32}
-use Rattle.rams_model.specs.Rams.{is_listed}
+use Rattle.rams_model.specs.Formats.{words32, is_listed}
 use Rattle.rams_model.proofs.Joined.{words_step, words_end}
 
 -- the first word is the SSRC

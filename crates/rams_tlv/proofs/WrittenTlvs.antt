@@ -2,8 +2,7 @@
 use Rattle.std.proofs.Common.{◌≡◌, ℕ, ◌+◌, ◌-◌, ◌%◌, ◌<◌, List, ◌∷◌, ◌++◌, length, get_or, ap, arith, append-nil}
 use Rattle.std.specs.List.{flat_map}
 use Rattle.std.specs.Int.{w16, w32, to_be_bytes}
-use Rattle.rams_model.specs.Joined.{words32}
-use Rattle.rams_model.specs.RamsInfo.{tlv}
+use Rattle.rams_model.specs.Formats.{words32, tlv}
 use Rattle.rams_model.proofs.Joined.{words_again}
 
 -- whole words need no filling

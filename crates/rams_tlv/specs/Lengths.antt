@@ -2,7 +2,7 @@
 use Rattle.std.specs.Prelude.{ℕ, Bool}
 use Rattle.rams_tlv.specs.declared.tlvs.Message.{Message}
 use Rattle.rams_tlv.specs.declared.tlvs.Message.TheVariants as message
-use Rattle.rams_model.specs.Rams.{request_length, info_length, stop_length}
+use Rattle.rams_model.specs.Formats.{request_length, info_length, stop_length}
 
 -- whether the value of a type that the message reads has its length
 abbrev pub lengths : Message → ℕ → ℕ → Bool

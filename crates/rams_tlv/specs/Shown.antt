@@ -1,8 +1,8 @@
 -- A request as code has it.
 use Rattle.std.specs.Prelude.{◌≡◌, ℕ, ◌≤◌, ◌%◌, List, length, Option, option_map, IfSome}
 use Rattle.std.specs.Borrow.{Bor}
-use Rattle.rams_model.specs.Joined.{words32}
-use Rattle.rams_model.specs.Rams as rams
+use Rattle.rams_model.specs.Formats.{words32}
+use Rattle.rams_model.specs.Formats.Rams as rams
 use Rattle.rams_tlv.specs.declared.request.Request.{Request}
 
 -- a list of SSRCs, as numbers

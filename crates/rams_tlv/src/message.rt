@@ -1,6 +1,6 @@
 //! RAMS-I and RAMS-T (RFC 6285, 7.3 and 7.4).
 ghost use Rattle.std.specs.Prelude.{◌≡◌};
-ghost use Rattle.rams_model.specs.Rams.{info_at, stop_at};
+ghost use Rattle.rams_model.specs.Formats.{info_at, stop_at};
 
 use crate::tlvs::{Message, Tlvs};
 use byteorder::{BigEndian, ByteOrder};

@@ -1,9 +1,9 @@
 //! What a RAMS-R asks for (RFC 6285, 7.2).
 ghost use Rattle.std.specs.Prelude.{◌≡◌, ◌%◌, ◌==◌, IfOk, IfSome, length};
 ghost use Rattle.std.specs.List.{list_any};
-ghost use Rattle.rams_model.specs.Joined.{map_ok, words32};
-ghost use Rattle.rams_model.specs.Rams as rams;
-ghost use Rattle.rams_tlv.specs.Shown.{shown_request};
+ghost use Rattle.rams_model.specs.Formats.{map_ok, words32};
+ghost use Rattle.rams_model.specs.Formats.Rams as rams;
+ghost use Rattle.rams_tlv.specs.{shown_request};
 
 use crate::tlvs::{Message, Tlvs};
 use byteorder::{BigEndian, ByteOrder};

@@ -1,5 +1,5 @@
 //! Messages of RFC 6285, byte for byte, and each fault at its edge.
-ghost use Rattle.rams_tlv.specs.Shown.{HasSpelling};
+ghost use Rattle.rams_tlv.specs.{HasSpelling};
 
 use crate::{
     Info, Request, Stop, TlvFault, append_info, append_request, append_stop, names, read_info,

@@ -1,10 +1,8 @@
 //! TLVs joined end to end (RFC 6285, 7.1).
 ghost use Rattle.std.specs.Prelude.{◌≡◌, ℕ, ◌+◌, ◌≤◌, ◌<◌, ◌==◌, IsTrue, IfOk, IfErr, IfSome, take, drop, length, slice_index, slice_range, option_map, is_ok, true};
 ghost use Rattle.std.specs.Int.{w16, w32, w64, from_be_bytes};
-ghost use Rattle.rams_model.specs.Rams.{ssrcs_in, tlv_fault, tlv_size, value_length, first_tlv, tlvs_at};
-ghost use Rattle.rams_model.specs.Joined.{map_ok, words32};
-ghost use Rattle.rams_tlv.specs.Lengths.{lengths, sfmt};
-ghost use Rattle.rams_tlv.specs.Tlvs.{tlvs_of, value_in};
+ghost use Rattle.rams_model.specs.Formats.{ssrcs_in, tlv_fault, tlv_size, value_length, first_tlv, tlvs_at, map_ok, words32};
+ghost use Rattle.rams_tlv.specs.{lengths, sfmt, tlvs_of, value_in};
 
 use byteorder::{BigEndian, ByteOrder};
 use rams_model::TlvFault;

@@ -2,10 +2,8 @@
 ghost use Rattle.std.specs.Prelude.{◌≡◌, ◌+◌, ◌*◌, ◌/◌, ◌%◌, ◌<◌, ◌≤◌, ◌∷◌, ◌++◌, IfOk, OnOk, OnErr, IfSome, is_some, if◌then◌else◌, length, vec_len, vec_capacity};
 ghost use Rattle.std.specs.Int.{w16, w32, w64, to_be_bytes};
 ghost use Rattle.std.specs.List.{flat_map};
-ghost use Rattle.rams_model.specs.Joined.{words32};
-ghost use Rattle.rams_model.specs.RamsInfo.{rams_info, info_fci, tlv, optional_tlv};
-ghost use Rattle.rams_model.specs.Rams.{rams_request, rams_stop, request_fci, stop_fci, preamble_tlv, ssrcs_tlv};
-ghost use Rattle.rams_tlv.specs.Shown.{shown_request, shown_ssrcs, IsWritable, HasSpelling};
+ghost use Rattle.rams_model.specs.Formats.{words32, rams_info, info_fci, tlv, optional_tlv, rams_request, rams_stop, request_fci, stop_fci, preamble_tlv, ssrcs_tlv};
+ghost use Rattle.rams_tlv.specs.{shown_request, shown_ssrcs, IsWritable, HasSpelling};
 
 use crate::request::Request;
 use crate::room::put;
@@ -31,7 +29,7 @@ pub fn write_request(
 
 /// `write_request`, behind what is there. An error changes nothing, and comes only where the vector
 /// lacks the room.
-#[tactic(auto, unfolding(rams_model::specs::Rams::rams_request))]
+#[tactic(auto, unfolding(rams_model::specs::Formats::Rams::rams_request))]
 pub fn append_request(
     text: &mut Vec<u8>,
     sender: u32,
@@ -59,7 +57,7 @@ pub fn write_info(alloc: Global, sender: u32, media: u32, i: &Info) -> Result<Ve
 
 /// `write_info`, behind what is there. An error changes nothing, and comes only where the vector
 /// lacks the room.
-#[tactic(auto, unfolding(rams_model::specs::RamsInfo::rams_info))]
+#[tactic(auto, unfolding(rams_model::specs::Formats::RamsInfo::rams_info))]
 pub fn append_info(text: &mut Vec<u8>, sender: u32, media: u32, i: &Info) -> Result<(), NoMemory>
     ensures text { OnOk result (text.new.items ≡ text.old.items ++ rams_info sender media i.now) }
     ensures same { OnErr result (text.new.items ≡ text.old.items) }
@@ -81,7 +79,7 @@ pub fn write_stop(alloc: Global, sender: u32, media: u32, s: &Stop) -> Result<Ve
 
 /// `write_stop`, behind what is there. An error changes nothing, and comes only where the vector
 /// lacks the room.
-#[tactic(auto, unfolding(rams_model::specs::Rams::rams_stop))]
+#[tactic(auto, unfolding(rams_model::specs::Formats::Rams::rams_stop))]
 pub fn append_stop(text: &mut Vec<u8>, sender: u32, media: u32, s: &Stop) -> Result<(), NoMemory>
     ensures text { OnOk result (text.new.items ≡ text.old.items ++ rams_stop sender media s.now) }
     ensures same { OnErr result (text.new.items ≡ text.old.items) }

@@ -4,8 +4,8 @@ use Rattle.std.proofs.lemmas.Bool.{cases_lt}
 use Rattle.std.proofs.lemmas.Bool.Decides.{nat_tests}
 use Rattle.std.specs.Prelude.{insert}
 use Rattle.std.specs.List.{position_or_len}
-use Rattle.reorder_window.specs.Starts.{has_number, with_item}
-use Rattle.reorder_window.specs.Seen.{Seen, seen_of, next_missing, keeping, is_free, free_of, first_free, RisesIn, IsWindow}
+use Rattle.reorder_window.specs.{has_number, with_item, seen_of, next_missing, keeping, is_free, free_of, first_free, RisesIn, IsWindow}
+use Rattle.reorder_window.specs.Seen.{Seen}
 use Rattle.reorder_window.proofs.Rising.{false_first, false_second, differs, rises-wider, rises-length, rises-with_item, length-with_item}
 use Rattle.reorder_window.proofs.Searches.{next-from, next-none, next-end, insert-is}
 

@@ -1,15 +1,13 @@
 -- Where the items are packets, the definitions of items and of packets say the same.
 use Rattle.std.proofs.Common.{◌≡◌, ℕ, zero, suc, ◌+◌, ◌-◌, ◌≤◌, Bool, true, false, ◌==◌, ◌||◌, ◌&&◌, not, nat_lt, nat_le, if◌then◌else◌, List, [], ◌∷◌, filter, refl, ◌∙◌, ap, arith}
 use Rattle.std.proofs.lemmas.Bool.Decides.{nat_tests}
-use Rattle.rams_model.specs.declared.held.Held.{Held}
+use Rattle.rams_model.specs.Types.{Held}
 use Rattle.rams_model.specs.declared.note.LiveNote.TheVariants.{Took}
 use Rattle.rams_model.specs.declared.note.LiveNote.TheVariants as notes
-use Rattle.rams_model.specs.Hold.{lo, hi}
-use Rattle.rams_model.specs.Source.{least, with_packet, in_time}
-use Rattle.rams_model.specs.Source as sources
+use Rattle.rams_model.specs.Packets.{lo, hi, least, with_packet, in_time}
+use Rattle.rams_model.specs.Packets.Source as sources
 use Rattle.reorder_window.specs.declared.window.Came.TheVariants.{Kept, Late, Twice}
-use Rattle.reorder_window.specs.Starts.{Start, has_number, with_item, last_number, is_missing, awaited}
-use Rattle.reorder_window.specs.Packets.{items_of, start_of, note_of, AwaitedAreThose, NotesAreThose, StartsGrowAlike, NoneIsBelowTheFirst, ReleasedAreThose}
+use Rattle.reorder_window.specs.{Start, has_number, with_item, last_number, is_missing, awaited, items_of, start_of, note_of, AwaitedAreThose, NotesAreThose, StartsGrowAlike, NoneIsBelowTheFirst, ReleasedAreThose}
 use Rattle.reorder_window.proofs.Searches.{least-from, least-is}
 use Rattle.reorder_window.proofs.Standing.{missing_is}
 

@@ -1,8 +1,7 @@
 -- Items by rising number: one more of them, and which numbers they have.
 use Rattle.std.proofs.Common.{◌≡◌, ℕ, ◌+◌, ◌<◌, ◌≤◌, ◌⊎◌, max, Bool, true, false, ◌==◌, ◌||◌, nat_lt, if◌then◌else◌, List, [], ◌∷◌, ◌++◌, length, refl, ◌∙◌, ap, inl, inr, arith}
 use Rattle.std.proofs.lemmas.Bool.Decides.{nat_tests}
-use Rattle.reorder_window.specs.Starts.{has_number, with_item, last_number}
-use Rattle.reorder_window.specs.Seen.{RisesIn}
+use Rattle.reorder_window.specs.{has_number, with_item, last_number, RisesIn}
 
 pub rises_up : {T : Type 0} (lo hi : ℕ) (es : List (ℕ × T)) → RisesIn lo hi es → lo ≤ hi
 rises_up lo hi [] rises = rises
@@ -60,11 +59,6 @@ or_assoc false b c = refl
 pub differs : (m n : ℕ) → (m == n) ≡ false → (m < n) ⊎ (n < m)
 differs m n isnt = grind (arith, nat_tests)
 
-pub has-lower : {T : Type 0} (k lo hi : ℕ) (es : List (ℕ × T)) → RisesIn lo hi es → k < lo → has_number k es ≡ false
-has-lower k lo hi [] rises below = refl
-has-lower k lo hi (e ∷ es) rises below =
-    or_false (e.0 == k) (has_number k es) (let apart : k < e.0 = omega (arith, rises.0) in grind (arith, nat_tests)) (has-lower k (e.0 + 1) hi es rises.1 (omega (arith, rises.0)))
-
 pub has-higher : {T : Type 0} (k lo hi : ℕ) (es : List (ℕ × T)) → RisesIn lo hi es → hi ≤ k → has_number k es ≡ false
 has-higher k lo hi [] rises above = refl
 has-higher k lo hi (e ∷ es) rises above =
@@ -113,10 +107,6 @@ with_item-append lo mid n item [] ys rises above = refl
 with_item-append lo mid n item (x ∷ xs) ys rises above =
     let low : x.0 < n = omega (arith, rises_up (x.0 + 1) mid xs rises.1) in
     behind_step n item x xs ys (nat_lt n x.0) (grind (arith, nat_tests)) (with_item-append (x.0 + 1) mid n item xs ys rises.1 above)
-
-pub last-append : {T : Type 0} (first : ℕ) (xs : List (ℕ × T)) (e : ℕ × T) (es : List (ℕ × T)) → last_number first (xs ++ e ∷ es) ≡ last_number e.0 es
-last-append first [] e es = refl
-last-append first (x ∷ xs) e es = last-append x.0 xs e es
 
 -- the front of some
 pub rises_before : {T : Type 0} (lo hi : ℕ) (xs ys : List (ℕ × T)) → RisesIn lo hi (xs ++ ys) → RisesIn lo hi xs

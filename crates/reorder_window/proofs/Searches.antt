@@ -4,9 +4,8 @@ use Rattle.std.proofs.lemmas.Bool.{cases_lt}
 use Rattle.std.proofs.lemmas.Bool.Decides.{nat_tests}
 use Rattle.std.specs.Prelude.{insert}
 use Rattle.std.specs.List.{position_or_len}
-use Rattle.rams_model.specs.Source.{least}
-use Rattle.reorder_window.specs.Starts.{has_number, with_item}
-use Rattle.reorder_window.specs.Seen.{RisesIn, next_missing}
+use Rattle.rams_model.specs.Packets.{least}
+use Rattle.reorder_window.specs.{has_number, with_item, RisesIn, next_missing}
 use Rattle.reorder_window.proofs.Rising.{or_true_right, or_false, rises_up}
 
 -- ---- the least number that passes a test
@@ -40,11 +39,6 @@ least-is test n zero m from within none pass = omega arith
 least-is test n (suc count) m from within none pass =
     is_step test n count m (test n) refl from (λ less. none n (omega arith) less) pass
     (λ less. least-is test (n + 1) count m (omega arith) (omega arith) (λ k up down. none k (omega arith) down) pass) (cases_lt m (n + 1))
-
--- ---- the least number that no item has
-pub next-step : {T : Type 0} (n m : ℕ) (es : List (ℕ × T)) (b : Bool) → n ≤ (if b then n + 1 else n)
-next-step n m es true = omega arith
-next-step n m es false = omega arith
 
 pub next-from : {T : Type 0} (n : ℕ) (es : List (ℕ × T)) → n ≤ next_missing n es
 next-from n [] = omega arith

@@ -4,8 +4,8 @@ use Rattle.std.specs.Prelude.{MatchOption}
 use Rattle.std.proofs.lemmas.Bool.{cases_lt}
 use Rattle.std.proofs.lemmas.Bool.Decides.{nat_tests}
 use Rattle.reorder_window.specs.declared.window.Came.TheVariants.{Kept, Late, Twice}
-use Rattle.reorder_window.specs.Starts.{Start, has_number, with_item, last_number, is_missing, awaited, came, start_after, released}
-use Rattle.reorder_window.specs.Seen.{Seen, begun, next_missing, keeping, came_of, arrived, is_free, free_of, first_free, without, after_release, RisesIn, IsWindow, StandsFor}
+use Rattle.reorder_window.specs.{Start, has_number, with_item, last_number, is_missing, awaited, came, start_after, released, begun, next_missing, keeping, came_of, arrived, is_free, free_of, first_free, without, after_release, RisesIn, IsWindow, StandsFor}
+use Rattle.reorder_window.specs.Seen.{Seen}
 use Rattle.reorder_window.proofs.Rising.{rises_up, rises-wider, rises-append, rises_front, rises_end, rises_before, rises-with_item, or_true_right, or_false, has-higher, has-append, has-with_item, with_item-append, last-with_item}
 use Rattle.reorder_window.proofs.Searches.{least-below, least-is, next-from, next-has, next-none, next-end}
 use Rattle.reorder_window.proofs.Keeping.{not_free_step, rises_settled}
@@ -23,10 +23,6 @@ missing_is false low k isnt from = grind (arith, nat_tests)
 pub missing_why : (has : Bool) (low k : ℕ) → (not has && nat_le low k) ≡ false → (has ≡ true) ⊎ (k < low)
 missing_why true low k isnt = inl refl
 missing_why false low k isnt = inr (grind (arith, nat_tests))
-
-pub or_true_left : (a b : Bool) → a ≡ true → (a || b) ≡ true
-or_true_left true b is = refl
-or_true_left false b is = cc
 
 -- ---- while the start goes on
 pub due_of : {T : Type 0} (b : Bool) (lo over on : ℕ) (out : List (ℕ × T)) → b ≡ false → RisesIn lo (if b then over else on) out → RisesIn lo on out

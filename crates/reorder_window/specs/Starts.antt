@@ -1,7 +1,7 @@
 -- The items of a start that came in time, the number that is waited for, and what may be released.
 use Rattle.std.specs.Prelude.{ℕ, ◌+◌, ◌-◌, Bool, ◌&&◌, ◌==◌, not, nat_le, nat_lt, if◌then◌else◌, List, [], ◌∷◌, filter}
 use Rattle.std.specs.List.{list_any}
-use Rattle.rams_model.specs.Source.{least}
+use Rattle.rams_model.specs.Packets.{least}
 use Rattle.reorder_window.specs.declared.window.Came.{Came}
 use Rattle.reorder_window.specs.declared.window.Came.TheVariants.{Kept, Late, Twice}
 

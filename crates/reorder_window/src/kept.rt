@@ -1,8 +1,7 @@
 //! Searches in a list of items by rising number.
 ghost use Rattle.std.specs.Prelude.{◌≡◌, ℕ, ◌+◌, ◌^◌, ◌<◌, ◌≤◌, nat_lt, length, vec_len, vec_capacity};
 ghost use Rattle.std.specs.List.{position_or_len};
-ghost use Rattle.reorder_window.specs.Starts.{has_number, with_item};
-ghost use Rattle.reorder_window.specs.Seen.{next_missing};
+ghost use Rattle.reorder_window.specs.{has_number, with_item, next_missing};
 
 /// Whether an item with this number is kept.
 pub fn is_kept<T>(kept: &[(u64, T)], n: u64) -> bool

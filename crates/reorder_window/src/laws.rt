@@ -1,5 +1,5 @@
 //! Laws of the definitions: each is the contract of a function that does nothing.
-ghost use Rattle.reorder_window.specs.Packets.{AwaitedAreThose, NotesAreThose, StartsGrowAlike, NoneIsBelowTheFirst, ReleasedAreThose, EndedAreThose};
+ghost use Rattle.reorder_window.specs.{AwaitedAreThose, NotesAreThose, StartsGrowAlike, NoneIsBelowTheFirst, ReleasedAreThose, EndedAreThose};
 
 /// Where the items are the packets of a channel, each under its own number, a window releases what
 /// the channel's source says, and its answers are the channel's notes.

@@ -1,6 +1,6 @@
 //! Items out of order, and what goes out after each of them.
 ghost use Rattle.std.specs.Prelude.{◌≡◌, ◌<◌, ◌^◌, [], None, true, false, OnOk};
-ghost use Rattle.reorder_window.specs.Seen.{first_free};
+ghost use Rattle.reorder_window.specs.{first_free};
 
 use crate::{Came, Window};
 use std::alloc::{AllocError, Global};

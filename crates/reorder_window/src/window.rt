@@ -1,7 +1,7 @@
 //! The window of one channel.
 ghost use Rattle.std.specs.Prelude.{◌≡◌, ℕ, ◌+◌, ◌^◌, ◌<◌, ◌≤◌, List, [], ◌∷◌, ◌++◌, Option, None, true, false, IfOk, MatchOption};
-ghost use Rattle.reorder_window.specs.Starts.{Start, came, start_after, released};
-ghost use Rattle.reorder_window.specs.Seen.{Seen, new_window, begun, came_of, arrived, first_free, after_release, IsWindow, StandsFor};
+ghost use Rattle.reorder_window.specs.{Start, came, start_after, released, new_window, begun, came_of, arrived, first_free, after_release, IsWindow, StandsFor};
+ghost use Rattle.reorder_window.specs.Seen.{Seen};
 
 use crate::kept::{is_kept, missing_from, put};
 use ram_io::NoMemory;
@@ -35,7 +35,8 @@ pub struct Window<T> {
 
 impl<T> Model for Window<T> {
     ghost use Rattle.std.specs.Prelude.{◌+◌, ◌≤◌, vec_capacity};
-    ghost use Rattle.reorder_window.specs.Seen.{Seen, seen_code, IsWindow, seen_of};
+    ghost use Rattle.reorder_window.specs.{seen_code, IsWindow, seen_of};
+    ghost use Rattle.reorder_window.specs.Seen.{Seen};
 
     ghost Value = { Seen T };
 

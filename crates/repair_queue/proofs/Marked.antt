@@ -2,8 +2,8 @@
 use Rattle.std.proofs.Common.{◌≡◌, ℕ, ◌+◌, ◌<◌, ◌≤◌, Bool, true, false, cond, List, [], ◌∷◌, ◌++◌, length, take, drop, get_or, set, refl, ap, sym, ◌∙◌, arith, length-set, append-nil}
 use Rattle.std.proofs.lemmas.List.{take_more, take_more_set, drop_more, drop-set-lt, length-take-le, take_all, get_or_default}
 use Rattle.std.proofs.lemmas.Grind.{drop_more_same}
-use Rattle.rams_model.specs.Pending.{Wanted, wanted}
-use Rattle.repair_queue.specs.Queue.{unmarked}
+use Rattle.rams_model.specs.Service.{Wanted, wanted}
+use Rattle.repair_queue.specs.{unmarked}
 
 -- The unmarked ones of the first i stand in front, and from there on all is as it was.
 pub record MarkedInPlace (ws now : List Wanted) (done : List Bool) (kept i : ℕ) : Type 0 where
@@ -34,13 +34,6 @@ same_place ws now i w rest short long =
     let was = drop_more ws i w short in
     let is = drop_more now i w (omega arith) in
     cc
-
-pub marked_start : (ws : List Wanted) (done : List Bool) → length done ≡ length ws → MarkedInPlace ws ws done 0 0
-marked_start ws done flags = record { front = refl; rest = refl; behind = omega arith; long = refl; flags = flags }
-
-pub marked_all : (ws now : List Wanted) (done : List Bool) (kept i : ℕ) → MarkedInPlace ws now done kept i → length ws ≤ i → take kept now ≡ unmarked ws done
-marked_all ws now done kept i so_far end =
-    so_far.front ∙ (rw (take_all i ws end, take_all i done (omega arith)))
 
 pub marked_more_done : (ws now : List Wanted) (done : List Bool) (kept i : ℕ) → MarkedInPlace ws now done kept i → i < length done → get_or done i false ≡ true → MarkedInPlace ws now done kept (i + 1)
 marked_more_done ws now done kept i so_far short flag = record {

@@ -2,8 +2,8 @@
 use Rattle.std.proofs.Common.{◌≡◌, ℕ, ◌+◌, ◌<◌, ◌≤◌, Bool, true, false, cond, not, List, [], ◌∷◌, ◌++◌, length, refl, ap, subst, arith, length-append}
 use Rattle.std.specs.List.{list_any, filter}
 use Rattle.std.proofs.lemmas.Bool.Decides.{nat_tests}
-use Rattle.rams_model.specs.Pending.{Wanted, wanted, is_wanted}
-use Rattle.repair_queue.specs.Queue.{is_of, count_of, unmarked, without, IsWithinLimits}
+use Rattle.rams_model.specs.Service.{Wanted, wanted, is_wanted}
+use Rattle.repair_queue.specs.{is_of, count_of, unmarked, without, IsWithinLimits}
 
 module _ (p : Wanted → Bool) where
   pub length-filter-le : (ws : List Wanted) → length (filter p ws) ≤ length ws

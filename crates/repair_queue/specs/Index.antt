@@ -3,7 +3,7 @@ use Rattle.std.specs.Prelude.{◌≡◌, ℕ, ◌+◌, ◌<◌, ◌≤◌, Bool,
 use Rattle.std.specs.List.{list_any}
 use Rattle.std.specs.HashSet.{contains, hash_set_len, spare as set_spare}
 use Rattle.std.specs.HashMap.{HashMap, get, hash_map_len, spare as map_spare}
-use Rattle.rams_model.specs.Pending.{Wanted, is_wanted}
+use Rattle.rams_model.specs.Service.{Wanted, is_wanted}
 use Rattle.repair_queue.specs.declared.index.Index.{Index}
 use Rattle.repair_queue.specs.Queue.{count_of}
 

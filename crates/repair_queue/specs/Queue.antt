@@ -1,7 +1,7 @@
 -- The pending repairs of a channel, the oldest first, and what each call makes of them.
 use Rattle.std.specs.Prelude.{ℕ, ◌≤◌, nat_le, Bool, true, false, ◌==◌, not, if◌then◌else◌, List, [], ◌∷◌, ◌++◌, length, filter}
 use Rattle.std.specs.List.{list_any}
-use Rattle.rams_model.specs.Pending.{Wanted, wanted, is_wanted}
+use Rattle.rams_model.specs.Service.{Wanted, wanted, is_wanted}
 use Rattle.repair_queue.specs.declared.wanted.Asked.{Asked}
 use Rattle.repair_queue.specs.declared.wanted.Asked.TheVariants.{Queued, Already, ClientFull, QueueFull}
 

@@ -1,9 +1,8 @@
 //! What makes an ask quick: which pairs are pending, and how many of each client.
 ghost use Rattle.std.specs.Prelude.{◌≡◌, ℕ, ◌+◌, ◌<◌, ◌≤◌, ◌==◌, ◌&&◌, ◌||◌, if◌then◌else◌, List, [], ◌∷◌, ◌++◌, length, IfOk};
 ghost use Rattle.std.specs.List.{list_any};
-ghost use Rattle.rams_model.specs.Pending.{Wanted as Repair, wanted, is_wanted};
-ghost use Rattle.repair_queue.specs.Queue.{count_of};
-ghost use Rattle.repair_queue.specs.Index.{Indexes, HasRoom, HasPlace, counted, same_pair};
+ghost use Rattle.rams_model.specs.Service.{Wanted as Repair, wanted, is_wanted};
+ghost use Rattle.repair_queue.specs.{count_of, Indexes, HasRoom, HasPlace, counted, same_pair};
 ghost use Rattle.std.specs.HashSet.{contains, hash_set_len, spare as set_spare};
 ghost use Rattle.std.specs.HashMap.{hash_map_len, spare};
 

@@ -21,12 +21,11 @@ pub struct Queue {
 
 impl Model for Queue {
     ghost use Rattle.std.specs.Prelude.{◌≤◌, List, vec_capacity};
-    ghost use Rattle.rams_model.specs.Pending.{Wanted as Repair};
+    ghost use Rattle.rams_model.specs.Service.{Wanted as Repair};
 
     ghost Value = { List Repair };
 
-    ghost use Rattle.repair_queue.specs.Queue.{IsWithinLimits};
-    ghost use Rattle.repair_queue.specs.Index.{Indexes};
+    ghost use Rattle.repair_queue.specs.{IsWithinLimits, Indexes, asked_of, answered, unmarked, without, count_of};
 
     ghost view = { λ q. q.pending.items };
 
@@ -39,7 +38,6 @@ impl Model for Queue {
 
 impl Queue {
     ghost use Rattle.std.specs.Prelude.{◌≡◌, ◌<◌, [], length, nat_lt, IfOk};
-    ghost use Rattle.repair_queue.specs.Queue.{asked_of, answered, unmarked, without, count_of, IsWithinLimits};
 
     /// A queue in which nothing is pending. It takes room for 4,096 repairs, so that no other call takes
     /// memory.
@@ -115,7 +113,7 @@ impl Queue {
 
 ghost use Rattle.std.specs.Prelude.{◌≡◌, length, vec_len, vec_capacity};
 ghost use Rattle.std.specs.List.{list_any};
-ghost use Rattle.repair_queue.specs.Queue.{unmarked, without};
+ghost use Rattle.repair_queue.specs.{unmarked, without};
 
 // Whether a flag is set.
 fn is_any_set(done: &[bool]) -> bool

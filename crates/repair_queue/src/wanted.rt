@@ -11,7 +11,7 @@ pub struct Wanted {
 }
 
 impl Model for Wanted {
-    ghost use Rattle.rams_model.specs.Pending.{Wanted as Repair, wanted};
+    ghost use Rattle.rams_model.specs.Service.{Wanted as Repair, wanted};
 
     ghost Value = { Repair };
 

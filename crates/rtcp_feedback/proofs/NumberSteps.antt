@@ -3,8 +3,8 @@ use Rattle.std.proofs.Common.{◌≡◌, ℕ, suc, ◌+◌, ◌-◌, ◌%◌, �
 use Rattle.std.specs.Prelude.{◌==◌, if◌then◌else◌, filter}
 use Rattle.std.specs.Int.{w16, from_be_bytes, bit_at}
 use Rattle.std.proofs.lemmas.Bool.{ne_eqb}
-use Rattle.rams_model.specs.Feedback.{counted_from, numbers_of, word_numbers, nack_numbers}
-use Rattle.rtcp_feedback.specs.Numbers.{marked_from, numbers_from}
+use Rattle.rams_model.specs.Formats.{counted_from, numbers_of, word_numbers, nack_numbers}
+use Rattle.rtcp_feedback.specs.{marked_from, numbers_from}
 
 map_cond : (f : ℕ → ℕ) (b : Bool) (x : ℕ) (xs : List ℕ) → map f (cond b (x ∷ xs) xs) ≡ cond b (f x ∷ map f xs) (map f xs)
 map_cond f true x xs = refl

@@ -5,8 +5,7 @@ use Rattle.std.specs.Int.{w16, w32, to_be_bytes}
 use Rattle.std.proofs.lemmas.List.{drop_more, drop_all}
 use Rattle.std.proofs.lemmas.Bool.{and_parts, ltb-true, leb-true}
 use Rattle.std.proofs.Math.Nat.{pow-suc, pow-le-pow_right}
-use Rattle.rams_model.specs.RamsInfo.{transport_feedback}
-use Rattle.rams_model.specs.Feedback.{distance, words_from, nack_words}
+use Rattle.rams_model.specs.Formats.{transport_feedback, distance, words_from, nack_words}
 
 -- a number that joins the word
 pub joins_word : (text all xs : List ℕ) (i pid blp last d b : ℕ) → i < length xs → d ≡ distance pid (get_or xs i 0) → (nat_lt last d && nat_le d 16) ≡ true → b ≡ 2 ^ (d - 1)

@@ -1,7 +1,7 @@
 -- The numbers of a NACK from some place on (RFC 4585, 6.2.1).
 use Rattle.std.specs.Prelude.{ℕ, ◌+◌, ◌-◌, ◌%◌, ◌==◌, List, ◌++◌, map, filter}
 use Rattle.std.specs.Int.{bit_at}
-use Rattle.rams_model.specs.Feedback.{counted_from, numbers_of}
+use Rattle.rams_model.specs.Formats.{counted_from, numbers_of}
 
 -- the numbers that n bits of a word name, from bit i on
 unfoldable pub marked_from : ℕ → ℕ → ℕ → ℕ → List ℕ

@@ -1,5 +1,5 @@
 -- A feedback message as code has it.
-use Rattle.rams_model.specs.Feedback as model
+use Rattle.rams_model.specs.Formats.TransportFeedback as model
 use Rattle.rtcp_feedback.specs.declared.message.Feedback.{Feedback}
 
 -- a message without where it lies in memory

@@ -1,6 +1,6 @@
 //! The numbers of a NACK, one after another.
 ghost use Rattle.std.specs.Prelude.{◌≡◌, ◌≤◌, [], ◌∷◌, MatchOption};
-ghost use Rattle.rtcp_feedback.specs.Numbers.{numbers_from};
+ghost use Rattle.rtcp_feedback.specs.{numbers_from};
 
 use byteorder::{BigEndian, ByteOrder};
 
@@ -58,7 +58,7 @@ impl<'a> NackIter<'a> {
 
 impl<'a> Iterator for NackIter<'a> {
     ghost use Rattle.std.specs.Iterator.{YieldsFirst, item_count};
-    ghost use Rattle.rtcp_feedback.specs.Left.{numbers_left};
+    ghost use Rattle.rtcp_feedback.specs.{numbers_left};
 
     type Item = u16;
 

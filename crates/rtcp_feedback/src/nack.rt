@@ -1,7 +1,7 @@
 //! The generic NACK (RFC 4585, 6.2.1).
 ghost use Rattle.std.specs.Prelude.{◌≡◌, IfOk, IfErr};
-ghost use Rattle.rams_model.specs.Feedback as model;
-ghost use Rattle.rtcp_feedback.specs.Left.{numbers_left};
+ghost use Rattle.rams_model.specs.Formats.TransportFeedback as model;
+ghost use Rattle.rtcp_feedback.specs.{numbers_left};
 
 use crate::iter::NackIter;
 use rams_model::NackFault;

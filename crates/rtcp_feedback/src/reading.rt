@@ -1,8 +1,8 @@
 //! The feedback message that a packet is.
 ghost use Rattle.std.specs.Prelude.{◌≡◌, option_map};
-ghost use Rattle.rams_model.specs.Feedback.{feedback_of};
-ghost use Rattle.rtcp_frame.specs.Shown.{shown_packet};
-ghost use Rattle.rtcp_feedback.specs.Shown.{shown_feedback};
+ghost use Rattle.rams_model.specs.Formats.{feedback_of};
+ghost use Rattle.rtcp_frame.specs.{shown_packet};
+ghost use Rattle.rtcp_feedback.specs.{shown_feedback};
 
 use crate::message::Feedback;
 use byteorder::{BigEndian, ByteOrder};

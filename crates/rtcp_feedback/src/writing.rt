@@ -1,7 +1,7 @@
 //! The generic NACK, written (RFC 4585, 6.2.1).
 ghost use Rattle.std.specs.Prelude.{◌≡◌, ◌+◌, ◌-◌, ◌^◌, ◌<◌, ◌≤◌, ◌&&◌, ◌∷◌, ◌++◌, ℕ, List, nat_lt, nat_le, IfOk, OnOk, OnErr, length, vec_len, vec_capacity};
 ghost use Rattle.std.specs.Int.{w16, w32, to_be_bytes};
-ghost use Rattle.rams_model.specs.Feedback.{nack_packet, nack_words};
+ghost use Rattle.rams_model.specs.Formats.{nack_packet, nack_words};
 
 use ram_io::NoMemory;
 use std::alloc::Global;

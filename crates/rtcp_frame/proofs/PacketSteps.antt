@@ -1,11 +1,10 @@
 -- Packets read one after another.
 use Rattle.std.proofs.Common.{◌≡◌, ℕ, ◌<◌, true, List, [], ◌∷◌, length, drop, Option, Some, None, Result, Ok, Err, refl, sym, ◌∙◌, ap, arith, is_ok}
 use Rattle.std.specs.Result.{result_err, result_unwrap_or}
-use Rattle.rams_model.specs.declared.fault.FrameFault.{FrameFault}
-use Rattle.rams_model.specs.Joined.{unless_fault, onto}
-use Rattle.rams_model.specs.Rtcp.{Framed, framed, packet_fault, packet_size, packet_format, framed_first}
+use Rattle.rams_model.specs.Types.{FrameFault}
+use Rattle.rams_model.specs.Formats.{unless_fault, onto, Framed, framed, packet_fault, packet_size, packet_format, framed_first}
 use Rattle.rams_model.proofs.Joined.{pieces_step, pieces_end}
-use Rattle.rtcp_frame.specs.Datagram.{packets_in}
+use Rattle.rtcp_frame.specs.{packets_in}
 
 step : (bytes : List ℕ) → 0 < length bytes
     → packets_in bytes ≡ unless_fault (onto (framed_first bytes) (packets_in (drop (packet_size bytes) bytes))) (packet_fault bytes)

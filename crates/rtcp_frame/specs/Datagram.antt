@@ -1,8 +1,7 @@
 -- The packets of a datagram.
 use Rattle.std.specs.Prelude.{ℕ, List, Result}
-use Rattle.rams_model.specs.declared.fault.FrameFault.{FrameFault}
-use Rattle.rams_model.specs.Joined.{pieces_of}
-use Rattle.rams_model.specs.Rtcp.{Framed, packet_format}
+use Rattle.rams_model.specs.Types.{FrameFault}
+use Rattle.rams_model.specs.Formats.{pieces_of, Framed, packet_format}
 
 -- the packets that the bytes are, none of them too
 unfoldable pub packets_in : List ℕ → Result (List Framed) FrameFault

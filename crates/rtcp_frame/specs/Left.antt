@@ -1,7 +1,7 @@
 -- Packets that are still to come.
 use Rattle.std.specs.Prelude.{List, []}
 use Rattle.std.specs.Result.{result_unwrap_or}
-use Rattle.rams_model.specs.Rtcp.{Framed}
+use Rattle.rams_model.specs.Formats.{Framed}
 use Rattle.rtcp_frame.specs.declared.iter.Packets.{Packets}
 use Rattle.rtcp_frame.specs.Datagram.{packets_in}
 

@@ -1,5 +1,5 @@
 -- A packet as code has it.
-use Rattle.rams_model.specs.Rtcp.{Framed}
+use Rattle.rams_model.specs.Formats.{Framed}
 use Rattle.rtcp_frame.specs.declared.packet.Packet.{Packet}
 
 -- a packet without where it lies in memory

@@ -1,7 +1,7 @@
 //! The packet in front of some bytes (RFC 3550, 6.1).
 ghost use Rattle.std.specs.Prelude.{◌≡◌, ◌≤◌, drop, length};
-ghost use Rattle.rams_model.specs.Rtcp.{framed_first, least_body, packet_fault, packet_size, rtcp_padding};
-ghost use Rattle.rtcp_frame.specs.Shown.{shown_packet};
+ghost use Rattle.rams_model.specs.Formats.{framed_first, least_body, packet_fault, packet_size, rtcp_padding};
+ghost use Rattle.rtcp_frame.specs.{shown_packet};
 
 use crate::packet::Packet;
 use byteorder::{BigEndian, ByteOrder};

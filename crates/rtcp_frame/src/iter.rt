@@ -1,6 +1,6 @@
 //! The packets of a datagram, one after another.
 ghost use Rattle.std.specs.Prelude.{◌≡◌, is_ok, true};
-ghost use Rattle.rtcp_frame.specs.Datagram.{packets_in};
+ghost use Rattle.rtcp_frame.specs.{packets_in};
 
 use crate::front::cut;
 use crate::packet::Packet;
@@ -14,8 +14,7 @@ pub struct Packets<'a> {
 
 impl<'a> Iterator for Packets<'a> {
     ghost use Rattle.std.specs.Iterator.{YieldsFirstBy, item_count};
-    ghost use Rattle.rtcp_frame.specs.Shown.{shown_packet};
-    ghost use Rattle.rtcp_frame.specs.Left.{packets_left};
+    ghost use Rattle.rtcp_frame.specs.{shown_packet, packets_left};
 
     type Item = Packet<'a>;
 

@@ -1,9 +1,9 @@
 //! One packet (RFC 3550, 6.1).
 ghost use Rattle.std.specs.Prelude.{◌≡◌, ◌==◌, take};
 ghost use Rattle.std.specs.List.{list_any};
-ghost use Rattle.rams_model.specs.Joined.{words32};
-ghost use Rattle.rams_model.specs.Rtcp as rtcp;
-ghost use Rattle.rtcp_frame.specs.Shown.{shown_packet};
+ghost use Rattle.rams_model.specs.Formats.{words32};
+ghost use Rattle.rams_model.specs.Formats.Rtcp as rtcp;
+ghost use Rattle.rtcp_frame.specs.{shown_packet};
 
 use byteorder::{BigEndian, ByteOrder};
 

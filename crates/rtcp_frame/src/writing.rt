@@ -1,6 +1,6 @@
 //! The packets that a receiver writes (RFC 3550, 6.4 to 6.6).
 ghost use Rattle.std.specs.Prelude.{◌≡◌, ◌++◌, IfOk, OnOk, OnErr};
-ghost use Rattle.rams_model.specs.Rtcp.{rr_packet, sdes_packet, bye_packet};
+ghost use Rattle.rams_model.specs.Formats.{rr_packet, sdes_packet, bye_packet};
 
 use ram_io::NoMemory;
 use std::alloc::Global;

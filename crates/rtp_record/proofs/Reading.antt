@@ -4,12 +4,11 @@ use Rattle.std.specs.Prelude.{IfOk}
 use Rattle.std.specs.Int.{w16, from_be_bytes}
 use Rattle.std.proofs.lemmas.Bool.Decides.{nat_tests}
 use Rattle.std.proofs.lemmas.List.{drop-drop, length-drop}
-use Rattle.rams_model.specs.declared.fault.RtpFault.{RtpFault}
+use Rattle.rams_model.specs.Types.{RtpFault}
 use Rattle.rams_model.specs.declared.fault.RtpFault.TheVariants.{Extension, Padding}
-use Rattle.rams_model.specs.Packet.{Packet, spelling}
-use Rattle.rams_model.specs.Rtp.{version, has_padding, has_extension, csrc_size, behind_csrc, extension_size, behind_extension, lacks_extension, padding_size, miscounts_padding, fields_of, packet_at, IsPacket}
+use Rattle.rams_model.specs.Formats.{Packet, spelling, version, has_padding, has_extension, csrc_size, behind_csrc, extension_size, behind_extension, lacks_extension, padding_size, miscounts_padding, fields_of, packet_at, IsPacket}
 use Rattle.rams_model.proofs.RtpPackets.{read_without_fault, spelled_so}
-use Rattle.rtp_record.specs.Places.{ArePlaces}
+use Rattle.rtp_record.specs.{ArePlaces}
 
 pub behind_csrc_at : (bytes : List ℕ) (at : ℕ) → at ≡ 12 + csrc_size bytes → drop at bytes ≡ behind_csrc bytes
 behind_csrc_at bytes at is = ap (λ (n : ℕ). drop n bytes) is ∙ sym (drop-drop (csrc_size bytes) 12 bytes)
@@ -36,9 +35,6 @@ announces bytes behind at w start is set words =
     let same : behind ≡ behind_csrc bytes = is ∙ behind_csrc_at bytes at start in
     let size : extension_size bytes ≡ 4 + 4 * w = rw (x, words, same) refl in
     record { bit = x; behind_is = same; size = size }
-
-within : (n size : ℕ) → (ltb n 4 || ltb n size) ≡ false → 4 ≤ n → size ≤ n
-within n size h four = grind (arith, nat_tests)
 
 lacks_more : (n size : ℕ) → n < size → (ltb n 4 || ltb n size) ≡ true
 lacks_more n size h = grind (arith, nat_tests)

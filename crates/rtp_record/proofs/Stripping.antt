@@ -3,10 +3,8 @@ use Rattle.std.proofs.Common.{◌≡◌, ℕ, suc, ◌+◌, ◌-◌, ◌*◌, �
 use Rattle.std.specs.Prelude.{if◌then◌else◌, OnErr}
 use Rattle.std.specs.Int.{w16, w32, to_be_bytes}
 use Rattle.std.proofs.lemmas.List.{append-nil, length-append, length-drop, length-set, length-take, take_at, set-append_right}
-use Rattle.rams_model.specs.Packet.{Packet, flag, header, spelling, stripped}
-use Rattle.rams_model.specs.Rtp.{AreCsrc, behind_extension, padding_size, fields_of}
-use Rattle.rtp_record.specs.Places.{ArePlaces}
-use Rattle.rtp_record.specs.Clearing.{without_padding_bit}
+use Rattle.rams_model.specs.Formats.{Packet, flag, header, spelling, stripped, AreCsrc, behind_extension, padding_size, fields_of}
+use Rattle.rtp_record.specs.{ArePlaces, without_padding_bit}
 use Rattle.rtp_record.proofs.Reading.{behind_extension_at}
 
 -- all but the first byte, without padding

@@ -1,8 +1,8 @@
 -- The text of a packet, piece behind piece.
 use Rattle.std.proofs.Common.{◌≡◌, ℕ, ◌+◌, List, [], ◌++◌, length, refl, sym, ap, ◌∙◌, arith, append_assoc}
 use Rattle.std.proofs.lemmas.List.{append-nil, length-append}
-use Rattle.rams_model.specs.Packet.{Packet, header, spelling}
-use Rattle.rtp_record.specs.Fields.{behind}
+use Rattle.rams_model.specs.Formats.{Packet, header, spelling}
+use Rattle.rtp_record.specs.{behind}
 
 -- the pieces, without padding
 spelled : (p : Packet) → p.padding ≡ [] → spelling p ≡ header p ++ p.csrc ++ p.extension ++ p.payload

@@ -1,6 +1,6 @@
 -- The packets that fields are.
 use Rattle.std.specs.Prelude.{ℕ, List, [], ◌++◌}
-use Rattle.rams_model.specs.Packet.{Packet}
+use Rattle.rams_model.specs.Formats.{Packet}
 use Rattle.rtp_record.specs.declared.fields.RtpFields.{RtpFields}
 
 -- the packet with these fields, without padding

@@ -1,7 +1,6 @@
 -- The places at which the parts of a packet begin.
 use Rattle.std.specs.Prelude.{◌≡◌, ℕ, ◌+◌, ◌≤◌, List, length}
-use Rattle.rams_model.specs.Packet.{spelling}
-use Rattle.rams_model.specs.Rtp.{fields_of, csrc_size, extension_size, padding_size, IsPacket}
+use Rattle.rams_model.specs.Formats.{spelling, fields_of, csrc_size, extension_size, padding_size, IsPacket}
 
 -- The bytes are a packet, whose header extension, payload and padding begin at these places.
 pub record ArePlaces (bytes : List ℕ) (extension payload padding : ℕ) : Type 0 where

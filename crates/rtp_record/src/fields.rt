@@ -1,8 +1,7 @@
 //! Packets as they are written.
 ghost use Rattle.std.specs.Prelude.{◌≡◌, ℕ, ◌+◌, ◌*◌, ◌<◌, ◌≤◌, ◌∷◌, ◌++◌, ◌⊎◌, [], IfOk, OnOk, OnErr, length, vec_len, vec_capacity};
-ghost use Rattle.rams_model.specs.Packet.{header, spelling};
-ghost use Rattle.rams_model.specs.Rtp.{packet_at, AreCsrc, IsPacket, IsWholeExtension};
-ghost use Rattle.rtp_record.specs.Fields.{packet_of, behind};
+ghost use Rattle.rams_model.specs.Formats.{header, spelling, packet_at, AreCsrc, IsPacket, IsWholeExtension};
+ghost use Rattle.rtp_record.specs.{packet_of, behind};
 
 use crate::room::put;
 use ram_io::NoMemory;
@@ -80,7 +79,7 @@ pub fn append_rtp_behind(
 }
 
 /// The twelve bytes with which a packet without padding begins.
-#[tactic(auto, unfolding(rams_model::specs::Packet::header))]
+#[tactic(auto, unfolding(rams_model::specs::Formats::RtpPacket::header))]
 fn fixed_header(f: &RtpFields<'_>) -> [u8; 12]
     requires kind { f.now.payload_type < 128 }
     requires csrc { AreCsrc f.now.csrc.now }

@@ -1,7 +1,7 @@
 //! Where the parts of a packet begin (RFC 3550, 5.1).
 ghost use Rattle.std.specs.Prelude.{◌≡◌, ◌+◌, ◌-◌, ◌≤◌, length, drop, if◌then◌else◌};
 ghost use Rattle.std.specs.Int.{w16, w32, from_be_bytes};
-ghost use Rattle.rams_model.specs.Rtp.{csrc_size, extension_size, behind_csrc, behind_extension, lacks_extension, miscounts_padding, padding_size};
+ghost use Rattle.rams_model.specs.Formats.{csrc_size, extension_size, behind_csrc, behind_extension, lacks_extension, miscounts_padding, padding_size};
 
 use byteorder::{BigEndian, ByteOrder};
 use rams_model::RtpFault;

@@ -1,9 +1,7 @@
 //! Packets as they are read.
 ghost use Rattle.std.specs.Prelude.{◌≡◌, ℕ, ◌+◌, ◌++◌, ◌<◌, ◌/◌, ◌*◌, ◌%◌, IfOk, OnOk, OnErr, length, vec_len, vec_capacity};
-ghost use Rattle.rams_model.specs.Packet.{Packet, spelling, stripped};
-ghost use Rattle.rams_model.specs.Rtp.{packet_at, fields_of, csrc_size, extension_size, padding_size, IsPacket};
-ghost use Rattle.rtp_record.specs.Clearing.{without_padding_bit};
-ghost use Rattle.rtp_record.specs.Fields.{packet_of, unpadded};
+ghost use Rattle.rams_model.specs.Formats.{Packet, spelling, stripped, packet_at, fields_of, csrc_size, extension_size, padding_size, IsPacket};
+ghost use Rattle.rtp_record.specs.{without_padding_bit, packet_of, unpadded};
 
 use crate::fields::RtpFields;
 use crate::places::{extension_end, padding_start, short_at, word_at};
@@ -23,9 +21,8 @@ pub struct Rtp<'a> {
 }
 
 impl<'a> Model for Rtp<'a> {
-    ghost use Rattle.rams_model.specs.Packet.{Packet};
-    ghost use Rattle.rams_model.specs.Rtp.{fields_of};
-    ghost use Rattle.rtp_record.specs.Places.{ArePlaces};
+    ghost use Rattle.rams_model.specs.Formats.{Packet, fields_of};
+    ghost use Rattle.rtp_record.specs.{ArePlaces};
 
     ghost Value = { Packet };
 
@@ -48,7 +45,7 @@ impl<'a> Rtp<'a> {
         Rtp::cut(bytes)
     }
 
-    #[tactic(auto, unfolding(rams_model::specs::Rtp::packet_at))]
+    #[tactic(auto, unfolding(rams_model::specs::Formats::Rtp::packet_at))]
     fn cut(bytes: &'a [u8]) -> Result<Rtp<'a>, RtpFault>
         ensures { result ≡ packet_at bytes.now }
     {
@@ -72,7 +69,7 @@ impl<'a> Rtp<'a> {
         })
     }
 
-    #[tactic(auto, unfolding(rams_model::specs::Rtp::fields_of))]
+    #[tactic(auto, unfolding(rams_model::specs::Formats::Rtp::fields_of))]
     pub fn marker(&self) -> bool
         ensures { result ≡ self.now.marker }
     {
@@ -80,7 +77,7 @@ impl<'a> Rtp<'a> {
     }
 
     /// 0 to 127.
-    #[tactic(auto, unfolding(rams_model::specs::Rtp::fields_of))]
+    #[tactic(auto, unfolding(rams_model::specs::Formats::Rtp::fields_of))]
     pub fn payload_type(&self) -> u8
         ensures value { result ≡ self.now.payload_type }
         ensures small { result < 128 }
@@ -88,7 +85,7 @@ impl<'a> Rtp<'a> {
         self.bytes[1] % 128
     }
 
-    #[tactic(auto, unfolding(rams_model::specs::Rtp::fields_of))]
+    #[tactic(auto, unfolding(rams_model::specs::Formats::Rtp::fields_of))]
     pub fn sequence(&self) -> u16
         ensures { result ≡ self.now.sequence }
     {
@@ -96,14 +93,14 @@ impl<'a> Rtp<'a> {
     }
 
     /// In units of the payload's clock.
-    #[tactic(auto, unfolding(rams_model::specs::Rtp::fields_of))]
+    #[tactic(auto, unfolding(rams_model::specs::Formats::Rtp::fields_of))]
     pub fn timestamp(&self) -> u32
         ensures { result ≡ self.now.timestamp }
     {
         word_at(self.bytes, 4)
     }
 
-    #[tactic(auto, unfolding(rams_model::specs::Rtp::fields_of))]
+    #[tactic(auto, unfolding(rams_model::specs::Formats::Rtp::fields_of))]
     pub fn ssrc(&self) -> u32
         ensures { result ≡ self.now.ssrc }
     {
@@ -111,7 +108,7 @@ impl<'a> Rtp<'a> {
     }
 
     /// Four bytes for each contributing source, of which there are 0 to 15.
-    #[tactic(auto, unfolding(rams_model::specs::Rtp::fields_of))]
+    #[tactic(auto, unfolding(rams_model::specs::Formats::Rtp::fields_of))]
     pub fn csrc(&self) -> &[u8]
         ensures { result.now ≡ self.now.csrc }
     {
@@ -119,7 +116,7 @@ impl<'a> Rtp<'a> {
     }
 
     /// With its own header of four bytes; empty where there is none.
-    #[tactic(auto, unfolding(rams_model::specs::Rtp::fields_of))]
+    #[tactic(auto, unfolding(rams_model::specs::Formats::Rtp::fields_of))]
     pub fn extension(&self) -> &[u8]
         ensures { result.now ≡ self.now.extension }
     {
@@ -127,7 +124,7 @@ impl<'a> Rtp<'a> {
     }
 
     /// Without the padding.
-    #[tactic(auto, unfolding(rams_model::specs::Rtp::fields_of))]
+    #[tactic(auto, unfolding(rams_model::specs::Formats::Rtp::fields_of))]
     pub fn payload(&self) -> &[u8]
         ensures { result.now ≡ self.now.payload }
     {

@@ -2,10 +2,9 @@
 use Rattle.std.proofs.Common.{◌≡◌, ℕ, ◌<◌, ◌^◌, [], ◌++◌, refl, ap, arith, inl, Ok}
 use Rattle.std.specs.Int.{w16, to_be_bytes, from_be_bytes}
 use Rattle.std.proofs.lemmas.Nat.{from_be_bytes-to_be_bytes_2}
-use Rattle.rams_model.specs.Packet.{Packet, stripped, retransmission}
-use Rattle.rams_model.specs.Rtp.{IsPacket, packet_at}
+use Rattle.rams_model.specs.Formats.{Packet, stripped, retransmission, IsPacket, packet_at}
 use Rattle.rams_model.proofs.RtpPackets.{read_so}
-use Rattle.rtx_payload.specs.Restored.{Brings}
+use Rattle.rtx_payload.specs.{Brings}
 
 -- the fields of the retransmission
 abbrev again : Packet → ℕ → ℕ → Packet

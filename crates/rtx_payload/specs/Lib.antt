@@ -1,1 +1,3 @@
 pub mod Restored
+
+unfoldable pub use Restored.*

@@ -1,7 +1,6 @@
 -- Retransmissions, and what is restored of them (RFC 4588, 4).
 use Rattle.std.specs.Prelude.{◌≡◌, ℕ, ◌≤◌, ◌<◌, ◌^◌, length, Ok}
-use Rattle.rams_model.specs.Packet.{Packet, spelling, stripped, retransmission}
-use Rattle.rams_model.specs.Rtp.{IsPacket, packet_at, original, original_number}
+use Rattle.rams_model.specs.Formats.{Packet, spelling, stripped, retransmission, IsPacket, packet_at, original, original_number}
 
 -- A packet that was read of a retransmission of p: it brings the number and the bytes of p.
 pub record Brings (p r : Packet) : Type 0 where

@@ -1,8 +1,7 @@
 //! Originals out of retransmissions.
 ghost use Rattle.std.specs.Prelude.{◌≡◌, ◌<◌, ◌↔◌, IfOk, length};
-ghost use Rattle.rams_model.specs.Packet.{spelling};
-ghost use Rattle.rams_model.specs.Rtp.{original, original_number};
-ghost use Rattle.rtx_payload.specs.Restored.{RestoringGivesTheOriginal};
+ghost use Rattle.rams_model.specs.Formats.{spelling, original, original_number};
+ghost use Rattle.rtx_payload.specs.{RestoringGivesTheOriginal};
 
 use byteorder::{BigEndian, ByteOrder};
 use ram_io::NoMemory;

@@ -1,6 +1,6 @@
 //! Retransmissions of packets.
 ghost use Rattle.std.specs.Prelude.{◌≡◌, ◌+◌, ◌<◌, ◌++◌, IfOk, OnOk, OnErr, length, vec_len, vec_capacity};
-ghost use Rattle.rams_model.specs.Packet.{retransmission};
+ghost use Rattle.rams_model.specs.Formats.{retransmission};
 
 use ram_io::NoMemory;
 use rtp_record::{Rtp, RtpFields, append_rtp_behind};

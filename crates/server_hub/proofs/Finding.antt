@@ -2,14 +2,12 @@
 use Rattle.std.proofs.Common.{◌≡◌, ◌≢◌, ℕ, zero, suc, Bool, true, false, cond, List, [], ◌∷◌, Option, Some, None, map, option_map, refl, sym, ◌∙◌, ap, subst, arith, eqb}
 use Rattle.std.specs.Prelude.{All, AllPairs, find, slice_get, ◌||◌}
 use Rattle.std.proofs.lemmas.Bool.{eq-eqb, ne_eqb}
-use Rattle.rams_model.specs.declared.event.Event.{Event}
-use Rattle.rams_model.specs.Settings.{Settings}
-use Rattle.rams_model.specs.Hold.{hi}
-use Rattle.rams_model.specs.History.{hold}
-use Rattle.rams_model.specs.Book.{history_of}
+use Rattle.rams_model.specs.Types.{Event}
+use Rattle.rams_model.specs.Service.{Settings, hold, history_of}
+use Rattle.rams_model.specs.Packets.{hi}
 use Rattle.session_core.specs.Seen as cores
-use Rattle.server_hub.specs.Served.{Served, id_of, channel_of, hi_of}
-use Rattle.server_hub.specs.Seen.{ids_of, has_id, Serves}
+use Rattle.server_hub.specs.{id_of, channel_of, hi_of, ids_of, has_id, Serves}
+use Rattle.server_hub.specs.Served.{Served}
 use Rattle.server_hub.proofs.Changing.{later_differs, rest_once}
 
 -- the settings with this number

@@ -1,8 +1,8 @@
 -- After each tick the channels keep their join times.
 use Rattle.std.proofs.Common.{List, [], ◌∷◌}
 use Rattle.session_core.proofs.JoinTimes.{join_times_are_kept}
-use Rattle.server_hub.specs.Served.{Served, after_tick}
-use Rattle.server_hub.specs.JoinTimes.{AllKeepJoinTimes}
+use Rattle.server_hub.specs.{after_tick, AllKeepJoinTimes}
+use Rattle.server_hub.specs.Served.{Served}
 
 pub all_keep : (channels : List Served) → AllKeepJoinTimes (after_tick channels)
 all_keep [] = tt

@@ -4,14 +4,13 @@ use Rattle.std.specs.Prelude.{All, AllPairs, map, option_map, slice_get}
 use Rattle.std.proofs.Math.Seq.{take-append_seam}
 use Rattle.std.proofs.lemmas.List.{length-map}
 use Rattle.std.proofs.lemmas.Option.{slice_get_within, slice_get-map, slice_get-get_or}
-use Rattle.rams_model.specs.declared.event.Event.{Event}
+use Rattle.rams_model.specs.Types.{Event}
 use Rattle.rams_model.specs.declared.event.Event.TheVariants.{Tick}
-use Rattle.rams_model.specs.Answered.{Answered}
+use Rattle.rams_model.specs.Service.{Answered}
 use Rattle.session_core.specs.Seen as cores
-use Rattle.server_hub.specs.declared.event.At.{At}
-use Rattle.server_hub.specs.Served.{Served, id_of, channel_of}
-use Rattle.server_hub.specs.Seen.{Seen, AreFields, FitLink, KeepsSettings, Serves, AllServe, all_settings, ids_of, shares_of, settings_of, has_id}
-use Rattle.server_hub.specs.Steps.{StepsAt, AllTick}
+use Rattle.server_hub.specs.{At, id_of, channel_of, AreFields, FitLink, KeepsSettings, Serves, AllServe, all_settings, ids_of, shares_of, settings_of, has_id, StepsAt, AllTick}
+use Rattle.server_hub.specs.Served.{Served}
+use Rattle.server_hub.specs.Seen.{Seen}
 use Rattle.server_hub.proofs.Changing.{same_settings, same_ids, changed, untouched, Keep, StepsOf, steps_of_one, steps_of_none, TicksAll, ticks_all}
 use Rattle.server_hub.proofs.Finding.{with_id, one_has, none_has, settings_found, Found}
 use Rattle.server_hub.proofs.Pairing.{partner}

@@ -4,19 +4,10 @@ use Rattle.std.specs.Prelude.{sum_by}
 use Rattle.std.specs.Option.{option_to_list}
 use Rattle.std.proofs.lemmas.Bool.{true≢false}
 use Rattle.std.proofs.lemmas.List.Sums.{sum_by-append}
-use Rattle.rams_model.specs.declared.answer.Order.{Order}
+use Rattle.rams_model.specs.Types.{Order, Held, Info, Cause, Note}
 use Rattle.rams_model.specs.declared.answer.Order.TheVariants as order
-use Rattle.rams_model.specs.declared.held.Held.{Held}
-use Rattle.rams_model.specs.declared.message.Info.{Info}
-use Rattle.rams_model.specs.declared.note.Cause.{Cause}
-use Rattle.rams_model.specs.declared.note.Note.{Note}
 use Rattle.rams_model.specs.declared.note.Note.TheVariants as note
-use Rattle.rams_model.specs.Settings.{Settings}
-use Rattle.rams_model.specs.Infos.{end_info}
-use Rattle.rams_model.specs.Heard.{Heard}
-use Rattle.rams_model.specs.History.{began, told, noted, History}
-use Rattle.rams_model.specs.Bursts.{Burst, size_of, open_burst}
-use Rattle.rams_model.specs.Orders.{order_of, again_order, update_order, end_order, packet_order, newest_orders}
+use Rattle.rams_model.specs.Service.{Settings, end_info, Heard, began, told, noted, History, Burst, size_of, open_burst, order_of, again_order, update_order, end_order, packet_order, newest_orders}
 use Rattle.rams_model.specs.Laws.{NoneIs, is_event, is_sending, sizes_sent}
 use Rattle.book_laws.proofs.Legal.{Allows, IsLegal}
 use Rattle.server_hub.specs.Sent as sent

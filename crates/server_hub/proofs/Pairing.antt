@@ -1,7 +1,7 @@
 -- Two lists that go together, place by place.
 use Rattle.std.proofs.Common.{◌≡◌, ℕ, zero, suc, List, [], ◌∷◌, ◌++◌, Some, length, set, refl, ap, subst}
 use Rattle.std.specs.Prelude.{slice_get}
-use Rattle.server_hub.specs.Pairs.{Pairwise}
+use Rattle.server_hub.specs.{Pairwise}
 
 -- one more pair
 pub pair_more : {A B : Type 0} (R : A → B → Type 0) (xs : List A) (ys : List B) (x : A) (y : B) → Pairwise R xs ys → R x y → Pairwise R (xs ++ x ∷ []) (ys ++ y ∷ [])

@@ -2,12 +2,10 @@
 use Rattle.std.proofs.Common.{◌≡◌, ℕ, ◌+◌, ◌<◌, List, ◌∷◌, length, refl, ◌∙◌, subst, get_or}
 use Rattle.std.specs.Prelude.{IfOk, OnOk, Result, Ok, Err, slice_set}
 use Rattle.std.proofs.lemmas.Option.{slice_get-get_or}
-use Rattle.rams_model.specs.declared.event.Event.{Event}
-use Rattle.rams_model.specs.Answered.{Answered}
-use Rattle.rams_model.specs.Settings.{Settings}
-use Rattle.rams_model.specs.Book.{answer}
+use Rattle.rams_model.specs.Types.{Event}
+use Rattle.rams_model.specs.Service.{Answered, Settings, answer}
 use Rattle.session_core.specs.Seen as cores
-use Rattle.server_hub.specs.Steps.{StepsAt}
+use Rattle.server_hub.specs.{StepsAt}
 
 pub step_at : {E : Type 0} (e : Event) (place : ℕ) (all : List cores.Seen) (d later : cores.Seen) (r : Result Answered E) → place < length all
     → ((events : List Event) → cores.StandsFor (get_or all place d) events

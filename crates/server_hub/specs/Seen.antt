@@ -1,7 +1,7 @@
 -- What contracts see of a hub, and the channels that it stands for.
 use Rattle.std.specs.Prelude.{◌≡◌, ◌≢◌, ℕ, ◌+◌, ◌≤◌, Bool, ◌==◌, not, nat_le, nat_lt, if◌then◌else◌, List, [], ◌∷◌, ◌++◌, length, map, sum_by, All, AllPairs, Option, Some, None}
 use Rattle.std.specs.List.{list_any}
-use Rattle.rams_model.specs.Settings.{Settings}
+use Rattle.rams_model.specs.Service.{Settings}
 use Rattle.session_core.specs.Seen as cores
 use Rattle.server_hub.specs.declared.event.AddFault.{AddFault}
 use Rattle.server_hub.specs.declared.event.AddFault.TheVariants.{Full, Twice, Link}

@@ -1,12 +1,9 @@
 -- The channels of a server: what came to each, and what they answer.
 use Rattle.std.specs.Prelude.{ℕ, ◌==◌, if◌then◌else◌, List, [], ◌∷◌, map, find, Option, Some, None, option_map}
-use Rattle.rams_model.specs.declared.event.Event.{Event}
+use Rattle.rams_model.specs.Types.{Event}
 use Rattle.rams_model.specs.declared.event.Event.TheVariants as event
-use Rattle.rams_model.specs.Answered.{Answered}
-use Rattle.rams_model.specs.Settings.{Settings}
-use Rattle.rams_model.specs.Hold.{hi}
-use Rattle.rams_model.specs.History.{hold}
-use Rattle.rams_model.specs.Book.{history_of, answer}
+use Rattle.rams_model.specs.Service.{Answered, Settings, hold, history_of, answer}
+use Rattle.rams_model.specs.Packets.{hi}
 use Rattle.server_hub.specs.declared.event.At.{At}
 use Rattle.server_hub.specs.declared.event.HubAnswer.{HubAnswer}
 use Rattle.server_hub.specs.declared.event.HubAnswer.TheVariants as answers

@@ -1,8 +1,8 @@
 -- What an event makes of the cores.
 use Rattle.std.specs.Prelude.{◌≡◌, ℕ, ◌+◌, List, [], ◌∷◌, Some, slice_get, slice_set}
-use Rattle.rams_model.specs.declared.event.Event.{Event}
+use Rattle.rams_model.specs.Types.{Event}
 use Rattle.rams_model.specs.declared.event.Event.TheVariants.{Tick}
-use Rattle.rams_model.specs.Answered.{Answered}
+use Rattle.rams_model.specs.Service.{Answered}
 use Rattle.session_core.specs.Seen as cores
 use Rattle.server_hub.specs.declared.event.At.{At}
 use Rattle.server_hub.specs.Served.{Served, with_event, answer_to}

@@ -1,7 +1,7 @@
 //! What comes to a server, and what it answers.
 ghost use Rattle.std.specs.Prelude.{◌≡◌, ◌<◌, [], vec_capacity};
 ghost use Rattle.server_hub.specs.declared.event.AddFault.TheVariants as faults;
-ghost use Rattle.server_hub.specs.Served.{told, told_of};
+ghost use Rattle.server_hub.specs.{told, told_of};
 
 use ram_io::NoMemory as OutOfMemory;
 use rams_model::{Answer, Octets};

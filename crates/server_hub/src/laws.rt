@@ -1,10 +1,8 @@
 //! Laws of a server's channels. A law is the contract of a function that does nothing.
 ghost use Rattle.std.specs.Prelude.{List, map};
 ghost use Rattle.server_hub.specs.Served.{Served};
-ghost use Rattle.server_hub.specs.Seen.{Seen, IsHub, StandsFor, FitLink};
-ghost use Rattle.server_hub.specs.Sent.{TicksStayWithinTheLink, TicksSendAtMostLinkAndSwells, OnlyTicksSend, ChannelsStayWithinTheLink, ChannelsSendAtMostLinkAndSwells};
-ghost use Rattle.server_hub.specs.Coming.{EachChannelGetsItsEvents};
-ghost use Rattle.server_hub.specs.Worked.{EventsGoToTheirChannels};
+ghost use Rattle.server_hub.specs.{IsHub, StandsFor, FitLink, TicksStayWithinTheLink, TicksSendAtMostLinkAndSwells, OnlyTicksSend, ChannelsStayWithinTheLink, ChannelsSendAtMostLinkAndSwells, EachChannelGetsItsEvents, EventsGoToTheirChannels};
+ghost use Rattle.server_hub.specs.Seen.{Seen};
 
 /// The channels that a hub stands for fit its link, and no two have one number.
 pub fn channels_fit_the_link()

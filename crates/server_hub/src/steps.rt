@@ -1,7 +1,7 @@
 //! An event of one channel.
 ghost use Rattle.std.specs.Prelude.{◌≡◌, ◌^◌, ◌<◌, All, IfOk, OnErr, length};
 ghost use Rattle.rams_model.specs.declared.event.Event.TheVariants.{Live, Feedback};
-ghost use Rattle.server_hub.specs.Steps.{StepsAt};
+ghost use Rattle.server_hub.specs.{StepsAt};
 
 use ram_io::NoMemory;
 use rams_model::Answer;

@@ -1,9 +1,8 @@
 //! A tick of all channels, planned for each before any of it is done.
 ghost use Rattle.std.specs.Prelude.{◌≡◌, ◌+◌, ◌^◌, ◌<◌, ◌≤◌, [], All, IfOk, OnErr, length};
 ghost use Rattle.std.specs.Vec.{vec_capacity};
-ghost use Rattle.session_core.specs.Seen.{IsPlanOf};
-ghost use Rattle.server_hub.specs.Pairs.{Pairwise};
-ghost use Rattle.server_hub.specs.Steps.{Ticks, AllTick};
+ghost use Rattle.session_core.specs.{IsPlanOf};
+ghost use Rattle.server_hub.specs.{Pairwise, Ticks, AllTick};
 
 use crate::event::At;
 use ram_io::NoMemory;

@@ -4,33 +4,19 @@ use Rattle.std.specs.Prelude.{◌==◌, ◌&&◌, nat_le, if◌then◌else◌, f
 use Rattle.std.proofs.lemmas.Bool.{cond_both}
 use Rattle.std.proofs.lemmas.List.{length-drop}
 use Rattle.std.proofs.lemmas.Nat.{mul-le}
-use Rattle.rams_model.specs.declared.answer.Order.{Order}
-use Rattle.rams_model.specs.declared.event.Event.{Event}
+use Rattle.rams_model.specs.Types.{Order, Event, Held, Note}
 use Rattle.rams_model.specs.declared.event.Event.TheVariants.{Tick}
-use Rattle.rams_model.specs.declared.held.Held.{Held}
 use Rattle.rams_model.specs.declared.note.Cause.TheVariants as cause
-use Rattle.rams_model.specs.declared.note.Note.{Note}
 use Rattle.rams_model.specs.declared.note.Note.TheVariants as note
-use Rattle.rams_model.specs.Settings.{Settings}
-use Rattle.rams_model.specs.Hold.{from_number}
-use Rattle.rams_model.specs.Source as sources
-use Rattle.rams_model.specs.Source.{consecutive_end, source}
-use Rattle.rams_model.specs.Heard.{tick, heard_of}
-use Rattle.rams_model.specs.History.{began, told, noted, History, stream, hold}
-use Rattle.rams_model.specs.Clients.{known, opened, sequence}
-use Rattle.rams_model.specs.Bursts.{Burst, next, open_burst, has_open}
-use Rattle.rams_model.specs.Pending.{Wanted, pending, idle}
-use Rattle.rams_model.specs.Buckets.{channel_left, may_take}
-use Rattle.rams_model.specs.Answers.{is_before}
-use Rattle.rams_model.specs.Tick.{run, send, is_lost, is_stop, after_run, run_sent, burst_served, all_served, repaired, all_repaired, all_forgotten, bursts_served, repairs_sent, idle_forgotten, after_tick}
-use Rattle.rams_model.specs.Orders.{order_of, newest_notes, newest_orders}
-use Rattle.rams_model.specs.Book.{after_hearing, history_of, answer}
-use Rattle.channel_config.specs.Lawful.{IsLawful}
+use Rattle.rams_model.specs.Service.{Settings, tick, heard_of, began, told, noted, History, stream, hold, known, opened, sequence, Burst, next, open_burst, has_open, Wanted, pending, idle, channel_left, may_take, is_before, run, send, is_lost, is_stop, after_run, run_sent, burst_served, all_served, repaired, all_repaired, all_forgotten, bursts_served, repairs_sent, idle_forgotten, after_tick, order_of, newest_notes, newest_orders, after_hearing, history_of, answer}
+use Rattle.rams_model.specs.Packets.{from_number, consecutive_end, source}
+use Rattle.rams_model.specs.Packets.Source as sources
+use Rattle.channel_config.specs.{IsLawful}
 use Rattle.channel_parts.proofs.Facts.{known_clients_are_few, opened_are_the_known_with_bursts, repairs_are_within_limits}
 use Rattle.channel_parts.proofs.Given.{moment}
-use Rattle.book_laws.specs.Moments.{IsMoment}
+use Rattle.book_laws.specs.{IsMoment}
 use Rattle.book_laws.proofs.Items.{Puts, none, one, both}
-use Rattle.session_core.specs.Bounds.{IsCountable}
+use Rattle.session_core.specs.{IsCountable}
 
 -- the notes since the newest event began
 abbrev noted_since : History → ℕ

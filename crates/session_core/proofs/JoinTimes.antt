@@ -1,12 +1,11 @@
 -- After each tick the quiet bursts keep their join times.
 use Rattle.std.specs.Prelude.{List, ◌∷◌}
-use Rattle.rams_model.specs.declared.event.Event.{Event}
+use Rattle.rams_model.specs.Types.{Event}
 use Rattle.rams_model.specs.declared.event.Event.TheVariants.{Tick}
-use Rattle.rams_model.specs.Settings.{Settings}
-use Rattle.rams_model.specs.Book.{history_of}
+use Rattle.rams_model.specs.Service.{Settings, history_of}
 use Rattle.book_laws.proofs.Quiet.Laws.{never_lost, keeps_join_times}
 use Rattle.channel_parts.proofs.Given.{moment}
-use Rattle.session_core.specs.JoinTimes.{JoinTimesAreKept}
+use Rattle.session_core.specs.{JoinTimesAreKept}
 
 pub join_times_are_kept : (s : Settings) (events : List Event) → JoinTimesAreKept s (Tick ∷ events)
 join_times_are_kept s events client accept quiet = record {

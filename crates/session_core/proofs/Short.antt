@@ -3,26 +3,16 @@ use Rattle.std.proofs.Common.{◌≡◌, ℕ, ◌≤◌, List, [], ◌∷◌, �
 use Rattle.std.specs.Prelude.{All, Contains, option_map, option_to_list}
 use Rattle.std.specs.List.{AllByRecursion as Each}
 use Rattle.std.proofs.lemmas.List.Elements.{All-nil, All-cons, All-contains, All-from_recursion}
-use Rattle.rams_model.specs.declared.answer.Order.{Order}
-use Rattle.rams_model.specs.declared.event.Event.{Event}
-use Rattle.rams_model.specs.declared.held.Held.{Held}
-use Rattle.rams_model.specs.declared.message.Info.{Info}
-use Rattle.rams_model.specs.declared.note.Cause.{Cause}
-use Rattle.rams_model.specs.declared.note.Note.{Note}
+use Rattle.rams_model.specs.Types.{Order, Event, Held, Info, Cause, Note}
 use Rattle.rams_model.specs.declared.note.Note.TheVariants as note
-use Rattle.rams_model.specs.Settings.{Settings}
-use Rattle.rams_model.specs.Source.{Arrival}
-use Rattle.rams_model.specs.Infos.{end_info}
-use Rattle.rams_model.specs.History.{began, told, noted, History, arrivals, hold}
-use Rattle.rams_model.specs.Bursts.{Burst, open_burst}
-use Rattle.rams_model.specs.Orders.{info_order, packet_order, again_order, update_order, end_order, order_of, newest_orders}
-use Rattle.rams_model.specs.Book.{history_of, answer}
+use Rattle.rams_model.specs.Service.{Settings, end_info, began, told, noted, History, arrivals, hold, Burst, open_burst, info_order, packet_order, again_order, update_order, end_order, order_of, newest_orders, history_of, answer}
+use Rattle.rams_model.specs.Packets.{Arrival}
 use Rattle.book_laws.proofs.Legal.{Allows, IsLegal}
 use Rattle.book_laws.proofs.Legality.{legal_history}
 use Rattle.book_laws.proofs.HeldPackets as packets
 use Rattle.book_laws.proofs.HeldPackets.{ArriveSmall, small_held}
 use Rattle.book_laws.proofs.Quiet.Sizes.{AreSmall, small_history}
-use Rattle.session_core.specs.Bounds.{IsShort, SendsShort}
+use Rattle.session_core.specs.{IsShort, SendsShort}
 use Rattle.session_core.proofs.Sized.{held_sized}
 
 -- all that ever came

@@ -3,14 +3,12 @@ use Rattle.std.proofs.Common.{◌≡◌, ℕ, ◌-◌, List, [], ◌∷◌, leng
 use Rattle.std.specs.Prelude.{All, Contains}
 use Rattle.std.proofs.lemmas.Bool.{cond_both}
 use Rattle.std.proofs.lemmas.List.Elements.{All-cons, All-append, All-filter, All-drop, All-contains}
-use Rattle.rams_model.specs.declared.held.Held.{Held}
-use Rattle.rams_model.specs.declared.note.LiveNote.{LiveNote}
+use Rattle.rams_model.specs.Types.{Held, LiveNote}
 use Rattle.rams_model.specs.declared.note.LiveNote.TheVariants.{Took, Restart, Jump}
-use Rattle.rams_model.specs.Packet.{wire_size}
-use Rattle.rams_model.specs.Settings.{Settings}
-use Rattle.rams_model.specs.Source.{Arrival, Stream, held_as, with_packet, awaited, live_note, stream_after, stream_of, consecutive_end, source}
-use Rattle.rams_model.specs.Source as sources
-use Rattle.rams_model.specs.History.{History, arrivals, hold}
+use Rattle.rams_model.specs.Formats.{wire_size}
+use Rattle.rams_model.specs.Service.{Settings, History, arrivals, hold}
+use Rattle.rams_model.specs.Packets.{Arrival, Stream, held_as, with_packet, awaited, live_note, stream_after, stream_of, consecutive_end, source}
+use Rattle.rams_model.specs.Packets.Source as sources
 
 -- the packet has its wire size
 abbrev IsSized : Held → Type 0

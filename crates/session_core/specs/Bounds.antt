@@ -1,8 +1,8 @@
 -- How much an answer has at most.
 use Rattle.std.specs.Prelude.{ℕ, ◌^◌, ◌<◌, ◌≤◌, length, All}
-use Rattle.rams_model.specs.declared.answer.Order.{Order}
+use Rattle.rams_model.specs.Types.{Order}
 use Rattle.rams_model.specs.declared.answer.Order.TheVariants.{Rtx, Info}
-use Rattle.rams_model.specs.Answered.{Answered}
+use Rattle.rams_model.specs.Service.{Answered}
 
 -- the packet that it sends again has at most 1,470 bytes
 abbrev pub IsShort : Order → Type 0

@@ -1,15 +1,10 @@
 -- What clients may rely on where their bursts are quiet.
 use Rattle.std.specs.Prelude.{◌≡◌, ℕ, ◌≤◌, List, Some}
-use Rattle.rams_model.specs.declared.event.Event.{Event}
-use Rattle.rams_model.specs.Settings.{Settings}
-use Rattle.rams_model.specs.Hold.{hi}
-use Rattle.rams_model.specs.History.{History, hold}
-use Rattle.rams_model.specs.Bursts.{Burst, next, open_burst}
-use Rattle.rams_model.specs.Book.{history_of}
-use Rattle.rams_model.specs.CatchUp.{IsQuietBurst, told_join}
-use Rattle.rams_model.specs.Laws.{NoneIs}
-use Rattle.book_laws.specs.Moments.{LastAccept}
-use Rattle.book_laws.specs.JoinTimes.{is_loss_of, ticks_since_told}
+use Rattle.rams_model.specs.Types.{Event}
+use Rattle.rams_model.specs.Service.{Settings, History, hold, Burst, next, open_burst, history_of}
+use Rattle.rams_model.specs.Packets.{hi}
+use Rattle.rams_model.specs.Laws.{IsQuietBurst, told_join, NoneIs}
+use Rattle.book_laws.specs.{LastAccept, is_loss_of, ticks_since_told}
 
 -- The newest burst of a client, where it is quiet: it did not end because its next packet was no longer held, and where it is open, and as many ticks have passed as its client was told, its next packet is the one after all that are held.
 pub record KeepsItsTime (s : Settings) (history : History) (client : ℕ) (accept : LastAccept history client) : Type 0 where

@@ -18,7 +18,8 @@ pub struct Core {
 }
 
 impl Model for Core {
-    ghost use Rattle.session_core.specs.Seen.{Seen, IsCore};
+    ghost use Rattle.session_core.specs.{IsCore, StandsFor, IsPlanOf, SendsShort, HasAtMost, IsCountable, JoinTimesAreKept};
+    ghost use Rattle.session_core.specs.Seen.{Seen};
 
     ghost Value = { Seen };
 
@@ -29,14 +30,10 @@ impl Model for Core {
 
 impl Core {
     ghost use Rattle.std.specs.Prelude.{◌≡◌, ◌+◌, ◌*◌, ◌^◌, ◌<◌, List, [], ◌∷◌, length, IfOk, OnOk, OnErr};
-    ghost use Rattle.rams_model.specs.declared.event.Event.{Event};
+    ghost use Rattle.rams_model.specs.Types.{Event};
     ghost use Rattle.rams_model.specs.declared.event.Event.TheVariants.{Live, Feedback, Tick};
-    ghost use Rattle.rams_model.specs.Hold.{lo, hi};
-    ghost use Rattle.rams_model.specs.History.{hold};
-    ghost use Rattle.rams_model.specs.Book.{history_of, answer};
-    ghost use Rattle.session_core.specs.Seen.{StandsFor, IsPlanOf};
-    ghost use Rattle.session_core.specs.Bounds.{SendsShort, HasAtMost, IsCountable};
-    ghost use Rattle.session_core.specs.JoinTimes.{JoinTimesAreKept};
+    ghost use Rattle.rams_model.specs.Packets.{lo, hi};
+    ghost use Rattle.rams_model.specs.Service.{hold, history_of, answer};
 
     /// The core of a channel to which nothing came yet. It takes the room for the channel's live
     /// packets, for 4,096 repairs and for as many clients as it may have.
@@ -153,7 +150,6 @@ impl Core {
 }
 
 impl Stepped for Core {
-    ghost use Rattle.session_core.specs.Seen.{StandsFor};
 
     ghost settings = { λ core. core.settings };
 

@@ -1,9 +1,9 @@
 //! The answer to a live packet.
 ghost use Rattle.std.specs.Prelude.{◌≡◌, ◌^◌, ◌<◌, List, [], ◌∷◌, length, IfOk, OnErr};
-ghost use Rattle.rams_model.specs.declared.event.Event.{Event};
+ghost use Rattle.rams_model.specs.Types.{Event};
 ghost use Rattle.rams_model.specs.declared.event.Event.TheVariants.{Live};
-ghost use Rattle.rams_model.specs.Book.{answer};
-ghost use Rattle.channel_parts.specs.Standing.{StandsFor};
+ghost use Rattle.rams_model.specs.Service.{answer};
+ghost use Rattle.channel_parts.specs.{StandsFor};
 
 use channel_parts::Parts;
 use ram_io::NoMemory;

@@ -6,9 +6,8 @@ use std::alloc::Global;
 /// What takes the events of a channel, one at a time.
 pub trait Stepped {
     ghost use Rattle.std.specs.Prelude.{◌≡◌, ℕ, ◌+◌, ◌^◌, ◌<◌, List, ◌∷◌, IfOk, OnOk, OnErr};
-    ghost use Rattle.rams_model.specs.Settings.{Settings};
-    ghost use Rattle.rams_model.specs.Book.{answer};
-    ghost use Rattle.rams_model.specs.declared.event.Event.{Event};
+    ghost use Rattle.rams_model.specs.Service.{Settings, answer};
+    ghost use Rattle.rams_model.specs.Types.{Event};
 
     /// The settings of the channel.
     ghost settings: { Self → Settings };

@@ -2,23 +2,13 @@
 use Rattle.std.proofs.Common.{◌≡◌, ℕ, ◌+◌, ◌-◌, ◌<◌, ◌≤◌, Bool, true, ◌&&◌, List, [], ◌∷◌, ◌++◌, Option, Some, None, refl, ap, sym, ◌∙◌, subst, arith, eqb, leb, filter, append_assoc, append-nil}
 use Rattle.std.specs.List.{AllByRecursion as Each}
 use Rattle.std.proofs.lemmas.Bool.{cond_both, cond-true, cond-false, eq-eqb, ne_eqb, eqb-true, or_parts}
-use Rattle.rams_model.specs.declared.held.Held.{Held}
+use Rattle.rams_model.specs.Types.{Held, Note}
 use Rattle.rams_model.specs.declared.note.Cause.TheVariants.{Stopped, Lost, Limit}
-use Rattle.rams_model.specs.declared.note.Note.{Note}
 use Rattle.rams_model.specs.declared.note.Note.TheVariants.{Burst as BurstNote, Repair, Gone, End, Forgot}
-use Rattle.rams_model.specs.Settings.{Settings}
-use Rattle.rams_model.specs.Hold.{lo, from_number}
-use Rattle.rams_model.specs.Source.{Follows}
-use Rattle.rams_model.specs.History.{noted, History}
-use Rattle.rams_model.specs.Clients.{sequence}
-use Rattle.rams_model.specs.Bursts.{next, open_burst, has_open}
-use Rattle.rams_model.specs.Bursts as model
-use Rattle.rams_model.specs.Pending.{Wanted, idle}
-use Rattle.rams_model.specs.Buckets.{may_take, channel_left}
-use Rattle.rams_model.specs.Answers.{is_before}
-use Rattle.rams_model.specs.Tick.{run, send, is_lost, is_stop, after_run, burst_served, all_served, repaired, all_repaired, all_forgotten}
-use Rattle.rams_model.specs.Orders.{newest_notes}
-use Rattle.packet_ring.specs.Seen.{packet_of}
+use Rattle.rams_model.specs.Service.{Settings, noted, History, sequence, next, open_burst, has_open, Wanted, idle, may_take, channel_left, is_before, run, send, is_lost, is_stop, after_run, burst_served, all_served, repaired, all_repaired, all_forgotten, newest_notes}
+use Rattle.rams_model.specs.Packets.{lo, from_number, Follows}
+use Rattle.rams_model.specs.Service.Bursts as model
+use Rattle.packet_ring.specs.{packet_of}
 use Rattle.channel_parts.proofs.Knowing.{idle_not_busy}
 use Rattle.channel_parts.proofs.Opening.{none_of}
 use Rattle.tick_core.proofs.Shown.{notes_before}

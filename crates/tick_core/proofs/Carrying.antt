@@ -1,10 +1,10 @@
 -- The notes of a plan are carried out, one after another.
 use Rattle.std.proofs.Common.{◌≡◌, ℕ, ◌+◌, ◌<◌, ◌≤◌, List, length, get_or, drop, ap, sym, ◌∙◌, subst}
 use Rattle.std.proofs.lemmas.List.{drop_more, drop_all}
-use Rattle.rams_model.specs.declared.held.Held.{Held}
-use Rattle.rams_model.specs.declared.note.Note.{Note}
-use Rattle.rams_model.specs.Settings.{Settings}
-use Rattle.tick_core.specs.Committed.{Committed, with_committed, with_all_committed, MayCommit, MayCommitAll}
+use Rattle.rams_model.specs.Types.{Held, Note}
+use Rattle.rams_model.specs.Service.{Settings}
+use Rattle.tick_core.specs.{with_committed, with_all_committed, MayCommit, MayCommitAll}
+use Rattle.tick_core.specs.Committed.{Committed}
 
 -- the next note, and those after it
 may_next : (s : Settings) (held : List Held) (notes : List Note) (i : ℕ) (d : Note) (c : Committed) → i < length notes → MayCommitAll s held (drop i notes) c

@@ -5,40 +5,23 @@ use Rattle.std.specs.Map.{keys_of}
 use Rattle.std.proofs.lemmas.Bool.{cond_both, cond-true, cond-false}
 use Rattle.std.proofs.lemmas.List.Folds.{list_any-append}
 use Rattle.std.proofs.lemmas.List.{length-map}
-use Rattle.rams_model.specs.declared.event.Event.{Event}
+use Rattle.rams_model.specs.Types.{Event, Held, Note}
 use Rattle.rams_model.specs.declared.event.Event.TheVariants.{Tick}
-use Rattle.rams_model.specs.declared.held.Held.{Held}
-use Rattle.rams_model.specs.declared.note.Note.{Note}
 use Rattle.rams_model.specs.declared.note.Note.TheVariants.{Burst as BurstNote, Repair, Gone, End, Forgot}
-use Rattle.rams_model.specs.Settings.{Settings}
-use Rattle.rams_model.specs.Hold.{hi}
-use Rattle.rams_model.specs.Heard.{tick, heard_of}
-use Rattle.rams_model.specs.History.{began, noted, History, arrivals, hold}
-use Rattle.rams_model.specs.Clients.{known, is_among, sendings, ssrc}
-use Rattle.rams_model.specs.Bursts.{next, kept, in_tick, bursts, open_burst}
-use Rattle.rams_model.specs.Bursts as model
-use Rattle.rams_model.specs.Pending.{Wanted, pending, idle}
-use Rattle.rams_model.specs.Buckets.{channel_left}
-use Rattle.rams_model.specs.Tick.{all_served, all_repaired, all_forgotten, after_tick}
-use Rattle.rams_model.specs.Orders.{newest_notes}
-use Rattle.rams_model.specs.Answered.{Answered}
-use Rattle.rams_model.specs.Book.{after_hearing, history_of}
-use Rattle.link_budget.specs.Amounts.{Amounts, amounts}
-use Rattle.client_table.specs.declared.entry.Burst.{Burst}
-use Rattle.client_table.specs.declared.entry.Entry.{Entry}
-use Rattle.client_table.specs.Clients.{Clients, entry_of}
-use Rattle.repair_queue.specs.Queue.{unmarked}
+use Rattle.rams_model.specs.Service.{Settings, tick, heard_of, began, noted, History, arrivals, hold, known, is_among, sendings, ssrc, next, kept, in_tick, bursts, open_burst, Wanted, pending, idle, channel_left, all_served, all_repaired, all_forgotten, after_tick, newest_notes, Answered, after_hearing, history_of}
+use Rattle.rams_model.specs.Packets.{hi}
+use Rattle.rams_model.specs.Service.Bursts as model
+use Rattle.link_budget.specs.{amounts}
+use Rattle.link_budget.specs.Amounts.{Amounts}
+use Rattle.client_table.specs.{Burst, Entry, entry_of}
+use Rattle.client_table.specs.Clients.{Clients}
+use Rattle.repair_queue.specs.{unmarked}
 use Rattle.channel_cache.specs.Seen as caches
-use Rattle.channel_parts.specs.declared.parts.Parts.{Parts}
-use Rattle.channel_parts.specs.Facts.{HaveLowNumbers}
-use Rattle.channel_parts.specs.Standing.{burst_kept, WasTold, IsEntry, IsTable, StandsFor}
+use Rattle.channel_parts.specs.{Parts, HaveLowNumbers, burst_kept, WasTold, IsEntry, IsTable, StandsFor}
 use Rattle.channel_parts.proofs.Facts.{opened_are_the_known_with_bursts, only_known_clients_have_bursts, repairs_are_of_known_clients, held_numbers_are_small, events_reserve_nothing}
 use Rattle.channel_parts.proofs.Ordered.{known_rise}
-use Rattle.tick_core.specs.declared.plan.TickPlan.{TickPlan}
-use Rattle.tick_core.specs.Forgetting.{idle_after}
-use Rattle.tick_core.specs.Plans.{begun_left, ends_wait, is_over, IsPlanFor}
-use Rattle.tick_core.specs.Repairs.{Rise}
-use Rattle.tick_core.specs.Committed.{burst_begun, entry_begun, burst_ended, entry_ended, AreAllChanged, Committed, committing, with_all_committed, MayCommitAll}
+use Rattle.tick_core.specs.{TickPlan, idle_after, begun_left, ends_wait, is_over, IsPlanFor, Rise, burst_begun, entry_begun, burst_ended, entry_ended, AreAllChanged, committing, with_all_committed, MayCommitAll}
+use Rattle.tick_core.specs.Committed.{Committed}
 use Rattle.tick_core.proofs.Shown.{notes_before}
 use Rattle.tick_core.proofs.Serving.{tick_open}
 use Rattle.tick_core.proofs.Idling.{idle_is, forgot_idle}

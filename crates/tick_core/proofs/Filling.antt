@@ -2,14 +2,12 @@
 use Rattle.std.proofs.Common.{◌≡◌, ℕ, false, ⊎_elim, Option, Some, None, is_some, ap, sym, ◌∙◌, subst}
 use Rattle.std.specs.Option.{option_map}
 use Rattle.std.proofs.lemmas.Bool.{cases_eq}
-use Rattle.rams_model.specs.Settings.{Settings}
-use Rattle.rams_model.specs.Clients.{is_among}
-use Rattle.client_table.specs.declared.entry.Entry.{Entry}
-use Rattle.client_table.specs.Clients.{Clients, clients_of, entry_of, nobody, new_entry}
+use Rattle.rams_model.specs.Service.{Settings, is_among}
+use Rattle.client_table.specs.{Entry, clients_of, entry_of, nobody, new_entry}
+use Rattle.client_table.specs.Clients.{Clients}
 use Rattle.client_table.specs.Clients as tables
 use Rattle.channel_parts.proofs.Tables.{has_entry, others-with_client}
-use Rattle.tick_core.specs.Committed.{changed}
-use Rattle.tick_core.specs.ByHand.{IsReady, AreReady}
+use Rattle.tick_core.specs.{changed, IsReady, AreReady}
 use Rattle.tick_core.proofs.Midway.{is_change}
 
 -- one more client

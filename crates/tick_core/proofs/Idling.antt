@@ -4,21 +4,13 @@ use Rattle.std.specs.Option.{option_map}
 use Rattle.std.specs.List.{list_any, AllByRecursion as Each}
 use Rattle.std.specs.Map.{keys_of}
 use Rattle.std.proofs.lemmas.Bool.{cond-true, cases_Bool, not_from_false, or_parts, eqb-false, lt-ltb, false≢true}
-use Rattle.rams_model.specs.declared.held.Held.{Held}
-use Rattle.rams_model.specs.declared.note.Note.{Note}
+use Rattle.rams_model.specs.Types.{Held, Note}
 use Rattle.rams_model.specs.declared.note.Note.TheVariants.{Burst, Repair, Gone, End, Forgot}
-use Rattle.rams_model.specs.Settings.{Settings}
-use Rattle.rams_model.specs.Heard.{tick}
-use Rattle.rams_model.specs.History.{began, noted, History}
-use Rattle.rams_model.specs.Clients.{is_among}
-use Rattle.rams_model.specs.Bursts.{in_tick, newest_open, bursts, open_burst, has_open}
-use Rattle.rams_model.specs.Bursts as model
-use Rattle.rams_model.specs.Pending.{Wanted, pending, is_busy, quiet_ticks, idle}
-use Rattle.rams_model.specs.Tick.{all_forgotten}
-use Rattle.client_table.specs.declared.entry.Entry.{Entry}
-use Rattle.repair_queue.specs.Queue.{is_of, count_of}
-use Rattle.tick_core.specs.Drafts.{Drafted, with_note}
-use Rattle.tick_core.specs.Forgetting.{idle_after, with_all_forgotten}
+use Rattle.rams_model.specs.Service.{Settings, tick, began, noted, History, is_among, in_tick, newest_open, bursts, open_burst, has_open, Wanted, pending, is_busy, quiet_ticks, idle, all_forgotten}
+use Rattle.rams_model.specs.Service.Bursts as model
+use Rattle.client_table.specs.{Entry}
+use Rattle.repair_queue.specs.{is_of, count_of}
+use Rattle.tick_core.specs.{Drafted, with_note, idle_after, with_all_forgotten}
 use Rattle.tick_core.proofs.Sparing.{GoesOn, same, more, one, spares, serves, IsSpared, spared}
 use Rattle.tick_core.proofs.Shown.{Shows, shows_forgot}
 use Rattle.tick_core.proofs.Serving.{tick_open}

@@ -2,31 +2,25 @@
 use Rattle.std.proofs.Common.{◌≡◌, ◌≢◌, ℕ, ◌+◌, ◌-◌, ◌%◌, ◌^◌, ◌≤◌, true, false, not, ⊎_elim, List, [], ◌∷◌, ◌++◌, append_assoc, Option, Some, None, is_some, refl, ap, sym, ◌∙◌, subst, arith, eqb}
 use Rattle.std.specs.Option.{option_map}
 use Rattle.std.proofs.lemmas.Bool.{cond_both, cases_eq, both_ways, not_from_false, not-false, not-true, ne_eqb, eqb-true, or_parts, or_from}
-use Rattle.rams_model.specs.declared.held.Held.{Held}
-use Rattle.rams_model.specs.declared.note.Cause.{Cause}
-use Rattle.rams_model.specs.declared.note.Note.{Note}
+use Rattle.rams_model.specs.Types.{Held, Cause, Note}
 use Rattle.rams_model.specs.declared.note.Note.TheVariants.{Burst as BurstNote, Repair, Gone, End, Forgot}
-use Rattle.rams_model.specs.Settings.{Settings}
-use Rattle.rams_model.specs.Hold.{hi}
-use Rattle.rams_model.specs.Numbering.{following}
-use Rattle.rams_model.specs.History.{noted, History, hold}
-use Rattle.rams_model.specs.Clients.{known, is_among, without, sendings, sequence, ssrc}
-use Rattle.rams_model.specs.Bursts.{next, kept, after_note, newest_open, size_of, bursts, open_burst}
-use Rattle.rams_model.specs.Bursts as model
-use Rattle.rams_model.specs.Buckets.{reserved, channel_left}
-use Rattle.book_laws.specs.Moments.{IsMoment}
-use Rattle.channel_config.specs.Lawful.{IsLawful}
-use Rattle.link_budget.specs.Amounts.{Amounts, amounts}
-use Rattle.client_table.specs.declared.entry.Burst.{Burst}
-use Rattle.client_table.specs.declared.entry.Entry.{Entry}
-use Rattle.client_table.specs.Clients.{Clients, clients_of, entry_of, with_entry}
+use Rattle.rams_model.specs.Service.{Settings, noted, History, hold, known, is_among, without, sendings, sequence, ssrc, next, kept, after_note, newest_open, size_of, bursts, open_burst, reserved, channel_left}
+use Rattle.rams_model.specs.Packets.{hi, following}
+use Rattle.rams_model.specs.Service.Bursts as model
+use Rattle.book_laws.specs.{IsMoment}
+use Rattle.channel_config.specs.{IsLawful}
+use Rattle.link_budget.specs.{amounts}
+use Rattle.link_budget.specs.Amounts.{Amounts}
+use Rattle.client_table.specs.{Burst, Entry, clients_of, entry_of, with_entry}
+use Rattle.client_table.specs.Clients.{Clients}
 use Rattle.client_table.specs.Clients as tables
-use Rattle.packet_ring.specs.Seen.{packet_of}
-use Rattle.channel_parts.specs.Standing.{WasTold, IsBudget}
+use Rattle.packet_ring.specs.{packet_of}
+use Rattle.channel_parts.specs.{WasTold, IsBudget}
 use Rattle.channel_parts.proofs.Facts.{open_bursts_are_within_bounds, each_burst_is_reserved, ends_release, other_notes_reserve_nothing, the_end_of_the_held_never_falls}
 use Rattle.channel_parts.proofs.Ordered.{Rise, known_rise}
 use Rattle.channel_parts.proofs.Tables.{clients-with_entry, entry-with_entry, others-with_entry, clients-without, others-without, entry_among, has_entry}
-use Rattle.tick_core.specs.Committed.{Committed, entry_sent, burst_sent, entry_closed, changed, changed_by, amount_of, amount_for, with_committed, with_all_committed, IsNextSmall, IsNextSmallIfKnown, MayCommit, MayCommitAll}
+use Rattle.tick_core.specs.{entry_sent, burst_sent, entry_closed, changed, changed_by, amount_of, amount_for, with_committed, with_all_committed, IsNextSmall, IsNextSmallIfKnown, MayCommit, MayCommitAll}
+use Rattle.tick_core.specs.Committed.{Committed}
 use Rattle.tick_core.proofs.Sparing.{spares, one as spared_one, serves, known_kept, IsSpared, spared}
 use Rattle.tick_core.proofs.Serving.{burst_open, repair_open, end_open, burst_sequence, repair_sequence}
 use Rattle.tick_core.proofs.Adding.{Fits, Leads, leads_later}

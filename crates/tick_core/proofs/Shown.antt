@@ -1,19 +1,11 @@
 -- The notes and orders of the present tick, as it goes on.
 use Rattle.std.proofs.Common.{◌≡◌, ℕ, List, [], ◌∷◌, ◌++◌, Option, Some, None, refl, ap, sym, ◌∙◌, subst, append_assoc, append-nil}
 use Rattle.std.specs.Option.{option_to_list}
-use Rattle.rams_model.specs.declared.answer.Order.{Order}
-use Rattle.rams_model.specs.declared.held.Held.{Held}
-use Rattle.rams_model.specs.declared.message.Info.{Info}
-use Rattle.rams_model.specs.declared.note.Cause.{Cause}
-use Rattle.rams_model.specs.declared.note.Note.{Note}
+use Rattle.rams_model.specs.Types.{Order, Held, Info, Cause, Note}
 use Rattle.rams_model.specs.declared.note.Note.TheVariants.{Burst, Repair, Gone, End, Forgot}
-use Rattle.rams_model.specs.Settings.{Settings}
-use Rattle.rams_model.specs.History.{began, told, noted, History}
-use Rattle.rams_model.specs.Bursts.{size_of, open_burst}
-use Rattle.rams_model.specs.Bursts as model
-use Rattle.rams_model.specs.Buckets.{after_sending, channel_left}
-use Rattle.rams_model.specs.Orders.{order_of, end_order, newest_notes, newest_orders}
-use Rattle.tick_core.specs.Drafts.{Drafted, with_note, with_packet, with_end, told_end}
+use Rattle.rams_model.specs.Service.{Settings, began, told, noted, History, size_of, open_burst, after_sending, channel_left, order_of, end_order, newest_notes, newest_orders}
+use Rattle.rams_model.specs.Service.Bursts as model
+use Rattle.tick_core.specs.{Drafted, with_note, with_packet, with_end, told_end}
 
 -- What a history has noted of its newest event, with its orders, and what the channel's budget has left.
 pub record Shows (s : Settings) (history : History) (d : Drafted) : Type 0 where

@@ -2,17 +2,11 @@
 use Rattle.std.proofs.Common.{◌≡◌, ℕ, Bool, true, false, not, ◌||◌, List, [], ◌∷◌, Option, refl, ap, sym, ◌∙◌, eqb}
 use Rattle.std.specs.List.{filter, list_any}
 use Rattle.std.proofs.lemmas.Bool.{cond_both, cond-false, not-true, not-false, and_parts, false≢true, eqb-true}
-use Rattle.rams_model.specs.declared.held.Held.{Held}
-use Rattle.rams_model.specs.declared.note.Note.{Note}
+use Rattle.rams_model.specs.Types.{Held, Note}
 use Rattle.rams_model.specs.declared.note.Note.TheVariants.{Burst, Repair, Gone, End, Forgot}
-use Rattle.rams_model.specs.Settings.{Settings}
-use Rattle.rams_model.specs.History.{noted, History, arrivals, as_tick_began}
-use Rattle.rams_model.specs.Source.{Arrival}
-use Rattle.rams_model.specs.Clients.{sendings, ssrc, known}
-use Rattle.rams_model.specs.Bursts.{bursts, size_of}
-use Rattle.rams_model.specs.Bursts as model
-use Rattle.rams_model.specs.Pending.{Wanted, is_wanted, pending, quiet_ticks}
-use Rattle.rams_model.specs.Buckets.{sent_now, is_burst_of, is_repair_of}
+use Rattle.rams_model.specs.Service.{Settings, noted, History, arrivals, as_tick_began, sendings, ssrc, known, bursts, size_of, Wanted, is_wanted, pending, quiet_ticks, sent_now, is_burst_of, is_repair_of}
+use Rattle.rams_model.specs.Packets.{Arrival}
+use Rattle.rams_model.specs.Service.Bursts as model
 
 -- The history goes on, by notes that pass a test.
 pub data GoesOn (test : Note → Bool) (history : History) : History → Type 0 where
@@ -26,10 +20,6 @@ then test a b _ first (more note packet later passes on) = more note packet late
 -- one note more
 pub one : (test : Note → Bool) (note : Note) (packet : Option Held) (history : History) → test note ≡ true → GoesOn test history (noted note packet ∷ history)
 one test note packet history passes = more note packet history passes same
-
-pub weaker : (test other : Note → Bool) → ((note : Note) → test note ≡ true → other note ≡ true) → (a b : History) → GoesOn test a b → GoesOn other a b
-weaker test other also a _ same = same
-weaker test other also a _ (more note packet later passes on) = more note packet later (also note passes) (weaker test other also a later on)
 
 -- what no such note changes is the same after them
 pub kept : (A : Type 0) (f : History → A) (test : Note → Bool) → ((note : Note) (packet : Option Held) (later : History) → test note ≡ true → f (noted note packet ∷ later) ≡ f later)

@@ -1,17 +1,13 @@
 -- What the known clients and the budget of a channel are as a tick goes on, note by note.
 use Rattle.std.specs.Prelude.{◌≡◌, ℕ, ◌+◌, ◌-◌, ◌^◌, ◌<◌, ◌≤◌, min, List, [], ◌∷◌, Option, Some, None, option_map}
-use Rattle.rams_model.specs.declared.held.Held.{Held}
-use Rattle.rams_model.specs.declared.note.Note.{Note}
+use Rattle.rams_model.specs.Types.{Held, Note}
 use Rattle.rams_model.specs.declared.note.Note.TheVariants.{Burst as BurstNote, Repair, End, Forgot}
-use Rattle.rams_model.specs.Settings.{Settings}
-use Rattle.rams_model.specs.Numbering.{following}
-use Rattle.rams_model.specs.Bursts.{size_of}
-use Rattle.rams_model.specs.Pending.{Wanted}
-use Rattle.client_table.specs.declared.entry.Burst.{Burst}
-use Rattle.client_table.specs.declared.entry.Entry.{Entry}
-use Rattle.client_table.specs.Clients.{Clients, clients_of, entry_of, with_entry, without}
+use Rattle.rams_model.specs.Service.{Settings, size_of, Wanted}
+use Rattle.rams_model.specs.Packets.{following}
+use Rattle.client_table.specs.{Burst, Entry, clients_of, entry_of, with_entry, without}
+use Rattle.client_table.specs.Clients.{Clients}
 use Rattle.link_budget.specs.Amounts.{Amounts}
-use Rattle.packet_ring.specs.Seen.{packet_of}
+use Rattle.packet_ring.specs.{packet_of}
 use Rattle.tick_core.specs.Forgetting.{idle_after}
 
 -- a burst as a tick begins: until the tick ends, `kept` is all that it may still be sent

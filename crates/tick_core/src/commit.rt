@@ -1,13 +1,12 @@
 //! A planned tick is done.
 ghost use Rattle.std.specs.Prelude.{◌≡◌, ◌-◌, ◌<◌, ◌^◌, List, ◌∷◌};
-ghost use Rattle.rams_model.specs.declared.event.Event.{Event};
+ghost use Rattle.rams_model.specs.Types.{Event};
 ghost use Rattle.rams_model.specs.declared.event.Event.TheVariants.{Tick};
-ghost use Rattle.rams_model.specs.Bursts.{size_of};
-ghost use Rattle.channel_parts.specs.Standing.{StandsFor};
-ghost use Rattle.tick_core.specs.Plans.{IsPlanFor};
-ghost use Rattle.client_table.specs.Clients.{entry_of, without};
-ghost use Rattle.packet_ring.specs.Seen.{packet_of};
-ghost use Rattle.tick_core.specs.Committed.{committing, amount_of, amount_for, IsNextSmallIfKnown, with_sending, with_closed, with_committed, with_all_committed, MayEnd, MayCommit, MayCommitAll};
+ghost use Rattle.rams_model.specs.Service.{size_of};
+ghost use Rattle.channel_parts.specs.{StandsFor};
+ghost use Rattle.tick_core.specs.{IsPlanFor, committing, amount_of, amount_for, IsNextSmallIfKnown, with_sending, with_closed, with_committed, with_all_committed, MayEnd, MayCommit, MayCommitAll};
+ghost use Rattle.client_table.specs.{entry_of, without};
+ghost use Rattle.packet_ring.specs.{packet_of};
 
 use crate::entries::{begin_entries, close_entry, end_entries, send_to};
 use crate::plan::TickPlan;

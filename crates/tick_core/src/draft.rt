@@ -1,7 +1,7 @@
 //! The notes and orders of a tick, as they are made.
 ghost use Rattle.std.specs.Prelude.{◌≡◌, IfOk};
-ghost use Rattle.rams_model.specs.Answered.{answered};
-ghost use Rattle.tick_core.specs.Drafts.{new_draft, with_note, with_packet, with_end, told_end};
+ghost use Rattle.rams_model.specs.Service.{answered, bare_info, end_info};
+ghost use Rattle.tick_core.specs.{new_draft, with_note, with_packet, with_end, told_end};
 
 use ram_io::NoMemory;
 use rams_model::{Answer, Cause, Held, Info, Note, Order};
@@ -17,7 +17,7 @@ pub struct Draft {
 }
 
 impl Model for Draft {
-    ghost use Rattle.tick_core.specs.Drafts.{Drafted};
+    ghost use Rattle.tick_core.specs.{Drafted};
 
     ghost Value = { Drafted };
 
@@ -104,7 +104,6 @@ fn end_order(client: u64, cause: Cause, last: Option<Info>) -> Option<Order>
     Some(Order::Info { client, info })
 }
 
-ghost use Rattle.rams_model.specs.Infos.{bare_info, end_info};
 
 // A code alone, or nothing for a client that left.
 fn end_info(last: &Info, cause: Cause) -> Option<Info>

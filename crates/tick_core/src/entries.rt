@@ -1,7 +1,7 @@
 //! What is kept of the clients, as a tick begins, goes on and ends.
 ghost use Rattle.std.specs.Prelude.{◌≡◌, option_map};
-ghost use Rattle.client_table.specs.Clients.{entry_of};
-ghost use Rattle.tick_core.specs.Committed.{burst_begun, entry_begun, IsSmallIfOpen, IsSmallEntry, burst_ended, entry_ended, burst_sent, entry_sent, entry_closed, IsNextSmall, IsNextSmallIfKnown, changed, AreSmall, AreAllChanged};
+ghost use Rattle.client_table.specs.{entry_of};
+ghost use Rattle.tick_core.specs.{burst_begun, entry_begun, IsSmallIfOpen, IsSmallEntry, burst_ended, entry_ended, burst_sent, entry_sent, entry_closed, IsNextSmall, IsNextSmallIfKnown, changed, AreSmall, AreAllChanged};
 
 use crate::forgetting::idle_after;
 use client_table::{Burst, Entry, Table};

@@ -1,6 +1,6 @@
 //! The clients that are forgotten.
 ghost use Rattle.std.specs.Prelude.{◌≡◌, ◌+◌, ◌<◌, ◌^◌, ◌==◌, IfOk};
-ghost use Rattle.tick_core.specs.Forgetting.{idle_after, AreIdleInTime, with_forgotten, with_all_forgotten};
+ghost use Rattle.tick_core.specs.{idle_after, AreIdleInTime, with_forgotten, with_all_forgotten};
 
 use crate::draft::Draft;
 use channel_config::Config;

@@ -1,8 +1,7 @@
 //! The pending repairs.
 ghost use Rattle.std.specs.Prelude.{◌≡◌, ◌≤◌, ◌&&◌, nat_le, [], None, IfOk, MatchOption, slice_index_or};
-ghost use Rattle.tick_core.specs.declared.allowance.Allowance.{Allowance};
-ghost use Rattle.packet_ring.specs.Seen.{packet_of};
-ghost use Rattle.tick_core.specs.Repairs.{Rise, clients_of, allowance_for, IsPlaceOf, waiting, with_taken, with_repair, with_wanted, with_all_wanted};
+ghost use Rattle.tick_core.specs.{Allowance, Rise, clients_of, allowance_for, IsPlaceOf, waiting, with_taken, with_repair, with_wanted, with_all_wanted};
+ghost use Rattle.packet_ring.specs.{packet_of};
 
 use crate::allowance::Allowance;
 use crate::draft::Draft;
@@ -23,7 +22,7 @@ pub struct Repairs {
 }
 
 impl Model for Repairs {
-    ghost use Rattle.tick_core.specs.Repairs.{Repaired, Rise, clients_of};
+    ghost use Rattle.tick_core.specs.{Repaired, Rise, clients_of};
 
     ghost Value = { Repaired };
 

@@ -1,10 +1,8 @@
 //! The runs of the open bursts.
 ghost use Rattle.std.specs.Prelude.{◌≡◌, ℕ, ◌+◌, ◌<◌, ◌≤◌, ◌^◌, ◌&&◌, nat_le, [], ◌∷◌, Some, IfOk, MatchOption, filter};
-ghost use Rattle.rams_model.specs.Answers.{is_before};
-ghost use Rattle.rams_model.specs.Hold.{hi};
-ghost use Rattle.rams_model.specs.Tick.{is_lost, is_stop};
-ghost use Rattle.tick_core.specs.Repairs.{Rise, clients_of};
-ghost use Rattle.tick_core.specs.Runs.{AreInOrder, AreInTime, IsInTime, IsNext, run_from, run_of, after_run, with_run, end_of, kept_back, allowance_of, with_served, allowances_of, with_all_served};
+ghost use Rattle.rams_model.specs.Service.{is_before, is_lost, is_stop};
+ghost use Rattle.rams_model.specs.Packets.{hi};
+ghost use Rattle.tick_core.specs.{Rise, clients_of, AreInOrder, AreInTime, IsInTime, IsNext, run_from, run_of, after_run, with_run, end_of, kept_back, allowance_of, with_served, allowances_of, with_all_served};
 
 use crate::allowance::Allowance;
 use crate::draft::Draft;

@@ -1,8 +1,6 @@
 //! Ticks of parts that are set up by hand.
 ghost use Rattle.std.specs.Prelude.{◌≡◌, ◌+◌, ◌<◌, ◌^◌, true, IfOk, OnOk, length};
-ghost use Rattle.tick_core.specs.Runs.{AreInOrder, IsInTime};
-ghost use Rattle.tick_core.specs.Committed.{changed};
-ghost use Rattle.tick_core.specs.ByHand.{IsReady, AreReady};
+ghost use Rattle.tick_core.specs.{AreInOrder, IsInTime, changed, IsReady, AreReady};
 
 use crate::plan::plan_of;
 use crate::{NoMemory, Note, Order, Parts, TickPlan, commit_tick, plan_tick};

@@ -2,11 +2,10 @@
 use Rattle.std.proofs.Common.{◌≡◌, ℕ, ◌+◌, List, [], ◌∷◌, refl, ap, sym, ◌∙◌}
 use Rattle.std.specs.Prelude.{sum_by}
 use Rattle.std.proofs.lemmas.List.Sums.{sum_by-cons}
-use Rattle.rams_model.specs.Settings.{Settings}
-use Rattle.server_hub.specs.declared.event.HubEvent.{HubEvent}
+use Rattle.rams_model.specs.Service.{Settings}
+use Rattle.server_hub.specs.{HubEvent, all_swells, after_events}
 use Rattle.server_hub.specs.Served.{Served}
-use Rattle.server_hub.specs.Sent.{all_swells, after_events}
-use Rattle.trace_book.specs.Stages.{settings_of, new_channels}
+use Rattle.trace_book.specs.{settings_of, new_channels}
 use Rattle.trace_book.proofs.Steps.{settings_after}
 
 pub settings_over : (events : List HubEvent) (cs : List Served) → settings_of (after_events events cs) ≡ settings_of cs

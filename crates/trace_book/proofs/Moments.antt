@@ -1,12 +1,10 @@
 -- The moments of a channel, and the notes of its history.
 use Rattle.std.proofs.Common.{◌≡◌, ◌⊎◌, inl, inr, ⊎_elim, List, [], ◌∷◌, ◌++◌, refl, ap, ap₂, sym, ◌∙◌, append_assoc, Option}
-use Rattle.rams_model.specs.declared.held.Held.{Held}
-use Rattle.rams_model.specs.declared.note.Note.{Note}
-use Rattle.rams_model.specs.History.{Item, began, told, noted, History}
-use Rattle.book_laws.specs.Moments.{IsMoment}
-use Rattle.book_laws.specs.OneBook.{notes_of}
+use Rattle.rams_model.specs.Types.{Held, Note}
+use Rattle.rams_model.specs.Service.{Item, began, told, noted, History}
+use Rattle.book_laws.specs.{IsMoment, notes_of}
 use Rattle.server_hub.specs.Served.{Served}
-use Rattle.trace_book.specs.Promises.{WasSo}
+use Rattle.trace_book.specs.{WasSo}
 
 pub moment : (c : Served) (history : History) → WasSo c history → IsMoment c.settings history
 moment c history was = record { events = c.events; later = was.later; splits = was.splits }

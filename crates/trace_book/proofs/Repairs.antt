@@ -1,13 +1,10 @@
 -- A repair that is sent was pending, and its packet held.
 use Rattle.std.proofs.Common.{◌≡◌, ℕ, ◌∷◌, Option, sym, subst}
 use Rattle.std.specs.Prelude.{Contains, IsSomeAnd}
-use Rattle.rams_model.specs.declared.held.Held.{Held}
+use Rattle.rams_model.specs.Types.{Held}
 use Rattle.rams_model.specs.declared.note.Note.TheVariants.{Repair}
-use Rattle.rams_model.specs.Settings.{Settings}
-use Rattle.rams_model.specs.History.{noted, History, hold}
-use Rattle.rams_model.specs.Pending.{wanted, pending}
-use Rattle.book_laws.specs.Moments.{IsMoment}
-use Rattle.book_laws.specs.Sendings.{sending, IsPacketOf}
+use Rattle.rams_model.specs.Service.{Settings, noted, History, hold, wanted, pending}
+use Rattle.book_laws.specs.{IsMoment, sending, IsPacketOf}
 use Rattle.book_laws.proofs.Legality.{legal_moment}
 
 pub repair_waits : (s : Settings) (k n sequence : ℕ) (packet : Option Held) (before : History) → IsMoment s (noted (Repair k n sequence) packet ∷ before) → Contains (pending before) (wanted k n)

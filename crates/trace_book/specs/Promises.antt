@@ -1,38 +1,16 @@
 -- What each channel of a trace promises: the laws of every lawful book, said of the channel's own book and of the moments of its own history.
 use Rattle.std.specs.Prelude.{◌≡◌, ◌≢◌, ℕ, ◌+◌, ◌*◌, ◌<◌, ◌≤◌, min, Bool, ◌⊎◌, IsTrue, List, [], ◌∷◌, ◌++◌, filter_map, Option, Some, Result, All}
-use Rattle.rams_model.specs.declared.event.Event.{Event}
+use Rattle.rams_model.specs.Types.{Event, TlvFault, Held, Stop, Cause, Note}
 use Rattle.rams_model.specs.declared.event.Event.TheVariants.{Live, Feedback, Tick}
-use Rattle.rams_model.specs.declared.fault.TlvFault.{TlvFault}
-use Rattle.rams_model.specs.declared.held.Held.{Held}
-use Rattle.rams_model.specs.declared.message.Stop.{Stop}
-use Rattle.rams_model.specs.declared.note.Cause.{Cause}
 use Rattle.rams_model.specs.declared.note.Cause.TheVariants as cause
-use Rattle.rams_model.specs.declared.note.Note.{Note}
 use Rattle.rams_model.specs.declared.note.Note.TheVariants as note
-use Rattle.rams_model.specs.Settings.{Settings}
-use Rattle.rams_model.specs.Hold.{hi}
-use Rattle.rams_model.specs.Rams.{Request}
-use Rattle.rams_model.specs.Rtcp.{Framed}
-use Rattle.rams_model.specs.Messages.{bye, nack, asks, stops}
-use Rattle.rams_model.specs.Heard.{Heard, tick}
-use Rattle.rams_model.specs.History.{began, told, noted, History, hold}
-use Rattle.rams_model.specs.Bursts.{Burst, next, open_burst, has_open}
-use Rattle.rams_model.specs.Buckets.{reserved, channel_left}
-use Rattle.rams_model.specs.CatchUp.{source, IsQuietBurst, told_join}
-use Rattle.rams_model.specs.Book.{Entry, Book, history_of}
-use Rattle.rams_model.specs.Laws.{NoneIs, StandsWithout, is_accept_of, is_end_of, is_queued, ends_pending, is_event, is_sending, is_sending_to, sizes_sent, ticks_begun}
-use Rattle.book_laws.specs.Moments.{LastAccept}
-use Rattle.book_laws.specs.Answering.{AnsweredBy}
-use Rattle.book_laws.specs.OneBook.{IsTheBook, TellsTheHistory, notes_in, notes_of}
-use Rattle.book_laws.specs.Sendings.{first_sendings, sending, AreNumberedFrom, IsPacketOf, BeginsAsAsked, IsOfTheSource, note_sends, order_sends}
-use Rattle.book_laws.specs.Numbers.{NamesWhatFollows}
+use Rattle.rams_model.specs.Service.{Settings, bye, nack, asks, stops, Heard, tick, began, told, noted, History, hold, Burst, next, open_burst, has_open, reserved, channel_left, Entry, Book, history_of}
+use Rattle.rams_model.specs.Packets.{hi}
+use Rattle.rams_model.specs.Formats.{Request, Framed}
+use Rattle.rams_model.specs.Laws.{source, IsQuietBurst, told_join, NoneIs, StandsWithout, is_accept_of, is_end_of, is_queued, ends_pending, is_event, is_sending, is_sending_to, sizes_sent, ticks_begun}
+use Rattle.book_laws.specs.{LastAccept, AnsweredBy, IsTheBook, TellsTheHistory, notes_in, notes_of, first_sendings, sending, AreNumberedFrom, IsPacketOf, BeginsAsAsked, IsOfTheSource, note_sends, order_sends, NamesWhatFollows, is_tick_start, may_be_sent, is_past_runs, BeginsWithATick, gains_in, IsOpenAtEachTick, line_of, Line, IsNumberAnswer, IsForeignNack, IsNackAnswered, AnswersStop, AnswersBye, CountsEachOnce, is_loss_of, ticks_since_told}
 use Rattle.book_laws.specs.Stops.{Stands, EndsAtItsStop, HasEnded, EndsBecause, StopsAsNamed}
-use Rattle.book_laws.specs.Budgets.{is_tick_start, may_be_sent, is_past_runs, BeginsWithATick, gains_in, IsOpenAtEachTick}
 use Rattle.book_laws.specs.Refusals.{IsRequestRefused, IsStopRefused, IsByTable, IsAnsweredExactly}
-use Rattle.book_laws.specs.Nacks.{line_of, Line, IsNumberAnswer, IsForeignNack, IsNackAnswered}
-use Rattle.book_laws.specs.StopAnswers.{AnswersStop, AnswersBye}
-use Rattle.book_laws.specs.Counted.{CountsEachOnce}
-use Rattle.book_laws.specs.JoinTimes.{is_loss_of, ticks_since_told}
 use Rattle.server_hub.specs.Served.{Served}
 use Rattle.trace_book.specs.TraceText.{served_by}
 

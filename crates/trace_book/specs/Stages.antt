@@ -1,10 +1,10 @@
 -- What is so at each stage of a trace.
 use Rattle.std.specs.Prelude.{◌≡◌, ℕ, ◌≤◌, false, List, [], map, Option, None, Some, Ok, All}
 use Rattle.rams_model.specs.declared.mode.Mode.TheVariants.{Run}
-use Rattle.rams_model.specs.Settings.{Settings, most_bytes, checked}
-use Rattle.rams_model.specs.TraceOrder.{Head, Claim}
-use Rattle.server_hub.specs.Served.{Served, served, id_of}
-use Rattle.server_hub.specs.Seen.{FitLink}
+use Rattle.rams_model.specs.Service.{Settings, most_bytes, checked}
+use Rattle.rams_model.specs.Texts.{Head, Claim}
+use Rattle.server_hub.specs.{served, id_of, FitLink}
+use Rattle.server_hub.specs.Served.{Served}
 use Rattle.trace_book.specs.TraceText.{Stage, goes_on, turn, opening, most_events}
 
 -- the number and the share of a channel

@@ -2,9 +2,9 @@
 use Rattle.std.specs.Prelude.{◌≡◌, ℕ, Bool, List, [], ◌∷◌, ◌++◌, replicate, codes}
 use Rattle.rams_model.specs.declared.event.Event.TheVariants.{Tick}
 use Rattle.rams_model.specs.declared.status.Status.TheVariants.{Done, BadTrace, TooLong}
-use Rattle.rams_model.specs.Settings.{settings}
+use Rattle.rams_model.specs.Service.{settings}
 use Rattle.rams_model.specs.Worked.Setting.{channel}
-use Rattle.server_hub.specs.Served.{served}
+use Rattle.server_hub.specs.{served}
 use Rattle.trace_book.specs.TraceText.{Stage, goes_on, ends, ended, turn, last_stage, served_by, trace_text}
 
 abbrev pub head_text : List ℕ

@@ -1,8 +1,5 @@
 //! Laws of every trace: of its stages, its channels, their link, and its text.
-ghost use Rattle.trace_book.specs.Links.{TracesStayWithinTheLink};
-ghost use Rattle.trace_book.specs.Promises.{TracesAreServedLawfully};
-ghost use Rattle.trace_book.specs.Runs.{TracesAreServedByTheirLines, TracesEndSo};
-ghost use Rattle.trace_book.specs.Stages.{TheOpeningIsAStage, StagesAreKept};
+ghost use Rattle.trace_book.specs.{TracesStayWithinTheLink, TracesAreServedLawfully, TracesAreServedByTheirLines, TracesEndSo, TheOpeningIsAStage, StagesAreKept};
 
 use book_laws::{budgets, join_times, numbers, one_book, refusals, sendings, stops};
 use rams_model::clients_are_since;

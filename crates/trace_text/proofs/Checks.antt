@@ -1,7 +1,7 @@
 -- Settings that pass their check.
 use Rattle.std.proofs.Common.{◌≡◌, ◌≤◌, Ok, arith}
 use Rattle.std.proofs.lemmas.Bool.Decides.{nat_tests}
-use Rattle.rams_model.specs.Settings.{Settings, checked}
+use Rattle.rams_model.specs.Service.{Settings, checked}
 use Rattle.channel_config.proofs.Laws.{IsLawful-from_checked}
 
 -- settings that pass are given back

@@ -2,7 +2,7 @@
 use Rattle.std.proofs.Common.{◌≡◌, ℕ, zero, suc, ◌+◌, true, cond, eqb, List, [], ◌∷◌, length, take, drop, refl, ap, ◌∙◌, arith, add-one}
 use Rattle.std.proofs.lemmas.Bool.{false_from_ne_true}
 use Rattle.memchr.specs.Find.{is_byte, Passes, Nowhere, NoneBefore}
-use Rattle.rams_model.specs.Words.{words_of, onto_first}
+use Rattle.rams_model.specs.Texts.{words_of, onto_first}
 
 -- one byte that is no space goes onto the first word
 pub words_of-other : (b : ℕ) (bytes : List ℕ) → ¬ (eqb b 32 ≡ true) → words_of (b ∷ bytes) ≡ onto_first b (words_of bytes)

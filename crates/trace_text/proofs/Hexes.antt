@@ -2,7 +2,7 @@
 use Rattle.std.proofs.Common.{◌≡◌, ℕ, true, false, List, codes, bytes_eq, arith}
 use Rattle.std.proofs.lemmas.Bool.Decides.{nat_tests}
 use Rattle.std.specs.List.{list_all}
-use Rattle.rams_model.specs.Words.{is_hex_digit, is_hex}
+use Rattle.rams_model.specs.Texts.{is_hex_digit, is_hex}
 
 -- a word of bytes that isn't `-` has digits
 pub word_digits : (word : List ℕ) → is_hex word ≡ true → bytes_eq word (codes "-") ≡ false → list_all is_hex_digit word ≡ true

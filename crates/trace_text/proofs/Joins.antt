@@ -2,7 +2,7 @@
 use Rattle.std.proofs.Common.{◌≡◌, ℕ, Bool, true, false, ◌==◌, not, eqb, List, [], ◌∷◌, ◌++◌, refl, sym, ap, ◌∙◌, append-nil}
 use Rattle.std.proofs.lemmas.Bool.{and_parts, eqb-true}
 use Rattle.std.specs.List.{list_all}
-use Rattle.rams_model.specs.Words.{words_of, text_of, spaced_words, onto_first}
+use Rattle.rams_model.specs.Texts.{words_of, text_of, spaced_words, onto_first}
 use Rattle.trace_text.proofs.Cuts.{words_of-other, words_of-space}
 
 -- no space stands in the word

@@ -8,8 +8,7 @@ use Rattle.std.proofs.lemmas.Str.Parse.{IsNumeralModel, numerals_by_value, digit
 use Rattle.std.specs.Int.{is_in_range}
 use Rattle.std.specs.List.{list_all}
 use Rattle.std.specs.Str.Parse.{digits_value}
-use Rattle.rams_model.specs.Words.{is_digit, is_number, number_in}
-use Rattle.rams_model.specs.TraceLine.{is_short}
+use Rattle.rams_model.specs.Texts.{is_digit, is_number, number_in, is_short}
 
 -- a word that passes the comparison with a name is the name
 pub is_word : (word name : List ℕ) → bytes_eq word name ≡ true → word ≡ name

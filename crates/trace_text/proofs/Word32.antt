@@ -7,10 +7,9 @@ use Rattle.std.specs.Int.{w32, to_be_bytes, from_be_bytes}
 use Rattle.std.specs.List.{list_all}
 use Rattle.hex.specs.Hex.{encode_lower, lower_digits, IsBytes}
 use Rattle.hex.proofs.HexLemmas.{length-encode_with}
-use Rattle.hex_text.specs.HexText.{is_lower_hex}
+use Rattle.hex_text.specs.{is_lower_hex}
 use Rattle.hex_text.proofs.Written.{written_decodes, written_is_lower, lower_is_written}
-use Rattle.rams_model.specs.Words.{is_hex_digit, bytes_in, decoded, word32, word32_in}
-use Rattle.rams_model.specs.TraceLine.{is_word32}
+use Rattle.rams_model.specs.Texts.{is_hex_digit, bytes_in, decoded, word32, word32_in, is_word32}
 use Rattle.trace_text.proofs.Spelled.{some_if, if_some, and_both}
 
 bytes_32 : (n : ℕ) → n < 2 ^ 32 → IsBytes (to_be_bytes w32 n)

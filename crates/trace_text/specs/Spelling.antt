@@ -1,7 +1,6 @@
 -- The laws of reading, spelling and order.
 use Rattle.std.specs.Prelude.{◌≡◌, ℕ, true, List, Some, Ok}
-use Rattle.rams_model.specs.TraceLine.{TraceLine, line_of, line_at, line_text, is_spelled}
-use Rattle.rams_model.specs.TraceOrder.{Reached, expected, may_come}
+use Rattle.rams_model.specs.Texts.{TraceLine, line_of, line_at, line_text, is_spelled, Reached, expected, may_come}
 
 -- the text of a line that a trace may have reads as that line
 abbrev pub SpelledLinesAreRead : Type 0

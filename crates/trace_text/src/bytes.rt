@@ -1,6 +1,6 @@
 //! The bytes that a word of hexadecimal digits stands for.
 ghost use Rattle.std.specs.Prelude.{◌≡◌, IfOk, IsTrue, OnOk};
-ghost use Rattle.rams_model.specs.Words.{is_hex, bytes_in};
+ghost use Rattle.rams_model.specs.Texts.{is_hex, bytes_in};
 
 use crate::values::is_dash;
 use ram_io::NoMemory;

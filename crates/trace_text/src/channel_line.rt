@@ -1,10 +1,8 @@
 //! The line of a channel, behind its first word.
 ghost use Rattle.std.specs.Prelude.{◌≡◌, ◌∷◌, true, IfOk, codes};
-ghost use Rattle.rams_model.specs.Settings.{channel_in_range, names_in_range, bytes_in_range, bounds_in_range};
-ghost use Rattle.rams_model.specs.TraceLine.{channel_in, ranged};
-ghost use Rattle.trace_text.specs.Cursor.{Reads};
-ghost use Rattle.trace_text.specs.Shown.{Gives, HasDigits};
-ghost use Rattle.trace_text.specs.Numbers.{channel_of, names_in, places_in, amounts_in, bounds_in, keeping_in, numbers_in};
+ghost use Rattle.rams_model.specs.Service.{channel_in_range, names_in_range, bytes_in_range, bounds_in_range};
+ghost use Rattle.rams_model.specs.Texts.{channel_in, ranged};
+ghost use Rattle.trace_text.specs.{Reads, Gives, HasDigits, channel_of, names_in, places_in, amounts_in, bounds_in, keeping_in, numbers_in};
 
 use crate::fields::{access_field, ends, next_number, number_field, word32_field};
 use crate::line::Line;

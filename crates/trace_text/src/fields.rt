@@ -1,8 +1,7 @@
 //! The fields of a line, read from its words one after another.
 ghost use Rattle.std.specs.Prelude.{◌≡◌, ◌∷◌, false, true, IfSome, MatchOption};
-ghost use Rattle.rams_model.specs.Words.{number_in, word32_in, is_hex};
-ghost use Rattle.rams_model.specs.TraceLine.{field, one, access_in, version_in, hex_in};
-ghost use Rattle.trace_text.specs.Cursor.{is_end, is_named, Reads, ReadsWord};
+ghost use Rattle.rams_model.specs.Texts.{number_in, word32_in, is_hex, field, one, access_in, version_in, hex_in};
+ghost use Rattle.trace_text.specs.{is_end, is_named, Reads, ReadsWord};
 
 use crate::values::{access, hex_word, number, version, word32};
 use crate::words::Words;

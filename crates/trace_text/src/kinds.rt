@@ -1,9 +1,8 @@
 //! The head and the events of channels, behind their first word: the words must have the form of
 //! the kind, and then each number must be in its range.
 ghost use Rattle.std.specs.Prelude.{◌≡◌, ◌∷◌, true, codes, IfOk, IfSome, option_map};
-ghost use Rattle.rams_model.specs.TraceLine.{head_line, live_line, feedback_line, head_in, live_in, feedback_in, ranged};
-ghost use Rattle.rams_model.specs.Words.{is_hex};
-ghost use Rattle.trace_text.specs.Shown.{Gives, HasDigits};
+ghost use Rattle.rams_model.specs.Texts.{head_line, live_line, feedback_line, head_in, live_in, feedback_in, ranged, is_hex};
+ghost use Rattle.trace_text.specs.{Gives, HasDigits};
 
 use crate::fields::{ends, next_hex, next_number, next_version, number_field};
 use crate::line::Line;
@@ -21,7 +20,7 @@ pub fn live<'a>(words: &mut Words<'a>) -> Result<Line<'a>, LineFault>
     Ok(Line::Live { id, hex })
 }
 
-#[tactic(auto, unfolding(rams_model::specs::TraceLine::live_in))]
+#[tactic(auto, unfolding(rams_model::specs::Texts::TraceLines::live_in))]
 fn live_words<'a>(words: &mut Words<'a>) -> Option<(u64, &'a [u8])>
     ensures words { live_in (codes "live" ∷ words.old) ≡ option_map (λ read. live_line read.0 read.1.now) result }
     ensures digits { IfSome result (λ read. is_hex read.1.now ≡ true) }
@@ -41,7 +40,7 @@ pub fn feedback<'a>(words: &mut Words<'a>) -> Result<Line<'a>, LineFault>
     Ok(Line::Feedback { id, client, hex })
 }
 
-#[tactic(auto, unfolding(rams_model::specs::TraceLine::feedback_in))]
+#[tactic(auto, unfolding(rams_model::specs::Texts::TraceLines::feedback_in))]
 fn feedback_words<'a>(words: &mut Words<'a>) -> Option<(u64, u64, &'a [u8])>
     ensures words { feedback_in (codes "fb" ∷ words.old) ≡ option_map (λ read. feedback_line read.0 read.1 read.2.now) result }
     ensures digits { IfSome result (λ read. is_hex read.2.now ≡ true) }
@@ -69,7 +68,7 @@ pub fn head<'a>(words: &mut Words<'a>) -> Result<Line<'a>, LineFault>
     })
 }
 
-#[tactic(auto, unfolding(rams_model::specs::TraceLine::head_in))]
+#[tactic(auto, unfolding(rams_model::specs::Texts::TraceLines::head_in))]
 fn head_words(words: &mut Words<'_>) -> Option<(u8, u64, u64)>
     ensures { head_in (codes "rams-trace" ∷ words.old) ≡ option_map (λ read. head_line read.0 read.1 read.2) result }
 {

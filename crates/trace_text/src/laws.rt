@@ -1,5 +1,5 @@
 //! Laws of the definitions: each is the contract of a function that does nothing.
-ghost use Rattle.trace_text.specs.Spelling.{SpelledLinesAreRead, LinesAreSpelledAsRead, TheWordsTell};
+ghost use Rattle.trace_text.specs.{SpelledLinesAreRead, LinesAreSpelledAsRead, TheWordsTell};
 
 /// The text of a line that a trace may have reads as that line.
 #[tactic(auto, using(crate::proofs::Spelling::spelled_is_read))]

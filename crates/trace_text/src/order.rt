@@ -1,8 +1,7 @@
 //! What lines are to the order of a trace.
 ghost use Rattle.std.specs.Prelude.{◌≡◌};
-ghost use Rattle.rams_model.specs.TraceOrder.{kind_of, kind_named, version_spelled, is_event_word, is_receiver_word, has_receivers, has_events, is_threads};
-ghost use Rattle.rams_model.specs.Words.{first_word, words_of};
-ghost use Rattle.trace_text.specs.Shown.{shown};
+ghost use Rattle.rams_model.specs.Texts.{kind_of, kind_named, version_spelled, is_event_word, is_receiver_word, has_receivers, has_events, is_threads, first_word, words_of};
+ghost use Rattle.trace_text.specs.{shown};
 
 use crate::line::Line;
 use crate::words::{Words, first_word};

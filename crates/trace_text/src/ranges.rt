@@ -1,9 +1,9 @@
 //! The ranges of a line's numbers.
 ghost use Rattle.std.specs.Prelude.{◌≡◌, ◌&&◌, true, false, MatchOption};
 ghost use Rattle.std.specs.Int.{is_in_range};
-ghost use Rattle.rams_model.specs.Settings.{most_bytes, tick_in_range, channel_in_range};
-ghost use Rattle.rams_model.specs.TraceLine.{id_in_range, client_in_range, line_in_range};
-ghost use Rattle.trace_text.specs.Shown.{shown};
+ghost use Rattle.rams_model.specs.Service.{most_bytes, tick_in_range, channel_in_range};
+ghost use Rattle.rams_model.specs.Texts.{id_in_range, client_in_range, line_in_range};
+ghost use Rattle.trace_text.specs.{shown};
 
 use crate::line::Line;
 use channel_config::Config;
@@ -79,7 +79,7 @@ pub fn is_in_range(line: &Line<'_>) -> bool
 }
 
 // The check of settings looks at their ranges first; a tick of 1 ms is in its own.
-#[tactic(auto, unfolding(rams_model::specs::Settings::checked))]
+#[tactic(auto, unfolding(rams_model::specs::Service::ChannelSettings::checked))]
 fn is_channel_in_range(channel: &Channel) -> bool
     ensures { result ≡ channel_in_range channel.now }
 {

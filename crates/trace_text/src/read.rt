@@ -1,7 +1,7 @@
 //! Reads a line of a trace.
 ghost use Rattle.std.specs.Prelude.{◌≡◌, ◌∷◌, true, IfOk};
-ghost use Rattle.rams_model.specs.TraceLine.{line_at, line_in, receiver_in, line_in_range, ranged, whole};
-ghost use Rattle.trace_text.specs.Shown.{Gives, HasDigits, shown};
+ghost use Rattle.rams_model.specs.Texts.{line_at, line_in, receiver_in, line_in_range, ranged, whole};
+ghost use Rattle.trace_text.specs.{Gives, HasDigits, shown};
 
 use crate::channel_line::channel;
 use crate::fields::ends;
@@ -16,7 +16,7 @@ const MOST_BYTES: usize = 4096;
 
 /// The line that the bytes are, without their line feed. `Form` where they are no line of a trace,
 /// else `Range` where a number is out of its range.
-#[tactic(auto, unfolding(rams_model::specs::TraceLine::line_at))]
+#[tactic(auto, unfolding(rams_model::specs::Texts::TraceLines::line_at))]
 pub fn read_line(line: &[u8]) -> Result<Line<'_>, LineFault>
     ensures line { Gives result (line_at line.now) }
     ensures digits { IfOk result HasDigits }

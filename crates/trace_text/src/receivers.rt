@@ -1,9 +1,8 @@
 //! The events of receivers, behind their first word: the words must have the form of the kind, and
 //! then each number must be in its range.
 ghost use Rattle.std.specs.Prelude.{◌≡◌, ◌∷◌, codes, IfOk, option_map};
-ghost use Rattle.rams_model.specs.TraceLine.{tune_line, mcast_line, give_line, ask_line, drop_line, tune_in, give_in, mcast_in, ask_in, drop_in, ranged};
-ghost use Rattle.trace_text.specs.Cursor.{pair_in};
-ghost use Rattle.trace_text.specs.Shown.{Gives, HasDigits};
+ghost use Rattle.rams_model.specs.Texts.{tune_line, mcast_line, give_line, ask_line, drop_line, tune_in, give_in, mcast_in, ask_in, drop_in, ranged};
+ghost use Rattle.trace_text.specs.{pair_in, Gives, HasDigits};
 
 use crate::fields::{ends, next_number, next_word32};
 use crate::line::Line;
@@ -21,7 +20,7 @@ pub fn tune<'a>(words: &mut Words<'a>) -> Result<Line<'a>, LineFault>
     Ok(Line::Tune { id, client, ssrc })
 }
 
-#[tactic(auto, unfolding(rams_model::specs::TraceLine::tune_in))]
+#[tactic(auto, unfolding(rams_model::specs::Texts::TraceLines::tune_in))]
 fn tune_words(words: &mut Words<'_>) -> Option<(u64, u64, u32)>
     ensures { tune_in (codes "tune" ∷ words.old) ≡ option_map (λ read. tune_line read.0 read.1 read.2) result }
 {
@@ -32,7 +31,7 @@ fn tune_words(words: &mut Words<'_>) -> Option<(u64, u64, u32)>
 }
 
 /// A line that delivers a datagram.
-#[tactic(auto, unfolding(rams_model::specs::TraceLine::give_in))]
+#[tactic(auto, unfolding(rams_model::specs::Texts::TraceLines::give_in))]
 pub fn give<'a>(words: &mut Words<'a>) -> Result<Line<'a>, LineFault>
     ensures line { Gives result (ranged (give_in (codes "give" ∷ words.old))) }
     ensures digits { IfOk result HasDigits }
@@ -54,7 +53,7 @@ pub fn mcast<'a>(words: &mut Words<'a>) -> Result<Line<'a>, LineFault>
     Ok(Line::Mcast { id, client, n })
 }
 
-#[tactic(auto, unfolding(rams_model::specs::TraceLine::mcast_in))]
+#[tactic(auto, unfolding(rams_model::specs::Texts::TraceLines::mcast_in))]
 fn mcast_words(words: &mut Words<'_>) -> Option<(u64, u64, u64)>
     ensures { mcast_in (codes "mcast" ∷ words.old) ≡ option_map (λ read. mcast_line read.0 read.1 read.2) result }
 {
@@ -65,7 +64,7 @@ fn mcast_words(words: &mut Words<'_>) -> Option<(u64, u64, u64)>
 }
 
 /// A line that lets a receiver ask for what it misses.
-#[tactic(auto, unfolding(rams_model::specs::TraceLine::ask_in))]
+#[tactic(auto, unfolding(rams_model::specs::Texts::TraceLines::ask_in))]
 pub fn ask<'a>(words: &mut Words<'a>) -> Result<Line<'a>, LineFault>
     ensures line { Gives result (ranged (ask_in (codes "ask" ∷ words.old))) }
     ensures digits { IfOk result HasDigits }
@@ -76,7 +75,7 @@ pub fn ask<'a>(words: &mut Words<'a>) -> Result<Line<'a>, LineFault>
 }
 
 /// A line that lets a receiver leave.
-#[tactic(auto, unfolding(rams_model::specs::TraceLine::drop_in))]
+#[tactic(auto, unfolding(rams_model::specs::Texts::TraceLines::drop_in))]
 pub fn drop<'a>(words: &mut Words<'a>) -> Result<Line<'a>, LineFault>
     ensures line { Gives result (ranged (drop_in (codes "drop" ∷ words.old))) }
     ensures digits { IfOk result HasDigits }

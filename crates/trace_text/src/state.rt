@@ -1,10 +1,8 @@
 //! Which line may come where in a trace.
 ghost use Rattle.std.specs.Prelude.{◌≡◌, ◌≤◌, Ok, Err, Some, ◌==◌, IfErr, IfOk, OnErr, OnOk, MatchResult};
-ghost use Rattle.rams_model.specs.Settings.{settings, checked};
-ghost use Rattle.rams_model.specs.TraceLine.{line_at};
-ghost use Rattle.rams_model.specs.TraceOrder.{nothing_reached, tick_of, version_of, has_channel, kind_may_come, may_come_next, may_come, has_version, spells_version, line_is_served, with_channel, expected, accepted, judged, line_fault};
-ghost use Rattle.rams_model.specs.Words.{words_of};
-ghost use Rattle.trace_text.specs.Shown.{shown, HasDigits};
+ghost use Rattle.rams_model.specs.Service.{settings, checked};
+ghost use Rattle.rams_model.specs.Texts.{line_at, nothing_reached, tick_of, version_of, has_channel, kind_may_come, may_come_next, may_come, has_version, spells_version, line_is_served, with_channel, expected, accepted, judged, line_fault, words_of};
+ghost use Rattle.trace_text.specs.{shown, HasDigits};
 ghost use Rattle.std.specs.List.{list_any};
 
 use crate::line::Line;
@@ -30,7 +28,7 @@ struct Head {
 }
 
 impl Model for Head {
-    ghost use Rattle.rams_model.specs.TraceOrder.{Head};
+    ghost use Rattle.rams_model.specs.Texts.{Head, Claim, Reached};
 
     ghost Value = { Head };
 
@@ -47,7 +45,6 @@ struct Claim {
 }
 
 impl Model for Claim {
-    ghost use Rattle.rams_model.specs.TraceOrder.{Claim};
 
     ghost Value = { Claim };
 
@@ -70,7 +67,6 @@ pub struct State {
 
 impl Model for State {
     ghost use Rattle.std.specs.Prelude.{◌≡◌, ◌*◌, ◌≤◌, sum_by, length};
-    ghost use Rattle.rams_model.specs.TraceOrder.{Reached};
 
     ghost Value = { Reached };
 
@@ -115,7 +111,7 @@ impl State {
 
     /// Whether a line with the first word of this one, and for a channel line with as many words, may
     /// come next.
-    #[tactic(auto, unfolding(rams_model::specs::TraceOrder::expected))]
+    #[tactic(auto, unfolding(rams_model::specs::Texts::TraceOrder::expected))]
     pub fn expects(&self, line: &[u8]) -> bool
         ensures { result ≡ expected self.now line.now }
     {
@@ -130,7 +126,7 @@ impl State {
     /// with a channel line: `Twice` where a channel before has its number, the first of rules 1 to 3
     /// that its settings break, `Rule(4)` where the shares are more than the link, `Rule(5)` where
     /// there are 64 channels already. A refusal changes nothing.
-    #[tactic(auto, unfolding(rams_model::specs::TraceOrder::accepted))]
+    #[tactic(auto, unfolding(rams_model::specs::Texts::TraceOrder::accepted))]
     pub fn accept(&mut self, line: &Line<'_>) -> Result<(), LineFault>
         ensures ok { OnOk result (accepted self.old (shown line.now) ≡ Ok self.new) }
         ensures err { IfErr result (λ fault. accepted self.old (shown line.now) ≡ Err fault) }

@@ -1,9 +1,7 @@
 //! The text of a line.
 ghost use Rattle.std.specs.Prelude.{◌≡◌, ◌∷◌, ◌++◌, true, Ok, IfOk, OnOk, decimal};
-ghost use Rattle.rams_model.specs.TraceLine.{head_line, line_words, line_text, line_at, is_spelled, channel_words, kept_words, access_word};
-ghost use Rattle.rams_model.specs.Words.{text_of, spaced_words, word32};
-ghost use Rattle.trace_text.specs.Parts.{names_words, places_words, amounts_words, bounds_words};
-ghost use Rattle.trace_text.specs.Shown.{shown};
+ghost use Rattle.rams_model.specs.Texts.{head_line, line_words, line_text, line_at, is_spelled, channel_words, kept_words, access_word, text_of, spaced_words, word32};
+ghost use Rattle.trace_text.specs.{names_words, places_words, amounts_words, bounds_words, shown};
 
 use crate::line::Line;
 use hex_text::encode_into;
@@ -27,7 +25,7 @@ pub fn write_line(alloc: Global, line: &Line<'_>) -> Result<Vec<u8>, NoMemory>
 
 /// Appends the text of a line, without a line feed; where memory runs out, a part of it may stand
 /// behind the text.
-#[tactic(auto, unfolding(rams_model::specs::TraceLine::line_text))]
+#[tactic(auto, unfolding(rams_model::specs::Texts::TraceLines::line_text))]
 pub fn append_line(text: &mut Vec<u8>, line: &Line<'_>) -> Result<(), NoMemory>
     ensures { OnOk result (text.new.items ≡ text.old.items ++ line_text (shown line.now)) }
 {

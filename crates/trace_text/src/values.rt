@@ -2,9 +2,8 @@
 ghost use Rattle.std.specs.Prelude.{◌≡◌, ◌≤◌, true, IfSome, length, codes, bytes_eq};
 ghost use Rattle.std.specs.List.{list_all};
 ghost use Rattle.std.specs.Str.Parse.{digits_value};
-ghost use Rattle.rams_model.specs.Words.{is_digit, is_hex_digit, is_hex, is_number, number_in, word32_in};
-ghost use Rattle.rams_model.specs.TraceLine.{access_in, hex_in, version_in};
-ghost use Rattle.trace_text.specs.Cursor.{IsWord};
+ghost use Rattle.rams_model.specs.Texts.{is_digit, is_hex_digit, is_hex, is_number, number_in, word32_in, access_in, hex_in, version_in};
+ghost use Rattle.trace_text.specs.{IsWord};
 
 use hex_text::decode_into;
 use rams_model::Access;

@@ -1,8 +1,8 @@
 //! The words of a line.
 ghost use Rattle.std.specs.Prelude.{◌≡◌, ◌∷◌};
 ghost use Rattle.std.specs.Iterator.{YieldsFirstRef, item_count};
-ghost use Rattle.rams_model.specs.Words.{words_of, first_word};
-ghost use Rattle.trace_text.specs.Cursor.{words_left};
+ghost use Rattle.rams_model.specs.Texts.{words_of, first_word};
+ghost use Rattle.trace_text.specs.{words_left};
 
 use memchr::memchr;
 use std::marker::Model;
@@ -15,7 +15,7 @@ pub struct Words<'a> {
 
 impl<'a> Model for Words<'a> {
     ghost use Rattle.std.specs.Prelude.{ℕ, List};
-    ghost use Rattle.trace_text.specs.Cursor.{words_left};
+    ghost use Rattle.trace_text.specs.{words_left};
 
     ghost Value = { List (List ℕ) };
 

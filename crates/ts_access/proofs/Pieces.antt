@@ -5,7 +5,7 @@ use Rattle.std.specs.List.{list_any, IsSubsliceAt}
 use Rattle.std.specs.Option.{option_map}
 use denote.Ref.{Bor}
 use Rattle.std.proofs.lemmas.List.{drop-drop}
-use Rattle.rams_model.specs.Access.{ts_packets}
+use Rattle.rams_model.specs.Packets.{ts_packets}
 
 -- one TS packet further
 pub drop_step : (k : ℕ) (xs : List ℕ) → drop (suc k * 188) xs ≡ drop (k * 188) (drop 188 xs)

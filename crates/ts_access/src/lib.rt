@@ -2,7 +2,7 @@
 #![tactic(auto)]
 
 ghost use Rattle.std.specs.Prelude.{◌≡◌, ◌/◌, ◌%◌, ◌==◌, length};
-ghost use Rattle.rams_model.specs.Access.{has_access, has_flag};
+ghost use Rattle.rams_model.specs.Packets.{has_access, has_flag};
 
 #[cfg(test)]
 mod tests;
@@ -15,7 +15,7 @@ const SYNC: u8 = 0x47;
 
 /// Whether one of the whole TS packets of an RTP payload has the random access flag. They stand one
 /// behind the other from the payload's first byte on (RFC 2250, 2); a shorter rest isn't looked at.
-#[tactic(auto, unfolding(rams_model::specs::Access::has_access))]
+#[tactic(auto, unfolding(rams_model::specs::Packets::Access::has_access))]
 pub fn has_access(payload: &[u8]) -> bool
     ensures { result ≡ has_access payload.now }
 {

@@ -2,27 +2,12 @@
 use Rattle.std.proofs.Common.{◌≡◌, ℕ, ◌+◌, ◌-◌, ◌*◌, ◌%◌, ◌≤◌, ◌≢◌, true, false, cond, not, ◌&&◌, List, [], ◌∷◌, length, Option, Some, None, refl, ap, ◌∙◌, subst, arith, eqb, leb}
 use Rattle.std.specs.Prelude.{find, Result, Ok, Err, unwrap_or, is_some}
 use Rattle.std.proofs.lemmas.Bool.{cond_both, cond-true, and_parts, eq-eqb, ltb-false, leb-true}
-use Rattle.rams_model.specs.declared.fault.TlvFault.{TlvFault}
-use Rattle.rams_model.specs.declared.held.Held.{Held}
-use Rattle.rams_model.specs.declared.message.Stop.{Stop}
-use Rattle.rams_model.specs.declared.note.Cause.{Cause}
+use Rattle.rams_model.specs.Types.{TlvFault, Held, Stop, Cause, Note}
 use Rattle.rams_model.specs.declared.note.Cause.TheVariants as cause
-use Rattle.rams_model.specs.declared.note.Note.{Note}
 use Rattle.rams_model.specs.declared.note.Note.TheVariants as note
-use Rattle.rams_model.specs.Settings.{Settings}
-use Rattle.rams_model.specs.Hold.{lo, wires, from_number}
-use Rattle.rams_model.specs.Access.{age, is_eligible, chosen}
-use Rattle.rams_model.specs.Rams.{Request, names}
-use Rattle.rams_model.specs.Rates.{stop_of}
-use Rattle.rams_model.specs.Rtcp.{Framed}
-use Rattle.rams_model.specs.Messages.{Message, bye, nack, asks, stops}
-use Rattle.rams_model.specs.History.{told, noted, History, hold}
-use Rattle.rams_model.specs.Clients.{known, is_among, ssrc}
-use Rattle.rams_model.specs.Bursts.{Burst, next, after_note, newest_changed, bursts, if_open, newest_open, open_burst, has_open}
-use Rattle.rams_model.specs.Pending.{pending, pending_of, is_pending}
-use Rattle.rams_model.specs.Buckets.{reserved}
-use Rattle.rams_model.specs.Verdict.{asked_rate, is_slow, is_too_much, is_full, join_from, begins, changes, on_burst, on_request, verdict}
-use Rattle.rams_model.specs.Answers.{room, is_early, held_answer, number_answer, after_numbers, stop_set, on_stop, stop_burst, after_stop, is_bye_of, after_bye, after_message, after_messages}
+use Rattle.rams_model.specs.Service.{Settings, stop_of, Message, bye, nack, asks, stops, told, noted, History, hold, known, is_among, ssrc, Burst, next, after_note, newest_changed, bursts, if_open, newest_open, open_burst, has_open, pending, pending_of, is_pending, reserved, asked_rate, is_slow, is_too_much, is_full, join_from, begins, changes, on_burst, on_request, verdict, room, is_early, held_answer, number_answer, after_numbers, stop_set, on_stop, stop_burst, after_stop, is_bye_of, after_bye, after_message, after_messages}
+use Rattle.rams_model.specs.Packets.{lo, wires, from_number, age, is_eligible, chosen}
+use Rattle.rams_model.specs.Formats.{Request, names, Framed}
 use Rattle.rams_model.specs.Laws.{Rises, IsAmong, IsChoice}
 use Rattle.rams_model.proofs.Rising.{lower}
 use Rattle.rams_model.proofs.Holding.{held_follow, rises_from}

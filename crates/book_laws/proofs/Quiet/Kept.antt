@@ -4,19 +4,13 @@ use Rattle.std.proofs.lemmas.List.{length-drop, length-append}
 use Rattle.std.proofs.lemmas.List.Elements.{filter-append}
 use Rattle.std.proofs.lemmas.List.Sums.{sum_by-append}
 use Rattle.std.proofs.lemmas.Bool.{cond_both, lt-ltb, ltb-true, and_parts, not-true, both_ways, or_left, or_right, eq-eqb}
-use Rattle.rams_model.specs.declared.held.Held.{Held}
-use Rattle.rams_model.specs.declared.note.Cause.{Cause}
-use Rattle.rams_model.specs.Settings.{Settings}
-use Rattle.rams_model.specs.Hold.{hi, wires, from_number}
-use Rattle.rams_model.specs.Source.{Arrival, Follows, has_number, stream_of}
-use Rattle.rams_model.specs.Source as sources
-use Rattle.rams_model.specs.Heard.{live}
-use Rattle.rams_model.specs.History.{began, History, arrivals, hold}
+use Rattle.rams_model.specs.Types.{Held, Cause}
+use Rattle.rams_model.specs.Service.{Settings, live, began, History, arrivals, hold, Burst, next, kept, in_tick, bursts, if_open, newest_open, run, is_lost, after_tick}
+use Rattle.rams_model.specs.Packets.{hi, wires, from_number, Arrival, Follows, has_number, stream_of}
+use Rattle.rams_model.specs.Packets.Source as sources
 use Rattle.rams_model.proofs.Growing.{source_grows}
-use Rattle.rams_model.specs.Bursts.{Burst, next, kept, in_tick, bursts, if_open, newest_open}
-use Rattle.rams_model.specs.Tick.{run, is_lost, after_tick}
-use Rattle.rams_model.specs.CatchUp.{source, moments, AreAtLeast, JoinsSlowly, IsQuiet, told_join}
-use Rattle.book_laws.specs.JoinTimes.{ticks_since_told}
+use Rattle.rams_model.specs.Laws.{source, moments, AreAtLeast, JoinsSlowly, IsQuiet, told_join}
+use Rattle.book_laws.specs.{ticks_since_told}
 use Rattle.book_laws.proofs.Quiet.Packets.{wires-cons, follows_drop, follows_front, held_later, held_to, drop_at_least, count_fits}
 use Rattle.book_laws.proofs.Quiet.Sizes.{AreSmall, AreSized, sized_filter, sized_source, at_most, at_least_one}
 use Rattle.book_laws.proofs.Quiet.Near.{Near, wires_now, next_near}

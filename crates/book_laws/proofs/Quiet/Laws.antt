@@ -3,41 +3,24 @@ use Rattle.std.proofs.Common.{◌≡◌, ℕ, ◌-◌, ◌≤◌, Bool, true, fa
 use Rattle.std.specs.Prelude.{Result, Ok, Err, is_some}
 use Rattle.std.proofs.lemmas.List.{length-drop}
 use Rattle.std.proofs.lemmas.Bool.{cond_both, cond-true, cond-false, cases_Bool, both_ways, true≢false, false_from_ne_true, and_parts, not-true}
-use Rattle.rams_model.specs.declared.event.Event.{Event}
+use Rattle.rams_model.specs.Types.{Event, FrameFault, RtpFault, Held, Cause, LiveNote, Note}
 use Rattle.rams_model.specs.declared.event.Event.TheVariants.{Live, Feedback, Tick}
-use Rattle.rams_model.specs.declared.fault.FrameFault.{FrameFault}
-use Rattle.rams_model.specs.declared.fault.RtpFault.{RtpFault}
-use Rattle.rams_model.specs.declared.held.Held.{Held}
-use Rattle.rams_model.specs.declared.note.Cause.{Cause}
 use Rattle.rams_model.specs.declared.note.Cause.TheVariants as cause
-use Rattle.rams_model.specs.declared.note.LiveNote.{LiveNote}
 use Rattle.rams_model.specs.declared.note.LiveNote.TheVariants.{TooBig, ForeignSsrc, ForeignType, Bad}
-use Rattle.rams_model.specs.declared.note.Note.{Note}
 use Rattle.rams_model.specs.declared.note.Note.TheVariants as note
-use Rattle.rams_model.specs.Settings.{Settings}
-use Rattle.rams_model.specs.Hold.{hi, wires, from_number}
-use Rattle.rams_model.specs.Source.{Arrival, Follows, live_note, stream_of}
-use Rattle.rams_model.specs.Source as sources
-use Rattle.rams_model.specs.Packet.{Packet}
-use Rattle.rams_model.specs.Rtp.{packet_at}
-use Rattle.rams_model.specs.Rtcp.{Framed, framed}
-use Rattle.rams_model.specs.Messages.{Message, messages}
-use Rattle.rams_model.specs.Heard.{live, dropped, feedback, unframed, tick, arrival, heard_packet, heard_live, heard_feedback, heard_of}
-use Rattle.rams_model.specs.History.{Item, began, told, noted, History, arrivals, stream, hold}
-use Rattle.rams_model.specs.Clients.{opened, is_among}
-use Rattle.rams_model.specs.Bursts.{Burst, next, kept as kept_of, bursts, open_burst}
-use Rattle.rams_model.specs.Tick.{after_tick}
-use Rattle.rams_model.specs.Book.{after_hearing, history_of}
-use Rattle.rams_model.specs.CatchUp.{source, until_end, moments, JoinsSlowly, IsQuiet, IsQuietBurst, AreAtLeast, told_join}
-use Rattle.rams_model.specs.Laws.{NoneIs, is_accept_of, is_end_of}
+use Rattle.rams_model.specs.Service.{Settings, Message, messages, live, dropped, feedback, unframed, tick, arrival, heard_packet, heard_live, heard_feedback, heard_of, Item, began, told, noted, History, arrivals, stream, hold, opened, is_among, Burst, next, kept as kept_of, bursts, open_burst, after_tick, after_hearing, history_of}
+use Rattle.rams_model.specs.Packets.{hi, wires, from_number, Arrival, Follows, live_note, stream_of}
+use Rattle.rams_model.specs.Packets.Source as sources
+use Rattle.rams_model.specs.Formats.{Packet, packet_at, Framed, framed}
+use Rattle.rams_model.specs.Laws.{source, until_end, moments, JoinsSlowly, IsQuiet, IsQuietBurst, AreAtLeast, told_join, NoneIs, is_accept_of, is_end_of}
 use Rattle.rams_model.proofs.Growing.{source_grows}
 use Rattle.rams_model.proofs.Since.{stands, opened_stands}
 use Rattle.rams_model.proofs.LastAccept.{last_accept, open_stands}
-use Rattle.book_laws.specs.JoinTimes.{is_loss_of, ticks_since_told, QuietBurstsAreNeverLost, QuietBurstsKeepTheirJoinTimes}
+use Rattle.book_laws.specs.{is_loss_of, ticks_since_told, QuietBurstsAreNeverLost, QuietBurstsKeepTheirJoinTimes}
 use Rattle.book_laws.proofs.Quiet.Packets.{held_to, no_fewer}
 use Rattle.book_laws.proofs.Quiet.Through.{IsOfTick, tick_through}
 use Rattle.book_laws.proofs.Quiet.Sizes.{AreSmall, sized_filter, sized_source, at_least_one, small_history}
-use Rattle.burst_plan.specs.JoinTime.{gain}
+use Rattle.burst_plan.specs.{gain}
 use Rattle.book_laws.proofs.Quiet.Near.{Nears, nears_none}
 use Rattle.book_laws.proofs.Quiet.States.{Sound, Good, open_is, open_parts}
 use Rattle.book_laws.proofs.Quiet.Turns.{is_opened}

@@ -2,18 +2,12 @@
 use Rattle.std.proofs.Common.{◌≡◌, ℕ, zero, suc, ◌+◌, ◌-◌, ◌*◌, ◌<◌, ◌≤◌, ◌⊎◌, inl, inr, min, false, List, [], ◌∷◌, ◌++◌, length, drop, Option, refl, ap, ap₂, sym, ◌∙◌, subst, arith, suc-mul}
 use Rattle.std.proofs.lemmas.List.{length-drop, length-append, drop-append-le}
 use Rattle.std.proofs.lemmas.List.Sums.{sum_by-append}
-use Rattle.rams_model.specs.declared.held.Held.{Held}
+use Rattle.rams_model.specs.Types.{Held}
 use Rattle.rams_model.specs.declared.note.Note.TheVariants.{Update, StopAt}
-use Rattle.rams_model.specs.Settings.{Settings}
-use Rattle.rams_model.specs.Hold.{wires}
-use Rattle.rams_model.specs.Source.{Follows}
-use Rattle.rams_model.specs.Rates.{join_ticks}
-use Rattle.rams_model.specs.Bursts.{Burst, next, kept, begun, after_note}
-use Rattle.rams_model.specs.Tick.{run, is_stop}
-use Rattle.rams_model.specs.CatchUp.{ComesNearer}
-use Rattle.rams_model.specs.Laws.{IsByStop}
-use Rattle.burst_plan.specs.JoinTime.{gain}
-use Rattle.burst_plan.specs.QuietTicks.{AreAtMost}
+use Rattle.rams_model.specs.Service.{Settings, join_ticks, Burst, next, kept, begun, after_note, run, is_stop}
+use Rattle.rams_model.specs.Packets.{wires, Follows}
+use Rattle.rams_model.specs.Laws.{ComesNearer, IsByStop}
+use Rattle.burst_plan.specs.{gain, AreAtMost}
 use Rattle.burst_plan.specs.QuietTicks as plain
 use Rattle.burst_plan.proofs.JoinTimes.{least_join}
 use Rattle.burst_plan.proofs.Running.{quiet_tick}

@@ -1,20 +1,13 @@
 -- The notes of a datagram's messages keep it so.
 use Rattle.std.proofs.Common.{◌≡◌, ℕ, ◌≢◌, true, false, List, [], ◌∷◌, Option, Some, None, refl, ap, sym, ◌∙◌, subst, ⊎_elim, eqb}
 use Rattle.std.proofs.lemmas.Bool.{cond-true, cases_Bool, eqb-true}
-use Rattle.rams_model.specs.declared.held.Held.{Held}
-use Rattle.rams_model.specs.declared.note.Cause.{Cause}
+use Rattle.rams_model.specs.Types.{Held, Cause, Note}
 use Rattle.rams_model.specs.declared.note.Cause.TheVariants as cause
-use Rattle.rams_model.specs.declared.note.Note.{Note}
 use Rattle.rams_model.specs.declared.note.Note.TheVariants as note
-use Rattle.rams_model.specs.Settings.{Settings}
-use Rattle.rams_model.specs.Hold.{wires, from_number}
-use Rattle.rams_model.specs.Messages.{Message}
-use Rattle.rams_model.specs.Answers.{after_messages}
-use Rattle.rams_model.specs.History.{told, noted, History, arrivals, hold}
-use Rattle.rams_model.specs.Clients.{sequence}
-use Rattle.rams_model.specs.Bursts.{Burst, next, begun, after_note, is_of, bursts, open_burst}
-use Rattle.rams_model.specs.CatchUp.{source, moments, told_join}
-use Rattle.book_laws.specs.JoinTimes.{ticks_since_told}
+use Rattle.rams_model.specs.Service.{Settings, Message, after_messages, told, noted, History, arrivals, hold, sequence, Burst, next, begun, after_note, is_of, bursts, open_burst}
+use Rattle.rams_model.specs.Packets.{wires, from_number}
+use Rattle.rams_model.specs.Laws.{source, moments, told_join}
+use Rattle.book_laws.specs.{ticks_since_told}
 use Rattle.book_laws.proofs.Quiet.Packets.{held_itself, there_itself, ring_some}
 use Rattle.book_laws.proofs.Quiet.Sizes.{AreSmall}
 use Rattle.book_laws.proofs.Quiet.Answers.{Begins, Changes, StopsAt, Asks, messages_through}

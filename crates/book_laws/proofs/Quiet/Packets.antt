@@ -4,14 +4,11 @@ use Rattle.std.proofs.lemmas.List.{take-append-drop, length-drop, length-append}
 use Rattle.std.proofs.Math.Nat.{lt_of_mul-lt-mul_right}
 use Rattle.std.proofs.lemmas.List.Sums.{sum_by-cons}
 use Rattle.std.proofs.lemmas.Bool.{cond_both, cond-true, cond-false, leb-true, leb-false, le-leb, eq-eqb, and_from}
-use Rattle.rams_model.specs.declared.held.Held.{Held}
-use Rattle.rams_model.specs.Settings.{Settings}
-use Rattle.rams_model.specs.Hold.{hi, wires, from_number}
-use Rattle.rams_model.specs.Source.{has_number, Follows, is_consecutive, consecutive_end}
-use Rattle.rams_model.specs.Source as sources
-use Rattle.rams_model.specs.History.{History, arrivals, hold}
-use Rattle.rams_model.specs.CatchUp.{source, AreAtLeast}
-use Rattle.rams_model.specs.Laws.{Rises, IsAmong}
+use Rattle.rams_model.specs.Types.{Held}
+use Rattle.rams_model.specs.Service.{Settings, History, arrivals, hold}
+use Rattle.rams_model.specs.Packets.{hi, wires, from_number, has_number, Follows, is_consecutive, consecutive_end}
+use Rattle.rams_model.specs.Packets.Source as sources
+use Rattle.rams_model.specs.Laws.{source, AreAtLeast, Rises, IsAmong}
 use Rattle.rams_model.proofs.Rising.{hi_of_end}
 use Rattle.rams_model.proofs.Growing.{source_rises}
 use Rattle.rams_model.proofs.Holding.{rises_from, longest_end}

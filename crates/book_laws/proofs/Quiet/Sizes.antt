@@ -3,27 +3,15 @@ use Rattle.std.proofs.Common.{◌≡◌, ℕ, ◌+◌, ◌≤◌, Bool, true, fa
 use Rattle.std.specs.Prelude.{filter, if◌then◌else◌, Result, Ok, Err}
 use Rattle.std.proofs.lemmas.List.{length-take, length-drop, length-append}
 use Rattle.std.proofs.lemmas.Bool.{cond_both, ltb-false}
-use Rattle.rams_model.specs.declared.event.Event.{Event}
+use Rattle.rams_model.specs.Types.{Event, FrameFault, RtpFault, Held, LiveNote}
 use Rattle.rams_model.specs.declared.event.Event.TheVariants.{Live, Feedback, Tick}
-use Rattle.rams_model.specs.declared.fault.FrameFault.{FrameFault}
-use Rattle.rams_model.specs.declared.fault.RtpFault.{RtpFault}
 use Rattle.rams_model.specs.declared.fault.RtpFault.TheVariants.{Short, Version, Csrc, Extension, Padding}
-use Rattle.rams_model.specs.declared.held.Held.{Held}
-use Rattle.rams_model.specs.declared.note.LiveNote.{LiveNote}
 use Rattle.rams_model.specs.declared.note.LiveNote.TheVariants.{Took, Restart, Jump, TooBig, ForeignSsrc, ForeignType}
-use Rattle.rams_model.specs.Packet.{Packet, header, spelling, stripped, wire_size}
-use Rattle.rams_model.specs.Rtp.{packet_at, fields_of, version, csrc_size, lacks_extension, miscounts_padding}
-use Rattle.rams_model.specs.Settings.{Settings}
-use Rattle.rams_model.specs.Rtcp.{Framed, framed}
-use Rattle.rams_model.specs.Messages.{Message, messages}
-use Rattle.rams_model.specs.Answers.{after_messages}
-use Rattle.rams_model.specs.Heard.{live, dropped, feedback, tick, arrival, heard_packet, heard_live, heard_feedback, heard_of}
-use Rattle.rams_model.specs.History.{began, History, arrivals}
-use Rattle.rams_model.specs.Tick.{after_tick}
-use Rattle.rams_model.specs.Book.{after_hearing, history_of}
-use Rattle.rams_model.specs.Source.{Arrival, Stream, held_as, with_packet, awaited, live_note, stream_after, stream_of, source}
-use Rattle.burst_plan.specs.QuietTicks.{AreAtMost}
-use Rattle.rams_model.specs.CatchUp.{AreAtLeast}
+use Rattle.rams_model.specs.Formats.{Packet, header, spelling, stripped, wire_size, packet_at, fields_of, version, csrc_size, lacks_extension, miscounts_padding, Framed, framed}
+use Rattle.rams_model.specs.Service.{Settings, Message, messages, after_messages, live, dropped, feedback, tick, arrival, heard_packet, heard_live, heard_feedback, heard_of, began, History, arrivals, after_tick, after_hearing, history_of}
+use Rattle.rams_model.specs.Packets.{Arrival, Stream, held_as, with_packet, awaited, live_note, stream_after, stream_of, source}
+use Rattle.burst_plan.specs.{AreAtMost}
+use Rattle.rams_model.specs.Laws.{AreAtLeast}
 use Rattle.book_laws.proofs.Quiet.Through.{tick_through}
 use Rattle.book_laws.proofs.Quiet.Answers.{messages_through}
 

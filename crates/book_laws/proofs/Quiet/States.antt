@@ -1,23 +1,13 @@
 -- What a history says of one client, and what leaves that as it was.
 use Rattle.std.proofs.Common.{◌≡◌, ℕ, ◌+◌, ◌-◌, ◌≤◌, Bool, true, false, cond, List, [], ◌∷◌, length, Option, Some, None, refl, ap, sym, ◌∙◌, subst, arith, eqb}
 use Rattle.std.proofs.lemmas.Bool.{cond_both, cond-true, cond-false, both_ways, eq-eqb}
-use Rattle.rams_model.specs.declared.held.Held.{Held}
-use Rattle.rams_model.specs.declared.note.Cause.{Cause}
+use Rattle.rams_model.specs.Types.{Held, Cause, Note}
 use Rattle.rams_model.specs.declared.note.Cause.TheVariants as cause
-use Rattle.rams_model.specs.declared.note.Note.{Note}
 use Rattle.rams_model.specs.declared.note.Note.TheVariants as note
-use Rattle.rams_model.specs.Settings.{Settings}
-use Rattle.rams_model.specs.Hold.{wires, from_number}
-use Rattle.rams_model.specs.Source.{Follows}
-use Rattle.rams_model.specs.Messages.{Message}
-use Rattle.rams_model.specs.Heard.{tick}
-use Rattle.rams_model.specs.History.{began, told, noted, History, arrivals, as_tick_began}
-use Rattle.rams_model.specs.Clients.{sequence}
-use Rattle.rams_model.specs.Bursts.{Burst, after_note, bursts_after, newest_changed, is_of, size_of, bursts, if_open, newest_open}
-use Rattle.rams_model.specs.Tick.{send}
-use Rattle.rams_model.specs.Buckets.{is_burst_of, is_repair_of, sent_now}
-use Rattle.rams_model.specs.CatchUp.{source, moments, JoinsSlowly, AreAtLeast, IsQuiet, told_join}
-use Rattle.book_laws.specs.JoinTimes.{ticks_since_told}
+use Rattle.rams_model.specs.Service.{Settings, Message, tick, began, told, noted, History, arrivals, as_tick_began, sequence, Burst, after_note, bursts_after, newest_changed, is_of, size_of, bursts, if_open, newest_open, send, is_burst_of, is_repair_of, sent_now}
+use Rattle.rams_model.specs.Packets.{wires, from_number, Follows}
+use Rattle.rams_model.specs.Laws.{source, moments, JoinsSlowly, AreAtLeast, IsQuiet, told_join}
+use Rattle.book_laws.specs.{ticks_since_told}
 use Rattle.book_laws.proofs.Quiet.Packets.{wires-cons}
 use Rattle.book_laws.proofs.Quiet.Near.{Near}
 

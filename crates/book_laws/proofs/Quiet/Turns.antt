@@ -2,23 +2,13 @@
 use Rattle.std.proofs.Common.{◌≡◌, ℕ, ◌+◌, ◌-◌, ◌≤◌, ◌⊎◌, inl, inr, ⊎_elim, min, true, false, cond, List, [], ◌∷◌, Option, Some, None, refl, ap, ap₂, sym, ◌∙◌, subst, arith, eqb, ltb}
 use Rattle.std.specs.Prelude.{is_some}
 use Rattle.std.proofs.lemmas.Bool.{cond_both, cond-true, cases_Bool, eqb-true, eq-eqb}
-use Rattle.rams_model.specs.declared.held.Held.{Held}
-use Rattle.rams_model.specs.declared.note.Cause.{Cause}
+use Rattle.rams_model.specs.Types.{Held, Cause, Note}
 use Rattle.rams_model.specs.declared.note.Cause.TheVariants as cause
-use Rattle.rams_model.specs.declared.note.Note.{Note}
 use Rattle.rams_model.specs.declared.note.Note.TheVariants as note
-use Rattle.rams_model.specs.Settings.{Settings}
-use Rattle.rams_model.specs.Hold.{hi, wires, from_number}
-use Rattle.rams_model.specs.Source.{Arrival, Follows, stream_of}
-use Rattle.rams_model.specs.Source as sources
-use Rattle.rams_model.specs.Heard.{tick}
-use Rattle.rams_model.specs.History.{began, noted, History, arrivals, hold, as_tick_began}
-use Rattle.rams_model.specs.Clients.{known, opened, is_among}
-use Rattle.rams_model.specs.Bursts.{Burst, next, kept, in_tick, newest_changed, is_of, bursts, if_open, newest_open, open_burst, has_open}
-use Rattle.rams_model.specs.Pending.{pending}
-use Rattle.rams_model.specs.Buckets.{budget_of, cap, run_left, kept_from_repairs, may_take}
-use Rattle.rams_model.specs.Tick.{run, send, is_lost, is_stop, after_run, run_sent, burst_served, bursts_served, repairs_sent, after_tick}
-use Rattle.rams_model.specs.CatchUp.{source, moments, JoinsSlowly, AreAtLeast, IsQuiet}
+use Rattle.rams_model.specs.Service.{Settings, tick, began, noted, History, arrivals, hold, as_tick_began, known, opened, is_among, Burst, next, kept, in_tick, newest_changed, is_of, bursts, if_open, newest_open, open_burst, has_open, pending, budget_of, cap, run_left, kept_from_repairs, may_take, run, send, is_lost, is_stop, after_run, run_sent, burst_served, bursts_served, repairs_sent, after_tick}
+use Rattle.rams_model.specs.Packets.{hi, wires, from_number, Arrival, Follows, stream_of}
+use Rattle.rams_model.specs.Packets.Source as sources
+use Rattle.rams_model.specs.Laws.{source, moments, JoinsSlowly, AreAtLeast, IsQuiet}
 use Rattle.rams_model.proofs.Since.{opened_stands}
 use Rattle.rams_model.proofs.LastAccept.{open_stands}
 use Rattle.book_laws.proofs.Quiet.Through.{each_any, all_served_through, all_repaired_through, all_forgotten_through}

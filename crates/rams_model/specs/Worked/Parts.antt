@@ -1,14 +1,9 @@
 -- Parts of answers by themselves: numbers, access points, full rooms, long times.
 use Rattle.std.specs.Prelude.{◌≡◌, ℕ, true, false, List, [], ◌∷◌, ◌++◌, replicate, codes, Some, None}
-use Rattle.rams_model.specs.declared.note.Note.{Note}
+use Rattle.rams_model.specs.Types.{Note}
 use Rattle.rams_model.specs.declared.note.Note.TheVariants.{Queued, ClientFull, QueueFull}
-use Rattle.rams_model.specs.Numbering.{first, forward, behind, jump, restart, numbered}
-use Rattle.rams_model.specs.Access.{has_access}
-use Rattle.rams_model.specs.Rates.{rate_of, join_ticks}
-use Rattle.rams_model.specs.Infos.{accept_info}
-use Rattle.rams_model.specs.History.{History, hold}
-use Rattle.rams_model.specs.Answers.{number_answer}
-use Rattle.rams_model.specs.Book.{history_of}
+use Rattle.rams_model.specs.Packets.{first, forward, backward, jump, restart, numbered, has_access}
+use Rattle.rams_model.specs.Service.{rate_of, join_ticks, accept_info, History, hold, number_answer, history_of}
 use Rattle.rams_model.specs.Worked.Setting.{channel, with_ticks, hex, packet, nack}
 
 -- the sequence numbers 65535, 0, 65534, 20000 and 20001, one after another: the wrap, one behind, a jump and a restart; and the ends of the reach
@@ -16,13 +11,13 @@ abbrev pub Numbers : Type 0
 Numbers =
     (numbered None None 65535 ≡ first 131071)
     × (numbered (Some 131071) None 0 ≡ forward 131072)
-    × (numbered (Some 131072) None 65534 ≡ behind 131070)
+    × (numbered (Some 131072) None 65534 ≡ backward 131070)
     × (numbered (Some 131072) None 20000 ≡ jump)
     × (numbered (Some 131072) (Some 20001) 20001 ≡ restart 151073)
     × (numbered (Some 131072) None 2999 ≡ forward 134071)
     × (numbered (Some 131072) None 3000 ≡ jump)
     × (numbered (Some 131072) None 65436 ≡ jump)
-    × (numbered (Some 131072) None 65437 ≡ behind 130973)
+    × (numbered (Some 131072) None 65437 ≡ backward 130973)
 
 -- a TS packet's bytes, the last of them zeros
 abbrev ts : List ℕ → List ℕ

@@ -1,5 +1,5 @@
 use Rattle.std.proofs.Common.{◌<◌, ◌/◌, true, false, length, refl, ◌∙◌, ap, rules, tests, arith}
-use Rattle.rams_model.specs.Access.{has_access, has_flag}
+use Rattle.rams_model.specs.Packets.{has_access, has_flag}
 use Rattle.ts_access.proofs.Pieces.{any_at, none_at, test_of_some, test_of_each, pieces_of, by_result}
 use Rattle.ts_access.proofs.has_access.Goals as goal
 

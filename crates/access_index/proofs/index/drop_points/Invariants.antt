@@ -1,6 +1,6 @@
 use Rattle.std.proofs.Common.{◌≡◌, deque_len}
 use Rattle.std.specs.VecDeque.{deque_capacity}
-use Rattle.access_index.specs.Kept.{above}
+use Rattle.access_index.specs.{above}
 use Rattle.access_index.proofs.index.drop_points.Given as goal
 
 abbrev pub invariant-loop-lo : goal.invariant-loop-lo

@@ -1,6 +1,5 @@
 use Rattle.std.proofs.Common.{◌∷◌, ◌++◌, arith}
-use Rattle.rams_model.specs.Heard.{tick}
-use Rattle.rams_model.specs.History.{began}
+use Rattle.rams_model.specs.Service.{tick, began}
 use Rattle.book_laws.proofs.Legality.{legal_moment}
 use Rattle.book_laws.proofs.Windows.{channel_in_tick}
 use Rattle.book_laws.proofs.InTicks.{only_ticks}

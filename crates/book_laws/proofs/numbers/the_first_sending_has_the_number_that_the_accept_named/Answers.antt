@@ -1,8 +1,6 @@
 use Rattle.std.proofs.Common.{refl, subst}
-use Rattle.rams_model.specs.RamsInfo.{rams_info}
-use Rattle.rams_model.specs.Clients.{sequence}
-use Rattle.rams_model.specs.Infos.{accept_info}
-use Rattle.rams_model.specs.Orders.{order_of, datagram}
+use Rattle.rams_model.specs.Formats.{rams_info}
+use Rattle.rams_model.specs.Service.{sequence, accept_info, order_of, datagram}
 use Rattle.book_laws.proofs.Legal.{IsLegal}
 use Rattle.book_laws.proofs.Legality.{legal_moment}
 use Rattle.book_laws.proofs.FreshBursts.{Numbered, numbered_moment}

@@ -1,6 +1,6 @@
-use Rattle.rams_model.specs.Book.{book}
+use Rattle.rams_model.specs.Service.{book}
 use Rattle.rams_model.proofs.OneBook.{is_lawful}
-use Rattle.book_laws.specs.OneBook.{notes_of}
+use Rattle.book_laws.specs.{notes_of}
 use Rattle.book_laws.proofs.OneLawful.{tells, was_made, in_book}
 use Rattle.book_laws.proofs.one_book.books_tell_the_history.Goals as goal
 

@@ -1,4 +1,4 @@
-use Rattle.rams_model.specs.Book.{book}
+use Rattle.rams_model.specs.Service.{book}
 use Rattle.book_laws.proofs.OneLawful.{the_book, earlier_lawful}
 use Rattle.book_laws.proofs.one_book.exactly_one_book.Goals as goal
 

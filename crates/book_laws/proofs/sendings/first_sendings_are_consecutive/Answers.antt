@@ -1,12 +1,11 @@
 use Rattle.std.proofs.Common.{false, ◌∷◌, ap, sym, ◌∙◌, subst}
 use Rattle.std.specs.Prelude.{All, is_some}
 use Rattle.rams_model.specs.declared.note.Note.TheVariants.{Burst}
-use Rattle.rams_model.specs.CatchUp.{source}
-use Rattle.rams_model.specs.History.{noted, History}
-use Rattle.rams_model.specs.Laws.{is_accept_of, is_end_of}
+use Rattle.rams_model.specs.Laws.{source, is_accept_of, is_end_of}
+use Rattle.rams_model.specs.Service.{noted, History}
 use Rattle.rams_model.proofs.Since.{stands_from, stands_to}
 use Rattle.rams_model.proofs.LastAccept.{open_stands}
-use Rattle.book_laws.specs.Sendings.{first_sendings, IsPacketOf}
+use Rattle.book_laws.specs.{first_sendings, IsPacketOf}
 use Rattle.book_laws.proofs.Legal.{IsLegal, legal_part}
 use Rattle.book_laws.proofs.Legality.{legal_moment}
 use Rattle.book_laws.proofs.SinceAccept.{fair_since}

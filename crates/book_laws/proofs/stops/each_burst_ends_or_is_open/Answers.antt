@@ -1,8 +1,7 @@
 use Rattle.std.proofs.Common.{◌≡◌, true, ◌⊎◌, ap, sym, ◌∙◌, subst}
 use Rattle.std.specs.Prelude.{is_some}
 use Rattle.std.proofs.lemmas.Bool.{true≢false}
-use Rattle.rams_model.specs.History.{History}
-use Rattle.rams_model.specs.Bursts.{has_open}
+use Rattle.rams_model.specs.Service.{History, has_open}
 use Rattle.book_laws.specs.Stops.{HasEnded}
 use Rattle.book_laws.proofs.Legal.{IsLegal}
 use Rattle.book_laws.proofs.Legality.{legal_moment}

@@ -1,6 +1,6 @@
 use Rattle.std.proofs.Common.{subst}
 use Rattle.rams_model.specs.declared.note.Cause.TheVariants.{Stopped}
-use Rattle.book_laws.specs.Sendings.{first_sendings}
+use Rattle.book_laws.specs.{first_sendings}
 use Rattle.book_laws.proofs.Legal.{IsLegal}
 use Rattle.book_laws.proofs.Legality.{legal_moment}
 use Rattle.book_laws.proofs.SinceAccept.{stop_since, end_since, fair_since}

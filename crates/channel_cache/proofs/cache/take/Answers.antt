@@ -1,7 +1,7 @@
 use Rattle.std.proofs.Common.{max, refl, ◌∙◌, ap}
-use Rattle.ext_seq.specs.Numbers.{moved}
+use Rattle.ext_seq.specs.{moved}
 use Rattle.ext_seq.specs.Numbers as numbers
-use Rattle.channel_cache.specs.Arrivals.{arrival_of}
+use Rattle.channel_cache.specs.{arrival_of}
 use Rattle.channel_cache.proofs.Stepping.{begins, reaches, restarts, in_step, UnlessTaken-map, only_kept, first_stands, near_stands, jump_stands, restart_stands}
 use Rattle.channel_cache.proofs.cache.take.Goals as goal
 

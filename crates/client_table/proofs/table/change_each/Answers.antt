@@ -1,5 +1,5 @@
 use Rattle.std.proofs.Common.{◌≡◌, Some, subst, sym}
-use Rattle.client_table.specs.Joined.{entry_at, AreReady}
+use Rattle.client_table.specs.{entry_at, AreReady}
 use Rattle.client_table.proofs.Changed.{written_here, written_elsewhere}
 use Rattle.client_table.proofs.Changing.{ready_first, ready_some, ready_none, ready_left, changed_start, changed_turn, changed_end}
 use Rattle.client_table.proofs.table.change_each.Given.{F-pre, F-post}

@@ -1,5 +1,5 @@
 -- Those that are left may be changed, and after that all are.
-use Rattle.client_table.specs.Joined.{entry_at, AreReady}
+use Rattle.client_table.specs.{entry_at, AreReady}
 use Rattle.client_table.proofs.Changing.{LeadsToAll}
 use Rattle.client_table.proofs.table.change_each.Given as goal
 

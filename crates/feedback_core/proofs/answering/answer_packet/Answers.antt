@@ -1,10 +1,9 @@
 -- A packet that is skipped, or is answered.
 use Rattle.std.proofs.Common.{◌≡◌, ◌∙◌, Some, None, sym, ap, arith, vec_len, vec_capacity}
 use Rattle.std.specs.Prelude.{◌&&◌, not}
-use Rattle.rams_model.specs.Messages.{is_rams, message_of}
-use Rattle.rtcp_frame.specs.Shown.{shown_packet}
-use Rattle.feedback_core.specs.declared.page.Page.{Page}
-use Rattle.feedback_core.specs.Framing.{shown_message, turn_of}
+use Rattle.rams_model.specs.Service.{is_rams, message_of}
+use Rattle.rtcp_frame.specs.{shown_packet}
+use Rattle.feedback_core.specs.{Page, shown_message, turn_of}
 use Rattle.feedback_core.proofs.Turns.{no_turn, one_turn, is_skipped, is_taken, due_turn}
 use Rattle.feedback_core.proofs.answering.answer_packet.Goals as goal
 

@@ -1,9 +1,7 @@
 -- One packet more, and in the end all of them.
 use Rattle.std.proofs.Common.{◌≡◌, ◌+◌, ◌∙◌, ap, arith}
-use Rattle.rtcp_frame.specs.Left.{packets_left}
-use Rattle.rtcp_frame.specs.Shown.{shown_packet}
-use Rattle.feedback_core.specs.Counting.{most_of, most_notes}
-use Rattle.feedback_core.specs.Framing.{answered_of}
+use Rattle.rtcp_frame.specs.{packets_left, shown_packet}
+use Rattle.feedback_core.specs.{most_of, most_notes, answered_of}
 use Rattle.feedback_core.proofs.Turns.{after_packet, at_last}
 use Rattle.feedback_core.proofs.answering.answer_packets.Goals as goal
 

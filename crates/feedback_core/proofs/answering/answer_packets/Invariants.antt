@@ -1,11 +1,8 @@
 -- The packets so far are answered.
 use Rattle.std.proofs.Common.{◌≡◌, ◌+◌, ◌≤◌, vec_len, vec_capacity}
-use Rattle.rams_model.specs.History.{History, hold}
-use Rattle.rtcp_frame.specs.Left.{packets_left}
-use Rattle.feedback_core.specs.Counting.{most_notes}
-use Rattle.feedback_core.specs.Framing.{answered_of}
-use Rattle.feedback_core.specs.Pages.{IsFresh, IsTurned}
-use Rattle.feedback_core.specs.Ready.{IsSafe, AreOfOne}
+use Rattle.rams_model.specs.Service.{History, hold}
+use Rattle.rtcp_frame.specs.{packets_left}
+use Rattle.feedback_core.specs.{most_notes, answered_of, IsFresh, IsTurned, IsSafe, AreOfOne}
 use Rattle.feedback_core.proofs.Turns.{IsPartway}
 use Rattle.feedback_core.proofs.answering.answer_packets.Given as goal
 

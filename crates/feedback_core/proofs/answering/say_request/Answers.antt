@@ -1,5 +1,5 @@
 -- The verdict, and what its client is told.
-use Rattle.rams_model.specs.Rams.{request_at}
+use Rattle.rams_model.specs.Formats.{request_at}
 use Rattle.feedback_core.proofs.Told.{said_reply}
 use Rattle.feedback_core.proofs.answering.say_request.Goals as goal
 

@@ -2,12 +2,11 @@
 use Rattle.std.proofs.Common.{[], ◌∷◌, length, arith}
 use Rattle.rams_model.specs.declared.event.Event.TheVariants.{Feedback}
 use Rattle.rams_model.specs.declared.note.Note.TheVariants.{BadFeedback}
-use Rattle.rams_model.specs.Answered.{answered}
-use Rattle.rams_model.specs.Book.{answer}
-use Rattle.channel_parts.specs.Standing.{StandsFor}
-use Rattle.feedback_core.specs.Counting.{most_notes}
+use Rattle.rams_model.specs.Service.{answered, answer}
+use Rattle.channel_parts.specs.{StandsFor}
+use Rattle.feedback_core.specs.{most_notes}
 use Rattle.feedback_core.proofs.Serving.{few_within, answered_as}
-use Rattle.rtcp_frame.specs.Left.{packets_left}
+use Rattle.rtcp_frame.specs.{packets_left}
 use Rattle.feedback_core.proofs.Framed.{most_framed}
 use Rattle.feedback_core.proofs.Closing.{stands_unframed, answer_unframed}
 use Rattle.feedback_core.proofs.feedback.answer_feedback.Goals as goal

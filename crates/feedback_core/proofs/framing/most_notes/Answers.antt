@@ -1,8 +1,7 @@
 -- A packet's part is within the sum.
 use Rattle.std.proofs.Common.{◌≡◌, ◌+◌, ap, arith}
-use Rattle.rtcp_frame.specs.Left.{packets_left}
-use Rattle.rtcp_frame.specs.Shown.{shown_packet}
-use Rattle.feedback_core.specs.Counting.{most_of, most_notes}
+use Rattle.rtcp_frame.specs.{packets_left, shown_packet}
+use Rattle.feedback_core.specs.{most_of, most_notes}
 use Rattle.feedback_core.proofs.framing.most_notes.Goals as goal
 
 pub most_of-most-requires : goal.most_of-most-requires

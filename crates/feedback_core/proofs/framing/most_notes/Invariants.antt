@@ -1,7 +1,7 @@
 -- The sum so far, and that of what is left, is that of all.
 use Rattle.std.proofs.Common.{◌≡◌, ◌+◌}
-use Rattle.rtcp_frame.specs.Left.{packets_left}
-use Rattle.feedback_core.specs.Counting.{most_notes}
+use Rattle.rtcp_frame.specs.{packets_left}
+use Rattle.feedback_core.specs.{most_notes}
 use Rattle.feedback_core.proofs.framing.most_notes.Given as goal
 
 abbrev pub invariant-loop-packet : goal.invariant-loop-packet

@@ -1,9 +1,8 @@
 -- Each number that is passed adds its packet's size.
 use Rattle.std.proofs.Common.{◌≡◌, ℕ, ◌<◌, ◌≤◌, ap, sym, ◌∙◌, zero-add, arith}
 use Rattle.std.specs.Prelude.{max}
-use Rattle.rams_model.specs.Access.{behind}
-use Rattle.rams_model.specs.Bursts.{size_of}
-use Rattle.rams_model.specs.Hold.{lo, hi}
+use Rattle.rams_model.specs.Packets.{behind, lo, hi}
+use Rattle.rams_model.specs.Service.{size_of}
 use Rattle.feedback_core.proofs.Behind.{behind_from, behind_none, next_of}
 use Rattle.feedback_core.proofs.holding.behind.Goals as goal
 

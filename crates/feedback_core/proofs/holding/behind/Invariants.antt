@@ -1,8 +1,7 @@
 -- What is added up so far, and what is held from the present number on, is all from the first on.
 use Rattle.std.proofs.Common.{◌≡◌, ◌+◌, ◌-◌, ◌*◌, ◌≤◌}
 use Rattle.std.specs.Prelude.{max}
-use Rattle.rams_model.specs.Access.{behind}
-use Rattle.rams_model.specs.Hold.{lo}
+use Rattle.rams_model.specs.Packets.{behind, lo}
 use Rattle.feedback_core.proofs.holding.behind.Given as goal
 
 abbrev pub invariant-loop-number : goal.invariant-loop-number

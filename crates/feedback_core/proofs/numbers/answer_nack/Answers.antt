@@ -1,8 +1,8 @@
 -- Of another media source, or read, or not read.
 use Rattle.std.proofs.Common.{arith}
-use Rattle.rams_model.specs.Feedback.{nack_numbers}
-use Rattle.rams_model.specs.Messages.{named}
-use Rattle.rtcp_feedback.specs.Left.{numbers_left}
+use Rattle.rams_model.specs.Formats.{nack_numbers}
+use Rattle.rams_model.specs.Service.{named}
+use Rattle.rtcp_feedback.specs.{numbers_left}
 use Rattle.feedback_core.proofs.Nacks.{read_few, nack_foreign, nack_read, nack_unread}
 use Rattle.feedback_core.proofs.numbers.answer_nack.Goals as goal
 

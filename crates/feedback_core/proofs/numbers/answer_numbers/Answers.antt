@@ -1,6 +1,6 @@
 -- One number more, and in the end all of them.
 use Rattle.std.proofs.Common.{◌≡◌, [], ◌∷◌, length, ap, ◌∙◌, arith}
-use Rattle.rtcp_feedback.specs.Left.{numbers_left}
+use Rattle.rtcp_feedback.specs.{numbers_left}
 use Rattle.feedback_core.proofs.Writing.{next_number, all_numbered}
 use Rattle.feedback_core.proofs.numbers.answer_numbers.Goals as goal
 

@@ -1,10 +1,8 @@
 -- The numbers so far are answered.
 use Rattle.std.proofs.Common.{◌≡◌, ◌+◌, ◌≤◌, Some, length, vec_len, vec_capacity}
-use Rattle.rams_model.specs.History.{History, hold}
-use Rattle.rams_model.specs.Clients.{newest_sender}
-use Rattle.rtcp_feedback.specs.Left.{numbers_left}
-use Rattle.feedback_core.specs.Ready.{IsSafe, AreOfOne}
-use Rattle.feedback_core.specs.Visits.{IsVisit}
+use Rattle.rams_model.specs.Service.{History, hold, newest_sender}
+use Rattle.rtcp_feedback.specs.{numbers_left}
+use Rattle.feedback_core.specs.{IsSafe, AreOfOne, IsVisit}
 use Rattle.feedback_core.proofs.Writing.{IsUnderWay}
 use Rattle.feedback_core.proofs.numbers.answer_numbers.Given as goal
 

@@ -1,7 +1,7 @@
 -- What can't be read is refused.
 use Rattle.std.proofs.Common.{◌∙◌, Ok, refl, sym, ap}
-use Rattle.rams_model.specs.Answers.{after_stop}
-use Rattle.rams_model.specs.Rams.{stop_at}
+use Rattle.rams_model.specs.Service.{after_stop}
+use Rattle.rams_model.specs.Formats.{stop_at}
 use Rattle.feedback_core.proofs.Sayings.{said_so}
 use Rattle.feedback_core.proofs.Stops.{stop_unread}
 use Rattle.feedback_core.proofs.stopping.answer_stop.Goals as goal

@@ -1,11 +1,9 @@
 -- The parts stand for the packet too.
 use Rattle.std.proofs.Common.{◌≡◌, ◌<◌, Some, ◌∷◌, ◌∙◌, subst, arith}
 use Rattle.std.proofs.lemmas.List.Elements.{All-from_get_or}
-use Rattle.rams_model.specs.Settings.{Settings}
-use Rattle.rams_model.specs.History.{arrivals}
-use Rattle.rams_model.specs.Book.{history_of}
+use Rattle.rams_model.specs.Service.{Settings, arrivals, history_of}
 use Rattle.rams_model.specs.declared.event.Event.TheVariants.{Live}
-use Rattle.channel_cache.specs.Arrivals.{live_note_of, arrivals_after}
+use Rattle.channel_cache.specs.{live_note_of, arrivals_after}
 use Rattle.channel_cache.specs.Seen as caches
 use Rattle.channel_parts.proofs.Staying.{live_packets_change_the_cache}
 use Rattle.feedback_core.proofs.tests.take.Goals as goal

@@ -1,10 +1,11 @@
 -- A burst is refused for its rate, or for the share, or begins.
 use Rattle.std.proofs.Common.{◌≡◌, ◌+◌, ◌≤◌, ◌<◌, Ok, sym, subst}
 use Rattle.std.proofs.lemmas.Bool.{both_ways, OnTrue_at, OnFalse_at}
-use Rattle.rams_model.specs.declared.channel.Channel.{Channel}
-use Rattle.rams_model.specs.Verdict.{begins}
-use Rattle.link_budget.specs.Amounts.{Amounts, HasRoom}
-use Rattle.feedback_core.specs.Ready.{IsAnswered}
+use Rattle.rams_model.specs.Types.{Channel}
+use Rattle.rams_model.specs.Service.{begins}
+use Rattle.link_budget.specs.{HasRoom}
+use Rattle.link_budget.specs.Amounts.{Amounts}
+use Rattle.feedback_core.specs.{IsAnswered}
 use Rattle.feedback_core.proofs.Verdicts.{refused, begins_slow, begins_much, accepts}
 use Rattle.feedback_core.proofs.verdict.accept.Goals as goal
 

@@ -1,8 +1,8 @@
 -- What can't be read is refused.
 use Rattle.std.proofs.Common.{◌≡◌, ◌∙◌, Ok, Err, sym, ap}
-use Rattle.rams_model.specs.Rams.{request_at}
-use Rattle.rams_model.specs.Verdict.{verdict}
-use Rattle.rams_tlv.specs.Shown.{shown_request}
+use Rattle.rams_model.specs.Formats.{request_at}
+use Rattle.rams_model.specs.Service.{verdict}
+use Rattle.rams_tlv.specs.{shown_request}
 use Rattle.feedback_core.proofs.Verdicts.{refused, answers_so, unread_request}
 use Rattle.feedback_core.proofs.verdict.answer_request.Goals as goal
 

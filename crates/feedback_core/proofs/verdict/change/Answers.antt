@@ -1,9 +1,10 @@
 -- Another rate is refused where it is too low, or for the share, or is set.
 use Rattle.std.proofs.Common.{◌+◌, ◌≤◌, ◌<◌, subst}
 use Rattle.std.proofs.lemmas.Bool.{both_ways, OnTrue_at}
-use Rattle.rams_model.specs.declared.channel.Channel.{Channel}
-use Rattle.rams_model.specs.Verdict.{changes}
-use Rattle.link_budget.specs.Amounts.{Amounts, HasRoom}
+use Rattle.rams_model.specs.Types.{Channel}
+use Rattle.rams_model.specs.Service.{changes}
+use Rattle.link_budget.specs.{HasRoom}
+use Rattle.link_budget.specs.Amounts.{Amounts}
 use Rattle.feedback_core.proofs.Verdicts.{refused, changes_slow, changes_much, updates}
 use Rattle.feedback_core.proofs.verdict.change.Goals as goal
 

@@ -1,9 +1,9 @@
 -- The first refusal, or what a client with or without an open burst gets.
 use Rattle.std.proofs.Common.{◌≡◌, ◌∙◌, true, false, Ok, sym, subst}
-use Rattle.rams_model.specs.declared.channel.Channel.{Channel}
-use Rattle.rams_model.specs.Rams.{names}
-use Rattle.rams_model.specs.Verdict.{verdict}
-use Rattle.rams_tlv.specs.Shown.{shown_request}
+use Rattle.rams_model.specs.Types.{Channel}
+use Rattle.rams_model.specs.Formats.{names}
+use Rattle.rams_model.specs.Service.{verdict}
+use Rattle.rams_tlv.specs.{shown_request}
 use Rattle.feedback_core.proofs.Verdicts.{refused, only_preamble, foreign_request, request_on_burst, request_without}
 use Rattle.feedback_core.proofs.verdict.on_request.Goals as goal
 

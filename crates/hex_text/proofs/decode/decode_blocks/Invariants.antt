@@ -1,5 +1,5 @@
 use Rattle.std.proofs.Common.{◌≡◌, ◌*◌, ◌++◌, take, drop}
-use Rattle.hex_text.specs.Pairs.{pair_bytes}
+use Rattle.hex_text.specs.{pair_bytes}
 use Rattle.hex_text.proofs.decode.decode_blocks.Given as goal
 
 abbrev pub invariant-parts : goal.invariant-parts

@@ -1,7 +1,7 @@
 use Rattle.std.proofs.Common.{◌%◌, ◌==◌, length, arith}
 use Rattle.std.proofs.lemmas.Bool.{and_parts, eqb-true}
 use Rattle.std.specs.List.{list_all}
-use Rattle.hex_text.specs.HexText.{is_lower_digit}
+use Rattle.hex_text.specs.{is_lower_digit}
 use Rattle.hex_text.proofs.Reading.{decode_of-lower}
 use Rattle.hex_text.proofs.decode.decode_known.Goals as goal
 

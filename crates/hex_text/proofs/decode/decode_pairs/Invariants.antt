@@ -1,7 +1,6 @@
 use Rattle.std.proofs.Common.{◌≡◌, ◌*◌, ◌++◌, take, drop}
 use Rattle.std.specs.List.{list_all}
-use Rattle.hex_text.specs.HexText.{is_lower_digit}
-use Rattle.hex_text.specs.Pairs.{pair_bytes}
+use Rattle.hex_text.specs.{is_lower_digit, pair_bytes}
 use Rattle.hex_text.proofs.decode.decode_pairs.Given as goal
 
 abbrev pub invariant-pairs : goal.invariant-pairs

@@ -2,28 +2,9 @@
 use Rattle.std.proofs.Common.{refl}
 use Rattle.std.specs.Fmt.{digits}
 use Rattle.hex.specs.Hex.{encode_with, decode_pairs}
-use Rattle.rams_model.specs.Packet.{header, spelling}
-use Rattle.rams_model.specs.Rtp.{fields_of, packet_at}
-use Rattle.rams_model.specs.RamsInfo.{rams_info}
-use Rattle.rams_model.specs.Joined.{pieces_from, words32}
-use Rattle.rams_model.specs.Feedback.{word_numbers, numbers_of}
-use Rattle.rams_model.specs.Rams.{first_value}
-use Rattle.rams_model.specs.Hold.{hi}
-use Rattle.rams_model.specs.Numbering.{numbered}
-use Rattle.rams_model.specs.Source.{awaited, live_note, stream_of, source, consecutive_end, hold}
-use Rattle.rams_model.specs.Access.{has_access, chosen}
-use Rattle.rams_model.specs.Messages.{message_of, messages}
-use Rattle.rams_model.specs.Heard.{heard_of}
-use Rattle.rams_model.specs.History.{arrivals, as_tick_began}
-use Rattle.rams_model.specs.Clients.{known, opened, sendings, newest_sender, ssrc}
-use Rattle.rams_model.specs.Bursts.{bursts}
-use Rattle.rams_model.specs.Pending.{pending, quiet_ticks}
-use Rattle.rams_model.specs.Buckets.{channel_left, sent_now}
-use Rattle.rams_model.specs.Verdict.{verdict}
-use Rattle.rams_model.specs.Answers.{number_answer, after_numbers, after_messages}
-use Rattle.rams_model.specs.Tick.{run, send, all_served, all_repaired, all_forgotten, after_tick}
-use Rattle.rams_model.specs.Orders.{order_of, newest_notes, newest_orders, datagram}
-use Rattle.rams_model.specs.Book.{after_hearing, history_of, book}
+use Rattle.rams_model.specs.Formats.{header, spelling, fields_of, packet_at, rams_info, pieces_from, words32, word_numbers, numbers_of, first_value}
+use Rattle.rams_model.specs.Packets.{hi, numbered, awaited, live_note, stream_of, source, consecutive_end, hold, has_access, chosen}
+use Rattle.rams_model.specs.Service.{message_of, messages, heard_of, arrivals, as_tick_began, known, opened, sendings, newest_sender, ssrc, bursts, pending, quiet_ticks, channel_left, sent_now, verdict, number_answer, after_numbers, after_messages, run, send, all_served, all_repaired, all_forgotten, after_tick, order_of, newest_notes, newest_orders, datagram, after_hearing, history_of, book}
 use Rattle.rams_model.specs.Worked.Repairs.{RepairAcrossTheWrap, EarlyAndAlready, RepairWaitsForBudget, GoneFromTheRing, EarlyUpToTheStop, EachNumberAfterTheOther, NacksWithoutNumbers, RepairsBehindTheRuns}
 use Rattle.rams_model.proofs.examples.repairs_of_packets.Goals as goal
 

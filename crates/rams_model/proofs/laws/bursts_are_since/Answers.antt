@@ -1,4 +1,4 @@
-use Rattle.rams_model.specs.Bursts.{has_open}
+use Rattle.rams_model.specs.Service.{has_open}
 use Rattle.rams_model.specs.Laws.{is_accept_of, is_end_of}
 use Rattle.rams_model.proofs.Since.{stands_both}
 use Rattle.rams_model.proofs.LastStop.{last_stop}

@@ -1,5 +1,5 @@
 use Rattle.std.proofs.Common.{zero-le}
-use Rattle.rams_model.specs.Hold.{lo}
+use Rattle.rams_model.specs.Packets.{lo}
 use Rattle.rams_model.proofs.Rising.{lower}
 use Rattle.rams_model.proofs.Holding.{rises_from}
 use Rattle.rams_model.proofs.Choosing.{newest_chosen}

@@ -1,5 +1,4 @@
-use Rattle.rams_model.specs.Clients.{known, opened, is_among}
-use Rattle.rams_model.specs.Pending.{is_pending}
+use Rattle.rams_model.specs.Service.{known, opened, is_among, is_pending}
 use Rattle.rams_model.specs.Laws.{makes_known, ends_known, is_accept_of, is_end_of, is_queued, ends_pending}
 use Rattle.rams_model.proofs.Since.{stands_both, known_stands, opened_stands, pending_stands}
 use Rattle.rams_model.proofs.laws.clients_are_since.Goals as goal

@@ -1,4 +1,4 @@
-use Rattle.rams_model.specs.History.{hold}
+use Rattle.rams_model.specs.Service.{hold}
 use Rattle.rams_model.proofs.Holding.{longest_end, held_follow, held_from}
 use Rattle.rams_model.proofs.laws.held_packets_follow.Goals as goal
 

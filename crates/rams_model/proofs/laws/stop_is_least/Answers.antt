@@ -1,5 +1,5 @@
 use Rattle.std.proofs.Common.{refl}
-use Rattle.rams_model.specs.Numbering.{least_from}
+use Rattle.rams_model.specs.Packets.{least_from}
 use Rattle.rams_model.proofs.Stopping.{least_named}
 use Rattle.rams_model.proofs.laws.stop_is_least.Goals as goal
 

@@ -1,9 +1,8 @@
 use Rattle.std.proofs.Common.{List, ℕ, subst}
 use Rattle.std.specs.Io.KnownBytes.{prepend_known}
-use Rattle.line_io.specs.Lines.{TakesNext}
-use Rattle.line_io.specs.declared.reader.Next.{Next}
-use Rattle.trace_book.specs.TraceText.{turn}
-use Rattle.rams_replay.specs.Turns.{Took}
+use Rattle.line_io.specs.{TakesNext, Next}
+use Rattle.trace_book.specs.{turn}
+use Rattle.rams_replay.specs.{Took}
 use Rattle.rams_replay.proofs.FirstTurn.{line_is_told, long_is_told, end_is_told}
 use Rattle.rams_replay.proofs.book.next_turn.Goals as goal
 

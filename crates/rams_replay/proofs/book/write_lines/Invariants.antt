@@ -1,7 +1,6 @@
 use Rattle.std.proofs.Common.{◌≤◌}
 use Rattle.std.specs.Io.KnownBytes.{prepend_known}
-use Rattle.rams_replay.specs.Told.{IfBothTold}
-use Rattle.rams_replay.specs.Turns.{StandsSomewhere}
+use Rattle.rams_replay.specs.{IfBothTold, StandsSomewhere}
 use Rattle.rams_replay.proofs.Running.{IsRunning}
 use Rattle.rams_replay.proofs.book.write_lines.Given as goal
 

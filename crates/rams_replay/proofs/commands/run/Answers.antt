@@ -1,6 +1,5 @@
 use Rattle.std.specs.Prelude.{All}
-use Rattle.trace_book.specs.Promises.{KeepsPromises}
-use Rattle.trace_book.specs.TraceText.{served_by}
+use Rattle.trace_book.specs.{KeepsPromises, served_by}
 use Rattle.rams_replay.proofs.Booking.{none_of, told_all}
 use Rattle.rams_replay.proofs.commands.run.Goals as goal
 

@@ -2,13 +2,11 @@ use Rattle.std.proofs.Common.{ℕ, Some, List, sym, ◌∙◌, refl, subst}
 use Rattle.std.proofs.lemmas.Result.{IfOk-weaker}
 use Rattle.server_hub.specs.declared.event.HubEvent.TheVariants as events
 use Rattle.server_hub.specs.Seen.{Seen}
-use Rattle.rams_model.specs.TraceLine.{head_line, channel_line, live_line, feedback_line, tick_line}
-use Rattle.trace_book.specs.TraceText.{after_line, counted, eventless}
-use Rattle.trace_book.specs.TraceText.{event_of as brought}
-use Rattle.trace_text.specs.declared.line.Line.{Line}
-use Rattle.trace_text.specs.Shown.{shown}
+use Rattle.rams_model.specs.Texts.{head_line, channel_line, live_line, feedback_line, tick_line}
+use Rattle.trace_book.specs.{after_line, counted, eventless, event_of as brought}
+use Rattle.trace_text.specs.{Line, shown}
 use Rattle.rams_replay.specs.declared.replay.Turn.TheVariants.{GoesOn}
-use Rattle.rams_replay.specs.Turns.{Comes, Took}
+use Rattle.rams_replay.specs.{Comes, Took}
 use Rattle.rams_replay.proofs.Opening.{head_bounds, head_turn, opens_next, opened_turn}
 use Rattle.rams_replay.proofs.Turning.{event_stage, event_has_hub, receiver_turn}
 use Rattle.rams_replay.proofs.replay.after_line.Goals as goal

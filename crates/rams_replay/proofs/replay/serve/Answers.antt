@@ -1,6 +1,6 @@
 use Rattle.std.proofs.Common.{Option, subst}
 use Rattle.server_hub.specs.Seen.{Seen}
-use Rattle.rams_replay.specs.Turns.{Stands}
+use Rattle.rams_replay.specs.{Stands}
 use Rattle.rams_replay.proofs.Turning.{served_turn}
 use Rattle.rams_replay.proofs.replay.serve.Goals as goal
 

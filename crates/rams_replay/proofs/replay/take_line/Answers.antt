@@ -1,7 +1,7 @@
 use Rattle.std.proofs.Common.{◌≡◌, Ok, Err, subst}
 use Rattle.std.proofs.lemmas.Result.{IfOk-weaker}
-use Rattle.rams_model.specs.TraceOrder.{Reached, judged}
-use Rattle.trace_text.specs.Shown.{shown}
+use Rattle.rams_model.specs.Texts.{Reached, judged}
+use Rattle.trace_text.specs.{shown}
 use Rattle.rams_replay.proofs.Turning.{comes_next, judged_turn, refused_turn, goes_somewhere}
 use Rattle.rams_replay.proofs.replay.take_line.Goals as goal
 

@@ -1,6 +1,6 @@
 use Rattle.std.proofs.Common.{◌++◌, drop}
 use Rattle.std.specs.List.{flat_map}
-use Rattle.rams_replay.specs.Turns.{at_text}
+use Rattle.rams_replay.specs.{at_text}
 use Rattle.rams_replay.proofs.Writing.{IsWriting}
 use Rattle.rams_replay.proofs.writer.write_all.Given as goal
 

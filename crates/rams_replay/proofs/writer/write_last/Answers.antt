@@ -1,8 +1,6 @@
 use Rattle.std.proofs.Common.{◌++◌, Result, IfErr, sym, subst}
 use Rattle.std.proofs.lemmas.Result.{err_from_is_err_and}
-use Rattle.rams_replay.specs.declared.stop.Stop.{Stop}
-use Rattle.rams_replay.specs.Stops.{StopsIn}
-use Rattle.rams_replay.specs.Turns.{last_line}
+use Rattle.rams_replay.specs.{Stop, StopsIn, last_line}
 use Rattle.rams_replay.proofs.Writing.{unwritten}
 use Rattle.rams_replay.proofs.writer.write_last.Goals as goal
 

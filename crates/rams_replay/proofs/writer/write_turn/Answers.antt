@@ -1,9 +1,7 @@
 use Rattle.std.proofs.Common.{List, ℕ, Option, ◌++◌, ◌+◌, length, IfErr, OnOk, sym, subst}
-use Rattle.rams_replay.specs.declared.replay.Turn.{Turn}
+use Rattle.rams_replay.specs.{Turn, OnlyMemoryStops, StopsIn, written}
 use Rattle.line_io.specs.Passes.{Passes}
-use Rattle.rams_replay.specs.Stops.{OnlyMemoryStops, StopsIn}
 use Rattle.rams_replay.proofs.Turning.{written_last}
-use Rattle.rams_replay.specs.Turns.{written}
 use Rattle.rams_replay.proofs.writer.write_turn.Goals as goal
 
 pub returns-in-Answered-clause-front : goal.returns-in-Answered-clause-front

@@ -1,6 +1,6 @@
 use Rattle.std.proofs.Common.{ℕ, List, ◌++◌, ◌∷◌, [], sym, ap, ◌∙◌, append_assoc}
 use Rattle.std.specs.Int.{w64}
-use Rattle.rams_model.specs.RamsInfo.{optional_tlv}
+use Rattle.rams_model.specs.Formats.{optional_tlv}
 use Rattle.rams_tlv.proofs.writing.put_long.Goals as goal
 
 pub returns-in-Some-clause-items : goal.returns-in-Some-clause-items

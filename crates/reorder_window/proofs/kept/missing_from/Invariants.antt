@@ -1,5 +1,5 @@
 use Rattle.std.proofs.Common.{◌≡◌, ◌+◌, ◌≤◌, drop}
-use Rattle.reorder_window.specs.Seen.{next_missing}
+use Rattle.reorder_window.specs.{next_missing}
 use Rattle.reorder_window.proofs.kept.missing_from.Given as goal
 
 -- the search goes on from n in the rest

@@ -1,6 +1,6 @@
 use Rattle.std.proofs.Common.{◌∙◌, nat_eq, ◌&&◌}
 use Rattle.std.specs.HashSet.{contains}
-use Rattle.repair_queue.specs.Index.{same_pair}
+use Rattle.repair_queue.specs.{same_pair}
 use Rattle.repair_queue.proofs.Indexed.{done_if_ok, pair_put}
 use Rattle.repair_queue.proofs.index.add_pair.Goals as goal
 

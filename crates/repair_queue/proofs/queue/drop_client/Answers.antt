@@ -1,8 +1,8 @@
 use Rattle.std.proofs.Common.{◌≡◌, ◌<◌, true, false, not, length, sym, ap, ◌∙◌, arith}
 use Rattle.std.proofs.lemmas.Bool.Decides.{nat_tests}
 use Rattle.std.proofs.lemmas.List.Filters.{FiltersInPlace-more_no, FiltersInPlace-more_set}
-use Rattle.rams_model.specs.Pending.{Wanted}
-use Rattle.repair_queue.specs.Queue.{is_of}
+use Rattle.rams_model.specs.Service.{Wanted}
+use Rattle.repair_queue.specs.{is_of}
 use Rattle.repair_queue.proofs.queue.drop_client.Goals as goal
 
 pub loop-i-preserved-then-w-client : goal.loop-i-preserved-then-w-client

@@ -1,6 +1,6 @@
 use Rattle.std.proofs.Common.{◌≡◌, vec_capacity, not}
 use Rattle.std.proofs.lemmas.List.Filters.{FiltersInPlace}
-use Rattle.repair_queue.specs.Queue.{is_of}
+use Rattle.repair_queue.specs.{is_of}
 use Rattle.repair_queue.proofs.queue.drop_client.Given as goal
 
 -- The other clients' repairs so far stand in front, and the rest is as it was.

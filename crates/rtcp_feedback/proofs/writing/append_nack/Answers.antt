@@ -1,5 +1,5 @@
 use Rattle.std.proofs.Common.{◌≡◌, ℕ, ◌+◌, ◌∙◌, length, ap, arith, length-append}
-use Rattle.rams_model.specs.Feedback.{nack_words}
+use Rattle.rams_model.specs.Formats.{nack_words}
 use Rattle.rtcp_feedback.proofs.Packing.{nack_text, nack_length}
 use Rattle.rtcp_feedback.proofs.writing.append_nack.Goals as goal
 

@@ -1,5 +1,5 @@
 use Rattle.std.proofs.Common.{◌∙◌, ◌++◌, drop, get_or, refl, sym, arith}
-use Rattle.rams_model.specs.Feedback.{distance, nack_words}
+use Rattle.rams_model.specs.Formats.{distance, nack_words}
 use Rattle.std.proofs.lemmas.Grind.{common_steps}
 use Rattle.rtcp_feedback.proofs.Packing.{joins_word, begins_word, ends_words, bits_below, bits_few, room_for_word, kept_behind, on_err}
 use Rattle.std.specs.Int.{w16, to_be_bytes}

@@ -1,5 +1,5 @@
 use Rattle.std.proofs.Common.{◌≡◌, ℕ, ◌<◌, ◌≤◌, ◌^◌, List, ◌++◌, drop, vec_capacity}
-use Rattle.rams_model.specs.Feedback.{words_from, nack_words}
+use Rattle.rams_model.specs.Formats.{words_from, nack_words}
 use Rattle.rtcp_feedback.proofs.writing.append_words.Given as goal
 
 -- what is written, and the words of what is left, are all words

@@ -1,6 +1,6 @@
 use Rattle.std.proofs.Common.{◌≡◌, length}
 use Rattle.std.specs.Result.{result_err}
-use Rattle.rtcp_frame.specs.Datagram.{packets_in}
+use Rattle.rtcp_frame.specs.{packets_in}
 use Rattle.rtcp_frame.proofs.framing.packets.Given as goal
 
 -- the first fault of what is left is that of all

@@ -2,7 +2,7 @@ use Rattle.std.proofs.Common.{◌≡◌, ◌∙◌, ◌-◌, ◌+◌, ℕ, take,
 use Rattle.std.specs.Prelude.{◌==◌}
 use Rattle.std.specs.List.{list_any}
 use Rattle.std.specs.Int.{w32, from_be_bytes}
-use Rattle.rams_model.specs.Joined.{words32}
+use Rattle.rams_model.specs.Formats.{words32}
 use Rattle.rtcp_frame.proofs.Named.{named_here, named_behind, named_nowhere}
 use Rattle.rtcp_frame.proofs.packet.has_word.Goals as goal
 

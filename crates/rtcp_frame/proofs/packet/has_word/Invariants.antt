@@ -1,7 +1,7 @@
 use Rattle.std.proofs.Common.{◌≡◌, ◌-◌, take}
 use Rattle.std.specs.Prelude.{◌==◌}
 use Rattle.std.specs.List.{list_any}
-use Rattle.rams_model.specs.Joined.{words32}
+use Rattle.rams_model.specs.Formats.{words32}
 use Rattle.rtcp_frame.proofs.packet.has_word.Given as goal
 
 -- the number is among the words that are left where it is among all

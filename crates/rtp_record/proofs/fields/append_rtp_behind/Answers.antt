@@ -1,6 +1,6 @@
 use Rattle.std.proofs.Common.{List, ℕ, ◌++◌, refl, ap, ◌∙◌, arith}
 use Rattle.std.proofs.lemmas.List.{length-append}
-use Rattle.rtp_record.specs.Fields.{packet_of, behind}
+use Rattle.rtp_record.specs.{packet_of, behind}
 use Rattle.rtp_record.proofs.Stripping.{on_err}
 use Rattle.rtp_record.proofs.Writing.{spelled_length, put_together, header_behind}
 use Rattle.rtp_record.proofs.fields.append_rtp_behind.Goals as goal

@@ -1,8 +1,7 @@
 use Rattle.std.proofs.Common.{List, ℕ, ◌++◌, ap, ◌∙◌}
-use Rattle.rams_model.specs.Packet.{spelling}
-use Rattle.rams_model.specs.Rtp.{packet_at}
+use Rattle.rams_model.specs.Formats.{spelling, packet_at}
 use Rattle.rams_model.proofs.RtpPackets.{read_so}
-use Rattle.rtp_record.specs.Fields.{packet_of}
+use Rattle.rtp_record.specs.{packet_of}
 use Rattle.rtp_record.proofs.fields.write_rtp.Goals as goal
 
 pub returns-clause-read : goal.returns-clause-read

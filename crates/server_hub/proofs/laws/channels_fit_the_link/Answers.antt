@@ -1,5 +1,5 @@
 use Rattle.std.proofs.Common.{subst}
-use Rattle.server_hub.specs.Seen.{FitLink}
+use Rattle.server_hub.specs.{FitLink}
 use Rattle.server_hub.proofs.Changing.{same_settings}
 use Rattle.server_hub.proofs.laws.channels_fit_the_link.Goals as goal
 

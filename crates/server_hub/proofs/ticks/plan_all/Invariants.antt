@@ -1,6 +1,6 @@
 use Rattle.std.proofs.Common.{take}
-use Rattle.session_core.specs.Seen.{IsPlanOf}
-use Rattle.server_hub.specs.Pairs.{Pairwise}
+use Rattle.session_core.specs.{IsPlanOf}
+use Rattle.server_hub.specs.{Pairwise}
 use Rattle.server_hub.proofs.ticks.plan_all.Given as goal
 
 abbrev pub invariant-loop-core : goal.invariant-loop-core

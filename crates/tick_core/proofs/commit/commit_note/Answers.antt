@@ -1,6 +1,6 @@
 use Rattle.std.proofs.Common.{ap, sym, ◌∙◌}
-use Rattle.rams_model.specs.declared.note.Note.{Note}
-use Rattle.tick_core.specs.Committed.{committing, with_committed}
+use Rattle.rams_model.specs.Types.{Note}
+use Rattle.tick_core.specs.{committing, with_committed}
 use Rattle.tick_core.proofs.commit.commit_note.Goals as goal
 
 pub returns-in-Burst : goal.returns-in-Burst

@@ -1,4 +1,4 @@
-use Rattle.tick_core.specs.Committed.{committing}
+use Rattle.tick_core.specs.{committing}
 use Rattle.tick_core.proofs.Carrying.{may_now, may_later, one_more, no_more}
 use Rattle.tick_core.proofs.commit.commit_notes.Goals as goal
 

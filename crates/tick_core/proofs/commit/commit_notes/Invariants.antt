@@ -1,5 +1,5 @@
 use Rattle.std.proofs.Common.{◌≡◌, drop}
-use Rattle.tick_core.specs.Committed.{committing, with_all_committed, MayCommitAll}
+use Rattle.tick_core.specs.{committing, with_all_committed, MayCommitAll}
 use Rattle.tick_core.proofs.commit.commit_notes.Given as goal
 
 -- The notes that are left may be carried out, and lead to the same end.

@@ -1,6 +1,5 @@
 use Rattle.std.proofs.Common.{ap, ◌∙◌}
-use Rattle.tick_core.specs.Runs.{allowance}
-use Rattle.tick_core.specs.Repairs.{clients_of}
+use Rattle.tick_core.specs.{allowance, clients_of}
 use Rattle.tick_core.proofs.Placing.{taken_is, clients_stay}
 use Rattle.tick_core.proofs.repairs.take.Goals as goal
 

@@ -1,5 +1,5 @@
 use Rattle.std.proofs.Common.{◌&&◌, not, ltb, ap, sym, ◌∙◌}
-use Rattle.rams_model.specs.Hold.{hi}
+use Rattle.rams_model.specs.Packets.{hi}
 use Rattle.tick_core.proofs.Going.{lent_lost}
 use Rattle.tick_core.proofs.runs.is_lost.Goals as goal
 

@@ -1,5 +1,5 @@
 use Rattle.std.proofs.Common.{ap, sym, ◌∙◌}
-use Rattle.tick_core.specs.Runs.{sent_after, with_run}
+use Rattle.tick_core.specs.{sent_after, with_run}
 use Rattle.tick_core.proofs.Going.{sent_turn, draft_turn, sent_end, draft_end}
 use Rattle.tick_core.proofs.runs.send_run.Goals as goal
 

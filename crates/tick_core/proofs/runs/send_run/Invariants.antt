@@ -1,6 +1,6 @@
 use Rattle.std.proofs.Common.{◌≡◌, ◌-◌}
-use Rattle.rams_model.specs.Hold.{hi}
-use Rattle.tick_core.specs.Runs.{run_from, run_of, sent_after, with_run, after_run}
+use Rattle.rams_model.specs.Packets.{hi}
+use Rattle.tick_core.specs.{run_from, run_of, sent_after, with_run, after_run}
 use Rattle.tick_core.proofs.runs.send_run.Given as goal
 
 -- What is left to be sent leads to the same end.

@@ -1,7 +1,6 @@
 use Rattle.std.proofs.Common.{◌≡◌, ◌++◌, All, Some}
-use Rattle.client_table.specs.Clients.{entry_of}
-use Rattle.client_table.specs.Left.{clients_left}
-use Rattle.tick_core.specs.Runs.{allowances_of, with_all_served}
+use Rattle.client_table.specs.{entry_of, clients_left}
+use Rattle.tick_core.specs.{allowances_of, with_all_served}
 use Rattle.tick_core.proofs.runs.serve_clients.Given as goal
 
 -- Those who are left lead to the same end.

@@ -1,6 +1,6 @@
 use Rattle.std.proofs.Common.{◌≡◌, None, rules}
-use Rattle.client_table.specs.Clients.{new_entry, entry_of}
-use Rattle.tick_core.specs.ByHand.{IsReady}
+use Rattle.client_table.specs.{new_entry, entry_of}
+use Rattle.tick_core.specs.{IsReady}
 use Rattle.tick_core.proofs.Filling.{known_ready}
 use Rattle.tick_core.proofs.tests.know.Goals as goal
 

@@ -1,17 +1,13 @@
 -- Each law of every lawful book, at the moments of a channel.
 use Rattle.std.proofs.Common.{◌≡◌, ℕ, List, [], ◌∷◌, ◌++◌, ⊎_elim, ap, sym, ◌∙◌, subst}
 use Rattle.std.specs.Prelude.{All}
-use Rattle.rams_model.specs.declared.event.Event.{Event}
-use Rattle.rams_model.specs.Heard.{tick}
+use Rattle.rams_model.specs.Types.{Event}
+use Rattle.rams_model.specs.Service.{tick, began, noted, History, Book, history_of, IsLawful}
 use Rattle.rams_model.specs.declared.note.Note.TheVariants.{Repair}
-use Rattle.rams_model.specs.History.{began, noted, History}
-use Rattle.rams_model.specs.Book.{Book, history_of, IsLawful}
-use Rattle.book_laws.specs.Moments.{LastAccept}
+use Rattle.book_laws.specs.{LastAccept, is_tick_start, BeginsWithATick, notes_of}
 use Rattle.rams_model.specs.Laws.{NoneIs}
-use Rattle.book_laws.specs.Budgets.{is_tick_start, BeginsWithATick}
-use Rattle.book_laws.specs.OneBook.{notes_of}
 use Rattle.server_hub.specs.Served.{Served}
-use Rattle.trace_book.specs.Promises.{WasSo, HasOneBook, RetransmitsTheSource, SendsInOrder, RespectsItsStop, TellsBurstsTruly, SendsWhatIsAsked, IsWithinBudgets, IsWithinBudgetsOverTicks, KeepsBudgets, RefusesTruly, AnswersByTheTable, KeepsJoinTimes, IsOfBytes, KeepsPromises}
+use Rattle.trace_book.specs.{WasSo, HasOneBook, RetransmitsTheSource, SendsInOrder, RespectsItsStop, TellsBurstsTruly, SendsWhatIsAsked, IsWithinBudgets, IsWithinBudgetsOverTicks, KeepsBudgets, RefusesTruly, AnswersByTheTable, KeepsJoinTimes, IsOfBytes, KeepsPromises}
 use Rattle.trace_book.proofs.Moments.{moment, earlier, stands_in}
 use Rattle.trace_book.proofs.Bytes.{trace_bytes}
 use Rattle.trace_book.proofs.Repairs.{repair_waits, repair_held}

@@ -1,15 +1,10 @@
 use Rattle.std.proofs.Common.{◌≡◌, ◌≤◌, List, [], ◌∷◌, Option, Some, None, refl, sym, subst, arith}
 use Rattle.std.specs.Prelude.{All}
-use Rattle.rams_model.specs.Settings.{Settings}
-use Rattle.rams_model.specs.TraceOrder.{Head}
-use Rattle.server_hub.specs.declared.event.HubEvent.{HubEvent}
+use Rattle.rams_model.specs.Service.{Settings}
+use Rattle.rams_model.specs.Texts.{Head}
+use Rattle.server_hub.specs.{HubEvent, FitLink, shares_of, all_shares, after_events}
 use Rattle.server_hub.specs.Served.{Served}
-use Rattle.server_hub.specs.Seen.{FitLink, shares_of}
-use Rattle.server_hub.specs.Sent.{all_shares, after_events}
-use Rattle.trace_book.specs.TraceText.{last_stage, served_by}
-use Rattle.trace_book.specs.Stages.{settings_of, new_channels, AreLawful, StandUnder, Stand}
-use Rattle.trace_book.specs.Runs.{came}
-use Rattle.trace_book.specs.Links.{StayWithinTheLink}
+use Rattle.trace_book.specs.{last_stage, served_by, settings_of, new_channels, AreLawful, StandUnder, Stand, came, StayWithinTheLink}
 use Rattle.trace_book.proofs.Runs.{goes_all}
 use Rattle.trace_book.proofs.Links.{settings_over, settings_new, swells_over}
 use Rattle.trace_book.proofs.laws.traces_stay_within_the_link.Goals as goal

@@ -1,7 +1,7 @@
 use Rattle.std.proofs.Common.{◌≡◌, [], ◌∷◌, ◌++◌, ◌==◌, if◌then◌else◌, sym, ◌∙◌, ap, subst, arith}
 use Rattle.std.proofs.lemmas.Bool.Decides.{nat_tests}
-use Rattle.access_index.specs.Seen.{Seen, pushed}
-use Rattle.access_index.specs.Marks.{StandsFor}
+use Rattle.access_index.specs.{pushed, StandsFor}
+use Rattle.access_index.specs.Seen.{Seen}
 use Rattle.access_index.proofs.Points.{rise-length}
 use Rattle.access_index.proofs.Standing.{pushed_stands}
 use Rattle.access_index.proofs.Pushing.{IsTaken, taken_point, taken_other, taken_is, taken_rise}

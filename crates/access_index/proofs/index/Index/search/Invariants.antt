@@ -1,7 +1,6 @@
 use Rattle.std.proofs.Common.{◌≡◌, map, filter}
 use Rattle.std.specs.VecDeque.Iter.{deque_iter_rest}
-use Rattle.access_index.specs.Seen.{leaves_room, choice}
-use Rattle.access_index.specs.Kept.{shown, RiseIn}
+use Rattle.access_index.specs.{leaves_room, choice, shown, RiseIn}
 use Rattle.access_index.proofs.Choosing.{choice_or}
 use Rattle.access_index.proofs.index.Index.search.Given as goal
 

@@ -1,7 +1,7 @@
 use Rattle.std.proofs.Common.{◌≡◌, ◌+◌, sym, ◌∙◌, ap, subst}
-use Rattle.rams_model.specs.declared.channel.Channel.{Channel}
-use Rattle.rams_model.specs.Heard.{live, dropped, heard_live}
-use Rattle.channel_cache.specs.Arrivals.{arrival_of}
+use Rattle.rams_model.specs.Types.{Channel}
+use Rattle.rams_model.specs.Service.{live, dropped, heard_live}
+use Rattle.channel_cache.specs.{arrival_of}
 use Rattle.channel_cache.proofs.Shown.{took, let_go, does}
 use Rattle.channel_cache.proofs.cache.Cache.live.Goals as goal
 use Rattle.channel_cache.proofs.cache.Cache.live.Goals.{in-Ok+in_ok-incoming-in-Ok, in-Err}

@@ -1,6 +1,7 @@
 use Rattle.std.proofs.Common.{[], subst}
 use Rattle.ext_seq.specs.Numbers as numbers
-use Rattle.channel_cache.specs.Seen.{Seen, StandsFor}
+use Rattle.channel_cache.specs.{StandsFor}
+use Rattle.channel_cache.specs.Seen.{Seen}
 use Rattle.channel_cache.proofs.Shown.{new_stands, new_is}
 use Rattle.channel_cache.proofs.cache.Cache.new.Goals as goal
 

@@ -1,5 +1,5 @@
 use Rattle.std.proofs.Common.{ℕ, List, ◌∙◌, sym, subst}
-use Rattle.channel_cache.specs.Whole.{IsBare}
+use Rattle.channel_cache.specs.{IsBare}
 use Rattle.channel_cache.proofs.Wholes.{stripped_bare}
 use Rattle.channel_cache.proofs.incoming.Incoming.of.Goals as goal
 

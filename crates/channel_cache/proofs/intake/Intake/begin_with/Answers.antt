@@ -1,10 +1,7 @@
 use Rattle.std.proofs.Common.{◌≡◌, [], List, ◌∙◌, ap, subst}
-use Rattle.rams_model.specs.declared.held.Held.{Held}
-use Rattle.reorder_window.specs.Starts.{Start, came, start_after}
-use Rattle.reorder_window.specs.Seen.{came_of}
-use Rattle.channel_cache.specs.declared.intake.Intake.{Intake}
-use Rattle.channel_cache.specs.Arrivals.{arrival_of}
-use Rattle.channel_cache.specs.Waiting.{Holds}
+use Rattle.rams_model.specs.Types.{Held}
+use Rattle.reorder_window.specs.{Start, came, start_after, came_of}
+use Rattle.channel_cache.specs.{Intake, arrival_of, Holds}
 use Rattle.channel_cache.proofs.Starting.{begun_keeps, begun_brings}
 use Rattle.channel_cache.proofs.intake.Intake.begin_with.Goals as goal
 

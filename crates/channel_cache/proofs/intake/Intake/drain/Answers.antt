@@ -1,10 +1,10 @@
 use Rattle.std.proofs.Common.{ℕ, ◌≤◌, ◌++◌, sym, ◌∙◌, ap, arith}
-use Rattle.rams_model.specs.declared.held.Held.{Held}
-use Rattle.reorder_window.specs.Seen.{without}
+use Rattle.rams_model.specs.Types.{Held}
+use Rattle.reorder_window.specs.{without}
 use Rattle.reorder_window.specs.Seen as windows
 use Rattle.channel_cache.specs.Stocked as stocks
-use Rattle.channel_cache.specs.Waiting.{packets_of}
-use Rattle.rams_model.specs.Hold.{hi}
+use Rattle.channel_cache.specs.{packets_of}
+use Rattle.rams_model.specs.Packets.{hi}
 use Rattle.channel_cache.proofs.Stocking.{pushed_end}
 use Rattle.channel_cache.proofs.Draining.{goes_out, is_next, one_out, one_held, all_out}
 use Rattle.channel_cache.proofs.intake.Intake.drain.Goals as goal

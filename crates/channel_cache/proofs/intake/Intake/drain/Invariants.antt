@@ -1,10 +1,10 @@
 use Rattle.std.proofs.Common.{◌≡◌, ℕ, ◌+◌, ◌≤◌, List, ◌++◌, length}
-use Rattle.rams_model.specs.declared.held.Held.{Held}
-use Rattle.rams_model.specs.Hold.{hi}
+use Rattle.rams_model.specs.Types.{Held}
+use Rattle.rams_model.specs.Packets.{hi}
 use Rattle.packet_ring.specs.Seen as rings
-use Rattle.reorder_window.specs.Starts.{Start}
+use Rattle.reorder_window.specs.{Start}
 use Rattle.reorder_window.specs.Seen as windows
-use Rattle.channel_cache.specs.Waiting.{packets_of, IsIntake}
+use Rattle.channel_cache.specs.{packets_of, IsIntake}
 use Rattle.channel_cache.proofs.Draining.{IsHolding}
 use Rattle.channel_cache.proofs.intake.Intake.drain.Given as goal
 

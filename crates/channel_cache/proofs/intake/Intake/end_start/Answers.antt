@@ -1,6 +1,6 @@
 use Rattle.std.proofs.Common.{◌∙◌, ap}
-use Rattle.rams_model.specs.declared.held.Held.{Held}
-use Rattle.reorder_window.specs.Starts.{released}
+use Rattle.rams_model.specs.Types.{Held}
+use Rattle.reorder_window.specs.{released}
 use Rattle.reorder_window.specs.Seen as windows
 use Rattle.channel_cache.proofs.Placing.{ended_holds}
 use Rattle.channel_cache.proofs.intake.Intake.end_start.Goals as goal

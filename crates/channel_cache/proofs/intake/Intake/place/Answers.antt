@@ -2,8 +2,7 @@ use Rattle.std.proofs.Common.{◌≡◌, rules, sym, ◌∙◌, ap, arith}
 use denote.Enum.Bare.{same_true}
 use Rattle.reorder_window.specs.contracts.window.Came.{the_type}
 use Rattle.reorder_window.specs.declared.window.Came.TheVariants.{Kept}
-use Rattle.reorder_window.specs.Starts.{released}
-use Rattle.reorder_window.specs.Seen.{arrived}
+use Rattle.reorder_window.specs.{released, arrived}
 use Rattle.channel_cache.proofs.Placing.{kept_intake, kept_more}
 use Rattle.channel_cache.proofs.intake.Intake.place.Goals as goal
 

@@ -1,11 +1,8 @@
 use Rattle.std.proofs.Common.{◌≡◌, max, List, ◌∙◌, ap, subst}
-use Rattle.rams_model.specs.declared.held.Held.{Held}
-use Rattle.reorder_window.specs.Packets.{start_of}
-use Rattle.reorder_window.specs.Starts.{Start, came, start_after}
-use Rattle.reorder_window.specs.Seen.{came_of}
+use Rattle.rams_model.specs.Types.{Held}
+use Rattle.reorder_window.specs.{start_of, Start, came, start_after, came_of}
 use Rattle.reorder_window.specs.Seen as windows
-use Rattle.channel_cache.specs.Arrivals.{arrival_of}
-use Rattle.channel_cache.specs.Waiting.{Holds}
+use Rattle.channel_cache.specs.{arrival_of, Holds}
 use Rattle.channel_cache.proofs.Starting.{placed_brings, greatest_after}
 use Rattle.channel_cache.proofs.intake.Intake.take.Goals as goal
 

@@ -1,10 +1,10 @@
 use Rattle.std.proofs.Common.{◌≤◌, ◌==◌, List, refl, sym, ◌∙◌, ap, subst, arith}
-use Rattle.rams_model.specs.declared.held.Held.{Held}
-use Rattle.rams_model.specs.Hold.{hi, from_number}
-use Rattle.access_index.specs.Marks.{StandsFor}
+use Rattle.rams_model.specs.Types.{Held}
+use Rattle.rams_model.specs.Packets.{hi, from_number}
+use Rattle.access_index.specs.{StandsFor}
 use Rattle.packet_ring.specs.Seen as rings
 use Rattle.channel_cache.specs.Stocked.{Seen}
-use Rattle.channel_cache.specs.Whole.{AreWhole}
+use Rattle.channel_cache.specs.{AreWhole}
 use Rattle.channel_cache.proofs.Wholes.{AreWhole-with}
 use Rattle.channel_cache.proofs.Stocking.{pushed_marks, next_mark, room_left}
 use Rattle.channel_cache.proofs.stock.Stock.push.Goals as goal

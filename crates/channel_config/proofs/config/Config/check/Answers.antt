@@ -1,5 +1,5 @@
 use Rattle.std.proofs.Common.{arith, sym, ◌∙◌}
-use Rattle.rams_model.specs.Settings.{settings}
+use Rattle.rams_model.specs.Service.{settings}
 use Rattle.channel_config.proofs.Laws.{lawful_from_tests}
 use Rattle.channel_config.proofs.config.Config.check.Goals as goal
 

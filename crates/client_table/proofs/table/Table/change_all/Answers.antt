@@ -1,4 +1,4 @@
-use Rattle.client_table.specs.Joined.{entry_at}
+use Rattle.client_table.specs.{entry_at}
 use Rattle.client_table.proofs.ChangedAll.{shown_ready, shown_changed, still_joined}
 use Rattle.client_table.proofs.table.Table.change_all.Given.{F-pre, F-post}
 use Rattle.client_table.proofs.table.Table.change_all.Goals as goal

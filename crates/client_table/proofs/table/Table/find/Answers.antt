@@ -1,6 +1,6 @@
 use Rattle.std.proofs.Common.{ap, ◌∙◌}
 use Rattle.std.specs.Option.{option_and_then, option_copied}
-use Rattle.client_table.specs.Joined.{entry_at}
+use Rattle.client_table.specs.{entry_at}
 use Rattle.client_table.proofs.Shown.{shown_entry}
 use Rattle.client_table.proofs.table.Table.find.Goals as goal
 

@@ -2,7 +2,7 @@ use Rattle.std.proofs.Common.{ap, sym, ◌∙◌, inr}
 use Rattle.std.specs.Option.{option_and_then, option_copied_mut, ghost_name_of}
 use Rattle.std.specs.BTreeMap.{is_at}
 use Rattle.std.specs.Ordering.{nat_cmp}
-use Rattle.client_table.specs.Joined.{entry_at}
+use Rattle.client_table.specs.{entry_at}
 use Rattle.client_table.proofs.Changed.{set_kept, found_some, written_here, written_elsewhere}
 use Rattle.client_table.proofs.Shown.{shown_entry, shown_written}
 use Rattle.client_table.proofs.Lent.{read_same}

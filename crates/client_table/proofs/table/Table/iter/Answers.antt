@@ -1,5 +1,5 @@
 use Rattle.std.proofs.Common.{◌≡◌, ℕ, List, length, subst, sym}
-use Rattle.client_table.specs.Joined.{entry_at, joined}
+use Rattle.client_table.specs.{entry_at, joined}
 use Rattle.client_table.proofs.Found.{length-joined}
 use Rattle.client_table.proofs.ChangedAll.{shown_found}
 use Rattle.client_table.proofs.table.Table.iter.Goals as goal

@@ -1,5 +1,5 @@
 use Rattle.std.proofs.Common.{ℕ, Option, Some, None, sym, ◌∙◌, subst}
-use Rattle.client_table.specs.Clients.{clients_of, IsLeastAbove}
+use Rattle.client_table.specs.{clients_of, IsLeastAbove}
 use Rattle.client_table.proofs.Shown.{shown_next, shown_least}
 use Rattle.client_table.proofs.Least.{find_above}
 use Rattle.client_table.proofs.table.Table.next_after.Goals as goal

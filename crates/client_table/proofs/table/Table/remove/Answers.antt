@@ -2,7 +2,7 @@ use Rattle.std.proofs.Common.{arith, ap, sym, ◌∙◌}
 use Rattle.std.specs.Option.{option_and_then}
 use Rattle.std.specs.BTreeMap.{is_at}
 use Rattle.std.specs.Ordering.{nat_cmp}
-use Rattle.client_table.specs.Joined.{entry_at}
+use Rattle.client_table.specs.{entry_at}
 use Rattle.client_table.proofs.Changed.{remove_kept}
 use Rattle.client_table.proofs.Shown.{shown_entry, shown_absent, shown_removed}
 use Rattle.client_table.proofs.table.Table.remove.Goals as goal

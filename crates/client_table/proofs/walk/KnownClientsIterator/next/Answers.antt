@@ -1,4 +1,4 @@
-use Rattle.client_table.specs.Joined.{entry_at}
+use Rattle.client_table.specs.{entry_at}
 use Rattle.client_table.proofs.Walking.{all_left}
 use Rattle.client_table.proofs.walk.KnownClientsIterator.next.Goals as goal
 

@@ -1,5 +1,5 @@
 use Rattle.std.proofs.Common.{refl}
-use Rattle.rams_model.specs.Source.{stream_of}
+use Rattle.rams_model.specs.Packets.{stream_of}
 use Rattle.ext_seq.proofs.numbering.Numbering.new.Goals as goal
 
 pub returns-clause-stands : goal.returns-clause-stands

@@ -1,6 +1,6 @@
 use Rattle.std.proofs.Common.{ℕ, ◌∷◌, sym, ◌∙◌, ap, subst}
-use Rattle.rams_model.specs.Numbering.{numbered}
-use Rattle.ext_seq.specs.Numbers.{Seen, noted, moved, StandsFor}
+use Rattle.rams_model.specs.Packets.{numbered}
+use Rattle.ext_seq.specs.{Seen, noted, moved, StandsFor}
 use Rattle.ext_seq.proofs.Noting.{stands_after}
 use Rattle.ext_seq.proofs.numbering.Numbering.note.Goals as goal
 

@@ -1,5 +1,5 @@
 use Rattle.std.proofs.Common.{subst}
-use Rattle.line_io.specs.Feeds.{HasNoFeed}
+use Rattle.line_io.specs.{HasNoFeed}
 use Rattle.line_io.proofs.LineFeeds.{HasNoFeed-contains}
 use Rattle.line_io.proofs.reader.LineReader.advance.Goals as goal
 

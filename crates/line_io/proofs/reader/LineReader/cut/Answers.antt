@@ -1,5 +1,5 @@
 use Rattle.std.proofs.Common.{◌≡◌, ◌+◌, drop, slice_range, ap, ◌∙◌, arith}
-use Rattle.line_io.specs.Lines.{Reading}
+use Rattle.line_io.specs.{Reading}
 use Rattle.line_io.proofs.Windows.{slice_range-drop}
 use Rattle.line_io.proofs.reader.LineReader.cut.Goals as goal
 

@@ -1,5 +1,5 @@
 use Rattle.std.proofs.Common.{◌≡◌, ◌+◌, ◌-◌, ◌≤◌, length, take, drop, slice_range, ap, ◌∙◌, arith, length-take}
-use Rattle.line_io.specs.Lines.{Reading}
+use Rattle.line_io.specs.{Reading}
 use Rattle.line_io.proofs.Windows.{slice_range-take}
 use Rattle.line_io.proofs.reader.LineReader.cut_front.Goals as goal
 

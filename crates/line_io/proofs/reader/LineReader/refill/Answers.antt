@@ -1,6 +1,6 @@
 use Rattle.std.proofs.Common.{◌≡◌, ℕ, ◌+◌, ◌-◌, List, take, drop, slice_range, sym, ap, ◌∙◌, arith, rules, length-take, length-drop}
 use Rattle.std.proofs.lemmas.List.{with_items_is, places}
-use Rattle.line_io.specs.Lines.{Reading}
+use Rattle.line_io.specs.{Reading}
 use Rattle.line_io.proofs.Windows.{slice_range-front, slice_range-grown}
 use Rattle.line_io.proofs.NextLines.{Keeps-taken, Keeps-kept}
 use Rattle.line_io.proofs.reader.LineReader.refill.Goals as goal

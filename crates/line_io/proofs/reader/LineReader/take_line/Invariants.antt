@@ -1,6 +1,6 @@
 use Rattle.std.proofs.Common.{◌+◌, ◌-◌, ◌≡◌, ◌≤◌, length}
 use Rattle.std.specs.Io.KnownBytes.{Keeps, prepend_known}
-use Rattle.line_io.specs.Feeds.{HasNoFeed}
+use Rattle.line_io.specs.{HasNoFeed}
 use Rattle.line_io.proofs.reader.LineReader.take_line.Given as goal
 
 abbrev pub invariant-pieces : goal.invariant-pieces

@@ -1,5 +1,5 @@
 use Rattle.std.proofs.Common.{◌≡◌, ℕ, ◌-◌, slice_get, option_copied, ap, sym, ◌∙◌, arith}
-use Rattle.rams_model.specs.Hold.{lo}
+use Rattle.rams_model.specs.Packets.{lo}
 use Rattle.packet_ring.specs.Seen.{Seen}
 use Rattle.packet_ring.proofs.Following.{found_at, none_below, lent_is_there, lent_has_its_number}
 use Rattle.packet_ring.proofs.ring.Ring.get.Goals as goal

@@ -1,5 +1,5 @@
 use Rattle.std.proofs.Common.{Some, None, ap, sym, ◌∙◌, arith}
-use Rattle.rams_model.specs.Hold.{hi}
+use Rattle.rams_model.specs.Packets.{hi}
 use Rattle.packet_ring.specs.Seen.{Seen}
 use Rattle.packet_ring.proofs.Following.{newest_of}
 use Rattle.packet_ring.proofs.ring.Ring.hi.Goals as goal

@@ -1,6 +1,6 @@
 use Rattle.std.proofs.Common.{◌∙◌, arith}
 use Rattle.std.proofs.lemmas.Bool.Decides.{nat_tests}
-use Rattle.rams_tlv.specs.Tlvs.{tlvs_of, value_in}
+use Rattle.rams_tlv.specs.{tlvs_of, value_in}
 use Rattle.rams_tlv.proofs.Reading.{front_of, no_value, found_in_front, found_length, not_in_front}
 use Rattle.rams_tlv.proofs.tlvs.Tlvs.first.Goals as goal
 

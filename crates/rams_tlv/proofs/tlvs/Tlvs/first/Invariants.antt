@@ -1,5 +1,5 @@
 use Rattle.std.proofs.Common.{◌≡◌, is_ok, true, length}
-use Rattle.rams_tlv.specs.Tlvs.{tlvs_of, value_in}
+use Rattle.rams_tlv.specs.{tlvs_of, value_in}
 use Rattle.rams_tlv.proofs.tlvs.Tlvs.first.Given as goal
 
 -- nothing is wrong with what is left, and the first value there is that of all

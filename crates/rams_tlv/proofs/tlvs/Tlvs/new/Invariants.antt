@@ -1,6 +1,6 @@
 use Rattle.std.proofs.Common.{◌≡◌, length}
 use Rattle.std.specs.Result.{result_err}
-use Rattle.rams_tlv.specs.Tlvs.{tlvs_of}
+use Rattle.rams_tlv.specs.{tlvs_of}
 use Rattle.rams_tlv.proofs.tlvs.Tlvs.new.Given as goal
 
 -- the first fault of what is left is that of all

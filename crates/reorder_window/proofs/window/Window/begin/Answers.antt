@@ -1,5 +1,5 @@
 use Rattle.std.proofs.Common.{◌∙◌, ap}
-use Rattle.reorder_window.specs.Seen.{seen_of}
+use Rattle.reorder_window.specs.{seen_of}
 use Rattle.reorder_window.proofs.Standing.{begun_stands}
 use Rattle.reorder_window.proofs.window.Window.begin.Goals as goal
 

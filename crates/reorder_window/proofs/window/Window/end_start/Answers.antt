@@ -1,5 +1,6 @@
 use Rattle.std.proofs.Common.{sym, subst}
-use Rattle.reorder_window.specs.Seen.{Seen, seen_of, StandsFor}
+use Rattle.reorder_window.specs.{seen_of, StandsFor}
+use Rattle.reorder_window.specs.Seen.{Seen}
 use Rattle.reorder_window.proofs.Standing.{ended_stands}
 use Rattle.reorder_window.proofs.window.Window.end_start.Goals as goal
 

@@ -1,7 +1,7 @@
 use Rattle.std.proofs.Common.{◌≡◌, ℕ, [], ◌∷◌, ◌++◌, Option, sym, subst}
 use Rattle.std.specs.Prelude.{MatchOption}
-use Rattle.reorder_window.specs.Starts.{released}
-use Rattle.reorder_window.specs.Seen.{Seen, after_release, StandsFor}
+use Rattle.reorder_window.specs.{released, after_release, StandsFor}
+use Rattle.reorder_window.specs.Seen.{Seen}
 use Rattle.reorder_window.proofs.Standing.{release_stands}
 use Rattle.reorder_window.proofs.window.Window.release.Goals as goal
 

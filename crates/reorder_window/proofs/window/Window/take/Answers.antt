@@ -1,6 +1,6 @@
 use Rattle.std.proofs.Common.{◌-◌, max, sym, ◌∙◌, ap, subst, arith}
-use Rattle.reorder_window.specs.Starts.{has_number}
-use Rattle.reorder_window.specs.Seen.{Seen, seen_of, next_missing, keeping, first_free, IsWindow}
+use Rattle.reorder_window.specs.{has_number, seen_of, next_missing, keeping, first_free, IsWindow}
+use Rattle.reorder_window.specs.Seen.{Seen}
 use Rattle.reorder_window.proofs.Keeping.{keeping_is, room_for, IsWindow-keeping}
 use Rattle.reorder_window.proofs.window.Window.take.Goals as goal
 

@@ -1,5 +1,5 @@
 use Rattle.std.proofs.Common.{take}
-use Rattle.repair_queue.specs.Index.{Indexes}
+use Rattle.repair_queue.specs.{Indexes}
 use Rattle.repair_queue.proofs.index.Index.rebuild.Given as goal
 
 -- it is the index of those so far

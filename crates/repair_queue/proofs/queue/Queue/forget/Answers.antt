@@ -1,7 +1,6 @@
 use Rattle.std.proofs.Common.{◌≡◌, List, arith, sym, ◌∙◌, subst}
-use Rattle.rams_model.specs.Pending.{Wanted}
-use Rattle.repair_queue.specs.Queue.{without}
-use Rattle.repair_queue.specs.Index.{Indexes}
+use Rattle.rams_model.specs.Service.{Wanted}
+use Rattle.repair_queue.specs.{without, Indexes}
 use Rattle.repair_queue.proofs.Pending.{limits_without, without_none}
 use Rattle.repair_queue.proofs.queue.Queue.forget.Goals as goal
 

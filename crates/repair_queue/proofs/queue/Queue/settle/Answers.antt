@@ -1,5 +1,5 @@
 use Rattle.std.proofs.Common.{arith, sym, ◌∙◌, subst}
-use Rattle.repair_queue.specs.Index.{Indexes}
+use Rattle.repair_queue.specs.{Indexes}
 use Rattle.repair_queue.proofs.Pending.{limits_unmarked, unmarked_none}
 use Rattle.repair_queue.proofs.queue.Queue.settle.Goals as goal
 

@@ -1,5 +1,5 @@
 use Rattle.std.proofs.Common.{◌≡◌, ◌-◌}
-use Rattle.rtcp_feedback.specs.Numbers.{numbers_from}
+use Rattle.rtcp_feedback.specs.{numbers_from}
 use Rattle.rtcp_feedback.proofs.iter.NackIter.next_bit.Given as goal
 
 -- the bits that were passed name nothing

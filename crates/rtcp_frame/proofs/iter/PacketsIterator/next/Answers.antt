@@ -1,6 +1,6 @@
 use Rattle.std.proofs.Common.{length, ap, arith, rules}
 use Rattle.std.proofs.lemmas.Bool.Decides.{nat_tests}
-use Rattle.rtcp_frame.specs.Shown.{shown_packet}
+use Rattle.rtcp_frame.specs.{shown_packet}
 use Rattle.rtcp_frame.proofs.PacketSteps.{front_of, none_left, one_given}
 use Rattle.rtcp_frame.proofs.iter.PacketsIterator.next.Goals as goal
 

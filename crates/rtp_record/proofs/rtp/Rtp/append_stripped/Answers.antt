@@ -1,6 +1,6 @@
 use Rattle.std.proofs.Common.{◌≡◌, ℕ, List, ◌++◌, length, set, take, sym, ap, ◌∙◌, arith}
 use Rattle.std.proofs.lemmas.List.{length-take}
-use Rattle.rams_model.specs.Packet.{Packet, stripped}
+use Rattle.rams_model.specs.Formats.{Packet, stripped}
 use Rattle.rtp_record.proofs.Stripping.{stripped_at, stripped_length, written_behind, on_err}
 use Rattle.rtp_record.proofs.rtp.Rtp.append_stripped.Goals as goal
 

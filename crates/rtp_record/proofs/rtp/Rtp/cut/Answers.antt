@@ -1,5 +1,5 @@
 use Rattle.std.proofs.Common.{ℕ, get_or, arith, ◌≡◌, ◌<◌, ◌+◌, ◌*◌}
-use Rattle.rams_model.specs.Rtp.{csrc_size}
+use Rattle.rams_model.specs.Formats.{csrc_size}
 use Rattle.rtp_record.proofs.Reading.{are_places}
 use Rattle.rtp_record.proofs.rtp.Rtp.cut.Goals as goal
 

@@ -1,5 +1,5 @@
 use Rattle.std.proofs.Common.{ap, ◌∙◌}
-use Rattle.rams_model.specs.Packet.{Packet}
+use Rattle.rams_model.specs.Formats.{Packet}
 use Rattle.rtp_record.proofs.Reading.{extension_between}
 use Rattle.rtp_record.proofs.rtp.Rtp.extension.Goals as goal
 

@@ -1,6 +1,5 @@
 use Rattle.std.proofs.Common.{subst}
-use Rattle.rams_model.specs.Packet.{Packet}
-use Rattle.rams_model.specs.Rtp.{IsPacket}
+use Rattle.rams_model.specs.Formats.{Packet, IsPacket}
 use Rattle.rtp_record.proofs.rtp.Rtp.fields.Goals as goal
 
 pub returns-clause-lawful : goal.returns-clause-lawful

@@ -1,5 +1,5 @@
 use Rattle.std.proofs.Common.{ℕ, ◌<◌, List, get_or, ap, ◌∙◌, arith}
-use Rattle.rams_model.specs.Rtp.{packet_at}
+use Rattle.rams_model.specs.Formats.{packet_at}
 use Rattle.rams_model.proofs.RtpPackets.{read_so}
 use Rattle.rtp_record.proofs.Reading.{found_from}
 use Rattle.rtp_record.proofs.rtp.Rtp.read.Goals as goal

@@ -1,5 +1,5 @@
 use Rattle.std.proofs.Common.{length, sym, ap, ◌∙◌}
-use Rattle.rams_model.specs.Packet.{Packet, stripped}
+use Rattle.rams_model.specs.Formats.{Packet, stripped}
 use Rattle.rtp_record.proofs.Stripping.{stripped_length}
 use Rattle.rtp_record.proofs.rtp.Rtp.stripped_len.Goals as goal
 

@@ -1,6 +1,7 @@
 use Rattle.std.proofs.Common.{Some, sym, ap, ◌∙◌, subst, arith}
 use Rattle.session_core.specs.Seen as cores
-use Rattle.server_hub.specs.Seen.{Seen, StandsFor}
+use Rattle.server_hub.specs.{StandsFor}
+use Rattle.server_hub.specs.Seen.{Seen}
 use Rattle.server_hub.proofs.Keeping.{place_within, none_is, none_found, found_settings, settings_served}
 use Rattle.server_hub.proofs.hub.Hub.config.Goals as goal
 

@@ -1,5 +1,6 @@
 use Rattle.std.proofs.Common.{sym, subst, arith}
-use Rattle.server_hub.specs.Seen.{Seen, StandsFor}
+use Rattle.server_hub.specs.{StandsFor}
+use Rattle.server_hub.specs.Seen.{Seen}
 use Rattle.server_hub.proofs.Finding.{hi_found}
 use Rattle.server_hub.proofs.Keeping.{place_within, none_is, one_is, none_found, found_channel}
 use Rattle.server_hub.proofs.hub.Hub.hi.Goals as goal

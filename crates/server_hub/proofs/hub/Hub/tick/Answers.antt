@@ -1,5 +1,6 @@
 use Rattle.std.proofs.Common.{sym, subst, arith}
-use Rattle.server_hub.specs.Seen.{Seen, StandsFor}
+use Rattle.server_hub.specs.{StandsFor}
+use Rattle.server_hub.specs.Seen.{Seen}
 use Rattle.server_hub.proofs.JoinTimes.{all_keep}
 use Rattle.server_hub.proofs.Keeping.{written, kept, settings_kept, ticked}
 use Rattle.server_hub.proofs.hub.Hub.tick.Goals as goal

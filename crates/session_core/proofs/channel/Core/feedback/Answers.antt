@@ -1,5 +1,5 @@
 use Rattle.std.proofs.Common.{sym, subst}
-use Rattle.session_core.specs.Bounds.{SendsShort}
+use Rattle.session_core.specs.{SendsShort}
 use Rattle.session_core.proofs.Short.{sends_short}
 use Rattle.session_core.proofs.channel.Core.feedback.Goals as goal
 

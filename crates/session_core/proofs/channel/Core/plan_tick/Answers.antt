@@ -1,7 +1,6 @@
 use Rattle.std.proofs.lemmas.Result.{IfOk-weaker}
-use Rattle.tick_core.specs.Plans.{IsPlanFor}
-use Rattle.session_core.specs.Bounds.{SendsShort, IsCountable}
-use Rattle.session_core.specs.Seen.{Planned}
+use Rattle.tick_core.specs.{IsPlanFor}
+use Rattle.session_core.specs.{SendsShort, IsCountable, Planned}
 use Rattle.session_core.proofs.Planned.{plan_bounded}
 use Rattle.session_core.proofs.channel.Core.plan_tick.Goals as goal
 

@@ -1,5 +1,5 @@
 use Rattle.std.proofs.Common.{◌≡◌, drop}
-use Rattle.tick_core.specs.Repairs.{with_all_wanted}
+use Rattle.tick_core.specs.{with_all_wanted}
 use Rattle.tick_core.proofs.repairs.Repairs.repair_all.Given as goal
 
 -- Those that are left lead to the same end.

@@ -1,0 +1,10 @@
+-- What a channel answers to an event, as its two lists.
+use Rattle.std.specs.Prelude.{List}
+use Rattle.rams_model.specs.Types.{Note, Order}
+
+pub record Answered : Type 0 where
+  pub notes : List Note
+  pub orders : List Order
+
+abbrev pub answered : List Note → List Order → Answered
+answered notes orders = record { notes = notes; orders = orders }

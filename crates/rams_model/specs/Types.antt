@@ -1,0 +1,20 @@
+-- The plain types that contracts compare, declared in src/.
+pub use Rattle.rams_model.specs.declared.answer.Order.{Order}
+pub use Rattle.rams_model.specs.declared.channel.Access.{Access}
+pub use Rattle.rams_model.specs.declared.channel.Channel.{Channel}
+pub use Rattle.rams_model.specs.declared.event.Event.{Event}
+pub use Rattle.rams_model.specs.declared.fault.ConfigFault.{ConfigFault}
+pub use Rattle.rams_model.specs.declared.fault.FrameFault.{FrameFault}
+pub use Rattle.rams_model.specs.declared.fault.LineFault.{LineFault}
+pub use Rattle.rams_model.specs.declared.fault.NackFault.{NackFault}
+pub use Rattle.rams_model.specs.declared.fault.RtpFault.{RtpFault}
+pub use Rattle.rams_model.specs.declared.fault.TlvFault.{TlvFault}
+pub use Rattle.rams_model.specs.declared.held.Held.{Held}
+pub use Rattle.rams_model.specs.declared.message.Info.{Info}
+pub use Rattle.rams_model.specs.declared.message.Stop.{Stop}
+pub use Rattle.rams_model.specs.declared.mode.LineKind.{LineKind}
+pub use Rattle.rams_model.specs.declared.mode.Mode.{Mode}
+pub use Rattle.rams_model.specs.declared.note.Cause.{Cause}
+pub use Rattle.rams_model.specs.declared.note.LiveNote.{LiveNote}
+pub use Rattle.rams_model.specs.declared.note.Note.{Note}
+pub use Rattle.rams_model.specs.declared.status.Status.{Status}
