@@ -4,7 +4,9 @@ use Rattle.std.proofs.lemmas.Bool.Decides.{nat_tests}
 use Rattle.std.proofs.lemmas.List.{map-append}
 use Rattle.std.proofs.lemmas.List.Elements.{filter-append}
 use Rattle.rams_model.specs.Packets.{age_ms}
-use Rattle.access_index.specs.{Choice, Point, AccessPoint, leaves_room, age_at, newest, start_unless, start_at, choice_among, shown, RiseIn}
+use Rattle.access_index.specs.declared.choice.Choice.{Choice}
+use Rattle.access_index.specs.declared.index.Point.{Point}
+use Rattle.access_index.specs.{AccessPoint, leaves_room, age_at, newest, start_unless, start_at, choice_among, shown, RiseIn}
 use Rattle.access_index.specs.declared.choice.Choice.TheVariants.{NoStart, MinUnmet}
 
 -- the points that are old enough

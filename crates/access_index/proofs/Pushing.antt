@@ -2,7 +2,9 @@
 use Rattle.std.proofs.Common.{◌≡◌, ℕ, ◌+◌, ◌<◌, Bool, true, false, ◌==◌, if◌then◌else◌, [], ◌∷◌, ◌++◌, sym, ◌∙◌, ap, append-nil, arith, Global}
 use Rattle.std.specs.declared.collections.VecDeque.{VecDeque}
 use Rattle.std.specs.VecDeque.{deque_capacity}
-use Rattle.access_index.specs.{Inside, Point, pushed, seen_of, RiseIn}
+use Rattle.access_index.specs.declared.index.Index.TheInside.{Inside}
+use Rattle.access_index.specs.declared.index.Point.{Point}
+use Rattle.access_index.specs.{pushed, seen_of, RiseIn}
 use Rattle.access_index.proofs.Points.{own, pushed_is, rise_pushed}
 
 -- once the packet stands among the points, if it is one; the interval begins with `first`

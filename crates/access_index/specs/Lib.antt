@@ -2,9 +2,8 @@ pub mod Kept
 pub mod Marks
 pub mod Seen
 
-unfoldable pub use Kept.*
-unfoldable pub use Marks.*
-unfoldable pub use Seen.*
-pub use Rattle.access_index.specs.declared.choice.Choice.{Choice}
-pub use Rattle.access_index.specs.declared.index.Index.TheInside.{Inside}
-pub use Rattle.access_index.specs.declared.index.Point.{Point}
+unfoldable pub use Rattle.access_index.specs.Kept.{shown, seen_of, RiseIn, above}
+unfoldable pub use Rattle.access_index.specs.Marks.{point_of, points_of, refused, choice_of}
+pub use Rattle.access_index.specs.Marks.{StandsFor}
+unfoldable pub use Rattle.access_index.specs.Seen.{new_index, more_behind, pushed, left_from, leaves_room, age_at, newest, start_unless, start_at, choice_among, choice}
+pub use Rattle.access_index.specs.Seen.{AccessPoint}

@@ -1,6 +1,7 @@
 //! The index of one channel's access points.
 ghost use Rattle.std.specs.Prelude.{◌≡◌, ◌-◌, ◌*◌, ◌^◌, ◌<◌, ◌≤◌, List, [], ◌∷◌, ◌++◌, IfOk};
-ghost use Rattle.rams_model.specs.Types.{Channel, Held};
+ghost use Rattle.rams_model.specs.declared.channel.Channel.{Channel};
+ghost use Rattle.rams_model.specs.declared.held.Held.{Held};
 ghost use Rattle.rams_model.specs.Packets.{from_number, chosen};
 ghost use Rattle.std.specs.VecDeque.{deque_capacity};
 ghost use Rattle.access_index.specs.{above, new_index, pushed, left_from, start_unless, choice, StandsFor, choice_of};

@@ -1,6 +1,6 @@
 -- What an event adds to a history: that it began, and messages and notes after that.
 use Rattle.std.proofs.Common.{◌≡◌, ℕ, List, [], ◌∷◌, ◌++◌, None, refl, ap, sym, ◌∙◌, append_assoc}
-use Rattle.rams_model.specs.Types.{Note}
+use Rattle.rams_model.specs.declared.note.Note.{Note}
 use Rattle.rams_model.specs.declared.note.Note.TheVariants as note
 use Rattle.rams_model.specs.Service.{Settings, Message, Heard, live, dropped, feedback, unframed, tick, began, told, noted, History, stream, after_message, after_messages, after_hearing}
 use Rattle.rams_model.specs.Packets.{live_note}

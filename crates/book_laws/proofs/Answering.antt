@@ -1,6 +1,6 @@
 -- Each message that was told is followed by its whole answer, and a note's message is the last that was told.
 use Rattle.std.proofs.Common.{◌≡◌, ℕ, inl, inr, ◌⊎◌, ⊎_elim, List, [], ◌∷◌, ◌++◌, Option, Some, None, refl, ap, sym, ◌∙◌, subst, append_assoc}
-use Rattle.rams_model.specs.Types.{Event}
+use Rattle.rams_model.specs.declared.event.Event.{Event}
 use Rattle.rams_model.specs.declared.note.Note.TheVariants.{Live as LiveNoted, BadFeedback}
 use Rattle.rams_model.specs.Service.{Settings, Message, Heard, live, dropped, feedback, unframed, tick, heard_of, Item, began, told, noted, History, stream, after_message, after_messages, after_hearing, history_of}
 use Rattle.rams_model.specs.Packets.{live_note}

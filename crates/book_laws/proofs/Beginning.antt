@@ -2,7 +2,9 @@
 use Rattle.std.proofs.Common.{◌≡◌, ℕ, ◌+◌, ◌-◌, not, List, Option, Some, None, refl, subst, eqb, zero-le}
 use Rattle.std.specs.Prelude.{Result, Ok, Err, unwrap_or}
 use Rattle.std.proofs.lemmas.Bool.{cond_both}
-use Rattle.rams_model.specs.Types.{TlvFault, Held, Note}
+use Rattle.rams_model.specs.declared.fault.TlvFault.{TlvFault}
+use Rattle.rams_model.specs.declared.held.Held.{Held}
+use Rattle.rams_model.specs.declared.note.Note.{Note}
 use Rattle.rams_model.specs.declared.note.Note.TheVariants as note
 use Rattle.rams_model.specs.Service.{Settings, asks, History, hold, Burst, open_burst, reserved, asked_rate, is_slow, is_too_much, is_full, begins, changes, on_burst, on_request, verdict}
 use Rattle.rams_model.specs.Packets.{lo, chosen}

@@ -4,7 +4,16 @@ use Rattle.std.specs.Prelude.{filter_map, Result, Ok, Err, filter, option_map, o
 use Rattle.std.specs.List.{cons_option}
 use Rattle.std.proofs.lemmas.Bool.{cond_both, true≢false}
 use Rattle.std.proofs.lemmas.List.Elements.{All-nil, All-cons, All-filter, All-contains, All-contains_itself, Contains-append_left, Contains-append_right, Contains-append_cases, Contains-push_cases}
-use Rattle.rams_model.specs.Types.{Order, Channel, Event, FrameFault, RtpFault, Held, Info, Cause, LiveNote, Note}
+use Rattle.rams_model.specs.declared.answer.Order.{Order}
+use Rattle.rams_model.specs.declared.channel.Channel.{Channel}
+use Rattle.rams_model.specs.declared.event.Event.{Event}
+use Rattle.rams_model.specs.declared.fault.FrameFault.{FrameFault}
+use Rattle.rams_model.specs.declared.fault.RtpFault.{RtpFault}
+use Rattle.rams_model.specs.declared.held.Held.{Held}
+use Rattle.rams_model.specs.declared.message.Info.{Info}
+use Rattle.rams_model.specs.declared.note.Cause.{Cause}
+use Rattle.rams_model.specs.declared.note.LiveNote.{LiveNote}
+use Rattle.rams_model.specs.declared.note.Note.{Note}
 use Rattle.rams_model.specs.declared.answer.Order.TheVariants as order
 use Rattle.rams_model.specs.declared.event.Event.TheVariants.{Live, Feedback, Tick}
 use Rattle.rams_model.specs.declared.note.LiveNote.TheVariants.{Took, Restart, TooBig}

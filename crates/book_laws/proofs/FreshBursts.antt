@@ -2,7 +2,12 @@
 use Rattle.std.proofs.Common.{◌≡◌, ℕ, ◌+◌, ◌-◌, ◌%◌, ◌<◌, ◌≤◌, ◌≢◌, Bool, true, false, cond, not, ◌&&◌, ◌⊎◌, inl, inr, ⊎_elim, List, [], ◌∷◌, ◌++◌, length, Option, Some, None, refl, ap, sym, ◌∙◌, subst, arith, eqb, leb, ltb}
 use Rattle.std.specs.Prelude.{find, is_some, Result, Ok, Err}
 use Rattle.std.proofs.lemmas.Bool.{cond_both, cond-true, cond-false, both_ways, and_from, or_cases, cases_Bool, eqb-true, eqb-false, eq-eqb, ltb-false, lt-ltb, le-leb, true≢false}
-use Rattle.rams_model.specs.Types.{Event, TlvFault, Held, Stop, Cause, Note}
+use Rattle.rams_model.specs.declared.event.Event.{Event}
+use Rattle.rams_model.specs.declared.fault.TlvFault.{TlvFault}
+use Rattle.rams_model.specs.declared.held.Held.{Held}
+use Rattle.rams_model.specs.declared.message.Stop.{Stop}
+use Rattle.rams_model.specs.declared.note.Cause.{Cause}
+use Rattle.rams_model.specs.declared.note.Note.{Note}
 use Rattle.rams_model.specs.declared.note.Cause.TheVariants as cause
 use Rattle.rams_model.specs.declared.note.Note.TheVariants as note
 use Rattle.rams_model.specs.Service.{Settings, stop_of, Message, bye, nack, asks, stops, Heard, live, dropped, feedback, unframed, tick, heard_of, began, told, noted, History, arrivals, hold, known, opened, is_among, sendings, sequence, ssrc, Burst, next, begun, in_tick, after_note, newest_changed, size_of, bursts, if_open, newest_open, open_burst, has_open, Wanted, pending, pending_of, is_pending, idle, reserved, channel_left, may_take, asked_rate, is_slow, is_too_much, is_full, begins, changes, on_burst, on_request, verdict, is_before, is_early, Room, room, held_answer, number_answer, after_numbers, after_nack, stop_set, on_stop, stop_burst, after_stop, is_bye_of, after_bye, after_message, after_messages, run, send, is_lost, is_stop, after_run, run_sent, burst_served, all_served, repaired, all_repaired, all_forgotten, bursts_served, repairs_sent, idle_forgotten, after_tick, after_hearing, history_of}

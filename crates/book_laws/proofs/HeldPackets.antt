@@ -3,7 +3,12 @@ use Rattle.std.proofs.Common.{◌≡◌, ℕ, zero, suc, ◌+◌, ◌-◌, ◌<�
 use Rattle.std.specs.Prelude.{filter, Result, Ok, Err}
 use Rattle.std.proofs.lemmas.Bool.{cond_both, ltb-false}
 use Rattle.std.proofs.lemmas.List.{drop_all, length-take, length-drop, length-append}
-use Rattle.rams_model.specs.Types.{Channel, Event, FrameFault, RtpFault, Held, LiveNote}
+use Rattle.rams_model.specs.declared.channel.Channel.{Channel}
+use Rattle.rams_model.specs.declared.event.Event.{Event}
+use Rattle.rams_model.specs.declared.fault.FrameFault.{FrameFault}
+use Rattle.rams_model.specs.declared.fault.RtpFault.{RtpFault}
+use Rattle.rams_model.specs.declared.held.Held.{Held}
+use Rattle.rams_model.specs.declared.note.LiveNote.{LiveNote}
 use Rattle.rams_model.specs.declared.event.Event.TheVariants.{Live, Feedback, Tick}
 use Rattle.rams_model.specs.declared.note.LiveNote.TheVariants.{Took, Restart, Jump, TooBig, ForeignSsrc, ForeignType}
 use Rattle.rams_model.specs.Service.{Settings, Heard, live, dropped, arrival, heard_packet, heard_feedback, heard_of, began, History, arrivals, hold}

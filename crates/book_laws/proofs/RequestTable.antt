@@ -6,7 +6,9 @@ use Rattle.std.proofs.lemmas.Bool.{cond_both, both_ways, and_parts, and_from, or
 use Rattle.std.proofs.lemmas.List.Elements.{Contains-append_right}
 use Rattle.std.proofs.lemmas.List.Sums.{sum_by-cons}
 use Rattle.std.proofs.lemmas.List.Folds.{list_any_at}
-use Rattle.rams_model.specs.Types.{TlvFault, Held, Note}
+use Rattle.rams_model.specs.declared.fault.TlvFault.{TlvFault}
+use Rattle.rams_model.specs.declared.held.Held.{Held}
+use Rattle.rams_model.specs.declared.note.Note.{Note}
 use Rattle.rams_model.specs.declared.note.Note.TheVariants.{Update, Again, Refuse}
 use Rattle.rams_model.specs.Service.{Settings, rate_of, History, hold, known, opened, is_among, Burst, next, open_burst, has_open, most_of, reserved, is_slow, is_too_much, is_full, join_from, begins, changes, on_burst, on_request, verdict}
 use Rattle.rams_model.specs.Formats.{Request, is_listed, names}

@@ -3,7 +3,9 @@ use Rattle.std.proofs.Common.{◌≡◌, ℕ, ◌+◌, ◌-◌, ◌≤◌, true,
 use Rattle.std.specs.Prelude.{Result, Ok, Err, unwrap_or, if◌then◌else◌}
 use Rattle.std.specs.List.{sum_by}
 use Rattle.std.proofs.lemmas.Bool.{cond_both, cond-true, cond-false, cases_Bool, eqb-true, eqb-false, ne_eqb, eq-eqb, ltb-false, or_left}
-use Rattle.rams_model.specs.Types.{TlvFault, Held, Note}
+use Rattle.rams_model.specs.declared.fault.TlvFault.{TlvFault}
+use Rattle.rams_model.specs.declared.held.Held.{Held}
+use Rattle.rams_model.specs.declared.note.Note.{Note}
 use Rattle.rams_model.specs.declared.note.Note.TheVariants as note
 use Rattle.rams_model.specs.Service.{Settings, rate_of, tick, began, told, noted, History, hold, opened, is_among, placed, with_client, without, Burst, next, bursts, open_burst, has_open, most_of, reserved, asked_rate, is_slow, is_too_much, is_full, join_from, begins, changes, on_burst, on_request, verdict}
 use Rattle.rams_model.specs.Formats.{Request, names}

@@ -3,7 +3,8 @@ use Rattle.std.proofs.Common.{◌≡◌, ℕ, zero, suc, add-zero, ◌+◌, ◌�
 use Rattle.std.specs.List.{range_with_len}
 use Rattle.std.proofs.lemmas.Bool.{both_ways, cond-true, eqb-true, eq-eqb, ltb-true}
 use Rattle.std.proofs.lemmas.List.{map-append, length_push}
-use Rattle.rams_model.specs.Types.{Held, Cause}
+use Rattle.rams_model.specs.declared.held.Held.{Held}
+use Rattle.rams_model.specs.declared.note.Cause.{Cause}
 use Rattle.rams_model.specs.declared.note.Cause.TheVariants as cause
 use Rattle.rams_model.specs.declared.note.Note.TheVariants as note
 use Rattle.rams_model.specs.Service.{Settings, stop_of, tick, began, told, noted, History, sequence, Burst, next, begun, in_tick, after_note, newest_changed, size_of, bursts, if_open, newest_open, is_before}

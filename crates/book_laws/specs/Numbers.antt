@@ -2,7 +2,8 @@
 use Rattle.std.specs.Prelude.{◌≡◌, ℕ, ◌+◌, ◌%◌, ◌≢◌, Bool, ◌==◌, if◌then◌else◌, List, [], ◌∷◌, ◌++◌, take, drop, Option, Some}
 use Rattle.std.specs.Int.{w16, to_be_bytes}
 use Rattle.rams_model.specs.declared.answer.Order.TheVariants as orders
-use Rattle.rams_model.specs.Types.{Held, Info}
+use Rattle.rams_model.specs.declared.held.Held.{Held}
+use Rattle.rams_model.specs.declared.message.Info.{Info}
 use Rattle.rams_model.specs.declared.note.Note.TheVariants.{Accept, Burst as BurstNote, Repair}
 use Rattle.rams_model.specs.Service.{Settings, Item, noted, History, sequence, Burst, open_burst, order_of, datagram}
 use Rattle.rams_model.specs.Laws.{NoneIs, ends_known}

@@ -1,6 +1,9 @@
 -- There is exactly one book of some events, and the laws on moments speak of it.
 use Rattle.std.specs.Prelude.{◌≡◌, List, [], ◌∷◌, ◌++◌, Option, option_to_list}
-use Rattle.rams_model.specs.Types.{Order, Event, Held, Note}
+use Rattle.rams_model.specs.declared.answer.Order.{Order}
+use Rattle.rams_model.specs.declared.event.Event.{Event}
+use Rattle.rams_model.specs.declared.held.Held.{Held}
+use Rattle.rams_model.specs.declared.note.Note.{Note}
 use Rattle.rams_model.specs.Service.{Settings, noted, History, order_of, Book, IsLawful, events_of, history_of}
 use Rattle.book_laws.specs.Moments.{IsMoment}
 

@@ -1,6 +1,6 @@
 -- Worked examples: a burst that is quiet, and one that is lost, which was not.
 use Rattle.std.specs.Prelude.{◌≡◌, true, false, List, [], ◌∷◌}
-use Rattle.rams_model.specs.Types.{Event}
+use Rattle.rams_model.specs.declared.event.Event.{Event}
 use Rattle.rams_model.specs.declared.event.Event.TheVariants.{Feedback, Tick}
 use Rattle.rams_model.specs.declared.note.Cause.TheVariants.{Lost}
 use Rattle.rams_model.specs.declared.note.Note.TheVariants.{End}

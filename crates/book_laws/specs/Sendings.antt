@@ -1,7 +1,9 @@
 -- What clients are sent of their bursts.
 use Rattle.std.specs.Prelude.{◌≡◌, ℕ, ◌<◌, Bool, ◌==◌, if◌then◌else◌, ◌⊎◌, List, [], ◌∷◌, ◌++◌, length, map, filter_map, Option, Some, None, IsSomeAnd, Ok, unwrap_or, All, Contains}
 use Rattle.std.specs.List.{range_with_len}
-use Rattle.rams_model.specs.Types.{Order, Held, Note}
+use Rattle.rams_model.specs.declared.answer.Order.{Order}
+use Rattle.rams_model.specs.declared.held.Held.{Held}
+use Rattle.rams_model.specs.declared.note.Note.{Note}
 use Rattle.rams_model.specs.declared.answer.Order.TheVariants as order
 use Rattle.rams_model.specs.declared.event.Event.TheVariants.{Live}
 use Rattle.rams_model.specs.declared.note.LiveNote.TheVariants.{Took, Restart}

@@ -1,7 +1,10 @@
 -- Where bursts stop, and how they end.
 use Rattle.std.specs.Prelude.{◌≡◌, ℕ, ◌+◌, ◌-◌, ◌<◌, ◌≤◌, ◌≢◌, max, Bool, IsTrue, ◌⊎◌, ◌==◌, List, [], ◌∷◌, ◌++◌, length, map, Option, Some, None, Ok, All, Contains}
 use Rattle.std.specs.List.{range_with_len}
-use Rattle.rams_model.specs.Types.{Stop, Cause, Note, Held}
+use Rattle.rams_model.specs.declared.message.Stop.{Stop}
+use Rattle.rams_model.specs.declared.note.Cause.{Cause}
+use Rattle.rams_model.specs.declared.note.Note.{Note}
+use Rattle.rams_model.specs.declared.held.Held.{Held}
 use Rattle.rams_model.specs.declared.note.Cause.TheVariants as cause
 use Rattle.rams_model.specs.declared.note.Note.TheVariants.{Accept, StopAt, Bye, End}
 use Rattle.rams_model.specs.Service.{Settings, bye, stops, Item, noted, History, hold, has_open}

@@ -1,14 +1,15 @@
 -- Packets go out of the window into the ring, one after another.
 use Rattle.std.proofs.Common.{◌≡◌, ℕ, ◌+◌, ◌^◌, ◌<◌, ◌≤◌, Bool, true, false, ◌||◌, nat_lt, if◌then◌else◌, List, [], ◌∷◌, ◌++◌, drop, length, Some, None, refl, sym, ap, ◌∙◌, subst, append_assoc, arith}
 use Rattle.std.proofs.lemmas.Bool.Decides.{nat_tests}
-use Rattle.rams_model.specs.Types.{Held}
+use Rattle.rams_model.specs.declared.held.Held.{Held}
 use Rattle.rams_model.specs.Packets.{hi}
 use Rattle.packet_ring.specs.{pushed}
 use Rattle.packet_ring.specs.Seen as rings
 use Rattle.reorder_window.specs.{Start, released, is_free, free_of, first_free, without, after_release, RisesIn}
 use Rattle.reorder_window.specs.Seen as windows
 use Rattle.reorder_window.proofs.Rising.{rises_up}
-use Rattle.channel_cache.specs.{Intake, packets_of, IsItem, AreItems, IsIntake, Holds}
+use Rattle.channel_cache.specs.declared.intake.Intake.{Intake}
+use Rattle.channel_cache.specs.{packets_of, IsItem, AreItems, IsIntake, Holds}
 use Rattle.channel_cache.proofs.Stocking.{pushed_end}
 
 -- The window stands for a start of which some went out, and the ring for a source that these packets end.

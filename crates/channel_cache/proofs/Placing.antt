@@ -1,7 +1,7 @@
 -- A packet comes into the window, and a start ends.
 use Rattle.std.proofs.Common.{◌≡◌, ℕ, ◌+◌, ◌-◌, ◌^◌, ◌<◌, ◌≤◌, max, Bool, true, false, nat_lt, if◌then◌else◌, List, [], ◌∷◌, ◌++◌, length, refl, sym, ap, ◌∙◌, subst, arith}
 use Rattle.std.proofs.lemmas.Bool.Decides.{nat_tests}
-use Rattle.rams_model.specs.Types.{Held}
+use Rattle.rams_model.specs.declared.held.Held.{Held}
 use Rattle.rams_model.specs.Packets.{hi}
 use Rattle.packet_ring.specs.Seen as rings
 use Rattle.reorder_window.specs.declared.window.Came.TheVariants.{Kept, Late, Twice}
@@ -9,7 +9,8 @@ use Rattle.reorder_window.specs.{Start, has_number, with_item, released, next_mi
 use Rattle.reorder_window.specs.Seen as windows
 use Rattle.reorder_window.proofs.Rising.{rises-wider, rises-with_item, length-with_item}
 use Rattle.reorder_window.proofs.Searches.{next-from, next-end}
-use Rattle.channel_cache.specs.{Intake, IsWhole, packets_of, IsItem, AreItems, IsIntake}
+use Rattle.channel_cache.specs.declared.intake.Intake.{Intake}
+use Rattle.channel_cache.specs.{IsWhole, packets_of, IsItem, AreItems, IsIntake}
 
 -- what a kept packet tells
 kept_step : (late known : Bool) → (if late then Late else if known then Twice else Kept) ≡ Kept → (late ≡ false) × (known ≡ false)

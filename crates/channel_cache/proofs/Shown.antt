@@ -1,12 +1,16 @@
 -- A cache stands for what its numbering and its packets in time stand for.
 use Rattle.std.proofs.Common.{◌≡◌, ℕ, zero, suc, ◌+◌, ◌-◌, List, [], ◌∷◌, ◌++◌, drop, Some, refl, sym, ap, ◌∙◌, subst}
-use Rattle.rams_model.specs.Types.{Channel, Held, LiveNote}
+use Rattle.rams_model.specs.declared.channel.Channel.{Channel}
+use Rattle.rams_model.specs.declared.held.Held.{Held}
+use Rattle.rams_model.specs.declared.note.LiveNote.{LiveNote}
 use Rattle.rams_model.specs.Service.{Settings, Heard, live, dropped, heard_live}
 use Rattle.rams_model.specs.Packets.{last_of, Arrival, Stream, stream_of, live_note, source, consecutive_end, hold}
 use Rattle.ext_seq.specs.{new_numbering}
 use Rattle.ext_seq.specs.Numbers as numbers
 use Rattle.packet_ring.specs.Seen as rings
-use Rattle.channel_cache.specs.{Inside, Intake, note_heard, arrivals_heard, live_note_of, arrivals_after, due, Waits, new_intake, Stand, new_cache, StandsFor}
+use Rattle.channel_cache.specs.declared.cache.Cache.TheInside.{Inside}
+use Rattle.channel_cache.specs.declared.intake.Intake.{Intake}
+use Rattle.channel_cache.specs.{note_heard, arrivals_heard, live_note_of, arrivals_after, due, Waits, new_intake, Stand, new_cache, StandsFor}
 use Rattle.channel_cache.specs.Seen.{Seen}
 
 -- what a cache with these parts keeps

@@ -2,15 +2,18 @@
 use Rattle.std.proofs.Common.{◌≡◌, ℕ, ◌+◌, ◌<◌, ◌≤◌, ◌⊎◌, max, Bool, true, false, nat_lt, if◌then◌else◌, List, [], ◌∷◌, ◌++◌, length, Option, refl, sym, ap, ◌∙◌, subst, inl, inr, arith}
 use Rattle.std.proofs.lemmas.Bool.{cases_lt}
 use Rattle.std.proofs.lemmas.Bool.Decides.{nat_tests}
-use Rattle.rams_model.specs.Types.{Held, LiveNote}
+use Rattle.rams_model.specs.declared.held.Held.{Held}
+use Rattle.rams_model.specs.declared.note.LiveNote.{LiveNote}
 use Rattle.rams_model.specs.Packets.{Arrival, held_as, with_packet, in_time, stream_after}
 use Rattle.packet_ring.specs.Seen as rings
-use Rattle.reorder_window.specs.{Came, items_of, start_of, note_of, Start, has_number, came, start_after, released, begun, came_of, arrived}
+use Rattle.reorder_window.specs.declared.window.Came.{Came}
+use Rattle.reorder_window.specs.{items_of, start_of, note_of, Start, has_number, came, start_after, released, begun, came_of, arrived}
 use Rattle.reorder_window.specs.declared.window.Came.TheVariants.{Kept, Late, Twice}
 use Rattle.reorder_window.specs.Seen as windows
 use Rattle.reorder_window.proofs.PacketLemmas.{notes_same, grows_same, from_same, released_same}
 use Rattle.reorder_window.proofs.Rising.{has-higher}
-use Rattle.channel_cache.specs.{Intake, packets_of, IsIntake, Holds, due, Brings}
+use Rattle.channel_cache.specs.declared.intake.Intake.{Intake}
+use Rattle.channel_cache.specs.{packets_of, IsIntake, Holds, due, Brings}
 
 packets_again : (hs : List Held) → packets_of (items_of hs) ≡ hs
 packets_again [] = refl

@@ -1,16 +1,19 @@
 -- A packet's number, and the packets in time after it.
 use Rattle.std.proofs.Common.{◌≡◌, ℕ, ◌+◌, ◌-◌, ◌^◌, ◌<◌, ◌≤◌, ◌⊎◌, max, Bool, true, false, nat_lt, if◌then◌else◌, List, [], ◌∷◌, ◌++◌, length, Option, Some, None, refl, sym, ap, ◌∙◌, subst, inl, inr, arith, append-nil}
 use Rattle.std.proofs.lemmas.Bool.Decides.{nat_tests}
-use Rattle.rams_model.specs.Types.{Held, LiveNote}
+use Rattle.rams_model.specs.declared.held.Held.{Held}
+use Rattle.rams_model.specs.declared.note.LiveNote.{LiveNote}
 use Rattle.rams_model.specs.declared.note.LiveNote.TheVariants.{Took, Restart as Restarted, Jump as Jumped}
 use Rattle.rams_model.specs.Packets.{hi, Numbered, first, forward, backward, jump, restart, ahead, is_kept, numbered, Arrival, Stream, held_as, with_packet, greatest, in_time, note_of, live_note, stream_after, stream_of}
 use Rattle.packet_ring.specs.Seen as rings
-use Rattle.ext_seq.specs.{Noted, noted, moved, IsWithin, IsNumberWithin}
+use Rattle.ext_seq.specs.declared.numbering.Noted.{Noted}
+use Rattle.ext_seq.specs.{noted, moved, IsWithin, IsNumberWithin}
 use Rattle.ext_seq.specs.declared.numbering.Noted.TheVariants.{First, Forward, Behind, Jump, Restart}
 use Rattle.ext_seq.specs.Numbers as numbers
 use Rattle.reorder_window.specs.{first_free}
 use Rattle.reorder_window.specs.Seen as windows
-use Rattle.channel_cache.specs.{Intake, IsIntake, due, Brings, UnlessTaken, IsTop, AreInStep, Stand, kept_other}
+use Rattle.channel_cache.specs.declared.intake.Intake.{Intake}
+use Rattle.channel_cache.specs.{IsIntake, due, Brings, UnlessTaken, IsTop, AreInStep, Stand, kept_other}
 
 -- ---- what the numbering may say after a greatest number
 abbrev pub Suits : Option ℕ → Noted → Type 0

@@ -1,6 +1,7 @@
 -- The packets in time that were brought to a channel, as its definitions have them.
 use Rattle.std.specs.Prelude.{◌≡◌, ℕ, false, nat_lt, List, [], ◌∷◌, ◌++◌, filter}
-use Rattle.rams_model.specs.Types.{Held, LiveNote}
+use Rattle.rams_model.specs.declared.held.Held.{Held}
+use Rattle.rams_model.specs.declared.note.LiveNote.{LiveNote}
 use Rattle.rams_model.specs.declared.note.LiveNote.TheVariants.{Took, Restart}
 use Rattle.rams_model.specs.Packets.{Stream, awaited}
 use Rattle.packet_ring.specs.Seen as rings

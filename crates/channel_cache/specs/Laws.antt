@@ -1,7 +1,7 @@
 -- A live packet in the history of a channel.
 use Rattle.std.specs.Prelude.{◌≡◌, ℕ, List, ◌∷◌, Some, None}
 use Rattle.rams_model.specs.declared.event.Event.TheVariants.{Live}
-use Rattle.rams_model.specs.Types.{LiveNote}
+use Rattle.rams_model.specs.declared.note.LiveNote.{LiveNote}
 use Rattle.rams_model.specs.declared.note.Note.TheVariants.{Live as LiveNoted}
 use Rattle.rams_model.specs.Service.{Settings, heard_live, History, began, noted, arrivals, after}
 use Rattle.channel_cache.specs.Arrivals.{live_note_of, arrivals_after}

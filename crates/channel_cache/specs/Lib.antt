@@ -7,13 +7,16 @@ pub mod Step
 pub mod Seen
 pub mod Laws
 
-unfoldable pub use Arrivals.*
-unfoldable pub use Whole.*
-unfoldable pub use Waiting.*
-unfoldable pub use Brought.*
-unfoldable pub use Step.*
-unfoldable pub use Seen.*
-unfoldable pub use Laws.*
-pub use Rattle.channel_cache.specs.declared.cache.Cache.TheInside.{Inside}
-pub use Rattle.channel_cache.specs.declared.incoming.Incoming.{Incoming}
-pub use Rattle.channel_cache.specs.declared.intake.Intake.{Intake}
+unfoldable pub use Rattle.channel_cache.specs.Arrivals.{arrival_of, note_heard, arrivals_heard, live_note_of, arrivals_after}
+unfoldable pub use Rattle.channel_cache.specs.Whole.{AreWhole}
+pub use Rattle.channel_cache.specs.Whole.{IsBare, IsWhole}
+unfoldable pub use Rattle.channel_cache.specs.Waiting.{new_intake, packets_of, AreItems, UnlessKept}
+pub use Rattle.channel_cache.specs.Waiting.{IsItem, IsIntake, Holds}
+unfoldable pub use Rattle.channel_cache.specs.Brought.{due, Waits, UnlessTaken}
+pub use Rattle.channel_cache.specs.Brought.{Brings}
+unfoldable pub use Rattle.channel_cache.specs.Step.{IsTop, count, kept_other}
+pub use Rattle.channel_cache.specs.Step.{AreInStep, Stand}
+unfoldable pub use Rattle.channel_cache.specs.Seen.{new_cache, ring_of, DiffersInKept}
+pub use Rattle.channel_cache.specs.Seen.{StandsFor, IsCache}
+unfoldable pub use Rattle.channel_cache.specs.Laws.{NotesAreOfTheBook}
+pub use Rattle.channel_cache.specs.Laws.{IsNotedSo}

@@ -1,6 +1,6 @@
 -- What contracts see of a cache, and the live packets that it stands for.
 use Rattle.std.specs.Prelude.{◌≡◌, ℕ, ◌^◌, ◌≤◌, List, []}
-use Rattle.rams_model.specs.Types.{Held}
+use Rattle.rams_model.specs.declared.held.Held.{Held}
 use Rattle.rams_model.specs.Service.{Settings}
 use Rattle.rams_model.specs.Packets.{Arrival, stream_of, hold}
 use Rattle.packet_ring.specs.Seen as rings

@@ -1,6 +1,6 @@
 -- The numbering and the packets in time, step by step.
 use Rattle.std.specs.Prelude.{◌≡◌, ℕ, ◌+◌, false, List, [], length, Option, Some, None}
-use Rattle.rams_model.specs.Types.{Held}
+use Rattle.rams_model.specs.declared.held.Held.{Held}
 use Rattle.rams_model.specs.Packets.{Arrival, stream_of}
 use Rattle.ext_seq.specs.{IsWithin}
 use Rattle.ext_seq.specs.Numbers as numbers

@@ -1,6 +1,6 @@
 -- What contracts see of the packets that are held.
 use Rattle.std.specs.Prelude.{◌≡◌, ℕ, ◌+◌}
-use Rattle.rams_model.specs.Types.{Held}
+use Rattle.rams_model.specs.declared.held.Held.{Held}
 use Rattle.packet_ring.specs.{empty_ring, pushed, IsRing}
 use Rattle.packet_ring.specs.Seen as rings
 use Rattle.access_index.specs.Seen as indexes

@@ -1,9 +1,10 @@
 -- The packets of a channel that came in time: those that wait for others, and those that are held.
 use Rattle.std.specs.Prelude.{◌≡◌, ℕ, ◌+◌, ◌^◌, ◌<◌, ◌≤◌, false, List, [], ◌∷◌, ◌++◌, map}
-use Rattle.rams_model.specs.Types.{Held}
+use Rattle.rams_model.specs.declared.held.Held.{Held}
 use Rattle.rams_model.specs.Packets.{hi}
 use Rattle.packet_ring.specs.Seen as rings
-use Rattle.reorder_window.specs.{Came, Start, released, new_window, RisesIn}
+use Rattle.reorder_window.specs.declared.window.Came.{Came}
+use Rattle.reorder_window.specs.{Start, released, new_window, RisesIn}
 use Rattle.reorder_window.specs.declared.window.Came.TheVariants.{Kept, Late, Twice}
 use Rattle.reorder_window.specs.Seen as windows
 use Rattle.channel_cache.specs.declared.intake.Intake.{Intake}

@@ -1,6 +1,6 @@
 //! Packets that come in time, on their way into the stock.
 ghost use Rattle.std.specs.Prelude.{◌≡◌, ℕ, ◌+◌, ◌^◌, ◌<◌, ◌≤◌, List, [], ◌∷◌, ◌++◌, None, true, false, length, IfOk};
-ghost use Rattle.rams_model.specs.Types.{Held};
+ghost use Rattle.rams_model.specs.declared.held.Held.{Held};
 ghost use Rattle.rams_model.specs.Packets.{hi};
 ghost use Rattle.packet_ring.specs.Seen as rings;
 ghost use Rattle.reorder_window.specs.{Start, came, start_after, begun, came_of, arrived, first_free};

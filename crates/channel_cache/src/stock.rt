@@ -1,6 +1,6 @@
 //! The packets that a channel holds, with the access points among them.
 ghost use Rattle.std.specs.Prelude.{◌≡◌, ◌+◌, ◌^◌, ◌<◌, ◌≤◌, ◌↔◌, List, [], ◌∷◌, ◌++◌, option_copied, IfOk, IfSome, IsSome};
-ghost use Rattle.rams_model.specs.Types.{Held};
+ghost use Rattle.rams_model.specs.declared.held.Held.{Held};
 ghost use Rattle.rams_model.specs.Packets.{chosen, lo, hi};
 ghost use Rattle.packet_ring.specs.{packet_of, IsRing, StandsFor};
 ghost use Rattle.access_index.specs.{choice_of};

@@ -1,7 +1,7 @@
 -- The parts of a channel to which nothing came stand for no events.
 use Rattle.std.proofs.Common.{◌≡◌, ◌<◌, ◌^◌, true, List, [], refl, sym, subst, arith}
 use Rattle.std.proofs.lemmas.List.Elements.{All-nil}
-use Rattle.rams_model.specs.Types.{Channel}
+use Rattle.rams_model.specs.declared.channel.Channel.{Channel}
 use Rattle.rams_model.specs.Service.{Settings, arrivals, known, opened, is_among, bursts, Wanted, pending, channel_left, history_of}
 use Rattle.rams_model.specs.Packets.{Arrival}
 use Rattle.channel_config.specs.{IsLawful}
@@ -11,7 +11,8 @@ use Rattle.link_budget.specs.{amounts}
 use Rattle.link_budget.specs.Amounts.{Amounts}
 use Rattle.client_table.specs.{nobody}
 use Rattle.client_table.specs.Clients.{Clients}
-use Rattle.channel_parts.specs.{Parts, StandsFor, new_parts}
+use Rattle.channel_parts.specs.declared.parts.Parts.{Parts}
+use Rattle.channel_parts.specs.{StandsFor, new_parts}
 
 new_stands : (s : Settings) → IsLawful s → caches.StandsFor (new_cache s) [] → StandsFor (new_parts s) []
 unfolding history_of arrivals known opened bursts pending channel_left

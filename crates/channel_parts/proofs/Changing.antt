@@ -1,7 +1,9 @@
 -- What is true of a client's open burst, item by item.
 use Rattle.std.proofs.Common.{◌≡◌, ℕ, Bool, true, false, cond, not, ◌&&◌, ◌||◌, List, [], ◌∷◌, Option, Some, None, refl, ap, sym, ◌∙◌, subst, eqb}
 use Rattle.std.proofs.lemmas.Bool.{cond_both, eq-eqb, eqb-true}
-use Rattle.rams_model.specs.Types.{Held, Cause, Note}
+use Rattle.rams_model.specs.declared.held.Held.{Held}
+use Rattle.rams_model.specs.declared.note.Cause.{Cause}
+use Rattle.rams_model.specs.declared.note.Note.{Note}
 use Rattle.rams_model.specs.declared.note.Note.TheVariants as note
 use Rattle.rams_model.specs.Service.{Settings, tick, began, noted, History, sequence, Burst, begun, in_tick, after_note, newest_changed, size_of, bursts, is_of, if_open, newest_open, open_burst, has_open}
 use Rattle.channel_parts.proofs.Knowing.{open_step}

@@ -8,16 +8,20 @@ use Rattle.std.specs.BTreeMap.{is_at}
 use Rattle.std.proofs.lemmas.Bool.{cond_both, cond-true, cond-false, both_ways, eq-eqb, ne_eqb}
 use Rattle.std.proofs.lemmas.List.Elements.{All-from_recursion}
 use Rattle.std.proofs.lemmas.List.Sums.{sum_by-cons}
-use Rattle.rams_model.specs.Types.{Event, Held}
+use Rattle.rams_model.specs.declared.event.Event.{Event}
+use Rattle.rams_model.specs.declared.held.Held.{Held}
 use Rattle.rams_model.specs.Service.{Settings, History, arrivals, hold, known, is_among, next, kept, open_burst, has_open, most_of, reserved, history_of}
 use Rattle.rams_model.specs.Packets.{lo, hi, Follows, stream_of}
 use Rattle.rams_model.specs.Packets.Source as sources
 use Rattle.rams_model.specs.Service.Bursts as model
 use Rattle.rams_model.proofs.Holding.{held_follow}
-use Rattle.client_table.specs.{Burst, Entry, clients_of}
+use Rattle.client_table.specs.declared.entry.Burst.{Burst}
+use Rattle.client_table.specs.declared.entry.Entry.{Entry}
+use Rattle.client_table.specs.{clients_of}
 use Rattle.book_laws.specs.{IsMoment}
 use Rattle.book_laws.proofs.Legality.{legal_history}
-use Rattle.channel_parts.specs.{Parts, IsWithinBounds, burst_kept, IsEntry, IsTable, StandsFor, IsBurstInBounds, amount_of, HeldPacketsAreInOrder, KnownClientsHaveEntries, EntriesAreOfTheirClients, EntriesAreInBounds, ReservedIsOfTheEntries}
+use Rattle.channel_parts.specs.declared.parts.Parts.{Parts}
+use Rattle.channel_parts.specs.{IsWithinBounds, burst_kept, IsEntry, IsTable, StandsFor, IsBurstInBounds, amount_of, HeldPacketsAreInOrder, KnownClientsHaveEntries, EntriesAreOfTheirClients, EntriesAreInBounds, ReservedIsOfTheEntries}
 use Rattle.channel_parts.proofs.Ordered.{Rise, known_rise, not_below}
 use Rattle.channel_parts.proofs.Opening.{none_of, opened_filter}
 use Rattle.channel_parts.proofs.Changing.{holds_of}

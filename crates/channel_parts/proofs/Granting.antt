@@ -2,7 +2,9 @@
 use Rattle.std.proofs.Common.{◌≡◌, ℕ, ◌+◌, ◌-◌, ◌<◌, ◌≤◌, false, not, List, length, Option, Some, None, refl, subst, leb, eqb}
 use Rattle.std.specs.Prelude.{Result, Ok, Err, unwrap_or}
 use Rattle.std.proofs.lemmas.Bool.{cond_both, ltb-false, leb-false}
-use Rattle.rams_model.specs.Types.{TlvFault, Held, Note}
+use Rattle.rams_model.specs.declared.fault.TlvFault.{TlvFault}
+use Rattle.rams_model.specs.declared.held.Held.{Held}
+use Rattle.rams_model.specs.declared.note.Note.{Note}
 use Rattle.rams_model.specs.declared.note.Note.TheVariants as note
 use Rattle.rams_model.specs.Service.{Settings, History, hold, Burst, open_burst, pending, pending_of, is_pending, reserved, asked_rate, is_slow, is_too_much, is_full, begins, changes, on_burst, on_request, verdict, room, is_early, held_answer, number_answer}
 use Rattle.rams_model.specs.Packets.{chosen}

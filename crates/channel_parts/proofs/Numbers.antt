@@ -1,7 +1,7 @@
 -- The end of what is held never falls.
 use Rattle.std.proofs.Common.{◌≡◌, ℕ, zero, suc, ◌+◌, ◌-◌, ◌<◌, ◌≤◌, ⊎_elim, List, [], ◌∷◌, ◌++◌, length, drop, refl, ap, sym, ◌∙◌, subst, arith, append-nil, le_refl, zero-le}
 use Rattle.std.proofs.lemmas.Bool.{cond_both}
-use Rattle.rams_model.specs.Types.{Held}
+use Rattle.rams_model.specs.declared.held.Held.{Held}
 use Rattle.rams_model.specs.Service.{Settings, live, Item, began, told, noted, History, arrivals, hold}
 use Rattle.rams_model.specs.Packets.{hi, Arrival, Stream, is_consecutive, consecutive_end, stream_of, source}
 use Rattle.rams_model.specs.Packets.Source as sources

@@ -3,7 +3,9 @@ use Rattle.std.proofs.Common.{◌≡◌, ℕ, ◌≤◌, Bool, true, false, cond
 use Rattle.std.specs.Prelude.{filter, is_some}
 use Rattle.std.proofs.lemmas.Bool.{cond_both, cases_Bool, or_cases, and_parts, not-true, both_ways, eqb-true}
 use Rattle.std.proofs.lemmas.Map.Views.{any-filter_same}
-use Rattle.rams_model.specs.Types.{Event, Held, Note}
+use Rattle.rams_model.specs.declared.event.Event.{Event}
+use Rattle.rams_model.specs.declared.held.Held.{Held}
+use Rattle.rams_model.specs.declared.note.Note.{Note}
 use Rattle.rams_model.specs.declared.note.Cause.TheVariants as cause
 use Rattle.rams_model.specs.declared.note.Note.TheVariants as note
 use Rattle.rams_model.specs.Service.{Settings, Message, bye, nack, asks, stops, Heard, live, dropped, feedback, unframed, tick, heard_of, Item, began, told, noted, History, known, opened, is_among, ssrc, bursts, open_burst, has_open, is_bye_of, after_bye, after_message, after_messages, after_tick, after_hearing, history_of}

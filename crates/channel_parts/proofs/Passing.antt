@@ -2,7 +2,8 @@
 use Rattle.std.proofs.Common.{ℕ, ◌&&◌, List, [], ◌∷◌, ◌++◌, Option, Some, None, sym, subst, eqb, leb}
 use Rattle.std.specs.Prelude.{◌==◌, find}
 use Rattle.std.proofs.lemmas.Bool.{cond_both}
-use Rattle.rams_model.specs.Types.{Held, Note}
+use Rattle.rams_model.specs.declared.held.Held.{Held}
+use Rattle.rams_model.specs.declared.note.Note.{Note}
 use Rattle.rams_model.specs.declared.note.Cause.TheVariants as cause
 use Rattle.rams_model.specs.declared.note.Note.TheVariants as note
 use Rattle.rams_model.specs.Service.{Settings, Message, began, told, noted, History, sequence, Burst, next, open_burst, Wanted, idle, channel_left, may_take, after_message, after_messages, run, send, is_lost, is_stop, after_run, run_sent, burst_served, all_served, repaired, all_repaired, all_forgotten}

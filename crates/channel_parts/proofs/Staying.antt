@@ -4,7 +4,11 @@ use Rattle.std.specs.Prelude.{Result, Ok, Err}
 use Rattle.std.specs.List.{AllByRecursion as Each}
 use Rattle.std.proofs.lemmas.Bool.{cond_both}
 use Rattle.std.proofs.lemmas.List.Elements.{All-from_recursion}
-use Rattle.rams_model.specs.Types.{Channel, Event, FrameFault, RtpFault, LiveNote}
+use Rattle.rams_model.specs.declared.channel.Channel.{Channel}
+use Rattle.rams_model.specs.declared.event.Event.{Event}
+use Rattle.rams_model.specs.declared.fault.FrameFault.{FrameFault}
+use Rattle.rams_model.specs.declared.fault.RtpFault.{RtpFault}
+use Rattle.rams_model.specs.declared.note.LiveNote.{LiveNote}
 use Rattle.rams_model.specs.declared.event.Event.TheVariants.{Live, Feedback, Tick}
 use Rattle.rams_model.specs.declared.note.LiveNote.TheVariants.{TooBig}
 use Rattle.rams_model.specs.declared.note.Note.TheVariants.{Live as LiveNoted}
@@ -18,7 +22,8 @@ use Rattle.channel_cache.proofs.Booked.{noted_so}
 use Rattle.link_budget.specs.{amounts}
 use Rattle.client_table.specs.Clients.{Clients}
 use Rattle.book_laws.proofs.Items.{tick_puts}
-use Rattle.channel_parts.specs.{Parts, HaveLowNumbers, IsTable, IsQueue, IsBudget, IsCache, StandsFor, GoOn, OtherEventsLeaveTheCache, LivePacketsChangeTheCache}
+use Rattle.channel_parts.specs.declared.parts.Parts.{Parts}
+use Rattle.channel_parts.specs.{HaveLowNumbers, IsTable, IsQueue, IsBudget, IsCache, StandsFor, GoOn, OtherEventsLeaveTheCache, LivePacketsChangeTheCache}
 use Rattle.channel_parts.proofs.Knowing.{OfKnown, pending_known}
 use Rattle.channel_parts.proofs.Passing.{through_notes, through_messages}
 use Rattle.channel_parts.proofs.Small.{reads_low}

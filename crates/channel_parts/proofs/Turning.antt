@@ -2,7 +2,8 @@
 use Rattle.std.proofs.Common.{◌≡◌, ◌≢◌, ℕ, true, false, ⊎_elim, Option, Some, None, ap, sym, ◌∙◌, subst}
 use Rattle.std.proofs.lemmas.Bool.{cases_eq, eqb-false}
 use Rattle.rams_model.specs.Service.{Settings, History, known, is_among, with_client, without, open_burst}
-use Rattle.client_table.specs.{Entry, clients_of, entry_of, with_entry}
+use Rattle.client_table.specs.declared.entry.Entry.{Entry}
+use Rattle.client_table.specs.{clients_of, entry_of, with_entry}
 use Rattle.client_table.specs.Clients.{Clients}
 use Rattle.client_table.specs.Clients as tables
 use Rattle.channel_parts.specs.{IsEntry, IsTable}

@@ -2,7 +2,10 @@
 use Rattle.std.specs.Prelude.{◌≡◌, ℕ, ◌+◌, ◌-◌, ◌^◌, ◌<◌, ◌≤◌, Bool, true, false, List, ◌∷◌, ◌++◌, length, filter, All, Option, Some, None}
 use Rattle.std.specs.Ordering.{nat_cmp}
 use Rattle.std.specs.List.Sorted.{IsStrictlySortedBy}
-use Rattle.rams_model.specs.Types.{Event, Held, Note, Cause}
+use Rattle.rams_model.specs.declared.event.Event.{Event}
+use Rattle.rams_model.specs.declared.held.Held.{Held}
+use Rattle.rams_model.specs.declared.note.Note.{Note}
+use Rattle.rams_model.specs.declared.note.Cause.{Cause}
 use Rattle.rams_model.specs.declared.note.Note.TheVariants.{Accept, Update, End}
 use Rattle.rams_model.specs.Service.{Settings, Message, Heard, began, told, noted, History, arrivals, hold, known, opened, is_among, sequence, Burst, next, open_burst, has_open, pending, idle, reserved, channel_left, history_of}
 use Rattle.rams_model.specs.Packets.{hi, Arrival}

@@ -1,6 +1,6 @@
 -- What the parts of a channel keep between events, and the history that they stand for.
 use Rattle.std.specs.Prelude.{◌≡◌, ℕ, ◌^◌, ◌≤◌, false, true, List, [], length, All, Option, Some, None, option_map}
-use Rattle.rams_model.specs.Types.{Event}
+use Rattle.rams_model.specs.declared.event.Event.{Event}
 use Rattle.rams_model.specs.Service.{Settings, History, arrivals, known, is_among, sequence, ssrc, next, kept, open_burst, Wanted, pending, idle, reserved, channel_left, history_of}
 use Rattle.rams_model.specs.Service.Bursts as model
 use Rattle.channel_config.specs.{IsLawful}
@@ -8,7 +8,9 @@ use Rattle.channel_cache.specs.{new_cache}
 use Rattle.channel_cache.specs.Seen as caches
 use Rattle.link_budget.specs.{amounts}
 use Rattle.link_budget.specs.Amounts.{Amounts}
-use Rattle.client_table.specs.{Burst, Entry, nobody, clients_of, entry_of}
+use Rattle.client_table.specs.declared.entry.Burst.{Burst}
+use Rattle.client_table.specs.declared.entry.Entry.{Entry}
+use Rattle.client_table.specs.{nobody, clients_of, entry_of}
 use Rattle.client_table.specs.Clients.{Clients}
 use Rattle.channel_parts.specs.declared.parts.Parts.{Parts}
 use Rattle.channel_parts.specs.Facts.{HaveLowNumbers}

@@ -5,7 +5,8 @@ use Rattle.std.specs.BTreeMap.{insert_entry, is_at}
 use Rattle.std.specs.Ordering.{nat_cmp, match_ordering}
 use Rattle.std.specs.declared.cmp.Ordering.{Ordering}
 use Rattle.std.specs.declared.cmp.Ordering.TheVariants.{Less, Equal, Greater}
-use Rattle.client_table.specs.{Entry, entry_at, before, joined, IsFree, AreJoined}
+use Rattle.client_table.specs.declared.entry.Entry.{Entry}
+use Rattle.client_table.specs.{entry_at, before, joined, IsFree, AreJoined}
 
 -- all keys but one have what they had
 abbrev pub SameElsewhere : (ℕ → Option Entry) → (ℕ → Option Entry) → ℕ → Type 0

@@ -11,7 +11,8 @@ use Rattle.std.proofs.lemmas.Bool.{cond_both, cond-true, cond-false}
 use Rattle.std.proofs.lemmas.Bool.Decides.{nat_tests}
 use Rattle.std.proofs.lemmas.List.Elements.{All-nil, All-cons, All-weaker}
 use Rattle.std.proofs.lemmas.Map.Keys.{sorted_head, sorted_tail}
-use Rattle.client_table.specs.{Entry, entry_of, AreAll, IsChanged, AreChanged, entry_at, seen, AreJoined, AreReady, IsSlotChanged, AreSlotsChanged}
+use Rattle.client_table.specs.declared.entry.Entry.{Entry}
+use Rattle.client_table.specs.{entry_of, AreAll, IsChanged, AreChanged, entry_at, seen, AreJoined, AreReady, IsSlotChanged, AreSlotsChanged}
 use Rattle.client_table.specs.Clients.{Clients}
 use Rattle.client_table.proofs.Shown.{shown_entry, shown_clients, shown_rising}
 

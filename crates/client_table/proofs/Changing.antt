@@ -1,6 +1,7 @@
 -- What changes of all entries, one after another, make of the slots and of what the table shows.
 use Rattle.std.proofs.Common.{◌≡◌, ℕ, List, [], ◌∷◌, Option, Some, None, IsSome, IsSomeAnd, refl, sym, ◌∙◌, subst}
-use Rattle.client_table.specs.{Entry, IsFree, AreReady, IsSlotChanged, AreSlotsChanged}
+use Rattle.client_table.specs.declared.entry.Entry.{Entry}
+use Rattle.client_table.specs.{IsFree, AreReady, IsSlotChanged, AreSlotsChanged}
 use Rattle.client_table.proofs.Changed.{SameElsewhere}
 
 -- the first client's key has an entry that is as asked

@@ -2,7 +2,8 @@
 use Rattle.std.proofs.Common.{◌≡◌, ℕ, Bool, true, false, cond, List, [], ◌∷◌, length, Option, Some, None, IsSome, suc, refl, ap, sym}
 use Rattle.std.specs.Option.{option_and_then}
 use Rattle.std.specs.Map.{keys_of, lookup}
-use Rattle.client_table.specs.{Entry, before, joined, AreJoined}
+use Rattle.client_table.specs.declared.entry.Entry.{Entry}
+use Rattle.client_table.specs.{before, joined, AreJoined}
 
 module _ (at : ℕ → Option Entry) where
   keys_step : (slot : Option Entry) (e : ℕ × ℕ) (es : List (ℕ × ℕ)) → IsSome slot → keys_of (joined at es) ≡ keys_of es → keys_of (before e.0 slot (joined at es)) ≡ keys_of (e ∷ es)

@@ -1,7 +1,9 @@
 -- What a table shows, and what each call makes of it.
 use Rattle.std.proofs.Common.{◌≡◌, ℕ, Bool, List, Option, Some, None, Result, Ok, Err, ◌<◌, ◌≤◌, ◌+◌, true, false, if◌then◌else◌, length, ap, sym, ◌∙◌, subst, arith}
 use Rattle.std.specs.Result.{IsErrAnd}
-use Rattle.client_table.specs.{AdmitFault, Entry, clients_of, AreRising, entry_of, with_client, with_entry, without, is_above, next_of, IsLeastAbove, entry_at, joined, seen, AreJoined}
+use Rattle.client_table.specs.declared.entry.AdmitFault.{AdmitFault}
+use Rattle.client_table.specs.declared.entry.Entry.{Entry}
+use Rattle.client_table.specs.{clients_of, AreRising, entry_of, with_client, with_entry, without, is_above, next_of, IsLeastAbove, entry_at, joined, seen, AreJoined}
 use Rattle.client_table.specs.declared.entry.AdmitFault.TheVariants.{Full, NoMemory}
 use Rattle.std.specs.List.{find}
 use Rattle.std.specs.Option.{option_and_then}

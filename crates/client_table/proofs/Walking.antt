@@ -2,7 +2,8 @@
 use Rattle.std.proofs.Common.{◌≡◌, ℕ, ◌+◌, ◌≤◌, List, [], ◌∷◌, length, Option, Some, None, IsSome, MatchOption, refl, subst, arith}
 use Rattle.std.specs.Borrow.{Bor}
 use Rattle.std.specs.Map.Iter.{deref_pair}
-use Rattle.client_table.specs.{Entry, before, joined}
+use Rattle.client_table.specs.declared.entry.Entry.{Entry}
+use Rattle.client_table.specs.{before, joined}
 
 module _ (at : ℕ → Option Entry) where
   before_few : (client : ℕ) (slot : Option Entry) (known : List (ℕ × Entry)) (n : ℕ) → length known ≤ n → length (before client slot known) ≤ n + 1

@@ -4,12 +4,9 @@ pub mod Lends
 pub mod Left
 pub mod Changes
 
-unfoldable pub use Clients.*
-unfoldable pub use Joined.*
-unfoldable pub use Lends.*
-unfoldable pub use Left.*
-unfoldable pub use Changes.*
-pub use Rattle.client_table.specs.declared.entry.AdmitFault.{AdmitFault}
-pub use Rattle.client_table.specs.declared.entry.Burst.{Burst}
-pub use Rattle.client_table.specs.declared.entry.Entry.{Entry}
-pub use Rattle.client_table.specs.declared.walk.KnownClients.{KnownClients}
+unfoldable pub use Rattle.client_table.specs.Clients.{nobody, clients_of, AreRising, entry_of, new_entry, with_client, with_entry, without, is_above, next_of, IsLeastAbove}
+unfoldable pub use Rattle.client_table.specs.Joined.{entry_at, before, joined, seen, IsFree, AreJoined, AreReady, IsSlotChanged, AreSlotsChanged}
+unfoldable pub use Rattle.client_table.specs.Lends.{LendsEntry}
+unfoldable pub use Rattle.client_table.specs.Left.{shown_client, clients_left}
+unfoldable pub use Rattle.client_table.specs.Changes.{AreAll, IsChanged}
+pub use Rattle.client_table.specs.Changes.{AreChanged}

@@ -1,6 +1,6 @@
 pub mod LowBits
 pub mod Numbers
 
-unfoldable pub use LowBits.*
-unfoldable pub use Numbers.*
-pub use Rattle.ext_seq.specs.declared.numbering.Noted.{Noted}
+pub use Rattle.ext_seq.specs.LowBits.{IsResolved, IsLeastFrom}
+unfoldable pub use Rattle.ext_seq.specs.Numbers.{new_numbering, noted, kept_after, moved, IsWithin, IsNumberWithin}
+pub use Rattle.ext_seq.specs.Numbers.{Seen, StandsFor}

@@ -4,18 +4,25 @@ use Rattle.std.specs.Prelude.{is_some, option_map, option_to_list, IfSome, IsSom
 use Rattle.std.specs.List.{list_any, AllByRecursion as Each}
 use Rattle.std.proofs.lemmas.Bool.{cond-true, or_from, both_ways, eq-eqb, ne_eqb}
 use Rattle.std.proofs.lemmas.List.Elements.{recursion_from_All}
-use Rattle.rams_model.specs.Types.{Event, Held, Info}
+use Rattle.rams_model.specs.declared.event.Event.{Event}
+use Rattle.rams_model.specs.declared.held.Held.{Held}
+use Rattle.rams_model.specs.declared.message.Info.{Info}
 use Rattle.rams_model.specs.Service.{Settings, Message, feedback, began, History, arrivals, hold, known, is_among, without, sendings, ssrc, bursts, open_burst, newest_open, Wanted, pending, quiet_ticks, reserved, channel_left, info_order, newest_notes, newest_orders, history_of}
 use Rattle.rams_model.specs.Packets.{lo, hi, last_of, Follows, consecutive_end, source, stream_of}
 use Rattle.rams_model.specs.Packets.Source as sources
 use Rattle.rams_model.specs.Service.Bursts as model
 use Rattle.link_budget.specs.Amounts.{Amounts}
-use Rattle.client_table.specs.{Burst, Entry, entry_of}
-use Rattle.channel_parts.specs.{Parts, IsEntry, WasTold, StandsFor, burst_kept, IsBurstInBounds}
+use Rattle.client_table.specs.declared.entry.Burst.{Burst}
+use Rattle.client_table.specs.declared.entry.Entry.{Entry}
+use Rattle.client_table.specs.{entry_of}
+use Rattle.channel_parts.specs.declared.parts.Parts.{Parts}
+use Rattle.channel_parts.specs.{IsEntry, WasTold, StandsFor, burst_kept, IsBurstInBounds}
 use Rattle.channel_parts.proofs.Facts.{events_reserve_nothing, each_burst_is_reserved}
 use Rattle.channel_parts.proofs.Given.{held_packets_are_in_order, entries_are_in_bounds}
 use Rattle.channel_parts.proofs.Tables.{has_entry, entry_among}
-use Rattle.feedback_core.specs.{Page, Visitor, open_in, open_of, woken, IsClient, IsVisit, IsReady, IsSafeBurst, IsSafe, IsPage}
+use Rattle.feedback_core.specs.declared.page.Page.{Page}
+use Rattle.feedback_core.specs.declared.visitor.Visitor.{Visitor}
+use Rattle.feedback_core.specs.{open_in, open_of, woken, IsClient, IsVisit, IsReady, IsSafeBurst, IsSafe, IsPage}
 use Rattle.feedback_core.proofs.Visiting.{as_itself, idle_none}
 use Rattle.feedback_core.proofs.Unsent.{unnamed, unsent}
 

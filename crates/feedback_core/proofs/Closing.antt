@@ -2,18 +2,24 @@
 use Rattle.std.proofs.Common.{◌≡◌, ◌≢◌, ℕ, ◌≤◌, true, List, [], ◌∷◌, length, None, Result, Ok, Err, refl, ap, sym, ◌∙◌, subst, arith, eqb}
 use Rattle.std.specs.Prelude.{IsSome, All, option_map, option_to_list}
 use Rattle.std.proofs.lemmas.Bool.{cond-false, ne_eqb}
-use Rattle.rams_model.specs.Types.{Order, Event, FrameFault, Note}
+use Rattle.rams_model.specs.declared.answer.Order.{Order}
+use Rattle.rams_model.specs.declared.event.Event.{Event}
+use Rattle.rams_model.specs.declared.fault.FrameFault.{FrameFault}
+use Rattle.rams_model.specs.declared.note.Note.{Note}
 use Rattle.rams_model.specs.declared.event.Event.TheVariants.{Feedback}
 use Rattle.rams_model.specs.declared.note.Note.TheVariants.{BadFeedback}
 use Rattle.rams_model.specs.Service.{answered, Settings, Message, messages, unframed, heard_feedback, heard_of, began, noted, History, arrivals, known, is_among, without, sendings, ssrc, bursts, Wanted, pending, quiet_ticks, channel_left, info_order, order_of, newest_notes, newest_orders, newest_answer, after_messages, after_hearing, history_of, answer}
 use Rattle.rams_model.specs.Packets.{Arrival}
 use Rattle.rams_model.specs.Formats.{Framed, framed}
 use Rattle.channel_cache.specs.Seen as caches
-use Rattle.channel_parts.specs.{Parts, IsTable, IsQueue, IsBudget, IsCache, StandsFor, HaveLowNumbers}
+use Rattle.channel_parts.specs.declared.parts.Parts.{Parts}
+use Rattle.channel_parts.specs.{IsTable, IsQueue, IsBudget, IsCache, StandsFor, HaveLowNumbers}
 use Rattle.channel_parts.proofs.Facts.{events_reserve_nothing, other_notes_reserve_nothing, only_known_clients_have_bursts, repairs_are_of_known_clients}
 use Rattle.channel_parts.proofs.Given.{moment}
 use Rattle.channel_parts.proofs.Turning.{OthersAreClosed}
-use Rattle.feedback_core.specs.{Page, Visitor, IsAsBefore, IsClient, IsVisit, answered_of, IsTurned, has_place, with_place, with_kept}
+use Rattle.feedback_core.specs.declared.page.Page.{Page}
+use Rattle.feedback_core.specs.declared.visitor.Visitor.{Visitor}
+use Rattle.feedback_core.specs.{IsAsBefore, IsClient, IsVisit, answered_of, IsTurned, has_place, with_place, with_kept}
 use Rattle.feedback_core.proofs.Beginning.{at_datagram}
 use Rattle.feedback_core.proofs.Places.{place_is, table_ended}
 use Rattle.feedback_core.proofs.Visiting.{entry_as_before}

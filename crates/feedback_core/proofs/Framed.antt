@@ -2,7 +2,7 @@
 use Rattle.std.proofs.Common.{◌≡◌, ℕ, ◌+◌, ◌-◌, ◌*◌, ◌/◌, ◌≤◌, not, ◌&&◌, zero, suc, List, [], ◌∷◌, length, drop, Option, Some, None, Result, Ok, Err, refl, subst, arith, eqb, ltb, length-drop, length-take}
 use Rattle.std.specs.Prelude.{slice_index}
 use Rattle.std.proofs.lemmas.Bool.{cond_both, ltb-false}
-use Rattle.rams_model.specs.Types.{FrameFault}
+use Rattle.rams_model.specs.declared.fault.FrameFault.{FrameFault}
 use Rattle.rams_model.specs.Formats.{unless_fault, onto, pieces_from, Framed, packet_size, rtcp_padding, framed_first, packet_fault, packet_format, framed}
 use Rattle.feedback_core.specs.{most_of, most_notes}
 

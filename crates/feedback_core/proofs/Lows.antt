@@ -3,17 +3,23 @@ use Rattle.std.proofs.Common.{◌≡◌, ℕ, ◌+◌, ◌%◌, ◌≤◌, ◌<�
 use Rattle.std.specs.Prelude.{find, is_some}
 use Rattle.std.specs.List.{list_any}
 use Rattle.std.proofs.lemmas.Bool.{cond-true, cond-false, cases_Bool, and_parts, and_left, or_parts, or_from, not-true, eqb-true, eqb-false, ne_eqb}
-use Rattle.rams_model.specs.Types.{Channel, Held, Note}
+use Rattle.rams_model.specs.declared.channel.Channel.{Channel}
+use Rattle.rams_model.specs.declared.held.Held.{Held}
+use Rattle.rams_model.specs.declared.note.Note.{Note}
 use Rattle.rams_model.specs.declared.note.Note.TheVariants as notes
 use Rattle.rams_model.specs.Service.{Settings, noted, History, newest_sender, room, is_before, is_early, repair_note, held_answer, number_answer, open_burst, Wanted, wanted, is_wanted, pending, is_pending, pending_of, is_full}
 use Rattle.rams_model.specs.Packets.{lo, hi, Follows}
 use Rattle.rams_model.specs.Service.Bursts as model
-use Rattle.client_table.specs.{Burst, Entry}
+use Rattle.client_table.specs.declared.entry.Burst.{Burst}
+use Rattle.client_table.specs.declared.entry.Entry.{Entry}
 use Rattle.ext_seq.specs.{IsResolved}
-use Rattle.repair_queue.specs.{Asked, asked_of, count_of}
+use Rattle.repair_queue.specs.declared.wanted.Asked.{Asked}
+use Rattle.repair_queue.specs.{asked_of, count_of}
 use Rattle.repair_queue.specs.declared.wanted.Asked.TheVariants as asks
 use Rattle.repair_queue.specs.Queue as queues
-use Rattle.feedback_core.specs.{Open, Visitor, open_of, entry_under, is_sent_later, IsClient, IsVisit, IsHeldRun, IsAnswered}
+use Rattle.feedback_core.specs.declared.visitor.Open.{Open}
+use Rattle.feedback_core.specs.declared.visitor.Visitor.{Visitor}
+use Rattle.feedback_core.specs.{open_of, entry_under, is_sent_later, IsClient, IsVisit, IsHeldRun, IsAnswered}
 use Rattle.feedback_core.proofs.Others.{IsOf}
 use Rattle.feedback_core.proofs.Visiting.{IsIdle, idle_visit, is_opened, is_closed}
 use Rattle.feedback_core.proofs.Turning.{queued}

@@ -3,7 +3,8 @@ use Rattle.std.proofs.Common.{◌≡◌, ℕ, Bool, true, false, cond, not, ◌&
 use Rattle.std.specs.Prelude.{◌≢◌, ◌==◌, filter}
 use Rattle.std.specs.List.{list_any}
 use Rattle.std.proofs.lemmas.Bool.{cond_both, cond-true, cond-false, eqb-true, eq-eqb, ne_eqb, not-false, or_parts}
-use Rattle.rams_model.specs.Types.{Held, Note}
+use Rattle.rams_model.specs.declared.held.Held.{Held}
+use Rattle.rams_model.specs.declared.note.Note.{Note}
 use Rattle.rams_model.specs.declared.note.Note.TheVariants as note
 use Rattle.rams_model.specs.Service.{Settings, noted, History, known, is_among, placed, with_client, without, sendings, ssrc, sequence, bursts, Wanted, wanted, pending, quiet_ticks, is_served, channel_left}
 use Rattle.channel_parts.proofs.Knowing.{known_step}

@@ -5,7 +5,8 @@ use Rattle.std.specs.Map.{keys_of}
 use Rattle.std.proofs.lemmas.Bool.{cond_both, cond-true, cond-false, cases_Bool, cases_eq, or_from, or_left, or_right, or_cases, both_ways, eqb-true, eqb-false, ne_eqb, lt-ltb, le-ltb, not-true, not_from_true, not_from_false}
 use Rattle.rams_model.specs.declared.note.Note.TheVariants as note
 use Rattle.rams_model.specs.Service.{Settings, known, is_among, with_client, without, noted, History}
-use Rattle.client_table.specs.{Entry, clients_of, entry_of, new_entry, with_entry}
+use Rattle.client_table.specs.declared.entry.Entry.{Entry}
+use Rattle.client_table.specs.{clients_of, entry_of, new_entry, with_entry}
 use Rattle.client_table.specs.Clients.{Clients}
 use Rattle.client_table.specs.Clients as tables
 use Rattle.channel_parts.specs.{IsEntry, IsTable}

@@ -3,17 +3,21 @@ use Rattle.std.proofs.Common.{◌≡◌, ℕ, ◌+◌, ◌-◌, ◌≤◌, Bool,
 use Rattle.std.specs.Prelude.{◌==◌, filter, length, option_map}
 use Rattle.std.specs.List.{list_any}
 use Rattle.std.proofs.lemmas.Bool.{cond_both, cond-true, eq-eqb, or_from, not-true}
-use Rattle.rams_model.specs.Types.{Info, Cause}
+use Rattle.rams_model.specs.declared.message.Info.{Info}
+use Rattle.rams_model.specs.declared.note.Cause.{Cause}
 use Rattle.rams_model.specs.declared.note.Cause.TheVariants as cause
 use Rattle.rams_model.specs.declared.note.Note.TheVariants as note
 use Rattle.rams_model.specs.Service.{Settings, noted, History, arrivals, known, is_among, sendings, ssrc, newest_sender, or_sender, update_info, bursts, next, kept, newest_changed, after_note, if_open, newest_open, open_burst, has_open, Wanted, wanted, pending, quiet_ticks, reserved}
 use Rattle.rams_model.specs.Service.Bursts as model
 use Rattle.link_budget.specs.Amounts.{Amounts}
-use Rattle.client_table.specs.{Burst, Entry}
+use Rattle.client_table.specs.declared.entry.Burst.{Burst}
+use Rattle.client_table.specs.declared.entry.Entry.{Entry}
 use Rattle.repair_queue.specs.Queue as queues
 use Rattle.channel_parts.specs.{WasTold, IsBudget, burst_kept}
 use Rattle.channel_parts.proofs.Knowing.{known_step, made_known}
-use Rattle.feedback_core.specs.{Open, Visitor, entry_under, IsUnknown, IsKnown, IsClient, IsVisit}
+use Rattle.feedback_core.specs.declared.visitor.Open.{Open}
+use Rattle.feedback_core.specs.declared.visitor.Visitor.{Visitor}
+use Rattle.feedback_core.specs.{entry_under, IsUnknown, IsKnown, IsClient, IsVisit}
 use Rattle.feedback_core.proofs.Others.{others_noted, rest_noted, left_noted, quiet_noted}
 use Rattle.channel_parts.proofs.Facts.{updates_reserve, ends_release, other_notes_reserve_nothing}
 use Rattle.feedback_core.proofs.Visiting.{noted_visit, budget_changed, budget_same, idle_none, seq_of, idle_of, IsOpen}

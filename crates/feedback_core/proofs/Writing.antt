@@ -2,9 +2,12 @@
 use Rattle.std.proofs.Common.{◌≡◌, ℕ, ◌%◌, List, [], ◌∷◌, ◌++◌, Option, Some, None, refl, ap, sym, ◌∙◌, subst, append_assoc, append-nil, length, leb}
 use Rattle.std.specs.Prelude.{◌==◌, option_to_list, find}
 use Rattle.std.proofs.lemmas.Bool.{cond_both}
-use Rattle.rams_model.specs.Types.{Order, Held, Note}
+use Rattle.rams_model.specs.declared.answer.Order.{Order}
+use Rattle.rams_model.specs.declared.held.Held.{Held}
+use Rattle.rams_model.specs.declared.note.Note.{Note}
 use Rattle.rams_model.specs.Service.{Settings, began, told, noted, History, arrivals, hold, newest_sender, order_of, newest_notes, newest_orders, Room, room, is_early, repair_note, held_answer, number_answer, after_numbers, open_burst, Wanted, pending, pending_of, is_pending, is_full}
-use Rattle.feedback_core.specs.{Visitor, IsVisit, IsAnswered, AreNoted}
+use Rattle.feedback_core.specs.declared.visitor.Visitor.{Visitor}
+use Rattle.feedback_core.specs.{IsVisit, IsAnswered, AreNoted}
 use Rattle.feedback_core.proofs.Others.{IsOf}
 use Rattle.feedback_core.proofs.Visiting.{IsIdle, idle_visit}
 

@@ -1,6 +1,7 @@
 -- What makes the answers to a datagram safe, and what they are.
 use Rattle.std.specs.Prelude.{◌≡◌, ℕ, ◌+◌, ◌<◌, ◌≤◌, ◌^◌, true, List, ◌∷◌, length, Option, Some, None, IsSome, IfSome}
-use Rattle.rams_model.specs.Types.{Held, Note}
+use Rattle.rams_model.specs.declared.held.Held.{Held}
+use Rattle.rams_model.specs.declared.note.Note.{Note}
 use Rattle.rams_model.specs.Service.{Settings, rate_of, noted, History, hold, newest_sender, open_burst, Wanted}
 use Rattle.rams_model.specs.Packets.{lo, hi, Follows}
 use Rattle.rams_model.specs.Service.Bursts as model

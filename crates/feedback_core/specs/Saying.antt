@@ -1,6 +1,9 @@
 -- What is noted of a message that gets one note, which may end the client's burst.
 use Rattle.std.specs.Prelude.{◌≡◌, ℕ, List, [], ◌∷◌, ◌++◌, Option, Some, None, option_map, option_to_list}
-use Rattle.rams_model.specs.Types.{Order, Cause, Note, Held}
+use Rattle.rams_model.specs.declared.answer.Order.{Order}
+use Rattle.rams_model.specs.declared.note.Cause.{Cause}
+use Rattle.rams_model.specs.declared.note.Note.{Note}
+use Rattle.rams_model.specs.declared.held.Held.{Held}
 use Rattle.rams_model.specs.declared.note.Note.TheVariants.{End}
 use Rattle.rams_model.specs.Service.{Settings, History, hold, newest_sender, info_order, newest_notes, newest_orders, Wanted}
 use Rattle.feedback_core.specs.declared.said.Said.{Said}

@@ -2,7 +2,7 @@
 use Rattle.std.specs.Prelude.{◌≡◌, ◌≢◌, ℕ, true, false, ◌==◌, nat_lt, List, length, Option, Some, None}
 use Rattle.std.specs.List.{list_any}
 use Rattle.rams_model.specs.Service.{Settings, History, arrivals, known, is_among, without, sendings, ssrc, bursts, open_burst, Wanted, pending, quiet_ticks}
-use Rattle.client_table.specs.{Entry}
+use Rattle.client_table.specs.declared.entry.Entry.{Entry}
 use Rattle.channel_parts.specs.{IsEntry, IsBudget}
 use Rattle.feedback_core.specs.declared.visitor.Visitor.{Visitor}
 

@@ -1,6 +1,6 @@
 //! The answer to a datagram.
 ghost use Rattle.std.specs.Prelude.{◌≡◌, ◌+◌, ◌*◌, ◌<◌, ◌≤◌, ◌^◌, ℕ, List, ◌∷◌, length, IfOk, OnErr, Ok, OnOk, []};
-ghost use Rattle.rams_model.specs.Types.{Event};
+ghost use Rattle.rams_model.specs.declared.event.Event.{Event};
 ghost use Rattle.rams_model.specs.declared.event.Event.TheVariants.{Feedback};
 ghost use Rattle.rams_model.specs.Service.{answer, answered};
 ghost use Rattle.rams_model.specs.Formats.{framed};

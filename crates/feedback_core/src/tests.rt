@@ -1,6 +1,6 @@
 //! Worked answers to datagrams: what is noted of them, and what their client is told.
 ghost use Rattle.std.specs.Prelude.{◌≡◌, ◌+◌, ◌^◌, ◌<◌, List, IfOk, OnOk};
-ghost use Rattle.rams_model.specs.Types.{Event};
+ghost use Rattle.rams_model.specs.declared.event.Event.{Event};
 ghost use Rattle.channel_parts.specs.{StandsFor};
 
 use crate::{Answer, Parts, answer_feedback};

@@ -1,6 +1,6 @@
 //! The answer to a RAMS-R (RFC 6285, 6.2 and 7.2).
 ghost use Rattle.std.specs.Prelude.{◌≡◌, ℕ, ◌<◌, ◌^◌, IsSome, Some, None, Ok, unwrap_or, true, ◌≤◌, List, IsNone};
-ghost use Rattle.rams_model.specs.Types.{Held};
+ghost use Rattle.rams_model.specs.declared.held.Held.{Held};
 ghost use Rattle.rams_model.specs.Formats.{request_at};
 ghost use Rattle.rams_model.specs.Packets.{behind as behind_of};
 ghost use Rattle.rams_tlv.specs.{shown_request};

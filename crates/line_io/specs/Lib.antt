@@ -2,7 +2,7 @@ pub mod Feeds
 pub mod Lines
 pub mod Passes
 
-unfoldable pub use Feeds.*
-unfoldable pub use Lines.*
-unfoldable pub use Passes.*
-pub use Rattle.line_io.specs.declared.reader.Next.{Next}
+unfoldable pub use Rattle.line_io.specs.Feeds.{HasNoFeed}
+pub use Rattle.line_io.specs.Feeds.{IsCutAt, IsGrown, AreRanges}
+unfoldable pub use Rattle.line_io.specs.Lines.{IsNextOf, TakesNext, IsShort}
+pub use Rattle.line_io.specs.Lines.{Reading, IsCutOff}

@@ -2,7 +2,7 @@
 use Rattle.std.proofs.Common.{◌≡◌, ◌≤◌, ◌≢◌, List, [], ◌∷◌, ◌++◌, sym, ap, ◌∙◌, eqb}
 use Rattle.std.proofs.lemmas.Bool.{cond-true, cond-false, eq-eqb, ne_eqb}
 use Rattle.circular_buffer.specs.Buffer.{Buffer, buffer, keep_last}
-use Rattle.rams_model.specs.Types.{Held}
+use Rattle.rams_model.specs.declared.held.Held.{Held}
 use Rattle.rams_model.specs.Packets.{hi, last_of}
 use Rattle.packet_ring.specs.{pushed}
 use Rattle.packet_ring.specs.Seen.{Seen}

@@ -1,6 +1,6 @@
 //! The ring of one channel.
 ghost use Rattle.std.specs.Prelude.{◌≡◌, ◌+◌, ◌^◌, ◌<◌, ◌≤◌, List, [], ◌∷◌, ◌++◌, ◌↔◌, option_copied, IfOk, IfSome, IsSome};
-ghost use Rattle.rams_model.specs.Types.{Held};
+ghost use Rattle.rams_model.specs.declared.held.Held.{Held};
 ghost use Rattle.rams_model.specs.Packets.{lo, hi};
 ghost use Rattle.packet_ring.specs.{empty_ring, pushed, packet_of, IsRing, StandsFor};
 

@@ -3,7 +3,8 @@ use Rattle.std.proofs.Common.{◌≡◌, ℕ, ◌+◌, ◌≤◌, List, [], ◌�
 use Rattle.std.proofs.lemmas.List.{map-append}
 use Rattle.std.proofs.lemmas.List.Elements.{All-tail}
 use Rattle.std.proofs.lemmas.Grind.{common_steps}
-use Rattle.ram_io.specs.{AreWithin, datagram_at, datagrams, place_behind, outgoing, Sent}
+use Rattle.ram_io.specs.declared.mem_wire.Sent.{Sent}
+use Rattle.ram_io.specs.{AreWithin, datagram_at, datagrams, place_behind, outgoing}
 
 -- a part of the bytes stays where it was as more are appended
 pub part-append : (bytes more : List ℕ) (start len : ℕ) → start + len ≤ length bytes → take len (drop start (bytes ++ more)) ≡ take len (drop start bytes)

@@ -26,7 +26,8 @@ pub enum Incoming {
 /// A wire of datagrams.
 pub trait Wire {
     ghost use Rattle.std.specs.Prelude.{ℕ, List, Option};
-    ghost use Rattle.ram_io.specs.{Incoming, Outgoing};
+    ghost use Rattle.ram_io.specs.declared.wire.Incoming.{Incoming};
+    ghost use Rattle.ram_io.specs.{Outgoing};
 
     /// The answers that are left for `receive`, where the wire tells them. After them comes
     /// nothing.

@@ -1,7 +1,7 @@
 -- The source list: each packet stands once, and the list only grows.
 use Rattle.std.proofs.Common.{◌≡◌, ℕ, ◌+◌, ◌-◌, ◌<◌, ◌≤◌, ◌≢◌, false, cond, not, List, [], ◌∷◌, ◌++◌, Option, None, refl, ap, sym, ◌∙◌, subst, arith, append_assoc, append-nil, eqb, ltb, leb}
 use Rattle.std.proofs.lemmas.Bool.{cond_both, cond-false, le-ltb, ltb-false, leb-true, le-leb, and_parts, and_from, not-true, not_from_false, eqb-false, or_parts, or_from}
-use Rattle.rams_model.specs.Types.{Held}
+use Rattle.rams_model.specs.declared.held.Held.{Held}
 use Rattle.rams_model.specs.declared.note.LiveNote.TheVariants.{Took, Late, Twice, Jump}
 use Rattle.rams_model.specs.Packets.{hi, Numbered, forward, backward, jump, restart, ahead, is_kept, after_greatest, numbered, Arrival, Stream, held_as, has_number, with_packet, awaited, in_time, note_of, live_note, stream_after, stream_of, source}
 use Rattle.rams_model.specs.Laws.{Rises}

@@ -1,6 +1,6 @@
 -- The book of some events is lawful, and the only one of them that is.
 use Rattle.std.proofs.Common.{◌≡◌, List, [], ◌∷◌, refl, ap, ap₂, sym, ◌∙◌}
-use Rattle.rams_model.specs.Types.{Event}
+use Rattle.rams_model.specs.declared.event.Event.{Event}
 use Rattle.rams_model.specs.Service.{Answered, Settings, Book, IsLawful, events_of, answer, book}
 
 pub same_events : (s : Settings) (events : List Event) → events_of (book s events) ≡ events

@@ -2,7 +2,7 @@
 use Rattle.std.proofs.Common.{◌≡◌, ℕ, ◌+◌, ◌<◌, ◌≤◌, ◌≢◌, Bool, false, cond, List, [], ◌∷◌, ◌++◌, refl, le_refl, ap, sym, ◌∙◌, arith, eqb, ltb}
 use Rattle.std.specs.Prelude.{filter}
 use Rattle.std.proofs.lemmas.Bool.{cond_both, cond-true, cond-false, ltb-true, ltb-false, eqb-false, lt-ltb, le-ltb, ne_eqb, or_parts, or_from}
-use Rattle.rams_model.specs.Types.{Held}
+use Rattle.rams_model.specs.declared.held.Held.{Held}
 use Rattle.rams_model.specs.Packets.{hi, has_number, with_packet}
 use Rattle.rams_model.specs.Laws.{Rises}
 

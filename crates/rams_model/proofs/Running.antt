@@ -2,7 +2,7 @@
 use Rattle.std.proofs.Common.{◌≡◌, ℕ, zero, suc, ◌+◌, ◌-◌, ◌≤◌, Bool, true, false, ◌&&◌, List, [], ◌∷◌, length, take, Option, Some, None, refl, ap, subst, arith, eqb, leb}
 use Rattle.std.proofs.lemmas.List.Sums.{sum_by-cons}
 use Rattle.std.proofs.lemmas.Bool.{cond_both, both_ways, ltb-true, lt-ltb, leb-true, le-leb, eq-eqb, and_parts, and_from}
-use Rattle.rams_model.specs.Types.{Held}
+use Rattle.rams_model.specs.declared.held.Held.{Held}
 use Rattle.rams_model.specs.Packets.{wires, Follows}
 use Rattle.rams_model.specs.Service.{is_before, run}
 use Rattle.rams_model.specs.Laws.{IsByStop, MayBeSent}

@@ -1,7 +1,7 @@
 -- The awaited number is the least that is missing.
 use Rattle.std.proofs.Common.{◌≡◌, ℕ, zero, suc, ◌+◌, ◌-◌, ◌≤◌, Bool, true, false, not, List, ◌∷◌, subst, arith, leb, ⊎_elim}
 use Rattle.std.proofs.lemmas.Bool.{cond_both, both_ways, le-leb, and_from, not_from_false, cases_eq}
-use Rattle.rams_model.specs.Types.{Held}
+use Rattle.rams_model.specs.declared.held.Held.{Held}
 use Rattle.rams_model.specs.Packets.{hi, has_number, least, is_missing, awaited}
 use Rattle.rams_model.specs.Laws.{Rises}
 use Rattle.rams_model.proofs.Rising.{below_hi, none_at_hi}

@@ -1,4 +1,3 @@
-pub mod Types
 pub mod Formats
 pub mod Packets
 pub mod Service

@@ -1,3 +1,3 @@
 pub mod Exit
 
-unfoldable pub use Exit.*
+unfoldable pub use Rattle.rams_program.specs.Exit.{exit_number}

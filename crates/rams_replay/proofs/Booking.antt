@@ -3,9 +3,10 @@ use Rattle.std.proofs.Common.{◌≡◌, ℕ, ◌+◌, List, [], ◌++◌, lengt
 use Rattle.std.specs.Io.KnownBytes.{Appends}
 use Rattle.line_io.specs.Passes.{Passes}
 use Rattle.line_io.proofs.Passing.{Passes-none, Passes-then, Passes-put, Passes-more}
-use Rattle.rams_model.specs.Types.{Status}
+use Rattle.rams_model.specs.declared.status.Status.{Status}
 use Rattle.trace_book.specs.{first_line, trace_text}
-use Rattle.rams_replay.specs.{Stop, StopsIn, EndsAs, IfTold, Ends}
+use Rattle.rams_replay.specs.declared.stop.Stop.{Stop}
+use Rattle.rams_replay.specs.{StopsIn, EndsAs, IfTold, Ends}
 use Rattle.rams_replay.specs.declared.stop.Stop.TheVariants.{Memory, Read, Write}
 use Rattle.rams_replay.proofs.Running.{outcome}
 

@@ -7,7 +7,8 @@ use Rattle.rams_model.specs.Texts.{Reached, lines_of}
 use Rattle.trace_book.specs.TraceText as text
 use Rattle.trace_book.specs.{Stage, Outcome, goes_on, ends, after_turn, turn, text_from}
 use Rattle.server_hub.specs.Seen.{Seen}
-use Rattle.rams_replay.specs.{Turn, IfBothTold, IsFirstTurn, Took, ending}
+use Rattle.rams_replay.specs.declared.replay.Turn.{Turn}
+use Rattle.rams_replay.specs.{IfBothTold, IsFirstTurn, Took, ending}
 use Rattle.rams_replay.specs.declared.replay.Turn.TheVariants.{Refused}
 use Rattle.rams_replay.proofs.LongLines.{turn_by_front, long_ends}
 

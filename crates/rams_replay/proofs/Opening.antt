@@ -5,7 +5,9 @@ use Rattle.std.specs.List.{list_any}
 use Rattle.std.proofs.lemmas.Bool.{and_parts, leb-true}
 use Rattle.std.proofs.lemmas.List.{length-map, map-append}
 use Rattle.std.proofs.lemmas.List.Sums.{sum-map}
-use Rattle.rams_model.specs.Types.{Channel, ConfigFault, LineFault}
+use Rattle.rams_model.specs.declared.channel.Channel.{Channel}
+use Rattle.rams_model.specs.declared.fault.ConfigFault.{ConfigFault}
+use Rattle.rams_model.specs.declared.fault.LineFault.{LineFault}
 use Rattle.rams_model.specs.declared.fault.LineFault.TheVariants.{Rule}
 use Rattle.rams_model.specs.Service.{Settings, settings, checked}
 use Rattle.rams_model.specs.Texts.{spaced, TraceLine, head_line, channel_line, end_line, line_in_range, Claim, Head, Reached, tick_of, has_channel, joined, with_channel, accepted}

@@ -4,13 +4,14 @@ use Rattle.std.specs.Io.KnownBytes.{Keeps, prepend_known}
 use Rattle.line_io.specs.Passes.{Passes}
 use Rattle.line_io.proofs.LineFeeds.{lines_read-cut}
 use Rattle.line_io.proofs.Passing.{Passes-none, Passes-put, Passes-more, Passes-then}
-use Rattle.rams_model.specs.Types.{Status}
+use Rattle.rams_model.specs.declared.status.Status.{Status}
 use Rattle.rams_model.specs.declared.status.Status.TheVariants.{ReadFault}
 use Rattle.rams_model.specs.Texts.{Reached, lines_of, lines_read}
 use Rattle.trace_book.specs.TraceText as trace
 use Rattle.trace_book.specs.{Stage, opening, goes_on, turn, text_after, lines_text, first_line}
 use Rattle.server_hub.specs.Seen.{Seen}
-use Rattle.rams_replay.specs.{Stop, status_of, IsWriteStop, EndsAs, IsEnd, IfBothTold, GoesOnAfter, HasLinesText, HasReadText}
+use Rattle.rams_replay.specs.declared.stop.Stop.{Stop}
+use Rattle.rams_replay.specs.{status_of, IsWriteStop, EndsAs, IsEnd, IfBothTold, GoesOnAfter, HasLinesText, HasReadText}
 use Rattle.rams_replay.specs.declared.stop.Stop.TheVariants.{Memory, Read, Write}
 
 -- What was read of a trace and is written: ys is what isn't read yet. However much of it is read too, the text of the lines is what is said and the text of the lines from the stage on.

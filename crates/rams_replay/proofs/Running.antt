@@ -2,12 +2,14 @@
 use Rattle.std.proofs.Common.{◌≡◌, ℕ, ◌+◌, ◌≤◌, List, [], ◌++◌, length, Option, None, Some, MatchOption, refl, sym, ap, ◌∙◌, subst, append-nil, arith}
 use Rattle.std.specs.Io.KnownBytes.{Keeps, prepend_known}
 use Rattle.line_io.specs.Passes.{Passes}
-use Rattle.rams_model.specs.Types.{Status}
+use Rattle.rams_model.specs.declared.status.Status.{Status}
 use Rattle.rams_model.specs.Texts.{Reached, lines_of}
 use Rattle.trace_book.specs.TraceText as text
 use Rattle.trace_book.specs.{Stage, Outcome, opening, after_text, after_turn, text_from}
 use Rattle.server_hub.specs.Seen.{Seen}
-use Rattle.rams_replay.specs.{Turn, Stop, StopsIn, IfTold, IfBothTold, GoesOnAfter, EndsIn, IsFirstTurn, Ends, HasLinesText, Stands, ending, written}
+use Rattle.rams_replay.specs.declared.replay.Turn.{Turn}
+use Rattle.rams_replay.specs.declared.stop.Stop.{Stop}
+use Rattle.rams_replay.specs.{StopsIn, IfTold, IfBothTold, GoesOnAfter, EndsIn, IsFirstTurn, Ends, HasLinesText, Stands, ending, written}
 use Rattle.rams_replay.proofs.Reading.{HasRead, reading_begins, reading_goes_on, reading_stops}
 use Rattle.rams_replay.proofs.Writing.{IsWriting, unwritten, writing_begins, writing_has_room, writing_goes_on, writing_stops, writing_breaks, writing_ends}
 

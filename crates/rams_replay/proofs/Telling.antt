@@ -3,18 +3,21 @@ use Rattle.std.proofs.Common.{◌≡◌, ◌≢◌, ℕ, Bool, true, false, cond
 use Rattle.std.specs.Prelude.{All, AllPairs, slice_get}
 use Rattle.std.specs.List.{flat_map}
 use Rattle.std.proofs.lemmas.List.Elements.{All-map, All-cons}
-use Rattle.rams_model.specs.Types.{Event}
+use Rattle.rams_model.specs.declared.event.Event.{Event}
 use Rattle.rams_model.specs.declared.event.Event.TheVariants as event
 use Rattle.rams_model.specs.Service.{Answered, Settings}
 use Rattle.order_datagrams.specs.{Renders}
 use Rattle.order_datagrams.proofs.ReadPackets.{answer_renders}
-use Rattle.server_hub.specs.{At, HubEvent, IsHub, Serves, StandsFor, settings_of, ids_of, with_event, after_event, after_event_of, after_tick, id_of, channel_of, answer_to, answer_of, answer_at, answers_to_tick, Pairwise}
+use Rattle.server_hub.specs.declared.event.At.{At}
+use Rattle.server_hub.specs.declared.event.HubEvent.{HubEvent}
+use Rattle.server_hub.specs.{IsHub, Serves, StandsFor, settings_of, ids_of, with_event, after_event, after_event_of, after_tick, id_of, channel_of, answer_to, answer_of, answer_at, answers_to_tick, Pairwise}
 use Rattle.server_hub.specs.declared.event.HubEvent.TheVariants.{Live, Feedback, Tick}
 use Rattle.server_hub.specs.Seen.{Seen}
 use Rattle.server_hub.specs.Served.{Served}
 use Rattle.server_hub.proofs.Finding.{with_id, one_has, settings_found}
 use Rattle.trace_book.specs.{channel_text, event_text, named_text}
-use Rattle.rams_replay.specs.{Turn, AllRender, CanWrite, Tells, at_text, ending, settled_text, turn_named, written}
+use Rattle.rams_replay.specs.declared.replay.Turn.{Turn}
+use Rattle.rams_replay.specs.{AllRender, CanWrite, Tells, at_text, ending, settled_text, turn_named, written}
 use Rattle.rams_replay.specs.declared.replay.Turn.TheVariants.{GoesOn, Answered as AnsweredTurn, NoChannel, Ticked, Refused, TooLong, Done}
 
 -- the settings of the channels

@@ -1,19 +1,25 @@
 -- The turns of lines.
 use Rattle.std.proofs.Common.{◌≡◌, ℕ, ◌+◌, ◌<◌, ◌≤◌, Bool, true, false, not, ◌&&◌, cond, if◌then◌else◌, List, [], ◌∷◌, ◌++◌, map, Option, None, Some, Result, Ok, Err, is_some, refl, sym, subst, ap, ◌∙◌, arith, eqb, ltb, length, ◌⊎◌, inl, inr}
 use Rattle.std.proofs.lemmas.Bool.{and_parts, lt-ltb}
-use Rattle.rams_model.specs.Types.{Event, LineFault, LineKind}
+use Rattle.rams_model.specs.declared.event.Event.{Event}
+use Rattle.rams_model.specs.declared.fault.LineFault.{LineFault}
+use Rattle.rams_model.specs.declared.mode.LineKind.{LineKind}
 use Rattle.rams_model.specs.declared.fault.LineFault.TheVariants.{Order, Range}
 use Rattle.rams_model.specs.Texts.{TraceLine, line_in_range, Claim, Head, Reached, accepted, has_channel, judged, judged_line, kind_of, kind_may_come, may_come, with_line, with_reached, line_is_served}
 use Rattle.rams_model.specs.declared.mode.LineKind.TheVariants as kind
-use Rattle.server_hub.specs.{At, HubEvent, StandsFor, id_of, with_event, after_event, after_event_of, after_tick}
+use Rattle.server_hub.specs.declared.event.At.{At}
+use Rattle.server_hub.specs.declared.event.HubEvent.{HubEvent}
+use Rattle.server_hub.specs.{StandsFor, id_of, with_event, after_event, after_event_of, after_tick}
 use Rattle.server_hub.specs.declared.event.HubEvent.TheVariants.{Live, Feedback, Tick}
 use Rattle.server_hub.specs.Seen.{Seen}
 use Rattle.server_hub.specs.Served.{Served}
 use Rattle.trace_book.specs.{Stage, goes_on, ends, too_long, most_events, after_judging, after_line, counted, event_text, turn, event_of as brought}
-use Rattle.rams_replay.specs.{Turn, Comes, HubServes, Stands, StandsSomewhere, CountsOne, Tells, Took, claim_of, ending, last_line, written}
+use Rattle.rams_replay.specs.declared.replay.Turn.{Turn}
+use Rattle.rams_replay.specs.{Comes, HubServes, Stands, StandsSomewhere, CountsOne, Tells, Took, claim_of, ending, last_line, written}
 use Rattle.rams_replay.specs.declared.replay.Turn.TheVariants.{GoesOn, Answered as AnsweredTurn, NoChannel, Ticked, Refused, TooLong, Done}
 use Rattle.trace_book.specs.TraceText as text
-use Rattle.trace_text.specs.{Line, shown}
+use Rattle.trace_text.specs.declared.line.Line.{Line}
+use Rattle.trace_text.specs.{shown}
 use Rattle.trace_text.specs.declared.line.Line.TheVariants.{Tune, Give, Mcast, Ask, Drop}
 
 -- What an accepted line says of the lines before it, and of those with it.

@@ -3,12 +3,14 @@ use Rattle.std.proofs.Common.{◌≡◌, ℕ, ◌+◌, ◌<◌, ◌≤◌, List,
 use Rattle.std.proofs.lemmas.List.{drop_more, drop_all}
 use Rattle.line_io.specs.Passes.{Passes}
 use Rattle.line_io.proofs.Passing.{Passes-none, Passes-put, Passes-more}
-use Rattle.rams_model.specs.Types.{Order, Note}
+use Rattle.rams_model.specs.declared.answer.Order.{Order}
+use Rattle.rams_model.specs.declared.note.Note.{Note}
 use Rattle.rams_model.specs.Service.{Settings}
 use Rattle.rams_model.specs.Texts.{order_count, notes_text}
-use Rattle.rams_replay.specs.{Stop, StopsIn, entry_text, at_text}
+use Rattle.rams_replay.specs.declared.stop.Stop.{Stop}
+use Rattle.rams_replay.specs.{StopsIn, entry_text, at_text}
 use Rattle.rams_replay.specs.declared.stop.Stop.TheVariants.{Memory, Read, Write}
-use Rattle.server_hub.specs.{At}
+use Rattle.server_hub.specs.declared.event.At.{At}
 use Rattle.server_hub.specs.Seen.{Seen}
 use Rattle.std.specs.List.{flat_map}
 

@@ -5,12 +5,13 @@ pub mod CommandWords
 pub mod Told
 pub mod Statuses
 
-unfoldable pub use Stops.*
-unfoldable pub use Entries.*
-unfoldable pub use Turns.*
-unfoldable pub use CommandWords.*
-unfoldable pub use Told.*
-unfoldable pub use Statuses.*
-pub use Rattle.rams_replay.specs.declared.replay.Heard.{Heard}
-pub use Rattle.rams_replay.specs.declared.replay.Turn.{Turn}
-pub use Rattle.rams_replay.specs.declared.stop.Stop.{Stop}
+unfoldable pub use Rattle.rams_replay.specs.Stops.{IsWriteStop, OnlyMemoryStops, IsReadStop, IsStop, StopsIn, EndsAs}
+pub use Rattle.rams_replay.specs.Stops.{IsStoppedByWrite, IsStoppedByRead, IsStopped}
+unfoldable pub use Rattle.rams_replay.specs.Entries.{entry_text}
+unfoldable pub use Rattle.rams_replay.specs.Turns.{event_of, claim_of, HubServes, StandsSomewhere, ending, IsEnd, settled_text, at_text, last_line, written, AllRender, CanWrite, turn_named, OpensIn, Took}
+pub use Rattle.rams_replay.specs.Turns.{Serves, Stands, Tells, CountsOne, CanOpen, Opens, Comes}
+unfoldable pub use Rattle.rams_replay.specs.CommandWords.{begins_with_run, is_run}
+unfoldable pub use Rattle.rams_replay.specs.Told.{IfTold, IfBothTold, EndsIn, IsFirstTurn, Ends, HasLinesText, HasReadText}
+pub use Rattle.rams_replay.specs.Told.{GoesOnAfter}
+unfoldable pub use Rattle.rams_replay.specs.Statuses.{status_of, is_words, HasText, HasFault, IsOrLacksMemory}
+pub use Rattle.rams_replay.specs.Statuses.{IsCaused}

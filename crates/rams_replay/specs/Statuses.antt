@@ -2,7 +2,7 @@
 use Rattle.std.specs.Prelude.{◌≡◌, ℕ, ◌≤◌, Bool, true, false, List, Option, Result, Ok, Err}
 use Rattle.std.specs.Io.KnownBytes.{Appends}
 use Rattle.ram_io.specs.{Rose}
-use Rattle.rams_model.specs.Types.{Status}
+use Rattle.rams_model.specs.declared.status.Status.{Status}
 use Rattle.rams_model.specs.declared.status.Status.TheVariants.{Done, NoMemory, Words, ReadFault, WriteFault, BadTrace, WireFault, TooLong}
 use Rattle.trace_book.specs.{Outcome}
 use Rattle.rams_replay.specs.declared.stop.Stop.{Stop}

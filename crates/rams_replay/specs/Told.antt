@@ -2,7 +2,7 @@
 use Rattle.std.specs.Prelude.{◌≡◌, ℕ, List, ◌∷◌, ◌++◌, Option, None, Some, MatchOption}
 use Rattle.line_io.specs.{IsCutOff}
 use Rattle.line_io.specs.Passes.{Passes}
-use Rattle.rams_model.specs.Types.{Status}
+use Rattle.rams_model.specs.declared.status.Status.{Status}
 use Rattle.rams_model.specs.Texts.{lines_of, lines_read, Reached}
 use Rattle.trace_book.specs.{Stage, Outcome, opening, goes_on, turn, text_from, lines_text, read_text}
 use Rattle.rams_replay.specs.declared.replay.Turn.{Turn}

@@ -1,13 +1,16 @@
 -- What a line of a trace does, as code has it.
 use Rattle.std.specs.Prelude.{◌≡◌, ℕ, ◌+◌, ◌==◌, List, [], ◌∷◌, ◌++◌, map, find, Option, Some, None, Ok, All}
 use Rattle.std.specs.List.{flat_map}
-use Rattle.rams_model.specs.Types.{Channel, Status}
+use Rattle.rams_model.specs.declared.channel.Channel.{Channel}
+use Rattle.rams_model.specs.declared.status.Status.{Status}
 use Rattle.rams_model.specs.declared.status.Status.TheVariants as statuses
 use Rattle.rams_model.specs.Service.{Answered, Settings, settings, checked}
 use Rattle.rams_model.specs.Texts.{answer_text, TraceLine, Claim, Head, Reached, accepted}
 use Rattle.book_text.specs.{no_channel_line}
 use Rattle.order_datagrams.specs.{Renders}
-use Rattle.server_hub.specs.{At, HubEvent, StandsFor, settings_of, refused as refused_add, served, after_event}
+use Rattle.server_hub.specs.declared.event.At.{At}
+use Rattle.server_hub.specs.declared.event.HubEvent.{HubEvent}
+use Rattle.server_hub.specs.{StandsFor, settings_of, refused as refused_add, served, after_event}
 use Rattle.server_hub.specs.declared.event.HubEvent.TheVariants as events
 use Rattle.server_hub.specs.Seen.{Seen}
 use Rattle.server_hub.specs.Served.{Served}

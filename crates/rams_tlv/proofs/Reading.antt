@@ -4,10 +4,11 @@ use Rattle.std.specs.Prelude.{◌==◌}
 use Rattle.std.specs.Result.{result_err}
 use Rattle.std.proofs.lemmas.Bool.{ne_eqb}
 use Rattle.std.proofs.lemmas.Bool.Decides.{nat_tests}
-use Rattle.rams_model.specs.Types.{TlvFault}
+use Rattle.rams_model.specs.declared.fault.TlvFault.{TlvFault}
 use Rattle.rams_model.specs.Formats.{unless_fault, onto, Tlv, tlvs_at, tlv_fault, tlv_size, tlv_format, first_tlv, value_length, first_value}
 use Rattle.rams_model.proofs.Joined.{pieces_step, pieces_end}
-use Rattle.rams_tlv.specs.{Message, lengths, sfmt, tlvs_of, value_in}
+use Rattle.rams_tlv.specs.declared.tlvs.Message.{Message}
+use Rattle.rams_tlv.specs.{lengths, sfmt, tlvs_of, value_in}
 
 -- the TLV in front is within the bytes and has its type's length
 pub record IsWhole (m : Message) (bytes : List ℕ) : Type 0 where

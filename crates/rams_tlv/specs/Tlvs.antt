@@ -1,6 +1,6 @@
 -- TLVs as code has them.
 use Rattle.std.specs.Prelude.{ℕ, List, Option, None, Result, Ok, Err}
-use Rattle.rams_model.specs.Types.{TlvFault}
+use Rattle.rams_model.specs.declared.fault.TlvFault.{TlvFault}
 use Rattle.rams_model.specs.Formats.{pieces_of, Tlv, tlv_format, first_value}
 use Rattle.rams_tlv.specs.declared.tlvs.Message.{Message}
 use Rattle.rams_tlv.specs.Lengths.{lengths}

@@ -2,7 +2,8 @@ pub mod Packets
 pub mod Seen
 pub mod Starts
 
-unfoldable pub use Packets.*
-unfoldable pub use Seen.*
-unfoldable pub use Starts.*
-pub use Rattle.reorder_window.specs.declared.window.Came.{Came}
+unfoldable pub use Rattle.reorder_window.specs.Packets.{items_of, start_of, note_of, AwaitedAreThose, NotesAreThose, StartsGrowAlike, NoneIsBelowTheFirst, ReleasedAreThose, EndedAreThose}
+unfoldable pub use Rattle.reorder_window.specs.Seen.{seen_of, seen_code, new_window, begun, came_of, next_missing, keeping, arrived, is_free, free_of, first_free, without, after_release, RisesIn}
+pub use Rattle.reorder_window.specs.Seen.{IsWindow, StandsFor}
+unfoldable pub use Rattle.reorder_window.specs.Starts.{has_number, with_item, last_number, is_missing, awaited, came, start_after, released}
+pub use Rattle.reorder_window.specs.Starts.{Start}

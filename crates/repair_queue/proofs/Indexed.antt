@@ -4,7 +4,8 @@ use Rattle.std.specs.HashSet.{contains, hash_set_len, spare as set_spare}
 use Rattle.std.specs.HashMap.{hash_map_len, spare as map_spare}
 use Rattle.std.proofs.lemmas.List.Folds.{list_any-append}
 use Rattle.rams_model.specs.Service.{Wanted, wanted, is_wanted}
-use Rattle.repair_queue.specs.{Index, is_of, Indexes, HasPlace, counted, same_pair}
+use Rattle.repair_queue.specs.declared.index.Index.{Index}
+use Rattle.repair_queue.specs.{is_of, Indexes, HasPlace, counted, same_pair}
 use Rattle.repair_queue.proofs.Pending.{filter_push, length-filter-le}
 
 -- an index of fewer than 4,096 has a place

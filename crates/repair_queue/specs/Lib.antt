@@ -1,7 +1,7 @@
 pub mod Queue
 pub mod Index
 
-unfoldable pub use Queue.*
-unfoldable pub use Index.*
-pub use Rattle.repair_queue.specs.declared.index.Index.{Index}
-pub use Rattle.repair_queue.specs.declared.wanted.Asked.{Asked}
+unfoldable pub use Rattle.repair_queue.specs.Queue.{is_of, count_of, asked_of, answered, unmarked, without}
+pub use Rattle.repair_queue.specs.Queue.{IsWithinLimits}
+unfoldable pub use Rattle.repair_queue.specs.Index.{same_pair, counted}
+pub use Rattle.repair_queue.specs.Index.{HasRoom, Indexes, HasPlace}

@@ -2,8 +2,6 @@ pub mod Shown
 pub mod Numbers
 pub mod Left
 
-unfoldable pub use Shown.*
-unfoldable pub use Numbers.*
-unfoldable pub use Left.*
-pub use Rattle.rtcp_feedback.specs.declared.iter.NackIter.{NackIter}
-pub use Rattle.rtcp_feedback.specs.declared.message.Feedback.{Feedback}
+unfoldable pub use Rattle.rtcp_feedback.specs.Shown.{shown_feedback}
+unfoldable pub use Rattle.rtcp_feedback.specs.Numbers.{marked_from, numbers_from}
+unfoldable pub use Rattle.rtcp_feedback.specs.Left.{numbers_left}

@@ -2,8 +2,6 @@ pub mod Shown
 pub mod Datagram
 pub mod Left
 
-unfoldable pub use Shown.*
-unfoldable pub use Datagram.*
-unfoldable pub use Left.*
-pub use Rattle.rtcp_frame.specs.declared.iter.Packets.{Packets}
-pub use Rattle.rtcp_frame.specs.declared.packet.Packet.{Packet}
+unfoldable pub use Rattle.rtcp_frame.specs.Shown.{shown_packet}
+unfoldable pub use Rattle.rtcp_frame.specs.Datagram.{packets_in}
+unfoldable pub use Rattle.rtcp_frame.specs.Left.{packets_left}

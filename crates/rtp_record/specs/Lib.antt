@@ -2,7 +2,6 @@ pub mod Places
 pub mod Clearing
 pub mod Fields
 
-unfoldable pub use Places.*
-unfoldable pub use Clearing.*
-unfoldable pub use Fields.*
-pub use Rattle.rtp_record.specs.declared.fields.RtpFields.{RtpFields}
+pub use Rattle.rtp_record.specs.Places.{ArePlaces}
+unfoldable pub use Rattle.rtp_record.specs.Clearing.{without_padding_bit}
+unfoldable pub use Rattle.rtp_record.specs.Fields.{packet_of, behind, unpadded}

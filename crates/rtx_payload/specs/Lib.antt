@@ -1,3 +1,4 @@
 pub mod Restored
 
-unfoldable pub use Restored.*
+unfoldable pub use Rattle.rtx_payload.specs.Restored.{RestoringGivesTheOriginal}
+pub use Rattle.rtx_payload.specs.Restored.{Brings}

@@ -7,10 +7,11 @@ use Rattle.std.proofs.lemmas.List.Elements.{All-append, All-cons}
 use Rattle.std.proofs.lemmas.List.{length-append, length-map, map-append}
 use Rattle.std.proofs.lemmas.List.Quantifiers.{all_pairs_push}
 use Rattle.std.proofs.lemmas.List.Sums.{sum_by_push}
-use Rattle.rams_model.specs.Types.{Channel}
+use Rattle.rams_model.specs.declared.channel.Channel.{Channel}
 use Rattle.rams_model.specs.Service.{Settings}
 use Rattle.session_core.specs.Seen as cores
-use Rattle.server_hub.specs.{AddFault, served, AreFields, FitLink, Serves, AllServe, all_settings, ids_of, shares_of, settings_of, has_id, refused}
+use Rattle.server_hub.specs.declared.event.AddFault.{AddFault}
+use Rattle.server_hub.specs.{served, AreFields, FitLink, Serves, AllServe, all_settings, ids_of, shares_of, settings_of, has_id, refused}
 use Rattle.server_hub.specs.declared.event.AddFault.TheVariants.{Full, Twice, Link}
 use Rattle.server_hub.specs.Served.{Served}
 use Rattle.server_hub.specs.Seen.{Seen}

@@ -5,11 +5,12 @@ use Rattle.std.proofs.lemmas.Bool.{eq-eqb, ne_eqb}
 use Rattle.std.proofs.lemmas.List.Elements.{All-cons, All-set}
 use Rattle.std.proofs.Math.Seq.{map-set_same}
 use Rattle.std.proofs.lemmas.Option.{slice_get-map, slice_get_within, get_or_from_slice_get}
-use Rattle.rams_model.specs.Types.{Event}
+use Rattle.rams_model.specs.declared.event.Event.{Event}
 use Rattle.rams_model.specs.declared.event.Event.TheVariants.{Tick}
 use Rattle.rams_model.specs.Service.{Answered, Settings}
 use Rattle.session_core.specs.Seen as cores
-use Rattle.server_hub.specs.{At, id_of, with_event, answer_to, channel_of, answer_of, after_event_of, answer_at, answers_to_tick, after_tick, all_settings, ids_of, Serves, AllServe, StepsAt, AllTick}
+use Rattle.server_hub.specs.declared.event.At.{At}
+use Rattle.server_hub.specs.{id_of, with_event, answer_to, channel_of, answer_of, after_event_of, answer_at, answers_to_tick, after_tick, all_settings, ids_of, Serves, AllServe, StepsAt, AllTick}
 use Rattle.server_hub.specs.Served.{Served}
 use Rattle.server_hub.proofs.Pairing.{partner, pair_set}
 

@@ -2,7 +2,7 @@
 use Rattle.std.proofs.Common.{◌≡◌, ◌≢◌, ℕ, zero, suc, Bool, true, false, cond, List, [], ◌∷◌, Option, Some, None, map, option_map, refl, sym, ◌∙◌, ap, subst, arith, eqb}
 use Rattle.std.specs.Prelude.{All, AllPairs, find, slice_get, ◌||◌}
 use Rattle.std.proofs.lemmas.Bool.{eq-eqb, ne_eqb}
-use Rattle.rams_model.specs.Types.{Event}
+use Rattle.rams_model.specs.declared.event.Event.{Event}
 use Rattle.rams_model.specs.Service.{Settings, hold, history_of}
 use Rattle.rams_model.specs.Packets.{hi}
 use Rattle.session_core.specs.Seen as cores

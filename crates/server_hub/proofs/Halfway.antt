@@ -3,7 +3,8 @@ use Rattle.std.proofs.Common.{◌≡◌, ℕ, suc, ◌+◌, ◌^◌, ◌<◌, Li
 use Rattle.std.specs.Prelude.{All}
 use Rattle.std.proofs.Math.Seq.{get_or-append_seam, set-append_seam, append_snoc}
 use Rattle.session_core.specs.Seen as cores
-use Rattle.server_hub.specs.{At, Pairwise, Ticks, AllTick}
+use Rattle.server_hub.specs.declared.event.At.{At}
+use Rattle.server_hub.specs.{Pairwise, Ticks, AllTick}
 use Rattle.server_hub.proofs.Pairing.{same_length}
 
 -- `count` cores are done.

@@ -4,11 +4,12 @@ use Rattle.std.specs.Prelude.{All, AllPairs, map, option_map, slice_get}
 use Rattle.std.proofs.Math.Seq.{take-append_seam}
 use Rattle.std.proofs.lemmas.List.{length-map}
 use Rattle.std.proofs.lemmas.Option.{slice_get_within, slice_get-map, slice_get-get_or}
-use Rattle.rams_model.specs.Types.{Event}
+use Rattle.rams_model.specs.declared.event.Event.{Event}
 use Rattle.rams_model.specs.declared.event.Event.TheVariants.{Tick}
 use Rattle.rams_model.specs.Service.{Answered}
 use Rattle.session_core.specs.Seen as cores
-use Rattle.server_hub.specs.{At, id_of, channel_of, AreFields, FitLink, KeepsSettings, Serves, AllServe, all_settings, ids_of, shares_of, settings_of, has_id, StepsAt, AllTick}
+use Rattle.server_hub.specs.declared.event.At.{At}
+use Rattle.server_hub.specs.{id_of, channel_of, AreFields, FitLink, KeepsSettings, Serves, AllServe, all_settings, ids_of, shares_of, settings_of, has_id, StepsAt, AllTick}
 use Rattle.server_hub.specs.Served.{Served}
 use Rattle.server_hub.specs.Seen.{Seen}
 use Rattle.server_hub.proofs.Changing.{same_settings, same_ids, changed, untouched, Keep, StepsOf, steps_of_one, steps_of_none, TicksAll, ticks_all}

@@ -3,7 +3,10 @@ use Rattle.std.proofs.Common.{◌≡◌, ◌≢◌, ℕ, ◌+◌, ◌*◌, ◌�
 use Rattle.std.specs.Prelude.{◌==◌, not, if◌then◌else◌, sum_by, Result, Ok, Err}
 use Rattle.std.proofs.lemmas.Bool.{true≢false, cond_both}
 use Rattle.std.proofs.lemmas.List.Sums.{sum_by-cons}
-use Rattle.rams_model.specs.Types.{Event, Channel, FrameFault, RtpFault}
+use Rattle.rams_model.specs.declared.event.Event.{Event}
+use Rattle.rams_model.specs.declared.channel.Channel.{Channel}
+use Rattle.rams_model.specs.declared.fault.FrameFault.{FrameFault}
+use Rattle.rams_model.specs.declared.fault.RtpFault.{RtpFault}
 use Rattle.rams_model.specs.declared.event.Event.TheVariants as event
 use Rattle.rams_model.specs.Service.{Settings, Heard, live, dropped, tick, arrival, heard_packet, heard_feedback, heard_of, began, told, noted, History, channel_left, newest_orders, history_of}
 use Rattle.rams_model.specs.declared.note.LiveNote.TheVariants.{TooBig, ForeignSsrc, ForeignType}
@@ -14,7 +17,8 @@ use Rattle.book_laws.proofs.Legality.{legal_history}
 use Rattle.book_laws.proofs.Adding.{adds_hearing}
 use Rattle.book_laws.proofs.Windows.{channel_within}
 use Rattle.book_laws.proofs.InTicks.{only_ticks}
-use Rattle.server_hub.specs.{At, id_of, with_event, answer_to, after_event_of, answer_at, answers_to_tick, after_tick, told_of, size_of, bytes_of, bytes_of_all, kept, all_kept, all_shares, answers_said}
+use Rattle.server_hub.specs.declared.event.At.{At}
+use Rattle.server_hub.specs.{id_of, with_event, answer_to, after_event_of, answer_at, answers_to_tick, after_tick, told_of, size_of, bytes_of, bytes_of_all, kept, all_kept, all_shares, answers_said}
 use Rattle.server_hub.specs.Served.{Served}
 use Rattle.server_hub.proofs.Ordered.{orders_bytes}
 

@@ -1,6 +1,6 @@
 -- What the channels of a server send together, and what the link gives them.
 use Rattle.std.specs.Prelude.{◌≡◌, ◌≢◌, ℕ, ◌+◌, ◌*◌, ◌≤◌, min, List, [], ◌∷◌, map, sum_by}
-use Rattle.rams_model.specs.Types.{Order}
+use Rattle.rams_model.specs.declared.answer.Order.{Order}
 use Rattle.rams_model.specs.declared.answer.Order.TheVariants.{Rtx, Info}
 use Rattle.rams_model.specs.Service.{Answered, channel_left, history_of}
 use Rattle.rams_model.specs.Formats.{wire_size}

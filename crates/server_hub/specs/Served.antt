@@ -1,6 +1,6 @@
 -- The channels of a server: what came to each, and what they answer.
 use Rattle.std.specs.Prelude.{ℕ, ◌==◌, if◌then◌else◌, List, [], ◌∷◌, map, find, Option, Some, None, option_map}
-use Rattle.rams_model.specs.Types.{Event}
+use Rattle.rams_model.specs.declared.event.Event.{Event}
 use Rattle.rams_model.specs.declared.event.Event.TheVariants as event
 use Rattle.rams_model.specs.Service.{Answered, Settings, hold, history_of, answer}
 use Rattle.rams_model.specs.Packets.{hi}

@@ -1,6 +1,6 @@
 -- After each tick the quiet bursts keep their join times.
 use Rattle.std.specs.Prelude.{List, ◌∷◌}
-use Rattle.rams_model.specs.Types.{Event}
+use Rattle.rams_model.specs.declared.event.Event.{Event}
 use Rattle.rams_model.specs.declared.event.Event.TheVariants.{Tick}
 use Rattle.rams_model.specs.Service.{Settings, history_of}
 use Rattle.book_laws.proofs.Quiet.Laws.{never_lost, keeps_join_times}

@@ -1,7 +1,8 @@
 -- The answer to a live packet.
 use Rattle.std.proofs.Common.{◌≡◌, ℕ, ◌+◌, ◌^◌, ◌<◌, List, [], ◌∷◌, Some, sym, ap, ◌∙◌, subst}
 use Rattle.std.specs.Prelude.{All}
-use Rattle.rams_model.specs.Types.{Event, LiveNote}
+use Rattle.rams_model.specs.declared.event.Event.{Event}
+use Rattle.rams_model.specs.declared.note.LiveNote.{LiveNote}
 use Rattle.rams_model.specs.declared.event.Event.TheVariants.{Live}
 use Rattle.rams_model.specs.declared.note.Note.TheVariants.{Live as LiveNoted}
 use Rattle.rams_model.specs.Service.{answered, Settings, arrivals, newest_notes, newest_orders, order_of, newest_answer, answer, history_of}
@@ -9,7 +10,8 @@ use Rattle.rams_model.specs.Packets.{Arrival}
 use Rattle.channel_cache.specs.{live_note_of, arrivals_after}
 use Rattle.channel_cache.specs.Seen as caches
 use Rattle.channel_cache.proofs.Booked.{noted_so}
-use Rattle.channel_parts.specs.{Parts, StandsFor}
+use Rattle.channel_parts.specs.declared.parts.Parts.{Parts}
+use Rattle.channel_parts.specs.{StandsFor}
 use Rattle.channel_parts.proofs.Staying.{live_packets_change_the_cache}
 
 -- The note of the packet is the whole answer, and asks for no datagram.

@@ -1,8 +1,8 @@
 -- The bounds on what a tick's plan answers.
 use Rattle.std.proofs.Common.{◌≡◌, ℕ, List, refl, sym, subst}
-use Rattle.rams_model.specs.Types.{Event}
+use Rattle.rams_model.specs.declared.event.Event.{Event}
 use Rattle.rams_model.specs.declared.event.Event.TheVariants.{Tick}
-use Rattle.channel_parts.specs.{Parts}
+use Rattle.channel_parts.specs.declared.parts.Parts.{Parts}
 use Rattle.channel_parts.specs.Standing as parts
 use Rattle.tick_core.specs.{IsPlanFor}
 use Rattle.session_core.specs.{SendsShort, IsCountable, IsCore, Planned, IsPlanOf}

@@ -3,7 +3,8 @@ use Rattle.std.proofs.Common.{◌≡◌, ℕ, ◌-◌, List, [], ◌∷◌, leng
 use Rattle.std.specs.Prelude.{All, Contains}
 use Rattle.std.proofs.lemmas.Bool.{cond_both}
 use Rattle.std.proofs.lemmas.List.Elements.{All-cons, All-append, All-filter, All-drop, All-contains}
-use Rattle.rams_model.specs.Types.{Held, LiveNote}
+use Rattle.rams_model.specs.declared.held.Held.{Held}
+use Rattle.rams_model.specs.declared.note.LiveNote.{LiveNote}
 use Rattle.rams_model.specs.declared.note.LiveNote.TheVariants.{Took, Restart, Jump}
 use Rattle.rams_model.specs.Formats.{wire_size}
 use Rattle.rams_model.specs.Service.{Settings, History, arrivals, hold}

@@ -1,6 +1,6 @@
 -- How much an answer has at most.
 use Rattle.std.specs.Prelude.{ℕ, ◌^◌, ◌<◌, ◌≤◌, length, All}
-use Rattle.rams_model.specs.Types.{Order}
+use Rattle.rams_model.specs.declared.answer.Order.{Order}
 use Rattle.rams_model.specs.declared.answer.Order.TheVariants.{Rtx, Info}
 use Rattle.rams_model.specs.Service.{Answered}
 

@@ -2,6 +2,8 @@ pub mod Seen
 pub mod Bounds
 pub mod JoinTimes
 
-unfoldable pub use Seen.*
-unfoldable pub use Bounds.*
-unfoldable pub use JoinTimes.*
+unfoldable pub use Rattle.session_core.specs.Seen.{Planned}
+pub use Rattle.session_core.specs.Seen.{IsCore, StandsFor, IsPlanOf}
+unfoldable pub use Rattle.session_core.specs.Bounds.{IsShort, SendsShort, HasAtMost, IsCountable}
+unfoldable pub use Rattle.session_core.specs.JoinTimes.{JoinTimesAreKept}
+pub use Rattle.session_core.specs.JoinTimes.{KeepsItsTime}

@@ -1,6 +1,6 @@
 //! The answer to a live packet.
 ghost use Rattle.std.specs.Prelude.{◌≡◌, ◌^◌, ◌<◌, List, [], ◌∷◌, length, IfOk, OnErr};
-ghost use Rattle.rams_model.specs.Types.{Event};
+ghost use Rattle.rams_model.specs.declared.event.Event.{Event};
 ghost use Rattle.rams_model.specs.declared.event.Event.TheVariants.{Live};
 ghost use Rattle.rams_model.specs.Service.{answer};
 ghost use Rattle.channel_parts.specs.{StandsFor};

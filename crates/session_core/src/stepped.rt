@@ -7,7 +7,7 @@ use std::alloc::Global;
 pub trait Stepped {
     ghost use Rattle.std.specs.Prelude.{◌≡◌, ℕ, ◌+◌, ◌^◌, ◌<◌, List, ◌∷◌, IfOk, OnOk, OnErr};
     ghost use Rattle.rams_model.specs.Service.{Settings, answer};
-    ghost use Rattle.rams_model.specs.Types.{Event};
+    ghost use Rattle.rams_model.specs.declared.event.Event.{Event};
 
     /// The settings of the channel.
     ghost settings: { Self → Settings };

@@ -1,7 +1,8 @@
 -- The notes of a plan are carried out, one after another.
 use Rattle.std.proofs.Common.{◌≡◌, ℕ, ◌+◌, ◌<◌, ◌≤◌, List, length, get_or, drop, ap, sym, ◌∙◌, subst}
 use Rattle.std.proofs.lemmas.List.{drop_more, drop_all}
-use Rattle.rams_model.specs.Types.{Held, Note}
+use Rattle.rams_model.specs.declared.held.Held.{Held}
+use Rattle.rams_model.specs.declared.note.Note.{Note}
 use Rattle.rams_model.specs.Service.{Settings}
 use Rattle.tick_core.specs.{with_committed, with_all_committed, MayCommit, MayCommitAll}
 use Rattle.tick_core.specs.Committed.{Committed}

@@ -5,7 +5,9 @@ use Rattle.std.specs.Map.{keys_of}
 use Rattle.std.proofs.lemmas.Bool.{cond_both, cond-true, cond-false}
 use Rattle.std.proofs.lemmas.List.Folds.{list_any-append}
 use Rattle.std.proofs.lemmas.List.{length-map}
-use Rattle.rams_model.specs.Types.{Event, Held, Note}
+use Rattle.rams_model.specs.declared.event.Event.{Event}
+use Rattle.rams_model.specs.declared.held.Held.{Held}
+use Rattle.rams_model.specs.declared.note.Note.{Note}
 use Rattle.rams_model.specs.declared.event.Event.TheVariants.{Tick}
 use Rattle.rams_model.specs.declared.note.Note.TheVariants.{Burst as BurstNote, Repair, Gone, End, Forgot}
 use Rattle.rams_model.specs.Service.{Settings, tick, heard_of, began, noted, History, arrivals, hold, known, is_among, sendings, ssrc, next, kept, in_tick, bursts, open_burst, Wanted, pending, idle, channel_left, all_served, all_repaired, all_forgotten, after_tick, newest_notes, Answered, after_hearing, history_of}
@@ -13,14 +15,18 @@ use Rattle.rams_model.specs.Packets.{hi}
 use Rattle.rams_model.specs.Service.Bursts as model
 use Rattle.link_budget.specs.{amounts}
 use Rattle.link_budget.specs.Amounts.{Amounts}
-use Rattle.client_table.specs.{Burst, Entry, entry_of}
+use Rattle.client_table.specs.declared.entry.Burst.{Burst}
+use Rattle.client_table.specs.declared.entry.Entry.{Entry}
+use Rattle.client_table.specs.{entry_of}
 use Rattle.client_table.specs.Clients.{Clients}
 use Rattle.repair_queue.specs.{unmarked}
 use Rattle.channel_cache.specs.Seen as caches
-use Rattle.channel_parts.specs.{Parts, HaveLowNumbers, burst_kept, WasTold, IsEntry, IsTable, StandsFor}
+use Rattle.channel_parts.specs.declared.parts.Parts.{Parts}
+use Rattle.channel_parts.specs.{HaveLowNumbers, burst_kept, WasTold, IsEntry, IsTable, StandsFor}
 use Rattle.channel_parts.proofs.Facts.{opened_are_the_known_with_bursts, only_known_clients_have_bursts, repairs_are_of_known_clients, held_numbers_are_small, events_reserve_nothing}
 use Rattle.channel_parts.proofs.Ordered.{known_rise}
-use Rattle.tick_core.specs.{TickPlan, idle_after, begun_left, ends_wait, is_over, IsPlanFor, Rise, burst_begun, entry_begun, burst_ended, entry_ended, AreAllChanged, committing, with_all_committed, MayCommitAll}
+use Rattle.tick_core.specs.declared.plan.TickPlan.{TickPlan}
+use Rattle.tick_core.specs.{idle_after, begun_left, ends_wait, is_over, IsPlanFor, Rise, burst_begun, entry_begun, burst_ended, entry_ended, AreAllChanged, committing, with_all_committed, MayCommitAll}
 use Rattle.tick_core.specs.Committed.{Committed}
 use Rattle.tick_core.proofs.Shown.{notes_before}
 use Rattle.tick_core.proofs.Serving.{tick_open}

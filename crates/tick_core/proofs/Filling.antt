@@ -3,7 +3,8 @@ use Rattle.std.proofs.Common.{◌≡◌, ℕ, false, ⊎_elim, Option, Some, Non
 use Rattle.std.specs.Option.{option_map}
 use Rattle.std.proofs.lemmas.Bool.{cases_eq}
 use Rattle.rams_model.specs.Service.{Settings, is_among}
-use Rattle.client_table.specs.{Entry, clients_of, entry_of, nobody, new_entry}
+use Rattle.client_table.specs.declared.entry.Entry.{Entry}
+use Rattle.client_table.specs.{clients_of, entry_of, nobody, new_entry}
 use Rattle.client_table.specs.Clients.{Clients}
 use Rattle.client_table.specs.Clients as tables
 use Rattle.channel_parts.proofs.Tables.{has_entry, others-with_client}

@@ -3,15 +3,20 @@ use Rattle.std.proofs.Common.{◌≡◌, ℕ, ◌≤◌, Bool, true, false, ◌|
 use Rattle.std.specs.List.{AllByRecursion as Each}
 use Rattle.std.proofs.lemmas.Bool.{cond_both, cond-true, or_left, and_from, eq-eqb, and_parts, eqb-true, false_from_ne_true, both_ways}
 use Rattle.std.proofs.lemmas.List.Folds.{list_any-append}
-use Rattle.rams_model.specs.Types.{Held, Info, Cause, Note}
+use Rattle.rams_model.specs.declared.held.Held.{Held}
+use Rattle.rams_model.specs.declared.message.Info.{Info}
+use Rattle.rams_model.specs.declared.note.Cause.{Cause}
+use Rattle.rams_model.specs.declared.note.Note.{Note}
 use Rattle.rams_model.specs.declared.note.Cause.TheVariants.{Lost}
 use Rattle.rams_model.specs.declared.note.Note.TheVariants.{Burst as BurstNote, Repair, Gone, End, Forgot}
 use Rattle.rams_model.specs.Service.{Settings, Wanted, is_wanted, is_lost}
 use Rattle.rams_model.specs.Packets.{following}
-use Rattle.client_table.specs.{Burst, Entry}
+use Rattle.client_table.specs.declared.entry.Burst.{Burst}
+use Rattle.client_table.specs.declared.entry.Entry.{Entry}
 use Rattle.repair_queue.specs.{IsWithinLimits}
 use Rattle.packet_ring.specs.{packet_of}
-use Rattle.tick_core.specs.{Allowance, Drafted, with_note, with_packet, with_end, run_of, after_run, end_of, with_run, with_served, with_all_served, Repaired, allowance_for, fits, waiting, with_repair, with_wanted, with_all_wanted, idle_after, with_all_forgotten, ends_wait, is_over}
+use Rattle.tick_core.specs.declared.allowance.Allowance.{Allowance}
+use Rattle.tick_core.specs.{Drafted, with_note, with_packet, with_end, run_of, after_run, end_of, with_run, with_served, with_all_served, Repaired, allowance_for, fits, waiting, with_repair, with_wanted, with_all_wanted, idle_after, with_all_forgotten, ends_wait, is_over}
 
 -- one note more
 over_more : (w : Wanted) (notes : List Note) (note : Note) → is_over (notes ++ note ∷ []) w ≡ (is_over notes w || (ends_wait w note || false))

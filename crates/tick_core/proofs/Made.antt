@@ -1,13 +1,15 @@
 -- The plan of parts that stand for some events.
 use Rattle.std.proofs.Common.{◌≡◌, ℕ, List, [], Bool, map, ap, sym, ◌∙◌}
-use Rattle.rams_model.specs.Types.{Event}
+use Rattle.rams_model.specs.declared.event.Event.{Event}
 use Rattle.rams_model.specs.declared.event.Event.TheVariants.{Tick}
 use Rattle.rams_model.specs.Service.{pending, Answered, answered, history_of, answer}
-use Rattle.channel_parts.specs.{Parts, StandsFor}
+use Rattle.channel_parts.specs.declared.parts.Parts.{Parts}
+use Rattle.channel_parts.specs.{StandsFor}
 use Rattle.channel_parts.proofs.Facts.{opened_are_the_known_with_bursts, repairs_are_within_limits}
 use Rattle.channel_parts.proofs.Ordered.{known_rise}
 use Rattle.link_budget.specs.Amounts.{Amounts}
-use Rattle.tick_core.specs.{Allowance, Drafted, new_draft, allowances_of, with_all_served, Repaired, with_all_wanted, with_all_forgotten, begun_left, drafted_runs, drafted_repairs, drafted_tick, planned_answer, planned_flags, is_over}
+use Rattle.tick_core.specs.declared.allowance.Allowance.{Allowance}
+use Rattle.tick_core.specs.{Drafted, new_draft, allowances_of, with_all_served, Repaired, with_all_wanted, with_all_forgotten, begun_left, drafted_runs, drafted_repairs, drafted_tick, planned_answer, planned_flags, is_over}
 use Rattle.tick_core.proofs.Planning.{planned}
 use Rattle.tick_core.proofs.Safe.{at_moment}
 

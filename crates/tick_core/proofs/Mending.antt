@@ -3,14 +3,15 @@ use Rattle.std.proofs.Common.{◌≡◌, ℕ, ◌+◌, ◌-◌, ◌<◌, Bool, t
 use Rattle.std.specs.Option.{option_map}
 use Rattle.std.specs.List.{AllByRecursion as Each}
 use Rattle.std.proofs.lemmas.Bool.{cond_both, cond-true, eq-eqb, eqb-true, eqb-false}
-use Rattle.rams_model.specs.Types.{Held}
+use Rattle.rams_model.specs.declared.held.Held.{Held}
 use Rattle.rams_model.specs.declared.note.Note.TheVariants.{Repair, Gone}
 use Rattle.rams_model.specs.Service.{Settings, noted, History, as_tick_began, is_among, sendings, sequence, after_note, size_of, bursts, open_burst, Wanted, sent_now, is_repair_of, run_left, kept_from_repairs, may_take, channel_left, repaired, all_repaired}
 use Rattle.rams_model.specs.Packets.{following}
 use Rattle.rams_model.specs.Service.Bursts as model
 use Rattle.packet_ring.specs.{packet_of}
 use Rattle.packet_ring.proofs.Following.{has_its_number}
-use Rattle.tick_core.specs.{Allowance, with_packet, Repaired, Rise, clients_of, allowance_for, after_repair, with_taken, fits, waiting, with_repair, with_wanted, with_all_wanted}
+use Rattle.tick_core.specs.declared.allowance.Allowance.{Allowance}
+use Rattle.tick_core.specs.{with_packet, Repaired, Rise, clients_of, allowance_for, after_repair, with_taken, fits, waiting, with_repair, with_wanted, with_all_wanted}
 use Rattle.tick_core.proofs.Placing.{clients_stay}
 use Rattle.tick_core.proofs.Sparing.{one, spares, spared}
 use Rattle.tick_core.proofs.Shown.{Shows, shows_repair, shows_gone}

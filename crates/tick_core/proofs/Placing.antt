@@ -8,7 +8,8 @@ use Rattle.std.proofs.lemmas.Cmp.{ranked}
 use Rattle.std.proofs.lemmas.List.Sorted.{IsNonDecreasingBy-from_default}
 use Rattle.std.proofs.lemmas.Bool.{cond_both, cond-true, cond-false, eq-eqb, ne_eqb, cases_lt}
 use Rattle.std.proofs.lemmas.Bool.Decides.{nat_tests}
-use Rattle.tick_core.specs.{Allowance, allowance, Rise, clients_of, allowance_for, after_repair, with_taken, IsPlaceOf}
+use Rattle.tick_core.specs.declared.allowance.Allowance.{Allowance}
+use Rattle.tick_core.specs.{allowance, Rise, clients_of, allowance_for, after_repair, with_taken, IsPlaceOf}
 
 -- the client of a place
 abbrev at : List Allowance → ℕ → ℕ

@@ -3,10 +3,11 @@ use Rattle.std.proofs.Common.{◌≡◌, ℕ, ◌+◌, ◌<◌, ◌≤◌, Bool,
 use Rattle.std.proofs.lemmas.Bool.{cond-true, cond-false}
 use Rattle.std.proofs.lemmas.List.{drop_more, drop_all}
 use Rattle.packet_ring.specs.{packet_of}
-use Rattle.rams_model.specs.Types.{Held}
+use Rattle.rams_model.specs.declared.held.Held.{Held}
 use Rattle.rams_model.specs.declared.note.Note.TheVariants.{Repair}
 use Rattle.rams_model.specs.Service.{Wanted, wanted}
-use Rattle.tick_core.specs.{Allowance, Drafted, with_packet, Repaired, Rise, clients_of, allowance_for, fits, waiting, with_repair, with_taken, with_wanted, with_all_wanted, IsPlaceOf}
+use Rattle.tick_core.specs.declared.allowance.Allowance.{Allowance}
+use Rattle.tick_core.specs.{Drafted, with_packet, Repaired, Rise, clients_of, allowance_for, fits, waiting, with_repair, with_taken, with_wanted, with_all_wanted, IsPlaceOf}
 use Rattle.tick_core.proofs.Placing.{place_is}
 
 abbrev pub repaired : Drafted → List Allowance → List Bool → Repaired

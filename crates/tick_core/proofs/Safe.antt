@@ -1,14 +1,17 @@
 -- What the calls of a plan ask of the parts, which stand for some events.
 use Rattle.std.proofs.Common.{◌≡◌, ℕ, true, List, [], Option, Some, None, refl, ap, sym, ◌∙◌, subst, arith}
 use Rattle.std.specs.Option.{option_map}
-use Rattle.rams_model.specs.Types.{Event}
+use Rattle.rams_model.specs.declared.event.Event.{Event}
 use Rattle.rams_model.specs.Service.{Settings, known, is_among, open_burst, history_of}
 use Rattle.rams_model.specs.Service.Bursts as model
 use Rattle.rams_model.proofs.Holding.{held_follow}
 use Rattle.book_laws.specs.{IsMoment}
 use Rattle.channel_config.specs.{IsLawful}
-use Rattle.client_table.specs.{Burst, Entry, entry_of}
-use Rattle.channel_parts.specs.{Parts, burst_kept, StandsFor}
+use Rattle.client_table.specs.declared.entry.Burst.{Burst}
+use Rattle.client_table.specs.declared.entry.Entry.{Entry}
+use Rattle.client_table.specs.{entry_of}
+use Rattle.channel_parts.specs.declared.parts.Parts.{Parts}
+use Rattle.channel_parts.specs.{burst_kept, StandsFor}
 use Rattle.channel_parts.proofs.Facts.{known_clients_are_idle_for_less, open_bursts_are_within_bounds, open_bursts_have_a_tick_left, held_numbers_are_small}
 use Rattle.channel_parts.proofs.Tables.{entry_among}
 use Rattle.tick_core.specs.{AreInOrder, IsInTime, AreInTime, AreIdleInTime, IsSmallIfOpen, IsSmallIfKnown, AreSmall}

@@ -9,11 +9,14 @@ use Rattle.std.proofs.lemmas.Bool.{cond_both}
 use Rattle.std.proofs.lemmas.Bool.Decides.{nat_tests}
 use Rattle.std.proofs.lemmas.List.Elements.{All-head, All-rest, All-same}
 use Rattle.std.proofs.lemmas.Map.Keys.{sorted_head, sorted_tail}
-use Rattle.client_table.specs.{Entry, AreRising, entry_of, Burst}
+use Rattle.client_table.specs.declared.entry.Entry.{Entry}
+use Rattle.client_table.specs.declared.entry.Burst.{Burst}
+use Rattle.client_table.specs.{AreRising, entry_of}
 use Rattle.client_table.specs.Clients.{Clients}
-use Rattle.rams_model.specs.Types.{Held}
+use Rattle.rams_model.specs.declared.held.Held.{Held}
 use Rattle.rams_model.specs.Service.{Settings, Wanted, is_lost}
-use Rattle.tick_core.specs.{Allowance, with_forgotten, with_all_forgotten, Drafted, Rise, clients_of, allowance_of, allowances_of, with_served, with_all_served}
+use Rattle.tick_core.specs.declared.allowance.Allowance.{Allowance}
+use Rattle.tick_core.specs.{with_forgotten, with_all_forgotten, Drafted, Rise, clients_of, allowance_of, allowances_of, with_served, with_all_served}
 
 below : (a b : ℕ) → nat_cmp a b ≡ Less → a < b
 below a b h = grind (arith, nat_tests)

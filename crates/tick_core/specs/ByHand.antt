@@ -1,7 +1,7 @@
 -- Clients that are set up by hand.
 use Rattle.std.specs.Prelude.{◌+◌, ◌^◌, ◌<◌}
 use Rattle.rams_model.specs.Service.{Settings}
-use Rattle.client_table.specs.{Entry}
+use Rattle.client_table.specs.declared.entry.Entry.{Entry}
 use Rattle.client_table.specs.Clients.{Clients}
 use Rattle.tick_core.specs.Runs.{IsInTime, AreInTime}
 use Rattle.tick_core.specs.Forgetting.{AreIdleInTime}

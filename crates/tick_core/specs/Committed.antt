@@ -1,10 +1,13 @@
 -- What the known clients and the budget of a channel are as a tick goes on, note by note.
 use Rattle.std.specs.Prelude.{◌≡◌, ℕ, ◌+◌, ◌-◌, ◌^◌, ◌<◌, ◌≤◌, min, List, [], ◌∷◌, Option, Some, None, option_map}
-use Rattle.rams_model.specs.Types.{Held, Note}
+use Rattle.rams_model.specs.declared.held.Held.{Held}
+use Rattle.rams_model.specs.declared.note.Note.{Note}
 use Rattle.rams_model.specs.declared.note.Note.TheVariants.{Burst as BurstNote, Repair, End, Forgot}
 use Rattle.rams_model.specs.Service.{Settings, size_of, Wanted}
 use Rattle.rams_model.specs.Packets.{following}
-use Rattle.client_table.specs.{Burst, Entry, clients_of, entry_of, with_entry, without}
+use Rattle.client_table.specs.declared.entry.Burst.{Burst}
+use Rattle.client_table.specs.declared.entry.Entry.{Entry}
+use Rattle.client_table.specs.{clients_of, entry_of, with_entry, without}
 use Rattle.client_table.specs.Clients.{Clients}
 use Rattle.link_budget.specs.Amounts.{Amounts}
 use Rattle.packet_ring.specs.{packet_of}

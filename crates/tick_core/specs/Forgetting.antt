@@ -2,7 +2,8 @@
 use Rattle.std.specs.Prelude.{◌≡◌, ℕ, ◌+◌, ◌<◌, ◌^◌, ◌||◌, ◌==◌, nat_lt, if◌then◌else◌, List, [], ◌∷◌, Some, is_some}
 use Rattle.rams_model.specs.declared.note.Note.TheVariants.{Forgot}
 use Rattle.rams_model.specs.Service.{Settings, Wanted}
-use Rattle.client_table.specs.{Entry, entry_of}
+use Rattle.client_table.specs.declared.entry.Entry.{Entry}
+use Rattle.client_table.specs.{entry_of}
 use Rattle.client_table.specs.Clients.{Clients}
 use Rattle.repair_queue.specs.{count_of}
 use Rattle.tick_core.specs.Drafts.{Drafted, with_note}

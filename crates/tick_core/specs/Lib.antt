@@ -6,13 +6,15 @@ pub mod Plans
 pub mod Committed
 pub mod ByHand
 
-unfoldable pub use Drafts.*
-unfoldable pub use Runs.*
-unfoldable pub use Repairs.*
-unfoldable pub use Forgetting.*
-unfoldable pub use Plans.*
-unfoldable pub use Committed.*
-unfoldable pub use ByHand.*
-pub use Rattle.tick_core.specs.declared.allowance.Allowance.{Allowance}
-pub use Rattle.tick_core.specs.declared.plan.TickPlan.{TickPlan}
-pub use Rattle.tick_core.specs.declared.runs.Sent.{Sent}
+unfoldable pub use Rattle.tick_core.specs.Drafts.{new_draft, with_note, with_packet, told_end, with_end}
+pub use Rattle.tick_core.specs.Drafts.{Drafted}
+unfoldable pub use Rattle.tick_core.specs.Runs.{unsent, after_packet, sent_after, run_from, with_run, IsInTime, AreInTime, run_of, after_run, end_of, kept_back, allowance, left_by_run, allowance_of, with_served, with_all_served, allowances_of}
+pub use Rattle.tick_core.specs.Runs.{AreInOrder, IsSmall, IsNext}
+unfoldable pub use Rattle.tick_core.specs.Repairs.{after_repair, allowance_for, with_taken, fits, waiting, with_repair, with_wanted, with_all_wanted, clients_of, Rise}
+pub use Rattle.tick_core.specs.Repairs.{Repaired, IsPlaceOf}
+unfoldable pub use Rattle.tick_core.specs.Forgetting.{idle_after, with_forgotten, with_all_forgotten, AreIdleInTime}
+unfoldable pub use Rattle.tick_core.specs.Plans.{begun_left, drafted_runs, drafted_repairs, drafted_tick, planned_answer, planned_flags, ends_wait, is_over}
+pub use Rattle.tick_core.specs.Plans.{IsPlanOf, IsPlanFor}
+unfoldable pub use Rattle.tick_core.specs.Committed.{burst_begun, entry_begun, IsSmallIfOpen, IsSmallIfKnown, AreSmall, burst_ended, entry_ended, burst_sent, entry_sent, IsNextSmall, IsNextSmallIfKnown, entry_closed, changed_by, changed, amount_of, amount_for, committing, with_sending, with_closed, with_committed, with_all_committed, MayCommit, MayCommitAll}
+pub use Rattle.tick_core.specs.Committed.{IsSmallBurst, IsSmallEntry, AreAllChanged, MayEnd}
+pub use Rattle.tick_core.specs.ByHand.{IsReady, AreReady}

@@ -1,7 +1,7 @@
 -- What the pending repairs come to in a tick.
 use Rattle.std.specs.Prelude.{◌≡◌, ℕ, ◌<◌, ◌-◌, Bool, true, false, ◌&&◌, ◌==◌, nat_le, if◌then◌else◌, List, [], ◌∷◌, ◌++◌, Option, Some, None, find, map, length, slice_index_or}
 use Rattle.std.specs.List.{AllByRecursion}
-use Rattle.rams_model.specs.Types.{Held}
+use Rattle.rams_model.specs.declared.held.Held.{Held}
 use Rattle.rams_model.specs.declared.note.Note.TheVariants.{Repair, Gone}
 use Rattle.rams_model.specs.Packets.{following}
 use Rattle.rams_model.specs.Service.{Wanted}

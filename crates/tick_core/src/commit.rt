@@ -1,6 +1,6 @@
 //! A planned tick is done.
 ghost use Rattle.std.specs.Prelude.{◌≡◌, ◌-◌, ◌<◌, ◌^◌, List, ◌∷◌};
-ghost use Rattle.rams_model.specs.Types.{Event};
+ghost use Rattle.rams_model.specs.declared.event.Event.{Event};
 ghost use Rattle.rams_model.specs.declared.event.Event.TheVariants.{Tick};
 ghost use Rattle.rams_model.specs.Service.{size_of};
 ghost use Rattle.channel_parts.specs.{StandsFor};

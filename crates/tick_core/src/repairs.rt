@@ -1,6 +1,7 @@
 //! The pending repairs.
 ghost use Rattle.std.specs.Prelude.{◌≡◌, ◌≤◌, ◌&&◌, nat_le, [], None, IfOk, MatchOption, slice_index_or};
-ghost use Rattle.tick_core.specs.{Allowance, Rise, clients_of, allowance_for, IsPlaceOf, waiting, with_taken, with_repair, with_wanted, with_all_wanted};
+ghost use Rattle.tick_core.specs.declared.allowance.Allowance.{Allowance};
+ghost use Rattle.tick_core.specs.{Rise, clients_of, allowance_for, IsPlaceOf, waiting, with_taken, with_repair, with_wanted, with_all_wanted};
 ghost use Rattle.packet_ring.specs.{packet_of};
 
 use crate::allowance::Allowance;

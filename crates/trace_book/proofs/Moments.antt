@@ -1,6 +1,7 @@
 -- The moments of a channel, and the notes of its history.
 use Rattle.std.proofs.Common.{◌≡◌, ◌⊎◌, inl, inr, ⊎_elim, List, [], ◌∷◌, ◌++◌, refl, ap, ap₂, sym, ◌∙◌, append_assoc, Option}
-use Rattle.rams_model.specs.Types.{Held, Note}
+use Rattle.rams_model.specs.declared.held.Held.{Held}
+use Rattle.rams_model.specs.declared.note.Note.{Note}
 use Rattle.rams_model.specs.Service.{Item, began, told, noted, History}
 use Rattle.book_laws.specs.{IsMoment, notes_of}
 use Rattle.server_hub.specs.Served.{Served}

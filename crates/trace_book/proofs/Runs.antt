@@ -5,10 +5,12 @@ use Rattle.std.specs.List.{cons_option}
 use mathlib.Core.List.{reverse_aux}
 use Rattle.std.proofs.lemmas.List.{append-nil}
 use Rattle.std.proofs.lemmas.List.Elements.{All-nil, All-cons}
-use Rattle.rams_model.specs.Types.{Channel, LineFault}
+use Rattle.rams_model.specs.declared.channel.Channel.{Channel}
+use Rattle.rams_model.specs.declared.fault.LineFault.{LineFault}
 use Rattle.rams_model.specs.declared.fault.LineFault.TheVariants.{Order}
 use Rattle.rams_model.specs.Texts.{lines_of, TraceLine, line_of, Head, Reached, judged}
-use Rattle.server_hub.specs.{HubEvent, served, id_of, events_of, EachChannelGetsItsEvents}
+use Rattle.server_hub.specs.declared.event.HubEvent.{HubEvent}
+use Rattle.server_hub.specs.{served, id_of, events_of, EachChannelGetsItsEvents}
 use Rattle.server_hub.specs.Served.{Served}
 use Rattle.trace_book.specs.{Stage, Turn, goes_on, ends, Outcome, ended, opening, turn, after_line, after_judging, event_of, refused, after_text, after_turn, text_from, trace_text, first_line, stage_after, stage_from, last_stage, served_by, new_channels, IsStage, taken_with, taken_from, taken, event_at, head_of_line, head_at, channel_of_line, channel_at, came, EndsWith, is_missing, is_refused, IsServed, EndsSo}
 use Rattle.trace_book.proofs.Judged.{judged_so}

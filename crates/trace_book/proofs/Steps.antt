@@ -7,11 +7,13 @@ use Rattle.std.proofs.lemmas.List.{append-nil, length-append, length-map, map-ap
 use Rattle.std.proofs.lemmas.List.Elements.{All-append, All-cons, All-nil}
 use Rattle.std.proofs.lemmas.List.Quantifiers.{all_pairs_push}
 use Rattle.std.proofs.lemmas.List.Sums.{sum_by_push, sum_by-cons}
-use Rattle.rams_model.specs.Types.{Channel, Event}
+use Rattle.rams_model.specs.declared.channel.Channel.{Channel}
+use Rattle.rams_model.specs.declared.event.Event.{Event}
 use Rattle.rams_model.specs.declared.event.Event.TheVariants as event
 use Rattle.rams_model.specs.Service.{Settings, settings, most_bytes, tick_in_range}
 use Rattle.rams_model.specs.Texts.{bytes_in, TraceLine, head_line, channel_line, live_line, feedback_line, tick_line, end_line, tune_line, give_line, mcast_line, ask_line, drop_line, Reached, Head, Claim, tick_of, has_channel, has_receivers, has_version, is_threads, judged}
-use Rattle.server_hub.specs.{HubEvent, served, id_of, with_event, after_event_of, after_tick, after_event, FitLink, ids_of, shares_of, after_events}
+use Rattle.server_hub.specs.declared.event.HubEvent.{HubEvent}
+use Rattle.server_hub.specs.{served, id_of, with_event, after_event_of, after_tick, after_event, FitLink, ids_of, shares_of, after_events}
 use Rattle.server_hub.specs.declared.event.HubEvent.TheVariants.{Live, Feedback, Tick}
 use Rattle.server_hub.specs.Served.{Served}
 use Rattle.trace_book.specs.{Stage, Turn, goes_on, ends, opening, event_text, event_of, most_events, too_long, after_line, counted, claim_of, settings_of, new_channels, IsHead, AreLawful, StandUnder, Stand, IsIdle, IsStage, events_text, head_of_line, channel_of_line, EndsWith, is_too_long, is_done}

@@ -1,6 +1,11 @@
 -- What each channel of a trace promises: the laws of every lawful book, said of the channel's own book and of the moments of its own history.
 use Rattle.std.specs.Prelude.{◌≡◌, ◌≢◌, ℕ, ◌+◌, ◌*◌, ◌<◌, ◌≤◌, min, Bool, ◌⊎◌, IsTrue, List, [], ◌∷◌, ◌++◌, filter_map, Option, Some, Result, All}
-use Rattle.rams_model.specs.Types.{Event, TlvFault, Held, Stop, Cause, Note}
+use Rattle.rams_model.specs.declared.event.Event.{Event}
+use Rattle.rams_model.specs.declared.fault.TlvFault.{TlvFault}
+use Rattle.rams_model.specs.declared.held.Held.{Held}
+use Rattle.rams_model.specs.declared.message.Stop.{Stop}
+use Rattle.rams_model.specs.declared.note.Cause.{Cause}
+use Rattle.rams_model.specs.declared.note.Note.{Note}
 use Rattle.rams_model.specs.declared.event.Event.TheVariants.{Live, Feedback, Tick}
 use Rattle.rams_model.specs.declared.note.Cause.TheVariants as cause
 use Rattle.rams_model.specs.declared.note.Note.TheVariants as note

@@ -1,9 +1,11 @@
 -- How a trace is served: which lines are taken, which events they bring, what is written, and what ends it.
 use Rattle.std.specs.Prelude.{◌≡◌, ℕ, ◌+◌, List, [], ◌∷◌, ◌++◌, length, map, reverse, filter_map, Option, Some, None, option_and_then, option_to_list, Ok, Err, All}
-use Rattle.rams_model.specs.Types.{Channel, LineFault}
+use Rattle.rams_model.specs.declared.channel.Channel.{Channel}
+use Rattle.rams_model.specs.declared.fault.LineFault.{LineFault}
 use Rattle.rams_model.specs.declared.fault.LineFault.TheVariants.{Order}
 use Rattle.rams_model.specs.Texts.{lines_of, TraceLine, head_line, channel_line, end_line, line_of, Head, Reached, judged}
-use Rattle.server_hub.specs.{HubEvent, id_of, after_events, events_of}
+use Rattle.server_hub.specs.declared.event.HubEvent.{HubEvent}
+use Rattle.server_hub.specs.{id_of, after_events, events_of}
 use Rattle.server_hub.specs.Served.{Served}
 use Rattle.trace_book.specs.TraceText.{Stage, Turn, goes_on, ends, Outcome, ended, turn, opening, last_stage, served_by, first_line, event_text, event_of, refused, too_long, done, most_events, trace_text}
 use Rattle.trace_book.specs.Stages.{new_channels}

@@ -1,14 +1,17 @@
 -- The text that `run` writes for a trace.
 use Rattle.std.specs.Prelude.{ℕ, ◌+◌, nat_lt, if◌then◌else◌, List, [], ◌∷◌, ◌++◌, Option, None, Some, Result, Ok, Err, codes}
 use Rattle.std.specs.List.{flat_map}
-use Rattle.rams_model.specs.Types.{Event, LineFault, Status}
+use Rattle.rams_model.specs.declared.event.Event.{Event}
+use Rattle.rams_model.specs.declared.fault.LineFault.{LineFault}
+use Rattle.rams_model.specs.declared.status.Status.{Status}
 use Rattle.rams_model.specs.declared.event.Event.TheVariants as event
 use Rattle.rams_model.specs.declared.fault.LineFault.TheVariants as fault
 use Rattle.rams_model.specs.declared.mode.Mode.TheVariants.{Run}
 use Rattle.rams_model.specs.declared.status.Status.TheVariants.{Done, BadTrace, TooLong}
 use Rattle.rams_model.specs.Service.{settings}
 use Rattle.rams_model.specs.Texts.{lines_of, lines_read, bytes_in, TraceLine, channel_line, live_line, feedback_line, tick_line, end_line, Reached, nothing_reached, tick_of, judged, spaced, refused_line, answer_text}
-use Rattle.server_hub.specs.{HubEvent, served, channel_of, answer_to, after_event}
+use Rattle.server_hub.specs.declared.event.HubEvent.{HubEvent}
+use Rattle.server_hub.specs.{served, channel_of, answer_to, after_event}
 use Rattle.server_hub.specs.declared.event.HubEvent.TheVariants.{Live, Feedback, Tick}
 use Rattle.server_hub.specs.Served.{Served}
 use Rattle.book_text.specs.{no_channel_line}

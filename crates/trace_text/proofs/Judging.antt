@@ -1,7 +1,8 @@
 -- How a line is judged from its reading, its words and what came before.
 use Rattle.std.proofs.Common.{◌≡◌, ℕ, Bool, true, false, not, ◌&&◌, ◌==◌, if◌then◌else◌, List, Option, Some, None, Result, Ok, Err, refl, sym, ap, subst, ◌∙◌, inl, inr}
 use Rattle.std.proofs.lemmas.Bool.{and_parts}
-use Rattle.rams_model.specs.Types.{Channel, LineFault}
+use Rattle.rams_model.specs.declared.channel.Channel.{Channel}
+use Rattle.rams_model.specs.declared.fault.LineFault.{LineFault}
 use Rattle.rams_model.specs.declared.fault.LineFault.TheVariants.{Form, Order, Range}
 use Rattle.rams_model.specs.declared.mode.LineKind.TheVariants as kind
 use Rattle.rams_model.specs.Texts.{front, TraceLine, head_line, channel_line, live_line, feedback_line, tick_line, end_line, tune_line, give_line, mcast_line, ask_line, drop_line, line_of, line_at, ranged, line_words, channel_words, line_in_range, line_has_form, is_version, Reached, version_of, version_spelled, kind_named, kind_may_come, named_may_come, may_come, expected, line_is_served, with_line, accepted, with_reached, judged_line, judged}

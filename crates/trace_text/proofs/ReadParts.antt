@@ -1,8 +1,13 @@
 -- A channel line read in parts is read as it is as a whole.
 use Rattle.std.proofs.Common.{◌≡◌, ℕ, List, [], ◌∷◌, Option, Some, None, option_map, option_and_then, refl, ◌∙◌, codes}
 use Rattle.rams_model.specs.Texts.{TraceLine, Words, field, whole, access_in, channel_line, rest_in, kept_in, channel_in, ◌>>=◌, number_in, word32_in}
-use Rattle.rams_model.specs.Types.{Channel}
-use Rattle.trace_text.specs.{Names, Places, Amounts, Bounds, Keeping, names_in, places_in, amounts_in, bounds_in, keeping_in, numbers_in, line_of_numbers, channel_of}
+use Rattle.rams_model.specs.declared.channel.Channel.{Channel}
+use Rattle.trace_text.specs.declared.channel_line.Names.{Names}
+use Rattle.trace_text.specs.declared.channel_line.Places.{Places}
+use Rattle.trace_text.specs.declared.channel_line.Amounts.{Amounts}
+use Rattle.trace_text.specs.declared.channel_line.Bounds.{Bounds}
+use Rattle.trace_text.specs.declared.channel_line.Keeping.{Keeping}
+use Rattle.trace_text.specs.{names_in, places_in, amounts_in, bounds_in, keeping_in, numbers_in, line_of_numbers, channel_of}
 
 -- a field in front of two readings of the rest that agree
 apart : {A B C : Type 0} (name : List ℕ) (read : List ℕ → Option A) (words : Words) (f : A × Words → Option B) (g : B → Option C) (k : A × Words → Option C) → ((a : A × Words) → k a ≡ option_and_then g (f a))

@@ -4,15 +4,8 @@ pub mod Numbers
 pub mod Parts
 pub mod Spelling
 
-unfoldable pub use Shown.*
-unfoldable pub use Cursor.*
-unfoldable pub use Numbers.*
-unfoldable pub use Parts.*
-unfoldable pub use Spelling.*
-pub use Rattle.trace_text.specs.declared.channel_line.Amounts.{Amounts}
-pub use Rattle.trace_text.specs.declared.channel_line.Bounds.{Bounds}
-pub use Rattle.trace_text.specs.declared.channel_line.Keeping.{Keeping}
-pub use Rattle.trace_text.specs.declared.channel_line.Names.{Names}
-pub use Rattle.trace_text.specs.declared.channel_line.Numbers.{Numbers}
-pub use Rattle.trace_text.specs.declared.channel_line.Places.{Places}
-pub use Rattle.trace_text.specs.declared.line.Line.{Line}
+unfoldable pub use Rattle.trace_text.specs.Shown.{shown, Gives, HasDigits}
+unfoldable pub use Rattle.trace_text.specs.Cursor.{words_left, is_end, is_named, Reads, ReadsWord, IsWord, pair_in}
+unfoldable pub use Rattle.trace_text.specs.Numbers.{names_in, places_in, amounts_in, bounds_in, said_in, keeping_in, numbers_in, channel_of, line_of_numbers}
+unfoldable pub use Rattle.trace_text.specs.Parts.{names_words, places_words, amounts_words, bounds_words}
+unfoldable pub use Rattle.trace_text.specs.Spelling.{SpelledLinesAreRead, LinesAreSpelledAsRead, TheWordsTell}

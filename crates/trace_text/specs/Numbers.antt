@@ -1,6 +1,6 @@
 -- The numbers of a channel line, before their ranges are known, in the parts that they are read in.
 use Rattle.std.specs.Prelude.{[], ◌∷◌, Option, Some, codes}
-use Rattle.rams_model.specs.Types.{Channel}
+use Rattle.rams_model.specs.declared.channel.Channel.{Channel}
 use Rattle.rams_model.specs.Texts.{TraceLine, Words, channel_line, field, whole, access_in, ◌>>=◌, number_in, word32_in}
 use Rattle.trace_text.specs.declared.channel_line.Numbers.{Numbers}
 use Rattle.trace_text.specs.declared.channel_line.Names.{Names}

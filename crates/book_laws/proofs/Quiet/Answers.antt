@@ -2,7 +2,11 @@
 use Rattle.std.proofs.Common.{◌≡◌, ℕ, ◌+◌, ◌-◌, ◌*◌, ◌%◌, ◌≤◌, ◌≢◌, true, false, cond, not, ◌&&◌, List, [], ◌∷◌, length, Option, Some, None, refl, ap, ◌∙◌, subst, arith, eqb, leb}
 use Rattle.std.specs.Prelude.{find, Result, Ok, Err, unwrap_or, is_some}
 use Rattle.std.proofs.lemmas.Bool.{cond_both, cond-true, and_parts, eq-eqb, ltb-false, leb-true}
-use Rattle.rams_model.specs.Types.{TlvFault, Held, Stop, Cause, Note}
+use Rattle.rams_model.specs.declared.fault.TlvFault.{TlvFault}
+use Rattle.rams_model.specs.declared.held.Held.{Held}
+use Rattle.rams_model.specs.declared.message.Stop.{Stop}
+use Rattle.rams_model.specs.declared.note.Cause.{Cause}
+use Rattle.rams_model.specs.declared.note.Note.{Note}
 use Rattle.rams_model.specs.declared.note.Cause.TheVariants as cause
 use Rattle.rams_model.specs.declared.note.Note.TheVariants as note
 use Rattle.rams_model.specs.Service.{Settings, stop_of, Message, bye, nack, asks, stops, told, noted, History, hold, known, is_among, ssrc, Burst, next, after_note, newest_changed, bursts, if_open, newest_open, open_burst, has_open, pending, pending_of, is_pending, reserved, asked_rate, is_slow, is_too_much, is_full, join_from, begins, changes, on_burst, on_request, verdict, room, is_early, held_answer, number_answer, after_numbers, stop_set, on_stop, stop_burst, after_stop, is_bye_of, after_bye, after_message, after_messages}

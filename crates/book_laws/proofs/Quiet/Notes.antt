@@ -1,7 +1,9 @@
 -- The notes of a datagram's messages keep it so.
 use Rattle.std.proofs.Common.{◌≡◌, ℕ, ◌≢◌, true, false, List, [], ◌∷◌, Option, Some, None, refl, ap, sym, ◌∙◌, subst, ⊎_elim, eqb}
 use Rattle.std.proofs.lemmas.Bool.{cond-true, cases_Bool, eqb-true}
-use Rattle.rams_model.specs.Types.{Held, Cause, Note}
+use Rattle.rams_model.specs.declared.held.Held.{Held}
+use Rattle.rams_model.specs.declared.note.Cause.{Cause}
+use Rattle.rams_model.specs.declared.note.Note.{Note}
 use Rattle.rams_model.specs.declared.note.Cause.TheVariants as cause
 use Rattle.rams_model.specs.declared.note.Note.TheVariants as note
 use Rattle.rams_model.specs.Service.{Settings, Message, after_messages, told, noted, History, arrivals, hold, sequence, Burst, next, begun, after_note, is_of, bursts, open_burst}

@@ -2,7 +2,9 @@
 use Rattle.std.proofs.Common.{◌≡◌, ℕ, ◌+◌, ◌-◌, ◌≤◌, ◌⊎◌, inl, inr, ⊎_elim, min, true, false, cond, List, [], ◌∷◌, Option, Some, None, refl, ap, ap₂, sym, ◌∙◌, subst, arith, eqb, ltb}
 use Rattle.std.specs.Prelude.{is_some}
 use Rattle.std.proofs.lemmas.Bool.{cond_both, cond-true, cases_Bool, eqb-true, eq-eqb}
-use Rattle.rams_model.specs.Types.{Held, Cause, Note}
+use Rattle.rams_model.specs.declared.held.Held.{Held}
+use Rattle.rams_model.specs.declared.note.Cause.{Cause}
+use Rattle.rams_model.specs.declared.note.Note.{Note}
 use Rattle.rams_model.specs.declared.note.Cause.TheVariants as cause
 use Rattle.rams_model.specs.declared.note.Note.TheVariants as note
 use Rattle.rams_model.specs.Service.{Settings, tick, began, noted, History, arrivals, hold, as_tick_began, known, opened, is_among, Burst, next, kept, in_tick, newest_changed, is_of, bursts, if_open, newest_open, open_burst, has_open, pending, budget_of, cap, run_left, kept_from_repairs, may_take, run, send, is_lost, is_stop, after_run, run_sent, burst_served, bursts_served, repairs_sent, after_tick}

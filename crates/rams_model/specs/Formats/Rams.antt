@@ -2,7 +2,9 @@
 use Rattle.std.specs.Prelude.{◌≡◌, ℕ, ◌+◌, ◌-◌, ◌*◌, ◌/◌, ◌%◌, ◌<◌, Bool, true, false, ◌&&◌, ◌||◌, ◌==◌, nat_lt, nat_le, if◌then◌else◌, IsTrue, IfSome, ◌≤◌, ◌^◌, List, [], ◌∷◌, ◌++◌, length, drop, slice_index, slice_range, Option, None, Some, is_some, option_map, Result, Err}
 use Rattle.std.specs.List.{list_any, flat_map, AllByRecursion}
 use Rattle.std.specs.Int.{Width, w16, w32, w64, to_be_bytes, from_be_bytes}
-use Rattle.rams_model.specs.Types.{TlvFault, Info, Stop}
+use Rattle.rams_model.specs.declared.fault.TlvFault.{TlvFault}
+use Rattle.rams_model.specs.declared.message.Info.{Info}
+use Rattle.rams_model.specs.declared.message.Stop.{Stop}
 use Rattle.rams_model.specs.declared.fault.TlvFault.TheVariants.{Form, Short, Length}
 use Rattle.rams_model.specs.Formats.Joined.{Format, pieces_of, Joins, map_ok, words32}
 use Rattle.rams_model.specs.Formats.RamsInfo.{transport_feedback, tlv, optional_tlv}

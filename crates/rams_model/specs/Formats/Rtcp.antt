@@ -2,7 +2,7 @@
 use Rattle.std.specs.Prelude.{◌≡◌, ℕ, ◌+◌, ◌-◌, ◌*◌, ◌/◌, ◌%◌, ◌<◌, ◌≤◌, Bool, ◌&&◌, ◌||◌, ◌==◌, not, nat_lt, nat_le, if◌then◌else◌, List, [], ◌∷◌, ◌++◌, length, take, drop, slice_index, slice_range, Option, None, Some, Result, Err, codes}
 use Rattle.std.specs.List.{list_any}
 use Rattle.std.specs.Int.{w16, w32, to_be_bytes, from_be_bytes}
-use Rattle.rams_model.specs.Types.{FrameFault}
+use Rattle.rams_model.specs.declared.fault.FrameFault.{FrameFault}
 use Rattle.rams_model.specs.declared.fault.FrameFault.TheVariants.{Empty, Short, Version, Length, Padding, Body}
 use Rattle.rams_model.specs.Formats.RtpPacket.{flag}
 use Rattle.rams_model.specs.Formats.Joined.{Format, pieces_of, Joins, words32}

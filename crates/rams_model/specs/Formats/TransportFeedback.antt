@@ -1,7 +1,7 @@
 -- Transport layer feedback (RFC 4585, 6.1), and the generic NACK (RFC 4585, 6.2.1).
 use Rattle.std.specs.Prelude.{◌≡◌, ℕ, ◌+◌, ◌-◌, ◌%◌, ◌^◌, ◌&&◌, ◌==◌, nat_lt, nat_le, if◌then◌else◌, zero, suc, List, [], ◌∷◌, ◌++◌, length, drop, map, filter, Option, None, Some, Result, Ok, Err}
 use Rattle.std.specs.Int.{w16, w32, to_be_bytes, from_be_bytes, bit_at}
-use Rattle.rams_model.specs.Types.{NackFault}
+use Rattle.rams_model.specs.declared.fault.NackFault.{NackFault}
 use Rattle.rams_model.specs.declared.fault.NackFault.TheVariants.{Empty, Length}
 use Rattle.rams_model.specs.Formats.Rtcp.{Framed, framed}
 use Rattle.rams_model.specs.Formats.RamsInfo.{transport_feedback}

@@ -1,6 +1,6 @@
 -- A quiet burst, and the lists of numbers that catch up: why a burst keeps the join time that its client was told.
 use Rattle.std.specs.Prelude.{◌≡◌, ℕ, ◌+◌, ◌*◌, ◌<◌, ◌≤◌, ◌⊎◌, ◌==◌, if◌then◌else◌, List, [], ◌∷◌, drop}
-use Rattle.rams_model.specs.Types.{Held}
+use Rattle.rams_model.specs.declared.held.Held.{Held}
 use Rattle.rams_model.specs.declared.note.Note.TheVariants.{Accept, Update, End}
 use Rattle.rams_model.specs.Service.{Settings, opened, is_among, tick, began, noted, History, stream}
 use Rattle.rams_model.specs.Packets.{wires, from_number, Follows}

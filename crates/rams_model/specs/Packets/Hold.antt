@@ -1,6 +1,6 @@
 -- The packets that a channel holds, oldest first.
 use Rattle.std.specs.Prelude.{ℕ, ◌+◌, ◌-◌, nat_le, List, [], ◌∷◌, length, drop, filter, sum_by}
-use Rattle.rams_model.specs.Types.{Held}
+use Rattle.rams_model.specs.declared.held.Held.{Held}
 
 -- the interval of the numbers: the first, and one above the last; both 0 where nothing is held
 abbrev pub lo : List Held → ℕ

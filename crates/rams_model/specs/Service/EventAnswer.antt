@@ -1,6 +1,7 @@
 -- What a channel answers to an event, as its two lists.
 use Rattle.std.specs.Prelude.{List}
-use Rattle.rams_model.specs.Types.{Note, Order}
+use Rattle.rams_model.specs.declared.note.Note.{Note}
+use Rattle.rams_model.specs.declared.answer.Order.{Order}
 
 pub record Answered : Type 0 where
   pub notes : List Note

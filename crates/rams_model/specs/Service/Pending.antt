@@ -1,7 +1,7 @@
 -- The repairs that wait, and how long a client is idle.
 use Rattle.std.specs.Prelude.{ℕ, ◌+◌, Bool, false, ◌&&◌, ◌||◌, ◌==◌, not, if◌then◌else◌, List, [], ◌∷◌, ◌++◌, filter}
 use Rattle.std.specs.List.{list_any}
-use Rattle.rams_model.specs.Types.{Note}
+use Rattle.rams_model.specs.declared.note.Note.{Note}
 use Rattle.rams_model.specs.declared.note.Note.TheVariants.{Queued, Repair, Gone, Bye, Burst, End}
 use Rattle.rams_model.specs.Service.ChannelSettings.{Settings}
 use Rattle.rams_model.specs.Service.HeardEvents.{feedback, tick}

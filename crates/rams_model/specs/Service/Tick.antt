@@ -1,6 +1,6 @@
 -- What a channel sends in a tick: the runs of its bursts, then repairs; and whom it forgets.
 use Rattle.std.specs.Prelude.{ℕ, ◌+◌, ◌-◌, Bool, false, ◌&&◌, ◌==◌, not, nat_le, nat_lt, if◌then◌else◌, List, [], ◌∷◌, find, Option, Some, None}
-use Rattle.rams_model.specs.Types.{Held}
+use Rattle.rams_model.specs.declared.held.Held.{Held}
 use Rattle.rams_model.specs.declared.note.Cause.TheVariants.{Stopped, Lost, Limit}
 use Rattle.rams_model.specs.declared.note.Note.TheVariants.{Burst as BurstNote, Repair, Gone, End, Forgot}
 use Rattle.rams_model.specs.Service.ChannelSettings.{Settings}

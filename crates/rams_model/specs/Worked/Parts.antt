@@ -1,6 +1,6 @@
 -- Parts of answers by themselves: numbers, access points, full rooms, long times.
 use Rattle.std.specs.Prelude.{◌≡◌, ℕ, true, false, List, [], ◌∷◌, ◌++◌, replicate, codes, Some, None}
-use Rattle.rams_model.specs.Types.{Note}
+use Rattle.rams_model.specs.declared.note.Note.{Note}
 use Rattle.rams_model.specs.declared.note.Note.TheVariants.{Queued, ClientFull, QueueFull}
 use Rattle.rams_model.specs.Packets.{first, forward, backward, jump, restart, numbered, has_access}
 use Rattle.rams_model.specs.Service.{rate_of, join_ticks, accept_info, History, hold, number_answer, history_of}

@@ -1,7 +1,10 @@
 -- What the worked examples speak of: a channel, packets, and feedback from clients.
 use Rattle.std.specs.Prelude.{◌≡◌, ℕ, Bool, List, [], ◌∷◌, ◌++◌, map, reverse, replicate, codes}
 use Rattle.rams_model.specs.declared.channel.Access.TheVariants.{Marker}
-use Rattle.rams_model.specs.Types.{Channel, Event, LiveNote, Note}
+use Rattle.rams_model.specs.declared.channel.Channel.{Channel}
+use Rattle.rams_model.specs.declared.event.Event.{Event}
+use Rattle.rams_model.specs.declared.note.LiveNote.{LiveNote}
+use Rattle.rams_model.specs.declared.note.Note.{Note}
 use Rattle.rams_model.specs.declared.event.Event.TheVariants.{Live, Feedback}
 use Rattle.rams_model.specs.declared.note.LiveNote.TheVariants.{Took}
 use Rattle.rams_model.specs.declared.note.Note.TheVariants.{Live as LiveNoted}

@@ -1,7 +1,8 @@
 -- What each kind of message gets is on the page.
 use Rattle.std.proofs.Common.{◌∷◌, inl, inr, refl, sym, ap, subst}
 use Rattle.rams_model.specs.Service.{after_message, told, is_rams}
-use Rattle.feedback_core.specs.{Message, shown_message, IsTurned}
+use Rattle.feedback_core.specs.declared.framing.Message.{Message}
+use Rattle.feedback_core.specs.{shown_message, IsTurned}
 use Rattle.feedback_core.specs.declared.framing.Message.TheVariants.{Bye, Nack, Request, Stop}
 use Rattle.feedback_core.proofs.Turns.{said_turn, noted_turn, told_hold, told_turn, told_sender}
 use Rattle.feedback_core.proofs.answering.answer_message.Goals as goal

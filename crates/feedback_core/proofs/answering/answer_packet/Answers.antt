@@ -3,7 +3,8 @@ use Rattle.std.proofs.Common.{◌≡◌, ◌∙◌, Some, None, sym, ap, arith, 
 use Rattle.std.specs.Prelude.{◌&&◌, not}
 use Rattle.rams_model.specs.Service.{is_rams, message_of}
 use Rattle.rtcp_frame.specs.{shown_packet}
-use Rattle.feedback_core.specs.{Page, shown_message, turn_of}
+use Rattle.feedback_core.specs.declared.page.Page.{Page}
+use Rattle.feedback_core.specs.{shown_message, turn_of}
 use Rattle.feedback_core.proofs.Turns.{no_turn, one_turn, is_skipped, is_taken, due_turn}
 use Rattle.feedback_core.proofs.answering.answer_packet.Goals as goal
 

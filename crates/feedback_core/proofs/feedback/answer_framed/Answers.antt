@@ -1,6 +1,6 @@
 -- The client is received, answered and kept.
 use Rattle.std.proofs.Common.{ap}
-use Rattle.channel_parts.specs.{Parts}
+use Rattle.channel_parts.specs.declared.parts.Parts.{Parts}
 use Rattle.rtcp_frame.specs.{packets_left}
 use Rattle.feedback_core.proofs.Serving.{parts_with, ready_placed, safe_placed, kept_place, served}
 use Rattle.feedback_core.proofs.feedback.answer_framed.Goals as goal

@@ -3,7 +3,8 @@ use Rattle.std.proofs.Common.{◌∙◌, None, refl, sym}
 use Rattle.rams_model.specs.declared.note.Note.TheVariants.{Bye, ByeIdle}
 use Rattle.rams_model.specs.Service.{after_bye}
 use Rattle.rtcp_frame.specs.{shown_packet}
-use Rattle.feedback_core.specs.{Visitor, only}
+use Rattle.feedback_core.specs.declared.visitor.Visitor.{Visitor}
+use Rattle.feedback_core.specs.{only}
 use Rattle.feedback_core.proofs.Sayings.{said_so}
 use Rattle.feedback_core.proofs.Byes.{bye_unknown, bye_other, bye_without, bye_ends}
 use Rattle.feedback_core.proofs.leaving.answer_bye.Goals as goal

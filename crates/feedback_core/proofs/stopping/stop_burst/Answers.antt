@@ -2,7 +2,8 @@
 use Rattle.std.proofs.Common.{◌∙◌, Some, refl, sym}
 use Rattle.rams_model.specs.declared.note.Note.TheVariants.{StopIdle, StopKept, StopAt}
 use Rattle.rams_model.specs.Service.{stop_burst, open_burst}
-use Rattle.feedback_core.specs.{Visitor, only}
+use Rattle.feedback_core.specs.declared.visitor.Visitor.{Visitor}
+use Rattle.feedback_core.specs.{only}
 use Rattle.feedback_core.proofs.Sayings.{said_so}
 use Rattle.feedback_core.proofs.Stops.{closed_from, unset_from, stop_none, stop_kept, stop_set_at, stop_ends}
 use Rattle.feedback_core.proofs.stopping.stop_burst.Goals as goal

@@ -1,5 +1,5 @@
 use Rattle.std.proofs.Common.{◌≡◌, List}
-use Rattle.rams_model.specs.Types.{Event}
+use Rattle.rams_model.specs.declared.event.Event.{Event}
 use Rattle.channel_parts.specs.{StandsFor}
 use Rattle.feedback_core.proofs.tests.parts.Given as goal
 

@@ -1,6 +1,7 @@
 use Rattle.std.proofs.Common.{List, ℕ, subst}
 use Rattle.std.specs.Io.KnownBytes.{prepend_known}
-use Rattle.line_io.specs.{TakesNext, Next}
+use Rattle.line_io.specs.declared.reader.Next.{Next}
+use Rattle.line_io.specs.{TakesNext}
 use Rattle.trace_book.specs.{turn}
 use Rattle.rams_replay.specs.{Took}
 use Rattle.rams_replay.proofs.FirstTurn.{line_is_told, long_is_told, end_is_told}

@@ -1,8 +1,9 @@
 use Rattle.std.proofs.Common.{◌≡◌, ◌++◌, [], length, Result, sym, ap, ◌∙◌, subst, length-append, arith}
 use Rattle.std.proofs.lemmas.Result.{err_from_is_err_and}
-use Rattle.rams_model.specs.Types.{Status}
+use Rattle.rams_model.specs.declared.status.Status.{Status}
 use Rattle.trace_book.specs.{first_line}
-use Rattle.rams_replay.specs.{Stop, OnlyMemoryStops}
+use Rattle.rams_replay.specs.declared.stop.Stop.{Stop}
+use Rattle.rams_replay.specs.{OnlyMemoryStops}
 use Rattle.rams_replay.proofs.Reading.{not_by_source, ended_by_source, lines_then_all}
 use Rattle.rams_replay.proofs.Running.{outcome, told_gives}
 use Rattle.rams_replay.proofs.Booking.{told_all, none_of, stops_in_front, part_of_first, part_of_front, first_goes, book_has_text, book_has_front, room_of}

@@ -1,8 +1,9 @@
 use Rattle.std.proofs.Common.{◌≡◌, IfErr, ◌++◌, ◌+◌, ◌++◌, length, Result, Err, refl, sym, ap, ◌∙◌, subst, arith}
 use Rattle.std.proofs.lemmas.Result.{err_from_is_err_and}
 use Rattle.std.specs.Io.KnownBytes.{prepend_known}
-use Rattle.rams_model.specs.Types.{Status}
-use Rattle.rams_replay.specs.{Stop, OnlyMemoryStops, StopsIn, IfTold}
+use Rattle.rams_model.specs.declared.status.Status.{Status}
+use Rattle.rams_replay.specs.declared.stop.Stop.{Stop}
+use Rattle.rams_replay.specs.{OnlyMemoryStops, StopsIn, IfTold}
 use Rattle.trace_book.specs.{opening}
 use Rattle.rams_replay.specs.declared.stop.Stop.TheVariants.{Memory, Read}
 use Rattle.rams_replay.proofs.Reading.{not_by_source}

@@ -4,7 +4,8 @@ use Rattle.server_hub.specs.declared.event.HubEvent.TheVariants as events
 use Rattle.server_hub.specs.Seen.{Seen}
 use Rattle.rams_model.specs.Texts.{head_line, channel_line, live_line, feedback_line, tick_line}
 use Rattle.trace_book.specs.{after_line, counted, eventless, event_of as brought}
-use Rattle.trace_text.specs.{Line, shown}
+use Rattle.trace_text.specs.declared.line.Line.{Line}
+use Rattle.trace_text.specs.{shown}
 use Rattle.rams_replay.specs.declared.replay.Turn.TheVariants.{GoesOn}
 use Rattle.rams_replay.specs.{Comes, Took}
 use Rattle.rams_replay.proofs.Opening.{head_bounds, head_turn, opens_next, opened_turn}

@@ -1,5 +1,6 @@
 use Rattle.std.proofs.Common.{sym, subst}
-use Rattle.rams_replay.specs.{Heard, Tells, event_of}
+use Rattle.rams_replay.specs.declared.replay.Heard.{Heard}
+use Rattle.rams_replay.specs.{Tells, event_of}
 use Rattle.rams_replay.specs.declared.replay.Turn.TheVariants.{Ticked}
 use Rattle.rams_replay.proofs.Telling.{live_tells, feedback_tells, ticks_tell}
 use Rattle.rams_replay.proofs.replay.answer.Goals as goal

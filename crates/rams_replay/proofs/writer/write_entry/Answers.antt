@@ -1,6 +1,7 @@
 use Rattle.std.proofs.Common.{◌++◌, Result, IfErr, sym, subst}
 use Rattle.std.proofs.lemmas.Result.{err_from_is_err_and}
-use Rattle.rams_replay.specs.{Stop, entry_text, StopsIn}
+use Rattle.rams_replay.specs.declared.stop.Stop.{Stop}
+use Rattle.rams_replay.specs.{entry_text, StopsIn}
 use Rattle.rams_replay.proofs.Writing.{unwritten}
 use Rattle.rams_replay.proofs.writer.write_entry.Goals as goal
 

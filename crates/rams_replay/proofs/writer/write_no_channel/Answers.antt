@@ -1,6 +1,7 @@
 use Rattle.std.proofs.Common.{◌++◌, Result, IfErr, sym, subst}
 use Rattle.std.proofs.lemmas.Result.{err_from_is_err_and}
-use Rattle.rams_replay.specs.{Stop, StopsIn}
+use Rattle.rams_replay.specs.declared.stop.Stop.{Stop}
+use Rattle.rams_replay.specs.{StopsIn}
 use Rattle.book_text.specs.{no_channel_line}
 use Rattle.rams_replay.proofs.Writing.{unwritten}
 use Rattle.rams_replay.proofs.writer.write_no_channel.Goals as goal

@@ -1,5 +1,6 @@
 use Rattle.std.proofs.Common.{List, ℕ, Option, ◌++◌, ◌+◌, length, IfErr, OnOk, sym, subst}
-use Rattle.rams_replay.specs.{Turn, OnlyMemoryStops, StopsIn, written}
+use Rattle.rams_replay.specs.declared.replay.Turn.{Turn}
+use Rattle.rams_replay.specs.{OnlyMemoryStops, StopsIn, written}
 use Rattle.line_io.specs.Passes.{Passes}
 use Rattle.rams_replay.proofs.Turning.{written_last}
 use Rattle.rams_replay.proofs.writer.write_turn.Goals as goal

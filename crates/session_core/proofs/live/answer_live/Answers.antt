@@ -1,7 +1,7 @@
 use Rattle.std.proofs.Common.{◌<◌, List, [], ◌∷◌, ◌++◌, ap, ◌∙◌, arith}
 use Rattle.std.specs.Prelude.{is_ok, if◌then◌else◌}
 use Rattle.std.proofs.lemmas.List.Elements.{All-from_get_or}
-use Rattle.rams_model.specs.Types.{Note}
+use Rattle.rams_model.specs.declared.note.Note.{Note}
 use Rattle.rams_model.specs.declared.note.Note.TheVariants.{Live as LiveNoted}
 use Rattle.rams_model.specs.Service.{answered}
 use Rattle.session_core.proofs.Living.{live_stands}

@@ -1,5 +1,5 @@
 use Rattle.std.proofs.Common.{ap, sym, ◌∙◌}
-use Rattle.rams_model.specs.Types.{Note}
+use Rattle.rams_model.specs.declared.note.Note.{Note}
 use Rattle.tick_core.specs.{committing, with_committed}
 use Rattle.tick_core.proofs.commit.commit_note.Goals as goal
 

@@ -1,6 +1,6 @@
 use Rattle.std.proofs.Common.{refl, ap, ◌∙◌}
-use Rattle.tick_core.specs.{TickPlan}
-use Rattle.rams_model.specs.Types.{Channel}
+use Rattle.tick_core.specs.declared.plan.TickPlan.{TickPlan}
+use Rattle.rams_model.specs.declared.channel.Channel.{Channel}
 use Rattle.tick_core.proofs.Safe.{small_parts}
 use Rattle.tick_core.proofs.Closing.{may_carry_out, flags_long, made_parts}
 use Rattle.tick_core.proofs.commit.commit_tick.Goals as goal

@@ -1,5 +1,6 @@
 use Rattle.std.proofs.Common.{ℕ, ap, ◌∙◌}
-use Rattle.client_table.specs.{Entry, clients_left}
+use Rattle.client_table.specs.declared.entry.Entry.{Entry}
+use Rattle.client_table.specs.{clients_left}
 use Rattle.tick_core.proofs.Walking.{all_found, first_found, others_found, forgotten_start, forgotten_turn, forgotten_end}
 use Rattle.tick_core.proofs.forgetting.forget_clients.Goals as goal
 

@@ -1,5 +1,6 @@
 use Rattle.std.proofs.Common.{ℕ, ap, ◌∙◌}
-use Rattle.client_table.specs.{Entry, clients_left}
+use Rattle.client_table.specs.declared.entry.Entry.{Entry}
+use Rattle.client_table.specs.{clients_left}
 use Rattle.tick_core.proofs.Walking.{all_found, first_found, others_found, served_start, allowed_start, served_turn, allowed_turn, served_end, allowed_end, allowed_rise}
 use Rattle.tick_core.proofs.runs.serve_clients.Goals as goal
 

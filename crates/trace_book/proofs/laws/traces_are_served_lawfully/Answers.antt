@@ -1,7 +1,7 @@
 -- Each law of every lawful book, at the moments of a channel.
 use Rattle.std.proofs.Common.{◌≡◌, ℕ, List, [], ◌∷◌, ◌++◌, ⊎_elim, ap, sym, ◌∙◌, subst}
 use Rattle.std.specs.Prelude.{All}
-use Rattle.rams_model.specs.Types.{Event}
+use Rattle.rams_model.specs.declared.event.Event.{Event}
 use Rattle.rams_model.specs.Service.{tick, began, noted, History, Book, history_of, IsLawful}
 use Rattle.rams_model.specs.declared.note.Note.TheVariants.{Repair}
 use Rattle.book_laws.specs.{LastAccept, is_tick_start, BeginsWithATick, notes_of}

@@ -2,7 +2,8 @@ use Rattle.std.proofs.Common.{◌≡◌, ◌≤◌, List, [], ◌∷◌, Option,
 use Rattle.std.specs.Prelude.{All}
 use Rattle.rams_model.specs.Service.{Settings}
 use Rattle.rams_model.specs.Texts.{Head}
-use Rattle.server_hub.specs.{HubEvent, FitLink, shares_of, all_shares, after_events}
+use Rattle.server_hub.specs.declared.event.HubEvent.{HubEvent}
+use Rattle.server_hub.specs.{FitLink, shares_of, all_shares, after_events}
 use Rattle.server_hub.specs.Served.{Served}
 use Rattle.trace_book.specs.{last_stage, served_by, settings_of, new_channels, AreLawful, StandUnder, Stand, came, StayWithinTheLink}
 use Rattle.trace_book.proofs.Runs.{goes_all}

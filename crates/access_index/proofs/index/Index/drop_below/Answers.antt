@@ -1,6 +1,7 @@
 use Rattle.std.proofs.Common.{ℕ, List, min, max, sym, ◌∙◌, ap, subst, arith}
 use Rattle.rams_model.specs.Packets.{from_number}
-use Rattle.access_index.specs.{Point, left_from, StandsFor, RiseIn}
+use Rattle.access_index.specs.declared.index.Point.{Point}
+use Rattle.access_index.specs.{left_from, StandsFor, RiseIn}
 use Rattle.access_index.specs.Seen.{Seen}
 use Rattle.access_index.proofs.Points.{left_is, rise_above}
 use Rattle.access_index.proofs.Standing.{left_stands}

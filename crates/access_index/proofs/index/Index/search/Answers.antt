@@ -1,6 +1,7 @@
 use Rattle.std.proofs.Common.{List, sym, ◌∙◌, subst}
 use Rattle.std.specs.VecDeque.Iter.{deque_iter_rest}
-use Rattle.access_index.specs.{Point, RiseIn}
+use Rattle.access_index.specs.declared.index.Point.{Point}
+use Rattle.access_index.specs.{RiseIn}
 use Rattle.access_index.proofs.Choosing.{search_old, search_young, search_end, rise_front, last_within}
 use Rattle.access_index.proofs.index.Index.search.Goals as goal
 

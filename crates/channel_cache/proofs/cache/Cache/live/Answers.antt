@@ -1,5 +1,5 @@
 use Rattle.std.proofs.Common.{◌≡◌, ◌+◌, sym, ◌∙◌, ap, subst}
-use Rattle.rams_model.specs.Types.{Channel}
+use Rattle.rams_model.specs.declared.channel.Channel.{Channel}
 use Rattle.rams_model.specs.Service.{live, dropped, heard_live}
 use Rattle.channel_cache.specs.{arrival_of}
 use Rattle.channel_cache.proofs.Shown.{took, let_go, does}

@@ -1,7 +1,8 @@
 use Rattle.std.proofs.Common.{◌≡◌, [], List, ◌∙◌, ap, subst}
-use Rattle.rams_model.specs.Types.{Held}
+use Rattle.rams_model.specs.declared.held.Held.{Held}
 use Rattle.reorder_window.specs.{Start, came, start_after, came_of}
-use Rattle.channel_cache.specs.{Intake, arrival_of, Holds}
+use Rattle.channel_cache.specs.declared.intake.Intake.{Intake}
+use Rattle.channel_cache.specs.{arrival_of, Holds}
 use Rattle.channel_cache.proofs.Starting.{begun_keeps, begun_brings}
 use Rattle.channel_cache.proofs.intake.Intake.begin_with.Goals as goal
 

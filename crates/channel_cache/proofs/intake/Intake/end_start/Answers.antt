@@ -1,5 +1,5 @@
 use Rattle.std.proofs.Common.{◌∙◌, ap}
-use Rattle.rams_model.specs.Types.{Held}
+use Rattle.rams_model.specs.declared.held.Held.{Held}
 use Rattle.reorder_window.specs.{released}
 use Rattle.reorder_window.specs.Seen as windows
 use Rattle.channel_cache.proofs.Placing.{ended_holds}

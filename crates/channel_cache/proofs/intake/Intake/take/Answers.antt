@@ -1,5 +1,5 @@
 use Rattle.std.proofs.Common.{◌≡◌, max, List, ◌∙◌, ap, subst}
-use Rattle.rams_model.specs.Types.{Held}
+use Rattle.rams_model.specs.declared.held.Held.{Held}
 use Rattle.reorder_window.specs.{start_of, Start, came, start_after, came_of}
 use Rattle.reorder_window.specs.Seen as windows
 use Rattle.channel_cache.specs.{arrival_of, Holds}

@@ -1,5 +1,5 @@
 use Rattle.std.proofs.Common.{◌≤◌, ◌==◌, List, refl, sym, ◌∙◌, ap, subst, arith}
-use Rattle.rams_model.specs.Types.{Held}
+use Rattle.rams_model.specs.declared.held.Held.{Held}
 use Rattle.rams_model.specs.Packets.{hi, from_number}
 use Rattle.access_index.specs.{StandsFor}
 use Rattle.packet_ring.specs.Seen as rings

@@ -1,5 +1,6 @@
 use Rattle.std.proofs.Common.{◌≡◌, List, Option, Some, is_some, refl, arith, ap, sym, ◌∙◌, subst}
-use Rattle.client_table.specs.{Entry, with_client, entry_at, seen, AreJoined}
+use Rattle.client_table.specs.declared.entry.Entry.{Entry}
+use Rattle.client_table.specs.{with_client, entry_at, seen, AreJoined}
 use Rattle.slab.specs.Slab.{Slab, Updates}
 use Rattle.client_table.proofs.Changed.{free_key, insert_kept}
 use Rattle.client_table.proofs.Shown.{shown_count, shown_most, shown_admitted, not_full, one_more}

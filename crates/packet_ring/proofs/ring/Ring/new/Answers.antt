@@ -1,6 +1,6 @@
 use Rattle.std.proofs.Common.{sym, subst, []}
 use Rattle.circular_buffer.specs.Buffer.{Buffer}
-use Rattle.rams_model.specs.Types.{Held}
+use Rattle.rams_model.specs.declared.held.Held.{Held}
 use Rattle.packet_ring.specs.{IsRing, StandsFor}
 use Rattle.packet_ring.proofs.Ends.{nothing_stands}
 use Rattle.packet_ring.proofs.Following.{empty_is_ring}

@@ -1,6 +1,7 @@
 use Rattle.std.proofs.Common.{◌∷◌, [], ◌++◌, ap, sym, subst, ◌∙◌}
 use Rattle.circular_buffer.specs.Buffer.{buffer}
-use Rattle.packet_ring.specs.{IsRing, StandsFor, Inside}
+use Rattle.packet_ring.specs.declared.ring.Ring.TheInside.{Inside}
+use Rattle.packet_ring.specs.{IsRing, StandsFor}
 use Rattle.packet_ring.specs.Seen.{Seen}
 use Rattle.packet_ring.proofs.Ends.{pushed_stands}
 use Rattle.packet_ring.proofs.Following.{pushed_is_ring}

@@ -1,5 +1,6 @@
 use Rattle.std.proofs.Common.{sym, ◌∙◌, subst}
-use Rattle.reorder_window.specs.{Came, arrived, StandsFor, start_after}
+use Rattle.reorder_window.specs.declared.window.Came.{Came}
+use Rattle.reorder_window.specs.{arrived, StandsFor, start_after}
 use Rattle.reorder_window.specs.Seen.{Seen}
 use Rattle.reorder_window.proofs.Standing.{came_same, arrived_stands}
 use Rattle.reorder_window.proofs.window.Window.arrive.Goals as goal

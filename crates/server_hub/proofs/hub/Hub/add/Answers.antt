@@ -1,6 +1,7 @@
 use Rattle.std.proofs.Common.{◌≡◌, Option, Err, refl, sym, subst, arith}
 use Rattle.std.specs.Prelude.{IfNone}
-use Rattle.server_hub.specs.{AddFault, StandsFor}
+use Rattle.server_hub.specs.declared.event.AddFault.{AddFault}
+use Rattle.server_hub.specs.{StandsFor}
 use Rattle.server_hub.specs.declared.event.AddFault.TheVariants.{Twice, Link, NoMemory}
 use Rattle.server_hub.specs.Seen.{Seen}
 use Rattle.server_hub.proofs.Adding.{is_twice, exceeds_link, is_added, is_fault, no_fault, added, one_more_serves}

@@ -1,6 +1,6 @@
 use Rattle.std.proofs.Common.{List, ap, ◌∙◌, arith}
 use Rattle.std.proofs.lemmas.List.{with_items_is}
-use Rattle.tick_core.specs.{Allowance}
+use Rattle.tick_core.specs.declared.allowance.Allowance.{Allowance}
 use Rattle.std.proofs.lemmas.Result.{IfOk-weaker}
 use Rattle.tick_core.proofs.Repairing.{repaired, repair_waits, repair_goes}
 use Rattle.tick_core.proofs.repairs.Repairs.send.Goals as goal
