@@ -71,7 +71,7 @@ impl Cache {
         let note = match read_live(channel, bytes) {
             Ok(packet) => {
                 let incoming = Incoming::of(alloc, channel, &packet)?;
-                take(&mut self.numbering, &mut self.intake, incoming)
+                receive(&mut self.numbering, &mut self.intake, incoming)
             }
             Err(note) => note,
         };
@@ -117,8 +117,8 @@ impl Cache {
     }
 }
 
-/// Numbers a packet of the channel, and takes it in where it comes in time.
-fn take(numbering: &mut Numbering, intake: &mut Intake, incoming: Incoming) -> LiveNote
+// Numbers a packet of the channel, and takes it in where it comes in time.
+fn receive(numbering: &mut Numbering, intake: &mut Intake, incoming: Incoming) -> LiveNote
     requires in_step { AreInStep numbering.old intake.old }
     requires bare { IsBare incoming.packet }
     requires low { incoming.sequence < 65536 }
@@ -140,7 +140,7 @@ fn take(numbering: &mut Numbering, intake: &mut Intake, incoming: Incoming) -> L
             intake.begin_with(n, incoming);
             LiveNote::Took(n)
         }
-        Noted::Forward(n) | Noted::Behind(n) => intake.take(n, incoming),
+        Noted::Forward(n) | Noted::Behind(n) => intake.continue_with(n, incoming),
         Noted::Jump => LiveNote::Jump,
         Noted::Restart(n) => {
             intake.restart_with(n, incoming);

@@ -89,7 +89,7 @@ impl Intake {
         self.drain();
     }
 
-    /// Holds all packets that need not wait any longer.
+    // Holds all packets that need not wait any longer.
     fn drain(&mut self)
         requires intake { IsIntake self.old }
         requires few { self.old.stock.pushes + length self.old.window.kept ≤ 2 ^ 40 }

@@ -14,7 +14,7 @@ use reorder_window::Came;
 
 impl Intake {
     /// Takes a packet of the present start under its number.
-    pub fn take(&mut self, n: u64, incoming: Incoming) -> LiveNote
+    pub fn continue_with(&mut self, n: u64, incoming: Incoming) -> LiveNote
         requires intake { IsIntake self.old }
         requires going { self.old.window.ended ≡ false }
         requires settled { first_free self.old.window ≡ None }
@@ -81,7 +81,7 @@ impl Intake {
     }
 }
 
-/// The note of a packet under its number.
+// The note of a packet under its number.
 fn note_of(n: u64, came: Came) -> LiveNote
     ensures { result ≡ note_of n came }
 {

@@ -1,11 +1,32 @@
 //! Tables whose clients and entries are told by hand.
-ghost use Rattle.std.specs.Prelude.{◌≡◌, IfNone, IfSome};
-ghost use Rattle.client_table.specs.{entry_of, with_entry};
-
-use crate::{AdmitFault, Burst, Entry, Table};
+use client_table::{AdmitFault, Burst, Entry, Table};
 use std::alloc::Global;
 use std::process::Abort;
 use std::test::Fail;
+
+/// Most clients of a table, and those that fill it.
+const FULL: [(u32, &[u32]); 3] = [(0, &[]), (1, &[5]), (3, &[2, 5, 9])];
+
+/// Known clients in the order in which they came, a client, and the least that is above it.
+const NEXT: [(&[u32], Option<u64>, Option<u64>); 8] = [
+    (&[], None, None),
+    (&[], Some(0), None),
+    (&[7], Some(6), Some(7)),
+    (&[7], Some(7), None),
+    (&[9, 2, 5], None, Some(2)),
+    (&[9, 2, 5], Some(2), Some(5)),
+    (&[9, 2, 5], Some(3), Some(5)),
+    (&[9, 2, 5], Some(u64::MAX), None),
+];
+
+const BURST: Burst = Burst {
+    first: 65546,
+    next: 65549,
+    stop: Some(65560),
+    rate: 4000,
+    ticks: 2,
+    kept: 1499,
+};
 
 // A client that isn't known asks to become known, with its own number as its SSRC.
 fn admit(rt: &impl Abort, alloc: Global, table: &mut Table, client: u32) -> Result<(), AdmitFault> {
@@ -22,16 +43,7 @@ fn table_of(rt: &impl Abort, alloc: Global, most: u32, clients: &[u32]) -> Resul
     Ok(table)
 }
 
-// A known client is no longer idle, and nothing else changes.
-fn rouse(table: &mut Table, client: u64)
-    ensures known { IfSome (entry_of table.old client) (λ entry. table.new ≡ with_entry table.old client (record entry { idle = 0 })) }
-    ensures unknown { IfNone (entry_of table.old client) (table.new ≡ table.old) }
-{
-    if let Some(entry) = table.find_mut(client) {
-        entry.idle = 0;
-    }
-}
-
+/// The entry of a client that was admitted.
 fn admitted(ssrc: u32) -> Entry {
     Entry {
         ssrc,
@@ -42,69 +54,31 @@ fn admitted(ssrc: u32) -> Entry {
     }
 }
 
-/// Each known client, by `next_after` from none on and by `iter`, and its entry.
-fn expect_admitted(rt: &impl Abort, table: &Table, clients: &[u32]) {
-    let mut last = None;
-    for client in clients {
-        last = table.next_after(last);
-        assert_eq!(rt; last, Some(u64::from(*client)), "{client}");
-        assert_eq!(rt;
-            table.find(u64::from(*client)).copied(),
-            Some(admitted(*client))
-        );
-    }
-    assert_eq!(rt; table.next_after(last), None);
-    assert_eq!(rt; table.count() as usize, clients.len());
-    for (expected, (client, entry)) in clients.iter().zip(table.iter()) {
-        assert_eq!(rt; client, u64::from(*expected));
-        assert_eq!(rt; *entry, admitted(*expected));
-    }
-}
-
-// A table for so many clients takes no more: the one that came too late changes nothing, and comes in
-// after another one left.
+// A full table takes no more: the one that came too late changes nothing, and comes in after another
+// one left.
 #[test]
-fn full_table(rt: HostRuntime) -> Result<(), Fail> {
-    let cases: [(u32, &[u32]); 4] = [(0, &[]), (1, &[5]), (2, &[5, 9]), (3, &[2, 5, 9])];
-    for (most, known) in cases {
+fn full_tables(rt: HostRuntime) -> Result<(), Fail> {
+    for (most, known) in FULL {
         let mut table = table_of(&rt, rt.alloc(), most, known)?;
-        assert_eq!(rt;
-            admit(&rt, rt.alloc(), &mut table, 6),
-            Err(AdmitFault::Full)
-        );
-        expect_admitted(&rt, &table, known);
-        if let Some(client) = known.first() {
+        let refused = admit(&rt, rt.alloc(), &mut table, 6);
+        assert_eq!(rt; refused, Err(AdmitFault::Full), "{most}");
+        assert_eq!(rt; table.count(), most);
+        for (expected, (client, entry)) in known.iter().zip(table.iter()) {
+            assert_eq!(rt; client, u64::from(*expected));
+            assert_eq!(rt; *entry, admitted(*expected));
+        }
+        for client in known {
             assert_eq!(rt; table.remove(u64::from(*client)), Some(admitted(*client)));
             assert_eq!(rt; table.remove(u64::from(*client)), None);
-            assert_eq!(rt; table.remove(6), None);
-            assert_eq!(rt; admit(&rt, rt.alloc(), &mut table, 6), Ok(()));
-            assert_eq!(rt;
-                admit(&rt, rt.alloc(), &mut table, *client),
-                Err(AdmitFault::Full)
-            );
+            assert_eq!(rt; admit(&rt, rt.alloc(), &mut table, *client), Ok(()));
         }
     }
     Ok(())
 }
 
-// The least client above another, whatever the order in which they came.
 #[test]
 fn next_clients(rt: HostRuntime) -> Result<(), Fail> {
-    let cases: [(&[u32], Option<u64>, Option<u64>); 12] = [
-        (&[], None, None),
-        (&[], Some(0), None),
-        (&[7], None, Some(7)),
-        (&[7], Some(6), Some(7)),
-        (&[7], Some(7), None),
-        (&[0], None, Some(0)),
-        (&[0], Some(0), None),
-        (&[9, 2, 5], None, Some(2)),
-        (&[9, 2, 5], Some(2), Some(5)),
-        (&[9, 2, 5], Some(3), Some(5)),
-        (&[9, 2, 5], Some(5), Some(9)),
-        (&[9, 2, 5], Some(u64::MAX), None),
-    ];
-    for (clients, from, next) in cases {
+    for (clients, from, next) in NEXT {
         let table = table_of(&rt, rt.alloc(), 4, clients)?;
         assert_eq!(rt; table.next_after(from), next, "{clients:?} from {from:?}");
     }
@@ -114,31 +88,20 @@ fn next_clients(rt: HostRuntime) -> Result<(), Fail> {
 // What is written to one client's entry stands there, and nowhere else.
 #[test]
 fn written_entries(rt: HostRuntime) -> Result<(), Fail> {
-    let burst = Burst {
-        first: 65546,
-        next: 65549,
-        stop: Some(65560),
-        rate: 4000,
-        ticks: 2,
-        kept: 1499,
-    };
     for written in [2u32, 5, 9] {
         let mut table = table_of(&rt, rt.alloc(), 3, &[9, 2, 5])?;
         if let Some(entry) = table.find_mut(u64::from(written)) {
             entry.idle = 7;
-            entry.burst = Some(burst);
+            entry.burst = Some(BURST);
         }
         for client in [2u32, 5, 9] {
             let mut expected = admitted(client);
             if client == written {
                 expected.idle = 7;
-                expected.burst = Some(burst);
+                expected.burst = Some(BURST);
             }
             assert_eq!(rt; table.find(u64::from(client)).copied(), Some(expected));
-            assert_eq!(rt; table.remove(u64::from(client)), Some(expected));
         }
-        rouse(&mut table, u64::from(written));
-        assert_eq!(rt; table.count(), 0);
     }
     Ok(())
 }

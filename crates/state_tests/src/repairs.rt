@@ -1,18 +1,39 @@
 //! Asks and settlements whose answers are counted out by hand.
-use crate::{Asked, Queue, Wanted};
+use repair_queue::{Asked, Queue, Wanted};
 use std::alloc::Global;
 use std::process::Abort;
 use std::test::Fail;
+
+/// Pending repairs, each its client and its number.
+const PAIRS: [(u64, u64); 5] = [(6, 11), (5, 12), (6, 10), (7, 11), (5, 10)];
+
+/// Which of them are done, and what is pending then.
+const SETTLED: [([bool; 5], &[(u64, u64)]); 4] = [
+    ([false; 5], &PAIRS),
+    ([true; 5], &[]),
+    (
+        [true, false, false, true, false],
+        &[(5, 12), (6, 10), (5, 10)],
+    ),
+    ([false, true, true, false, true], &[(6, 11), (7, 11)]),
+];
+
+/// A client that leaves, and what is pending then.
+const FORGOTTEN: [(u64, &[(u64, u64)]); 3] = [
+    (5, &[(6, 11), (6, 10), (7, 11)]),
+    (6, &[(5, 12), (7, 11), (5, 10)]),
+    (8, &PAIRS),
+];
 
 fn ask(rt: &impl Abort, queue: &mut Queue, client: u64, n: u64, answer: Asked) {
     assert_eq!(rt; queue.ask(client, n), answer, "{n} for {client}");
 }
 
-/// A queue in which these are pending.
-fn queue_of(rt: &impl Abort, alloc: Global, pairs: &[(u64, u64)]) -> Result<Queue, Fail> {
+/// A queue in which the pairs are pending.
+fn queue_of(rt: &impl Abort, alloc: Global) -> Result<Queue, Fail> {
     let mut queue = Queue::new(alloc)?;
-    for (client, n) in pairs {
-        ask(rt, &mut queue, *client, *n, Asked::Queued);
+    for (client, n) in PAIRS {
+        ask(rt, &mut queue, client, n, Asked::Queued);
     }
     Ok(queue)
 }
@@ -21,11 +42,8 @@ fn expect_pending(rt: &impl Abort, queue: &Queue, pairs: &[(u64, u64)]) {
     let pending = queue.pending();
     assert_eq!(rt; pending.len(), pairs.len());
     for (wanted, (client, n)) in pending.iter().zip(pairs) {
-        let expected = Wanted {
-            client: *client,
-            n: *n,
-        };
-        assert_eq!(rt; *wanted, expected);
+        let (client, n) = (*client, *n);
+        assert_eq!(rt; *wanted, Wanted { client, n });
     }
 }
 
@@ -41,15 +59,9 @@ fn full_queues(rt: HostRuntime) -> Result<(), Fail> {
         ask(&rt, &mut queue, client, 65802, Asked::ClientFull);
         ask(&rt, &mut queue, client, 65546, Asked::Already);
     }
-    let cases = [
-        (17, 65546, Asked::QueueFull),
-        (1, 65801, Asked::Already),
-        (1, 65802, Asked::ClientFull),
-        (16, 65802, Asked::ClientFull),
-    ];
-    for (client, n, answer) in cases {
-        ask(&rt, &mut queue, client, n, answer);
-    }
+    ask(&rt, &mut queue, 17, 65546, Asked::QueueFull);
+    ask(&rt, &mut queue, 1, 65801, Asked::Already);
+    ask(&rt, &mut queue, 16, 65802, Asked::ClientFull);
     assert_eq!(rt; queue.pending().len(), 4096);
 
     queue.forget(3);
@@ -62,22 +74,12 @@ fn full_queues(rt: HostRuntime) -> Result<(), Fail> {
 // The marked ones go, and the others stay in their order; what went may be asked for again.
 #[test]
 fn settled_repairs_go(rt: HostRuntime) -> Result<(), Fail> {
-    let pairs = [(6, 11), (5, 12), (6, 10), (7, 11), (5, 10)];
-    let cases: [([bool; 5], &[(u64, u64)]); 4] = [
-        ([false; 5], &[(6, 11), (5, 12), (6, 10), (7, 11), (5, 10)]),
-        ([true; 5], &[]),
-        (
-            [true, false, false, true, false],
-            &[(5, 12), (6, 10), (5, 10)],
-        ),
-        ([false, true, true, false, true], &[(6, 11), (7, 11)]),
-    ];
-    for (done, left) in cases {
-        let mut queue = queue_of(&rt, rt.alloc(), &pairs)?;
+    for (done, left) in SETTLED {
+        let mut queue = queue_of(&rt, rt.alloc())?;
         assert_eq!(rt; queue.pending().len(), done.len());
         queue.settle(&done);
         expect_pending(&rt, &queue, left);
-        for ((client, n), is_done) in pairs.iter().zip(&done) {
+        for ((client, n), is_done) in PAIRS.iter().zip(&done) {
             let answer = if *is_done {
                 Asked::Queued
             } else {
@@ -89,18 +91,10 @@ fn settled_repairs_go(rt: HostRuntime) -> Result<(), Fail> {
     Ok(())
 }
 
-// One client's repairs go, and no other's.
 #[test]
-fn forgotten_client(rt: HostRuntime) -> Result<(), Fail> {
-    let pairs = [(6, 11), (5, 12), (6, 10), (7, 11), (5, 10)];
-    let cases: [(u64, &[(u64, u64)]); 4] = [
-        (5, &[(6, 11), (6, 10), (7, 11)]),
-        (6, &[(5, 12), (7, 11), (5, 10)]),
-        (7, &[(6, 11), (5, 12), (6, 10), (5, 10)]),
-        (8, &[(6, 11), (5, 12), (6, 10), (7, 11), (5, 10)]),
-    ];
-    for (client, left) in cases {
-        let mut queue = queue_of(&rt, rt.alloc(), &pairs)?;
+fn the_repairs_of_one_client_go(rt: HostRuntime) -> Result<(), Fail> {
+    for (client, left) in FORGOTTEN {
+        let mut queue = queue_of(&rt, rt.alloc())?;
         assert_eq!(rt; queue.has(client), client != 8);
         queue.forget(client);
         assert!(rt; !queue.has(client), "{client}");

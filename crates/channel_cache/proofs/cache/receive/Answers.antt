@@ -3,7 +3,7 @@ use Rattle.ext_seq.specs.{moved}
 use Rattle.ext_seq.specs.Numbers as numbers
 use Rattle.channel_cache.specs.{arrival_of}
 use Rattle.channel_cache.proofs.Stepping.{begins, reaches, restarts, in_step, UnlessTaken-map, only_kept, first_stands, near_stands, jump_stands, restart_stands}
-use Rattle.channel_cache.proofs.cache.take.Goals as goal
+use Rattle.channel_cache.proofs.cache.receive.Goals as goal
 
 pub begin_with-requires-clause-empty : goal.begin_with-requires-clause-empty
 begin_with-requires-clause-empty c = (begins c.args.numbering.now c.args.intake.now c.args.incoming.sequence c.in-First.n c.note.result c.requires.in_step c.requires.numbered c.requires.low c.note.ensures.number c.in-First.is).empty
@@ -20,11 +20,11 @@ restart_with-requires-clause-above c = (restarts c.args.numbering.now c.args.int
 pub restart_with-requires-clause-small : goal.restart_with-requires-clause-small
 restart_with-requires-clause-small c = (restarts c.args.numbering.now c.args.intake.now c.args.incoming.sequence c.in-Restart.n c.note.result c.requires.in_step c.requires.numbered c.requires.low c.note.ensures.number c.in-Restart.is).small
 
-pub take-requires-clause-going : goal.take-requires-clause-going
-take-requires-clause-going c = (reaches c.args.numbering.now c.args.intake.now c.args.incoming.sequence c.in-Forward.n c.note.result c.requires.in_step c.requires.numbered c.requires.low c.note.ensures.number c.in-Forward.is).going
+pub continue_with-requires-clause-going : goal.continue_with-requires-clause-going
+continue_with-requires-clause-going c = (reaches c.args.numbering.now c.args.intake.now c.args.incoming.sequence c.in-Forward.n c.note.result c.requires.in_step c.requires.numbered c.requires.low c.note.ensures.number c.in-Forward.is).going
 
-pub take-requires-clause-small : goal.take-requires-clause-small
-take-requires-clause-small c = (reaches c.args.numbering.now c.args.intake.now c.args.incoming.sequence c.in-Forward.n c.note.result c.requires.in_step c.requires.numbered c.requires.low c.note.ensures.number c.in-Forward.is).small
+pub continue_with-requires-clause-small : goal.continue_with-requires-clause-small
+continue_with-requires-clause-small c = (reaches c.args.numbering.now c.args.intake.now c.args.incoming.sequence c.in-Forward.n c.note.result c.requires.in_step c.requires.numbered c.requires.low c.note.ensures.number c.in-Forward.is).small
 
 pub returns-in-First-clause-in_step : goal.returns-in-First-clause-in_step
 returns-in-First-clause-in_step c =
@@ -69,15 +69,15 @@ returns-in-Forward-clause-in_step c =
     let v = c.args.numbering.now in
     let r = reaches v c.args.intake.now c.args.incoming.sequence c.in-Forward.n c.note.result c.requires.in_step c.requires.numbered c.requires.low c.note.ensures.number c.in-Forward.is in
     let greatest = ap (λ (w : numbers.Seen). w.greatest) c.note.ensures.step ∙ r.later c.args.incoming.sequence in
-    let new = c.take.ensures in
+    let new = c.continue_with.ensures in
     let same = new.greatest ∙ ap (λ g. max g c.in-Forward.n) r.same in
-    in_step c.note.new.self c.take.new.self (max r.top c.in-Forward.n) _ greatest (ap (λ (w : numbers.Seen). w.calls) c.note.ensures.step) r.within new.intake new.settled new.going same
+    in_step c.note.new.self c.continue_with.new.self (max r.top c.in-Forward.n) _ greatest (ap (λ (w : numbers.Seen). w.calls) c.note.ensures.step) r.within new.intake new.settled new.going same
 
 pub returns-in-Forward-clause-kept : goal.returns-in-Forward-clause-kept
 returns-in-Forward-clause-kept c =
     let v = c.args.numbering.now in
     let r = reaches v c.args.intake.now c.args.incoming.sequence c.in-Forward.n c.note.result c.requires.in_step c.requires.numbered c.requires.low c.note.ensures.number c.in-Forward.is in
-    UnlessTaken-map c.take.result _ _ (only_kept v c.note.new.self c.args.intake.now c.take.new.self c.in-Forward.n c.note.result c.args.incoming.sequence r c.note.ensures.step c.take.ensures.greatest) c.take.ensures.dropped
+    UnlessTaken-map c.continue_with.result _ _ (only_kept v c.note.new.self c.args.intake.now c.continue_with.new.self c.in-Forward.n c.note.result c.args.incoming.sequence r c.note.ensures.step c.continue_with.ensures.greatest) c.continue_with.ensures.dropped
 
 pub returns-in-Forward-clause-stands : goal.returns-in-Forward-clause-stands
 returns-in-Forward-clause-stands c = λ arrivals stood.
@@ -85,5 +85,5 @@ returns-in-Forward-clause-stands c = λ arrivals stood.
     let i = c.args.intake.now in
     let a = arrival_of c.args.incoming in
     let r = reaches v i a.sequence c.in-Forward.n c.note.result c.requires.in_step c.requires.numbered c.requires.low c.note.ensures.number c.in-Forward.is in
-    near_stands v c.note.new.self i c.take.new.self arrivals a c.in-Forward.n c.note.result c.take.result stood r c.note.ensures.number c.in-Forward.is c.take.ensures.width
-    (c.note.ensures.stands i.window.width arrivals a refl stood.numbered) c.take.ensures.stands
+    near_stands v c.note.new.self i c.continue_with.new.self arrivals a c.in-Forward.n c.note.result c.continue_with.result stood r c.note.ensures.number c.in-Forward.is c.continue_with.ensures.width
+    (c.note.ensures.stands i.window.width arrivals a refl stood.numbered) c.continue_with.ensures.stands

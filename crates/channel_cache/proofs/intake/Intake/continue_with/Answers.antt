@@ -4,7 +4,7 @@ use Rattle.reorder_window.specs.{start_of, Start, came, start_after, came_of}
 use Rattle.reorder_window.specs.Seen as windows
 use Rattle.channel_cache.specs.{arrival_of, Holds}
 use Rattle.channel_cache.proofs.Starting.{placed_brings, greatest_after}
-use Rattle.channel_cache.proofs.intake.Intake.take.Goals as goal
+use Rattle.channel_cache.proofs.intake.Intake.continue_with.Goals as goal
 
 pub returns-clause-stands : goal.returns-clause-stands
 returns-clause-stands c = λ s some brings.

@@ -2,7 +2,7 @@ use Rattle.std.proofs.Common.{◌-◌, max, sym, ◌∙◌, ap, subst, arith}
 use Rattle.reorder_window.specs.{has_number, seen_of, next_missing, keeping, first_free, IsWindow}
 use Rattle.reorder_window.specs.Seen.{Seen}
 use Rattle.reorder_window.proofs.Keeping.{keeping_is, room_for, IsWindow-keeping}
-use Rattle.reorder_window.proofs.window.Window.take.Goals as goal
+use Rattle.reorder_window.proofs.window.Window.keep_in_time.Goals as goal
 
 pub put-requires : goal.put-requires
 put-requires g c =
