@@ -19,7 +19,7 @@ returns-clause-stands c =
           does c.args.self.now old mid new bytes c.match-read_live.note w.receive-note.result c.self.view_is w.self-inside-is w.note-is
           (took old.config old.calls (old.calls + 1) old.numbering new.numbering old.intake new.intake bytes a w.receive-note.result
           (record { width = c.self.invariant.width; ring = c.self.invariant.ring })
-          (record { width = w.receive-note.ensures.width ∙ c.self.invariant.width; ring = w.receive-note.ensures.capacity ∙ c.self.invariant.ring }) heard w.receive-note.ensures.stands))
+          (record { width = w.receive-note.ensures.grows.width ∙ c.self.invariant.width; ring = w.receive-note.ensures.grows.capacity ∙ c.self.invariant.ring }) heard w.receive-note.ensures.stands))
       | in-Err w ↦ (
           let heard = subst (λ (ch : Channel). heard_live ch bytes ≡ dropped w.in-Err.note) c.channel-channel.ensures.value w.in-Err.ensures.heard in
           does c.args.self.now old mid old bytes c.match-read_live.note w.in-Err.note c.self.view_is w.self-inside-is w.note-is
