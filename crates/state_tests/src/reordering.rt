@@ -6,8 +6,8 @@ use reorder_window::{Came, Window};
 use std::alloc::AllocError;
 use std::test::Fail;
 
-/// How far a window waits, and the numbers that come after its start at 65,546: each with what becomes
-/// of it, and the numbers that go out then.
+// How far a window waits, and the numbers that come after its start at 65,546: each with what becomes
+// of it, and the numbers that go out then.
 type Row = (u32, &'static [(u64, Came, &'static [u64])]);
 
 const ROWS: [Row; 5] = [
@@ -75,7 +75,7 @@ const ROWS: [Row; 5] = [
     ),
 ];
 
-/// Releases all that can be.
+// Releases all that can be.
 fn drain(window: &mut Window<u64>, out: &mut Vec<(u64, u64)>) -> Result<(), AllocError>
     ensures ended { window.new.ended ≡ window.old.ended }
     ensures settled { OnOk result (first_free window.new ≡ None) }
@@ -87,7 +87,7 @@ fn drain(window: &mut Window<u64>, out: &mut Vec<(u64, u64)>) -> Result<(), Allo
     Ok(())
 }
 
-/// Lets an item arrive, which is ten times its number, and releases all that can be.
+// Lets an item arrive, which is ten times its number, and releases all that can be.
 fn pass(window: &mut Window<u64>, n: u64, out: &mut Vec<(u64, u64)>) -> Result<Came, AllocError>
     requires going { window.old.ended ≡ false }
     requires settled { first_free window.old ≡ None }
