@@ -6,13 +6,13 @@ ghost use Rattle.feedback_core.specs.{most_of, most_of_message, most_notes, show
 ghost use Rattle.rams_model.specs.Formats.{request_at};
 
 use crate::framing::{Message, message_of};
-use crate::leaving::answer_bye;
-use crate::numbers::answer_nack;
+use crate::bye::answer_bye;
+use crate::nack::answer_nack;
 use crate::page::Page;
 use crate::said::Said;
-use crate::stopping::answer_stop;
-use crate::telling::request_info;
-use crate::verdict::answer_request;
+use crate::rams_t::answer_stop;
+use crate::rams_i::request_info;
+use crate::rams_r::answer_request;
 use crate::visitor::Visitor;
 use channel_cache::Cache;
 use channel_config::Config;

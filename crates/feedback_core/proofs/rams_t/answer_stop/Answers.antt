@@ -4,7 +4,7 @@ use Rattle.rams_model.specs.Service.{after_stop}
 use Rattle.rams_model.specs.Formats.{stop_at}
 use Rattle.feedback_core.proofs.Sayings.{said_so}
 use Rattle.feedback_core.proofs.Stops.{stop_unread}
-use Rattle.feedback_core.proofs.stopping.answer_stop.Goals as goal
+use Rattle.feedback_core.proofs.rams_t.answer_stop.Goals as goal
 
 pub returns-in-Ok-clause-says : goal.returns-in-Ok-clause-says
 returns-in-Ok-clause-says c = λ before history queue w.

@@ -4,7 +4,7 @@ use Rattle.rams_model.specs.Formats.{request_at}
 use Rattle.rams_model.specs.Service.{verdict}
 use Rattle.rams_tlv.specs.{shown_request}
 use Rattle.feedback_core.proofs.Verdicts.{refused, answers_so, unread_request}
-use Rattle.feedback_core.proofs.verdict.answer_request.Goals as goal
+use Rattle.feedback_core.proofs.rams_r.answer_request.Goals as goal
 
 pub returns-in-Ok-clause-answers : goal.returns-in-Ok-clause-answers
 returns-in-Ok-clause-answers c = λ before history queue hold from w.

@@ -7,7 +7,7 @@ use Rattle.feedback_core.specs.declared.visitor.Visitor.{Visitor}
 use Rattle.feedback_core.specs.{only}
 use Rattle.feedback_core.proofs.Sayings.{said_so}
 use Rattle.feedback_core.proofs.Byes.{bye_unknown, bye_other, bye_without, bye_ends}
-use Rattle.feedback_core.proofs.leaving.answer_bye.Goals as goal
+use Rattle.feedback_core.proofs.bye.answer_bye.Goals as goal
 
 pub returns-in_default-clause-says : goal.returns-in_default-clause-says
 returns-in_default-clause-says c = λ before history w.

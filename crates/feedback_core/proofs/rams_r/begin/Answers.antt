@@ -2,7 +2,7 @@
 use Rattle.std.proofs.Common.{sym, ◌∙◌}
 use Rattle.rams_tlv.specs.{shown_request}
 use Rattle.feedback_core.proofs.Verdicts.{begin_full, begin_refused, begin_small, begin_accepts, refused_choice}
-use Rattle.feedback_core.proofs.verdict.begin.Goals as goal
+use Rattle.feedback_core.proofs.rams_r.begin.Goals as goal
 
 pub returns-then-is_full-clause-answers : goal.returns-then-is_full-clause-answers
 returns-then-is_full-clause-answers c = λ before history queue hold from w.

@@ -5,7 +5,7 @@ ghost use Rattle.rams_model.specs.Formats.{stop_at};
 ghost use Rattle.feedback_core.specs.{IsSafe, AreOfOne, Says};
 
 use crate::said::Said;
-use crate::telling::{refuse_info, stopped_info};
+use crate::rams_i::{refuse_info, stopped_info};
 use crate::visitor::Visitor;
 use burst_plan::stop_of;
 use channel_config::Config;

@@ -4,7 +4,7 @@ use Rattle.rams_model.specs.Service.{History, hold, newest_sender}
 use Rattle.rtcp_feedback.specs.{numbers_left}
 use Rattle.feedback_core.specs.{IsSafe, AreOfOne, IsVisit}
 use Rattle.feedback_core.proofs.Writing.{IsUnderWay}
-use Rattle.feedback_core.proofs.numbers.answer_numbers.Given as goal
+use Rattle.feedback_core.proofs.nack.answer_numbers.Given as goal
 
 abbrev pub invariant-loop-low : goal.invariant-loop-low
 invariant-loop-low l = record {

@@ -5,7 +5,7 @@ use Rattle.rams_model.specs.Formats.{names}
 use Rattle.rams_model.specs.Service.{verdict}
 use Rattle.rams_tlv.specs.{shown_request}
 use Rattle.feedback_core.proofs.Verdicts.{refused, only_preamble, foreign_request, request_on_burst, request_without}
-use Rattle.feedback_core.proofs.verdict.on_request.Goals as goal
+use Rattle.feedback_core.proofs.rams_r.on_request.Goals as goal
 
 pub returns-then-request-clause-answers : goal.returns-then-request-clause-answers
 returns-then-request-clause-answers c = λ before history queue hold from w.

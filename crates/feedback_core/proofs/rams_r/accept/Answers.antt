@@ -7,7 +7,7 @@ use Rattle.link_budget.specs.{HasRoom}
 use Rattle.link_budget.specs.Amounts.{Amounts}
 use Rattle.feedback_core.specs.{IsAnswered}
 use Rattle.feedback_core.proofs.Verdicts.{refused, begins_slow, begins_much, accepts}
-use Rattle.feedback_core.proofs.verdict.accept.Goals as goal
+use Rattle.feedback_core.proofs.rams_r.accept.Goals as goal
 
 pub returns-then-rate-channel-clause-answers : goal.returns-then-rate-channel-clause-answers
 returns-then-rate-channel-clause-answers c = λ held h number size before history queue hold from w.

@@ -4,7 +4,7 @@ use Rattle.rams_model.specs.declared.note.Note.TheVariants.{Unheld}
 use Rattle.rams_model.specs.Service.{room, number_answer}
 use Rattle.repair_queue.specs.declared.wanted.Asked.TheVariants.{Already, ClientFull, QueueFull}
 use Rattle.feedback_core.proofs.Lows.{number_unheld, answer_idle, answer_early, answer_full, answer_refused, answer_queued}
-use Rattle.feedback_core.proofs.numbers.answer_number.Goals as goal
+use Rattle.feedback_core.proofs.nack.answer_number.Goals as goal
 
 pub returns-in_default-clause-answers : goal.returns-in_default-clause-answers
 returns-in_default-clause-answers c = λ before history hold from w.

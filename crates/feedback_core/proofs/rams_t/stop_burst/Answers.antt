@@ -6,7 +6,7 @@ use Rattle.feedback_core.specs.declared.visitor.Visitor.{Visitor}
 use Rattle.feedback_core.specs.{only}
 use Rattle.feedback_core.proofs.Sayings.{said_so}
 use Rattle.feedback_core.proofs.Stops.{closed_from, unset_from, stop_none, stop_kept, stop_set_at, stop_ends}
-use Rattle.feedback_core.proofs.stopping.stop_burst.Goals as goal
+use Rattle.feedback_core.proofs.rams_t.stop_burst.Goals as goal
 
 pub returns-in_default-clause-says : goal.returns-in_default-clause-says
 returns-in_default-clause-says c = λ before history queue w.

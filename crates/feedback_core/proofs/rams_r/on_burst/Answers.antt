@@ -1,7 +1,7 @@
 -- The same again, or another rate.
 use Rattle.std.proofs.Common.{◌∙◌, ap, not}
 use Rattle.feedback_core.proofs.Verdicts.{again_unnamed, again_same, changes_named}
-use Rattle.feedback_core.proofs.verdict.on_burst.Goals as goal
+use Rattle.feedback_core.proofs.rams_r.on_burst.Goals as goal
 
 pub returns-then-is_none-clause-answers : goal.returns-then-is_none-clause-answers
 returns-then-is_none-clause-answers c = λ before history queue b hold is_open same w.

@@ -2,7 +2,7 @@
 use Rattle.std.proofs.Common.{◌≡◌, [], ◌∷◌, length, ap, ◌∙◌, arith}
 use Rattle.rtcp_feedback.specs.{numbers_left}
 use Rattle.feedback_core.proofs.Writing.{next_number, all_numbered}
-use Rattle.feedback_core.proofs.numbers.answer_numbers.Goals as goal
+use Rattle.feedback_core.proofs.nack.answer_numbers.Goals as goal
 
 pub loop-low-preserved : goal.loop-low-preserved
 loop-low-preserved c =

@@ -6,7 +6,7 @@ use Rattle.rams_model.specs.Service.{changes}
 use Rattle.link_budget.specs.{HasRoom}
 use Rattle.link_budget.specs.Amounts.{Amounts}
 use Rattle.feedback_core.proofs.Verdicts.{refused, changes_slow, changes_much, updates}
-use Rattle.feedback_core.proofs.verdict.change.Goals as goal
+use Rattle.feedback_core.proofs.rams_r.change.Goals as goal
 
 pub returns-then-rate-channel-clause-answers : goal.returns-then-rate-channel-clause-answers
 returns-then-rate-channel-clause-answers c = λ before history queue b hold is_open same w.

@@ -9,7 +9,7 @@ ghost use Rattle.rams_model.specs.declared.note.Note.TheVariants.{Refuse};
 ghost use Rattle.rams_model.specs.Service.Verdict as verdicts;
 
 use crate::holding::behind;
-use crate::telling::{accept_info, update_info};
+use crate::rams_i::{accept_info, update_info};
 use crate::visitor::{Open, Visitor};
 use burst_plan::{join_ticks, rate_of};
 use channel_cache::{Cache, Choice};

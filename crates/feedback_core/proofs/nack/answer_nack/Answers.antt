@@ -4,7 +4,7 @@ use Rattle.rams_model.specs.Formats.{nack_numbers}
 use Rattle.rams_model.specs.Service.{named}
 use Rattle.rtcp_feedback.specs.{numbers_left}
 use Rattle.feedback_core.proofs.Nacks.{read_few, nack_foreign, nack_read, nack_unread}
-use Rattle.feedback_core.proofs.numbers.answer_nack.Goals as goal
+use Rattle.feedback_core.proofs.nack.answer_nack.Goals as goal
 
 pub returns-then-nack-channel-clause-answers : goal.returns-then-nack-channel-clause-answers
 returns-then-nack-channel-clause-answers c = λ before history hold from w.
