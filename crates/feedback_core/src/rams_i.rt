@@ -6,15 +6,9 @@ ghost use Rattle.rams_model.specs.Service.Infos as infos;
 use crate::visitor::Visitor;
 use burst_plan::bits_of;
 use channel_config::Config;
+use channel_parts::response::{ACCEPTED, UPDATED, refuse_info};
 use client_table::Info;
 use rams_model::Note;
-
-// Response codes (RFC 6285, 7.3).
-const UPDATED: u16 = 100;
-
-const ACCEPTED: u16 = 200;
-
-const COMPLETED: u16 = 201;
 
 /// Of an accepted request: 200, with the sequence number of the client's next packet.
 pub(crate) fn accept_info(config: &Config, sequence: u16, rate: u64, join: u64) -> Info
@@ -43,20 +37,6 @@ pub(crate) fn update_info(config: &Config, last: &Info, ticks: u32, rate: u64, j
         ticks: config.channel().limit - ticks,
     };
     burst_info(config, told, rate, join)
-}
-
-/// Of the end of a burst at its stop: 201.
-pub(crate) fn stopped_info(last: &Info) -> Info
-    ensures { result ≡ infos.bare_info (infos.next_msn last.now) 201 }
-{
-    bare_info(last.msn.wrapping_add(1), COMPLETED)
-}
-
-/// Of a refusal.
-pub(crate) fn refuse_info(code: u16) -> Info
-    ensures { result ≡ infos.refuse_info code }
-{
-    bare_info(0, code)
 }
 
 /// Of the answer to a request, after which the visitor is this.
@@ -94,19 +74,5 @@ fn burst_info(config: &Config, told: Told, rate: u64, join: u64) -> Info
         join_ms: Some(join_ms.min(u128::from(u32::MAX)) as u32),
         length_ms: Some(told.ticks * tick_ms),
         bps: Some(bits_of(rate, tick_ms)),
-    }
-}
-
-// A code alone.
-fn bare_info(msn: u8, code: u16) -> Info
-    ensures { result ≡ infos.bare_info msn code }
-{
-    Info {
-        msn,
-        code,
-        first: None,
-        join_ms: None,
-        length_ms: None,
-        bps: None,
     }
 }

@@ -14,31 +14,16 @@ use crate::visitor::{Open, Visitor};
 use burst_plan::{join_ticks, rate_of};
 use channel_cache::{Cache, Choice};
 use channel_config::Config;
+use channel_parts::response::{
+    BITRATE_TOO_LOW, MAX_FILL_UNMET, MIN_FILL_UNMET, NO_ACCESS_POINT, NO_BANDWIDTH, ONLY_PREAMBLE,
+    OTHER_SOURCE, TOO_MANY_CLIENTS, UNREADABLE_REQUEST,
+};
 use client_table::{Burst, Entry};
-use rams_model::Note;
+use rams_model::{MOST_ON_WIRE, Note};
 use rams_tlv::{Request, names, read_request};
 
 /// The largest wire size of a packet, in bytes.
-const MOST_WIRE: u64 = 1500;
-
-// Response codes (RFC 6285, 7.3). Which of them stands for which refusal is this server's own choice.
-const UNREADABLE: u16 = 400;
-
-const NONE_OLD_ENOUGH: u16 = 401;
-
-const TOO_OLD: u16 = 402;
-
-const TOO_SLOW: u16 = 403;
-
-const TOO_MUCH: u16 = 501;
-
-const TOO_MANY_CLIENTS: u16 = 503;
-
-const NO_ACCESS_POINT: u16 = 507;
-
-const OTHER_SOURCE: u16 = 509;
-
-const ONLY_PREAMBLE: u16 = 512;
+const MOST_WIRE: u64 = MOST_ON_WIRE as u64;
 
 /// Answers the request that is read from this feedback control information.
 pub(crate) fn answer_request(
@@ -57,7 +42,7 @@ pub(crate) fn answer_request(
 {
     match read_request(fci) {
         Ok(request) => on_request(config, cache, visitor, sender, &request),
-        Err(_) => refuse(visitor, UNREADABLE),
+        Err(_) => refuse(visitor, UNREADABLE_REQUEST),
     }
 }
 
@@ -140,12 +125,12 @@ fn change(config: &Config, cache: &Cache, visitor: &mut Visitor, current: &Open,
     let client = visitor.client;
     let channel = config.channel();
     if rate < channel.declared + MOST_WIRE {
-        return refuse(visitor, TOO_SLOW);
+        return refuse(visitor, BITRATE_TOO_LOW);
     }
     let mut budget = visitor.budget;
     budget.release(current.burst.rate);
     if !budget.reserve(rate) {
-        return refuse(visitor, TOO_MUCH);
+        return refuse(visitor, NO_BANDWIDTH);
     }
     let behind = behind(cache, current.burst.next);
     let join = join_ticks(behind, rate, channel.declared, channel.depth);
@@ -185,8 +170,8 @@ fn begin(
     match cache.choose(request.min_ms.unwrap_or(0), request.max_ms) {
         Choice::Start { n, behind } => accept(config, visitor, sender, rate, n, behind),
         Choice::NoStart => refuse(visitor, NO_ACCESS_POINT),
-        Choice::MinUnmet => refuse(visitor, NONE_OLD_ENOUGH),
-        Choice::MaxUnmet => refuse(visitor, TOO_OLD),
+        Choice::MinUnmet => refuse(visitor, MIN_FILL_UNMET),
+        Choice::MaxUnmet => refuse(visitor, MAX_FILL_UNMET),
     }
 }
 
@@ -212,10 +197,10 @@ fn accept(
     let client = visitor.client;
     let channel = config.channel();
     if rate < channel.declared + MOST_WIRE {
-        return refuse(visitor, TOO_SLOW);
+        return refuse(visitor, BITRATE_TOO_LOW);
     }
     if !visitor.budget.reserve(rate + channel.depth) {
-        return refuse(visitor, TOO_MUCH);
+        return refuse(visitor, NO_BANDWIDTH);
     }
     let join = join_ticks(behind, rate, channel.declared, channel.depth);
     let entry = visitor.entry_under(sender, channel.seq0);

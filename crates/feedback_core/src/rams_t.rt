@@ -5,16 +5,13 @@ ghost use Rattle.rams_model.specs.Formats.{stop_at};
 ghost use Rattle.feedback_core.specs.{IsSafe, AreOfOne, Says};
 
 use crate::said::Said;
-use crate::rams_i::{refuse_info, stopped_info};
 use crate::visitor::Visitor;
 use burst_plan::stop_of;
 use channel_config::Config;
+use channel_parts::response::{UNREADABLE_STOP, end_info, refuse_info};
 use client_table::{Burst, Entry};
 use rams_model::{Cause, Note};
 use rams_tlv::read_stop;
-
-/// The response code of a RAMS-T that can't be read.
-const UNREAD: u16 = 404;
 
 /// Answers the termination that is read from this feedback control information.
 pub(crate) fn answer_stop(config: &Config, visitor: &mut Visitor, fci: &[u8]) -> Said
@@ -29,10 +26,10 @@ pub(crate) fn answer_stop(config: &Config, visitor: &mut Visitor, fci: &[u8]) ->
         Err(_) => Said {
             note: Note::Refuse {
                 client: visitor.client,
-                code: UNREAD,
+                code: UNREADABLE_STOP,
             },
             end: None,
-            info: Some(refuse_info(UNREAD)),
+            info: Some(refuse_info(UNREADABLE_STOP)),
         },
     }
 }
@@ -65,7 +62,7 @@ fn stop_burst(config: &Config, visitor: &mut Visitor, named: Option<u32>) -> Sai
         return Said {
             note,
             end: Some(Cause::Stopped),
-            info: Some(stopped_info(&open.last)),
+            info: end_info(&open.last, Cause::Stopped),
         };
     }
     visitor.entry = Some(Entry {

@@ -29,9 +29,9 @@ pub returns-then-n-open-clause-says : goal.returns-then-n-open-clause-says
 returns-then-n-open-clause-says c = λ before history queue w.
     let s = c.args.config.now in
     let v = c.args.visitor.now in
-    stop_ends s before history queue v c.in-Some.open c.args.named c.stop_of-n.result c.channel.result.now c.release.new.self c.stopped_info.result
+    stop_ends s before history queue v c.in-Some.open c.args.named c.stop_of-n.result c.channel.result.now c.release.new.self c.end_info.result
     (sym c.open.ensures ∙ c.in-Some.is) (unset_from c.in-Some.open.burst.stop c.in_default-stop.not-Some) c.stop_of-n.ensures c.if-n-open.true c.channel.ensures.value
-    c.release.ensures c.stopped_info.ensures w
+    c.release.ensures c.end_info.ensures w
 
 pub returns-clause-says : goal.returns-clause-says
 returns-clause-says c = λ before history queue w.
