@@ -16,8 +16,6 @@ mod rams_i;
 mod rams_r;
 mod rams_t;
 mod said;
-#[cfg(test)]
-mod tests;
 mod visitor;
 
 pub use channel_parts::Parts;
