@@ -5,14 +5,14 @@ ghost use Rattle.rtcp_frame.specs.{packets_left, shown_packet};
 ghost use Rattle.feedback_core.specs.{most_of, most_of_message, most_notes, shown_message, turn_of, due_after, answered_of, IsFresh, Turns, sitting, IsReady, IsSafe, AreOfOne, SaysTo};
 ghost use Rattle.rams_model.specs.Formats.{request_at};
 
-use crate::framing::{Message, message_of};
 use crate::bye::answer_bye;
+use crate::framing::{Message, message_of};
 use crate::nack::answer_nack;
 use crate::page::Page;
-use crate::said::Said;
-use crate::rams_t::answer_stop;
 use crate::rams_i::request_info;
 use crate::rams_r::answer_request;
+use crate::rams_t::answer_stop;
+use crate::said::Said;
 use crate::visitor::Visitor;
 use channel_cache::Cache;
 use channel_config::Config;

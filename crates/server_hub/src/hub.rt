@@ -5,7 +5,7 @@ use crate::steps::{feedback_at, live_at};
 use crate::ticks::tick_all;
 use channel_config::Config;
 use ram_io::NoMemory;
-use rams_model::Answer;
+use rams_model::{Answer, MOST_ON_WIRE};
 use session_core::Core;
 use std::alloc::Global;
 use std::marker::Model;
@@ -55,7 +55,7 @@ impl Hub {
     pub fn new(alloc: Global, tick_ms: u32, link: u64) -> Result<Hub, NoMemory>
         requires tick_least { 1 ≤ tick_ms }
         requires tick_most { tick_ms ≤ 1000 }
-        requires link_least { 1500 ≤ link }
+        requires link_least { MOST_ON_WIRE ≤ link }
         requires link_most { link ≤ 1000000000 }
         ensures value { IfOk result (λ hub. hub ≡ new_hub tick_ms link) }
         ensures stands { IfOk result (λ hub. StandsFor hub []) }

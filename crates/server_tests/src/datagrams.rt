@@ -26,8 +26,8 @@ const AGAIN: [Again; 4] = [
         packet: (
             &[
                 0x80a1_000b, // v=2, p=0, x=0, cc=0, marker, payload type 33, number 11
-                900,         // timestamp
-                SOURCE,      // SSRC
+                900, // timestamp
+                SOURCE, // SSRC
             ],
             1458,
         ),
@@ -35,8 +35,8 @@ const AGAIN: [Again; 4] = [
         sent: (
             &[
                 0x80e3_01f4, // v=2, p=0, x=0, cc=0, marker, payload type 99, number 500
-                900,         // timestamp
-                SOURCE,      // SSRC
+                900, // timestamp
+                SOURCE, // SSRC
                 0x000b_0000, // original number 11, payload
             ],
             1456,
@@ -47,8 +47,8 @@ const AGAIN: [Again; 4] = [
         packet: (
             &[
                 0x8021_0000, // v=2, p=0, x=0, cc=0, payload type 33, number 0
-                1800,        // timestamp
-                SOURCE,      // SSRC
+                1800, // timestamp
+                SOURCE, // SSRC
             ],
             4,
         ),
@@ -56,9 +56,9 @@ const AGAIN: [Again; 4] = [
         sent: (
             &[
                 0x8063_0000, // v=2, p=0, x=0, cc=0, payload type 99, number 0
-                1800,        // timestamp
-                SOURCE,      // SSRC
-                0,           // original number 0, payload
+                1800, // timestamp
+                SOURCE, // SSRC
+                0, // original number 0, payload
             ],
             2,
         ),
@@ -68,10 +68,10 @@ const AGAIN: [Again; 4] = [
         packet: (
             &[
                 0x92a1_fffe, // v=2, p=0, x=1, cc=2, marker, payload type 33, number 65534
-                0,           // timestamp
-                SOURCE,      // SSRC
-                1,           // CSRC
-                2,           // CSRC
+                0, // timestamp
+                SOURCE, // SSRC
+                1, // CSRC
+                2, // CSRC
                 0xbede_0001, // profile, one word
                 0x10ff_0000, // extension
             ],
@@ -81,10 +81,10 @@ const AGAIN: [Again; 4] = [
         sent: (
             &[
                 0x92e3_01f4, // v=2, p=0, x=1, cc=2, marker, payload type 99, number 500
-                0,           // timestamp
-                SOURCE,      // SSRC
-                1,           // CSRC
-                2,           // CSRC
+                0, // timestamp
+                SOURCE, // SSRC
+                1, // CSRC
+                2, // CSRC
                 0xbede_0001, // profile, one word
                 0x10ff_0000, // extension
                 0xfffe_0000, // original number 65534, payload
@@ -97,8 +97,8 @@ const AGAIN: [Again; 4] = [
         packet: (
             &[
                 0x80a1_0000, // v=2, p=0, x=0, cc=0, marker, payload type 33, number 0
-                0,           // timestamp
-                SOURCE,      // SSRC
+                0, // timestamp
+                SOURCE, // SSRC
             ],
             0,
         ),
@@ -106,8 +106,8 @@ const AGAIN: [Again; 4] = [
         sent: (
             &[
                 0x80e3_01f4, // v=2, p=0, x=0, cc=0, marker, payload type 99, number 500
-                0,           // timestamp
-                SOURCE,      // SSRC
+                0, // timestamp
+                SOURCE, // SSRC
             ],
             2, // original number 0
         ),
@@ -138,18 +138,18 @@ const TOLD: [(&str, Info, &[u32]); 3] = [
         },
         &[
             0x86cd_000c, // v=2, p=0, FMT=6 (RAMS), RTPFB, length 12
-            SERVER,      // sender
-            SOURCE,      // media source
+            SERVER, // sender
+            SOURCE, // media source
             0x0200_00c8, // SFMT=2 (RAMS-I), message 0, response 200
             0x2000_0002, // TLV 32 (first number), length 2
             0x01f4_0000, // 500, padding
             0x2100_0004, // TLV 33 (earliest join), length 4
-            30_000,      // ms
+            30_000, // ms
             0x2200_0004, // TLV 34 (burst duration), length 4
-            1000,        // ms
+            1000, // ms
             0x2300_0008, // TLV 35 (max transmit bitrate), length 8
-            0,           // its upper half
-            1_200_000,   // bits per second
+            0, // its upper half
+            1_200_000, // bits per second
         ],
     ),
     (
@@ -157,8 +157,8 @@ const TOLD: [(&str, Info, &[u32]); 3] = [
         STOPPED,
         &[
             0x86cd_0003, // v=2, p=0, FMT=6 (RAMS), RTPFB, length 3
-            SERVER,      // sender
-            SOURCE,      // media source
+            SERVER, // sender
+            SOURCE, // media source
             0x0201_00c9, // SFMT=2 (RAMS-I), message 1, response 201
         ],
     ),
@@ -171,8 +171,8 @@ const TOLD: [(&str, Info, &[u32]); 3] = [
         },
         &[
             0x86cd_0003, // v=2, p=0, FMT=6 (RAMS), RTPFB, length 3
-            SERVER,      // sender
-            SOURCE,      // media source
+            SERVER, // sender
+            SOURCE, // media source
             0x0200_01fb, // SFMT=2 (RAMS-I), message 0, response 507
         ],
     ),
@@ -182,7 +182,10 @@ const TOLD: [(&str, Info, &[u32]); 3] = [
 const NO_PACKET: [(&str, &[u32]); 3] = [
     ("8 bytes", &[0x80a1_000a, 0]),
     ("version 1", &[0x40a1_000a, 0, SOURCE]),
-    ("a contributing source is missing", &[0x81a1_000a, 0, SOURCE]),
+    (
+        "a contributing source is missing",
+        &[0x81a1_000a, 0, SOURCE],
+    ),
 ];
 
 /// The retransmission of these words under a number.

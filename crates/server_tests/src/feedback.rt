@@ -13,20 +13,20 @@ use std::test::Fail;
 
 const RECEIVER_REPORT: [u32; 2] = [
     0x80c9_0001, // v=2, p=0, count=0, RR, length 1
-    SENDER,      // sender
+    SENDER, // sender
 ];
 
 const SOURCE_DESCRIPTION: [u32; 4] = [
     0x81ca_0003, // v=2, p=0, count=1, SDES, length 3
-    SENDER,      // its SSRC
+    SENDER, // its SSRC
     0x0103_7374, // CNAME, length 3, "st"
     0x6200_0000, // "b", end
 ];
 
 const PLAIN_STOP: [u32; 4] = [
     0x86cd_0003, // v=2, p=0, FMT=6 (RAMS), RTPFB, length 3
-    SENDER,      // sender
-    SOURCE,      // media source
+    SENDER, // sender
+    SOURCE, // media source
     0x0300_0000, // SFMT=3 (RAMS-T)
 ];
 
@@ -240,25 +240,25 @@ const REFUSED: [(u16, &[u32]); 7] = [
             0x0100_0004, // TLV 1 (media senders), length 4
             0x9999_9999, // another source
             0x0200_0004, // TLV 2 (min buffer fill), length 4
-            201,         // ms
+            201, // ms
         ],
     ),
     (
         401,
         &[
             0x0200_0004, // TLV 2 (min buffer fill), length 4
-            201,         // ms
+            201, // ms
             0x0300_0004, // TLV 3 (max buffer fill), length 4
-            99,          // ms
+            99, // ms
         ],
     ),
     (
         402,
         &[
             0x0200_0004, // TLV 2 (min buffer fill), length 4
-            150,         // ms
+            150, // ms
             0x0300_0004, // TLV 3 (max buffer fill), length 4
-            199,         // ms
+            199, // ms
         ],
     ),
     (403, &TOO_SLOW),
@@ -292,7 +292,10 @@ fn expect_refused(
     for (code, tlvs) in refused {
         let answer = answer_to(alloc, core, Asks(5, tlvs))?;
         let (client, code) = (5, *code);
-        assert_eq!(rt; answer.notes.as_slice(), [Note::Refuse { client, code }].as_slice());
+        assert_eq!(rt;
+            answer.notes.as_slice(),
+            [Note::Refuse { client, code }].as_slice()
+        );
         let info = Info {
             msn: 0,
             code,

@@ -71,12 +71,7 @@ const KEPT: [Row; 10] = [
             ..ACCEPTED
         }),
     ),
-    (
-        Tick,
-        "[Burst { client: 5, n: 65546, seq: 500 }]",
-        1,
-        None,
-    ),
+    (Tick, "[Burst { client: 5, n: 65546, seq: 500 }]", 1, None),
     (
         Tick,
         "[Burst { client: 5, n: 65547, seq: 501 }, Burst { client: 5, n: 65548, seq: 502 }]",
@@ -170,12 +165,7 @@ const REPAIRED: [Row; 8] = [
         2,
         None,
     ),
-    (
-        Tick,
-        "[Repair { client: 5, n: 65547, seq: 502 }]",
-        1,
-        None,
-    ),
+    (Tick, "[Repair { client: 5, n: 65547, seq: 502 }]", 1, None),
     (Tick, "[]", 0, None),
     (Tick, "[Forgot { client: 5 }]", 0, None),
 ];

@@ -150,7 +150,6 @@ impl Core {
 }
 
 impl Stepped for Core {
-
     ghost settings = { λ core. core.settings };
 
     ghost calls = { λ core. core.calls };

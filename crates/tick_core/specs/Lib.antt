@@ -4,7 +4,6 @@ pub mod Repairs
 pub mod Forgetting
 pub mod Plans
 pub mod Committed
-
 unfoldable pub use Rattle.tick_core.specs.Drafts.{new_draft, with_note, with_packet, told_end, with_end}
 pub use Rattle.tick_core.specs.Drafts.{Drafted}
 unfoldable pub use Rattle.tick_core.specs.Runs.{unsent, after_packet, sent_after, run_from, with_run, IsInTime, AreInTime, run_of, after_run, end_of, kept_back, allowance, left_by_run, allowance_of, with_served, with_all_served, allowances_of}
