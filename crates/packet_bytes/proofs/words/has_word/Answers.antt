@@ -1,7 +1,7 @@
 use Rattle.std.proofs.Common.{◌≡◌, ◌∙◌, sym, arith}
 use Rattle.std.specs.Int.{w32, from_be_bytes}
-use Rattle.rams_tlv.proofs.Listed.{listed_here, listed_behind, listed_nowhere}
-use Rattle.rams_tlv.proofs.request.has_word.Goals as goal
+use Rattle.packet_bytes.proofs.Listed.{listed_here, listed_behind, listed_nowhere}
+use Rattle.packet_bytes.proofs.words.has_word.Goals as goal
 
 pub returns-then-read_u32-number : goal.returns-then-read_u32-number
 returns-then-read_u32-number c =

@@ -1,7 +1,7 @@
 use Rattle.std.proofs.Common.{◌≡◌, length}
 use Rattle.std.specs.Result.{result_err}
 use Rattle.rtcp_frame.specs.{packets_in}
-use Rattle.rtcp_frame.proofs.framing.packets.Given as goal
+use Rattle.rtcp_frame.proofs.compound.packets.Given as goal
 
 -- the first fault of what is left is that of all
 abbrev pub invariant-loop-rest : goal.invariant-loop-rest

@@ -1,9 +1,9 @@
-//! A datagram as packets joined end to end (RFC 3550, 6.1).
+//! A datagram as packets joined end to end, a compound packet (RFC 3550, 6.1).
 ghost use Rattle.std.specs.Prelude.{◌≡◌, IfOk, IfErr};
 ghost use Rattle.rams_model.specs.Formats.{framed};
 ghost use Rattle.rtcp_frame.specs.{packets_left};
 
-use crate::front::{cut, fault};
+use crate::header::{cut, fault};
 use crate::iter::Packets;
 use rams_model::FrameFault;
 

@@ -1,13 +1,13 @@
-//! The packet in front of some bytes (RFC 3550, 6.1).
+//! The header of the packet in front of some bytes, and the packet (RFC 3550, 6.1).
 ghost use Rattle.std.specs.Prelude.{◌≡◌, ◌≤◌, drop, length};
 ghost use Rattle.rams_model.specs.Formats.{framed_first, least_body, packet_fault, packet_size, rtcp_padding};
 ghost use Rattle.rtcp_frame.specs.{shown_packet};
 
 use crate::packet::Packet;
 use byteorder::{BigEndian, ByteOrder};
-use rams_model::FrameFault;
+use rams_model::{BYE, FrameFault, PSFB, RTPFB};
 
-/// The bytes that the packet in front says that it takes: its length counts words, less one.
+// The bytes that the packet in front says that it takes: its length counts words, less one.
 fn size(bytes: &[u8]) -> usize
     requires { 4 ≤ length bytes.now }
     ensures { result ≡ packet_size bytes.now }
@@ -15,7 +15,7 @@ fn size(bytes: &[u8]) -> usize
     4 * (usize::from(BigEndian::read_u16(&bytes[2..])) + 1)
 }
 
-/// The padding bytes that its last byte counts, where the padding bit is set.
+// The padding bytes that its last byte counts, where the padding bit is set.
 fn padding(bytes: &[u8]) -> usize
     requires header { 4 ≤ length bytes.now }
     requires within { packet_size bytes.now ≤ length bytes.now }
@@ -28,19 +28,19 @@ fn padding(bytes: &[u8]) -> usize
     }
 }
 
-/// The fewest bytes of a body: a BYE names its sources (RFC 3550, 6.6), feedback has two (RFC 4585,
-/// 6.1).
+// The fewest bytes of a body: a BYE names its sources (RFC 3550, 6.6), feedback has two (RFC 4585,
+// 6.1).
 fn least_body(kind: u8, count: u8) -> usize
     ensures { result ≡ least_body kind count }
 {
     match kind {
-        203 => 4 * usize::from(count),
-        205 | 206 => 8,
+        BYE => 4 * usize::from(count),
+        RTPFB | PSFB => 8,
         _ => 0,
     }
 }
 
-/// What is wrong with the packet in front.
+// What is wrong with the packet in front.
 pub(crate) fn fault(bytes: &[u8]) -> Option<FrameFault>
     ensures { result ≡ packet_fault bytes.now }
 {
@@ -65,7 +65,7 @@ pub(crate) fn fault(bytes: &[u8]) -> Option<FrameFault>
     None
 }
 
-/// The packet in front, in which nothing is wrong, and the bytes behind it.
+// The packet in front, in which nothing is wrong, and the bytes behind it.
 pub(crate) fn cut(bytes: &[u8]) -> (Packet<'_>, &[u8])
     requires { packet_fault bytes.now ≡ None }
     ensures packet { shown_packet result.0 ≡ framed_first bytes.now }

@@ -1,7 +1,7 @@
 use Rattle.std.proofs.Common.{◌∙◌, arith}
 use Rattle.std.proofs.lemmas.Bool.Decides.{nat_tests}
 use Rattle.rtcp_frame.proofs.PacketSteps.{fault_in_front, fault_behind, no_fault, all_packets, framed_of}
-use Rattle.rtcp_frame.proofs.framing.packets.Goals as goal
+use Rattle.rtcp_frame.proofs.compound.packets.Goals as goal
 
 pub returns-in-Some-clause-err : goal.returns-in-Some-clause-err
 returns-in-Some-clause-err c =
