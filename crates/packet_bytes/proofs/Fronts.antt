@@ -1,7 +1,7 @@
 -- The words of a front of some bytes.
 use Rattle.std.proofs.Common.{◌≡◌, ℕ, zero, suc, ◌*◌, ◌+◌, ◌∷◌, List, [], take, refl, ap, ◌∙◌, arith}
 use Rattle.std.specs.Int.{w32, from_be_bytes}
-use Rattle.rams_model.specs.Formats.Joined.{words32}
+use Rattle.rams_model.specs.Formats.{words32}
 
 more : (n : ℕ) → 4 * suc n ≡ suc (suc (suc (suc (4 * n))))
 more n = omega arith

@@ -4,7 +4,7 @@ use Rattle.std.specs.Prelude.{◌==◌, ◌||◌}
 use Rattle.std.specs.List.{list_any}
 use Rattle.std.specs.Int.{w32, from_be_bytes}
 use Rattle.std.proofs.lemmas.Bool.{ne_eqb}
-use Rattle.rams_model.specs.Formats.Joined.{words32}
+use Rattle.rams_model.specs.Formats.{words32}
 use Rattle.rams_model.proofs.Joined.{words_step, words_end}
 
 -- the first word is the number

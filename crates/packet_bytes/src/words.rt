@@ -1,7 +1,7 @@
 //! Words of 32 bits, in network byte order.
 ghost use Rattle.std.specs.Prelude.{◌≡◌, ◌==◌};
 ghost use Rattle.std.specs.List.{list_any};
-ghost use Rattle.rams_model.specs.Formats.Joined.{words32};
+ghost use Rattle.rams_model.specs.Formats.{words32};
 
 use byteorder::{BigEndian, ByteOrder};
 

@@ -22,7 +22,7 @@ pub fn bye_names(p: &Packet<'_>, ssrc: u32) -> bool
 fn sources<'a>(p: &Packet<'a>) -> &'a [u8]
     ensures { words32 result.now ≡ take p.now.count (words32 p.now.body.now) }
 {
-    let len = p.body.len().min(4 * usize::from(p.count));
+    let len = (4 * usize::from(p.count)).min(p.body.len());
     &p.body[..len]
 }
 

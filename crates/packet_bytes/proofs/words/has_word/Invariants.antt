@@ -1,7 +1,7 @@
 use Rattle.std.proofs.Common.{◌≡◌, length}
 use Rattle.std.specs.Prelude.{◌==◌}
 use Rattle.std.specs.List.{list_any}
-use Rattle.rams_model.specs.Formats.Joined.{words32}
+use Rattle.rams_model.specs.Formats.{words32}
 use Rattle.packet_bytes.proofs.words.has_word.Given as goal
 
 -- the number is among what is left where it is in the list
