@@ -5,8 +5,8 @@ use Rattle.rams_model.specs.declared.note.Note.TheVariants.{Live as LiveNoted, B
 use Rattle.rams_model.specs.Service.{Settings, Message, Heard, live, dropped, feedback, unframed, tick, heard_of, Item, began, told, noted, History, stream, after_message, after_messages, after_hearing, history_of}
 use Rattle.rams_model.specs.Packets.{live_note}
 use Rattle.book_laws.specs.{AreNotes, IsAnswered, IsNoNote, BeginAnew}
-use Rattle.book_laws.proofs.Legal.{Answers, newest_told}
-use Rattle.book_laws.proofs.Items.{message_puts, tick_puts}
+use Rattle.rams_model.proofs.Legal.{Answers, newest_told}
+use Rattle.rams_model.proofs.Items.{message_puts, tick_puts}
 
 -- the message that was told last is the one that is answered
 told_last : (history : History) (k : ℕ) (m : Message) → newest_told history ≡ Some (k, m) → IsAnswered history k m

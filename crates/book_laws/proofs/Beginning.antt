@@ -14,7 +14,7 @@ use Rattle.rams_model.proofs.Rising.{lower}
 use Rattle.rams_model.proofs.Holding.{held_follow, rises_from}
 use Rattle.rams_model.proofs.Choosing.{newest_chosen}
 use Rattle.book_laws.specs.{BeginsAsAsked}
-use Rattle.book_laws.proofs.Legal.{Answers, IsVerdict}
+use Rattle.rams_model.proofs.Legal.{Answers, IsVerdict}
 use Rattle.book_laws.proofs.Answering.{is_answered}
 
 -- the access point that a request has coming, where no burst is open

@@ -26,9 +26,9 @@ use Rattle.rams_model.specs.Laws.{source, NoneIs, is_event}
 use Rattle.rams_model.proofs.PlainPackets.{below_at}
 use Rattle.rams_model.proofs.RtpPackets.{spelled_so, read_so}
 use Rattle.book_laws.specs.{IsTakenAs, Retransmits, IsOfTheSource, Sent, note_sends, order_sends}
-use Rattle.book_laws.proofs.Legal.{in_tick, is_tick, Allows, IsLegal}
-use Rattle.book_laws.proofs.Legality.{legal_history, in_tick_from_runs}
-use Rattle.book_laws.proofs.Adding.{adds_hearing}
+use Rattle.rams_model.proofs.Legal.{in_tick, is_tick, Allows, IsLegal}
+use Rattle.rams_model.proofs.Legality.{legal_history, in_tick_from_runs}
+use Rattle.rams_model.proofs.Adding.{adds_hearing}
 use Rattle.book_laws.proofs.SentSources.{held_of_source}
 
 -- ---- where packets come from

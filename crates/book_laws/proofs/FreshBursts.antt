@@ -19,10 +19,10 @@ use Rattle.rams_model.proofs.LastAccept.{open_stands}
 use Rattle.rams_model.proofs.Rising.{below_hi}
 use Rattle.rams_model.proofs.Holding.{held_follow, held_from}
 use Rattle.rams_model.proofs.Choosing.{newest_chosen}
-use Rattle.book_laws.proofs.Legality.{open_sent}
+use Rattle.rams_model.proofs.Legality.{open_sent}
 use Rattle.book_laws.proofs.RequestTable.{held_rises}
 use Rattle.book_laws.specs.{AreNotes, IsMoment}
-use Rattle.book_laws.proofs.Items.{Puts, message_puts, tick_puts}
+use Rattle.rams_model.proofs.Items.{Puts, message_puts, tick_puts}
 use Rattle.book_laws.proofs.HeldPackets.{AreSmall, ArriveSmall, HearsSmall, small_from, small_held, heard_small, hi_grows}
 
 -- The burst has sent nothing; its first packet is below the end of what is held and before the stop, and this number was told to its client.

@@ -10,7 +10,7 @@ use Rattle.rams_model.specs.Service.{Settings, nack, began, told, noted, History
 use Rattle.rams_model.specs.Laws.{Rises, IsAmong}
 use Rattle.book_laws.specs.{AreNotes, items_of, IsFirst, Line, unheld, early, already, table_full, client_full, queue_full, queued, table, IsNamed, Names, WillSend, Applies, Gives, line_of, IsByTable, IsNumberAnswer, IsForeignNack, AreAnswers, IsNackAnswered}
 use Rattle.book_laws.proofs.Legal as legal
-use Rattle.book_laws.proofs.Legal.{Allows, IsForeign}
+use Rattle.rams_model.proofs.Legal.{Allows, IsForeign}
 use Rattle.book_laws.proofs.FirstLines.{first_here, first_later}
 use Rattle.book_laws.proofs.Answering.{is_answered, are_whole}
 use Rattle.book_laws.proofs.RequestTable.{is_full_so, isn't_full_so, at_least, held_rises}

@@ -11,7 +11,7 @@ use Rattle.rams_model.specs.Service.{Answered, Settings, Message, Heard, live, d
 use Rattle.rams_model.specs.Packets.{live_note}
 use Rattle.rams_model.proofs.OneBook.{same_events, is_lawful, only_book}
 use Rattle.book_laws.specs.{IsMoment, AreNotes, IsTheBook, notes_in, notes_of, orders_of, TellsTheHistory, WasMade}
-use Rattle.book_laws.proofs.Items.{Puts, message_puts, tick_puts}
+use Rattle.rams_model.proofs.Items.{Puts, message_puts, tick_puts}
 
 pub the_book : (s : Settings) (events : List Event) → IsTheBook s events (book s events)
 the_book s events = record { lawful = is_lawful s events; same_events = same_events s events; only = only_book s events }

@@ -10,7 +10,7 @@ use Rattle.rams_model.specs.declared.note.Note.TheVariants as note
 use Rattle.rams_model.specs.Service.{Settings, rate_of, tick, began, told, noted, History, hold, opened, is_among, placed, with_client, without, Burst, next, bursts, open_burst, has_open, most_of, reserved, asked_rate, is_slow, is_too_much, is_full, join_from, begins, changes, on_burst, on_request, verdict}
 use Rattle.rams_model.specs.Formats.{Request, names}
 use Rattle.rams_model.specs.Packets.{chosen}
-use Rattle.book_laws.proofs.Legal.{IsVerdict, IsLegal}
+use Rattle.rams_model.proofs.Legal.{IsVerdict, IsLegal}
 use Rattle.book_laws.proofs.Sums.{one_at, times, all_sum, sum_without, sum_placed, times-none, times-among, others_sum, one_changed, part_of_sum}
 use Rattle.book_laws.proofs.BurstAmounts.{opened_open, open_among, closed_among, most_falls, most_begun, most_changed, most_at_tick, of_others}
 

@@ -1,0 +1,100 @@
+-- A channel's history by induction. What holds of the empty history and is kept by each item that may come, holds of each history: a note comes only where `Allows` says so.
+use Rattle.std.proofs.Common.{◌≡◌, ℕ, Bool, true, false, List, [], ◌∷◌, ◌++◌, Option, None, sym, subst, refl}
+use Rattle.std.proofs.lemmas.Bool.{true≢false}
+use Rattle.rams_model.specs.declared.event.Event.{Event}
+use Rattle.rams_model.specs.declared.held.Held.{Held}
+use Rattle.rams_model.specs.declared.note.Note.{Note}
+use Rattle.rams_model.specs.declared.note.Note.TheVariants as note
+use Rattle.rams_model.specs.Service.{Settings, Message, Heard, live, dropped, feedback, unframed, tick, heard_of, began, told, noted, History, stream, after_message, after_messages, after_tick, after_hearing, history_of}
+use Rattle.rams_model.specs.Packets.{live_note}
+use Rattle.rams_model.specs.Laws.{NoneIs, is_event}
+use Rattle.rams_model.proofs.Legal.{Allows, IsLegal, legal_part}
+use Rattle.rams_model.proofs.Legality.{legal_history}
+use Rattle.rams_model.proofs.Items.{AreOfKind, Puts}
+use Rattle.rams_model.proofs.Adding.{adds_hearing, adds_messages}
+
+-- What each note of a kind keeps is kept by a part of an event: a message's answer, a tick or a phase of it.
+module _ (kind : Note → Bool) (P : History → Type 0) (step : (n : Note) (packet : Option Held) (history : History) → kind n ≡ true → P history → P (noted n packet ∷ history)) where
+  through_items : (items history : History) → AreOfKind kind items → P history → P (items ++ history)
+  through_items [] history a p = p
+  through_items (noted n packet ∷ items) history a p = step n packet (items ++ history) a.0 (through_items items history a.1 p)
+  through_items (began heard ∷ items) history a p = absurd a
+  through_items (told client message ∷ items) history a p = absurd a
+
+  pub through : (before after : History) → Puts kind before after → P before → P after
+  through before after p start = subst P (sym p.splits) (through_items p.items before p.notes start)
+
+-- the same, where the history is known to be legal
+module _ (kind : Note → Bool) (s : Settings) (P : History → Type 0)
+    (step : (n : Note) (packet : Option Held) (history : History) → kind n ≡ true → Allows s history n packet → IsLegal s history → P history → P (noted n packet ∷ history)) where
+  onwards_items : (items history : History) → AreOfKind kind items → IsLegal s (items ++ history) → P history → P (items ++ history)
+  onwards_items [] history a l p = p
+  onwards_items (noted n packet ∷ items) history a l p = step n packet (items ++ history) a.0 l.0 l.1 (onwards_items items history a.1 l.1 p)
+  onwards_items (began heard ∷ items) history a l p = absurd a
+  onwards_items (told client message ∷ items) history a l p = absurd a
+
+  pub onwards : (before after : History) → Puts kind before after → IsLegal s after → P before → P after
+  onwards before after p l start = subst P (sym p.splits) (onwards_items p.items before p.notes (subst (IsLegal s) p.splits l) start)
+
+-- What each item keeps holds of the history of any events.
+module _ (s : Settings) (P : History → Type 0)
+    (begins : (event : Event) (history : History) → IsLegal s history → P history → P (began (heard_of s.channel event) ∷ history))
+    (tells : (client : ℕ) (message : Message) (history : History) → IsLegal s history → P history → P (told client message ∷ history))
+    (notes : (n : Note) (packet : Option Held) (history : History) → Allows s history n packet → IsLegal s history → P history → P (noted n packet ∷ history)) where
+  of_event : (later history : History) → NoneIs is_event later → IsLegal s (later ++ history) → P history → P (later ++ history)
+  of_event [] history none l p = p
+  of_event (noted n packet ∷ later) history none l p = notes n packet (later ++ history) l.0 l.1 (of_event later history none.1 l.1 p)
+  of_event (told client message ∷ later) history none l p = tells client message (later ++ history) l (of_event later history none.1 l p)
+  of_event (began heard ∷ later) history none l p = absurd (true≢false none.0)
+
+  pub of_events : P [] → (events : List Event) → P (history_of s events)
+  unfolding history_of
+  of_events start [] = start
+  of_events start (event ∷ events) =
+      let before = history_of s events in
+      let heard = heard_of s.channel event in
+      let a = adds_hearing s heard before in
+      subst P (sym a.splits)
+      (of_event a.later (began heard ∷ before) a.none (subst (IsLegal s) a.splits (legal_history s (event ∷ events)))
+      (begins event before (legal_history s events) (of_events start events)))
+
+-- the note that a packet, or a datagram that doesn't frame, gets at once
+abbrev pub is_at_once : Note → Bool
+is_at_once (note.Live n) = true
+is_at_once (note.BadFeedback client fault) = true
+is_at_once _ = false
+
+abbrev pub is_heard_tick : Heard → Bool
+is_heard_tick tick = true
+is_heard_tick heard = false
+
+-- What holds between messages and between events alone: each message's whole answer keeps it, and each whole tick.
+module _ (s : Settings) (P : History → Type 0)
+    (begins : (event : Event) (history : History) → is_heard_tick (heard_of s.channel event) ≡ false → P history → P (began (heard_of s.channel event) ∷ history))
+    (remarks : (n : Note) (history : History) → is_at_once n ≡ true → P history → P (noted n None ∷ history))
+    (answers : (client : ℕ) (message : Message) (history : History) → IsLegal s (after_message s client message (told client message ∷ history)) → P history
+    → P (after_message s client message (told client message ∷ history)))
+    (ticks : (history : History) → IsLegal s (after_tick s (began tick ∷ history)) → P history → P (after_tick s (began tick ∷ history))) where
+  pub after_all : (client : ℕ) (ms : List Message) (history : History) → IsLegal s (after_messages s client ms history) → P history → P (after_messages s client ms history)
+  unfolding after_messages
+  after_all client [] history l p = p
+  after_all client (m ∷ ms) history l p =
+      let answered = after_message s client m (told client m ∷ history) in
+      let more = adds_messages s client ms answered in
+      after_all client ms answered l (answers client m history (legal_part s more.later answered (subst (IsLegal s) more.splits l)) p)
+
+  hears : (heard : Heard) (history : History) → (is_heard_tick heard ≡ false → P (began heard ∷ history)) → IsLegal s (after_hearing s heard history) → P history → P (after_hearing s heard history)
+  unfolding after_hearing
+  hears (live a) history next l p = remarks (note.Live (live_note s.channel.window (stream s history) a.sequence)) (began (live a) ∷ history) refl (next refl)
+  hears (dropped n) history next l p = remarks (note.Live n) (began (dropped n) ∷ history) refl (next refl)
+  hears (feedback client ms) history next l p = after_all client ms (began (feedback client ms) ∷ history) l (next refl)
+  hears (unframed client fault) history next l p = remarks (note.BadFeedback client fault) (began (unframed client fault) ∷ history) refl (next refl)
+  hears tick history next l p = ticks history l p
+
+  pub between : P [] → (events : List Event) → P (history_of s events)
+  unfolding history_of
+  between start [] = start
+  between start (event ∷ events) =
+      let before = history_of s events in
+      let p = between start events in
+      hears (heard_of s.channel event) before (λ e. begins event before e p) (legal_history s (event ∷ events)) p
