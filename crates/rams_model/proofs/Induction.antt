@@ -5,10 +5,10 @@ use Rattle.rams_model.specs.declared.event.Event.{Event}
 use Rattle.rams_model.specs.declared.held.Held.{Held}
 use Rattle.rams_model.specs.declared.note.Note.{Note}
 use Rattle.rams_model.specs.declared.note.Note.TheVariants as note
-use Rattle.rams_model.specs.Service.{Settings, Message, Heard, live, dropped, feedback, unframed, tick, heard_of, began, told, noted, History, stream, after_message, after_messages, after_tick, after_hearing, history_of}
+use Rattle.rams_model.specs.Service.{Settings, Message, Heard, live, dropped, feedback, unframed, tick, heard_of, began, told, noted, History, arrivals, stream, after_message, after_messages, after_tick, after_hearing, history_of}
 use Rattle.rams_model.specs.Packets.{live_note}
 use Rattle.rams_model.specs.Laws.{NoneIs, is_event}
-use Rattle.rams_model.proofs.Legal.{Allows, IsLegal, legal_part}
+use Rattle.rams_model.proofs.Legal.{is_tick, Allows, IsLegal, legal_part}
 use Rattle.rams_model.proofs.Legality.{legal_history}
 use Rattle.rams_model.proofs.Items.{AreOfKind, Puts}
 use Rattle.rams_model.proofs.Adding.{adds_hearing, adds_messages}
@@ -35,6 +35,18 @@ module _ (kind : Note → Bool) (s : Settings) (P : History → Type 0)
 
   pub onwards : (before after : History) → Puts kind before after → IsLegal s after → P before → P after
   onwards before after p l start = subst P (sym p.splits) (onwards_items p.items before p.notes (subst (IsLegal s) p.splits l) start)
+
+-- What each message and each note keeps is kept by a whole event, once it began.
+module _ (P : History → Type 0) (tells : (client : ℕ) (message : Message) (history : History) → P history → P (told client message ∷ history))
+    (notes : (n : Note) (packet : Option Held) (history : History) → P history → P (noted n packet ∷ history)) where
+  each_item : (later history : History) → NoneIs is_event later → P history → P (later ++ history)
+  each_item [] history none p = p
+  each_item (noted n packet ∷ later) history none p = notes n packet (later ++ history) (each_item later history none.1 p)
+  each_item (told client message ∷ later) history none p = tells client message (later ++ history) (each_item later history none.1 p)
+  each_item (began heard ∷ later) history none p = absurd (true≢false none.0)
+
+  pub through_event : (s : Settings) (heard : Heard) (history : History) → P (began heard ∷ history) → P (after_hearing s heard history)
+  through_event s heard history p = let a = adds_hearing s heard history in subst P (sym a.splits) (each_item a.later (began heard ∷ history) a.none p)
 
 -- What each item keeps holds of the history of any events.
 module _ (s : Settings) (P : History → Type 0)
@@ -64,37 +76,42 @@ is_at_once (note.Live n) = true
 is_at_once (note.BadFeedback client fault) = true
 is_at_once _ = false
 
-abbrev pub is_heard_tick : Heard → Bool
-is_heard_tick tick = true
-is_heard_tick heard = false
-
 -- What holds between messages and between events alone: each message's whole answer keeps it, and each whole tick.
 module _ (s : Settings) (P : History → Type 0)
-    (begins : (event : Event) (history : History) → is_heard_tick (heard_of s.channel event) ≡ false → P history → P (began (heard_of s.channel event) ∷ history))
-    (remarks : (n : Note) (history : History) → is_at_once n ≡ true → P history → P (noted n None ∷ history))
+    (at_once : (event : Event) (events : List Event) (n : Note) → is_tick (heard_of s.channel event) ≡ false → is_at_once n ≡ true → P (history_of s events)
+        → P (noted n None ∷ began (heard_of s.channel event) ∷ history_of s events))
+    (begins : (client : ℕ) (ms : List Message) (history : History) → P history → P (began (feedback client ms) ∷ history))
     (answers : (client : ℕ) (message : Message) (history : History) → IsLegal s (after_message s client message (told client message ∷ history)) → P history
-    → P (after_message s client message (told client message ∷ history)))
-    (ticks : (history : History) → IsLegal s (after_tick s (began tick ∷ history)) → P history → P (after_tick s (began tick ∷ history))) where
-  pub after_all : (client : ℕ) (ms : List Message) (history : History) → IsLegal s (after_messages s client ms history) → P history → P (after_messages s client ms history)
+        → P (after_message s client message (told client message ∷ history)))
+    (ticks : (events : List Event) → IsLegal s (after_tick s (began tick ∷ history_of s events)) → P (history_of s events) → P (after_tick s (began tick ∷ history_of s events))) where
+  each_message : (client : ℕ) (ms : List Message) (history : History) → IsLegal s (after_messages s client ms history) → P history → P (after_messages s client ms history)
   unfolding after_messages
-  after_all client [] history l p = p
-  after_all client (m ∷ ms) history l p =
+  each_message client [] history l p = p
+  each_message client (m ∷ ms) history l p =
       let answered = after_message s client m (told client m ∷ history) in
       let more = adds_messages s client ms answered in
-      after_all client ms answered l (answers client m history (legal_part s more.later answered (subst (IsLegal s) more.splits l)) p)
+      each_message client ms answered l (answers client m history (legal_part s more.later answered (subst (IsLegal s) more.splits l)) p)
 
-  hears : (heard : Heard) (history : History) → (is_heard_tick heard ≡ false → P (began heard ∷ history)) → IsLegal s (after_hearing s heard history) → P history → P (after_hearing s heard history)
+  each_event : (heard : Heard) (events : List Event) → ((n : Note) → is_tick heard ≡ false → is_at_once n ≡ true → P (noted n None ∷ began heard ∷ history_of s events))
+      → IsLegal s (after_hearing s heard (history_of s events)) → P (history_of s events) → P (after_hearing s heard (history_of s events))
   unfolding after_hearing
-  hears (live a) history next l p = remarks (note.Live (live_note s.channel.window (stream s history) a.sequence)) (began (live a) ∷ history) refl (next refl)
-  hears (dropped n) history next l p = remarks (note.Live n) (began (dropped n) ∷ history) refl (next refl)
-  hears (feedback client ms) history next l p = after_all client ms (began (feedback client ms) ∷ history) l (next refl)
-  hears (unframed client fault) history next l p = remarks (note.BadFeedback client fault) (began (unframed client fault) ∷ history) refl (next refl)
-  hears tick history next l p = ticks history l p
+  each_event (live a) events once l p = once (note.Live (live_note s.channel.window (stream s (history_of s events)) a.sequence)) refl refl
+  each_event (dropped n) events once l p = once (note.Live n) refl refl
+  each_event (feedback client ms) events once l p = each_message client ms (began (feedback client ms) ∷ history_of s events) l (begins client ms (history_of s events) p)
+  each_event (unframed client fault) events once l p = once (note.BadFeedback client fault) refl refl
+  each_event tick events once l p = ticks events l p
 
   pub between : P [] → (events : List Event) → P (history_of s events)
   unfolding history_of
   between start [] = start
   between start (event ∷ events) =
-      let before = history_of s events in
-      let p = between start events in
-      hears (heard_of s.channel event) before (λ e. begins event before e p) (legal_history s (event ∷ events)) p
+      let p = between start events in each_event (heard_of s.channel event) events (λ n other is. at_once event events n other is p) (legal_history s (event ∷ events)) p
+
+-- Only live packets bring what is held.
+pub arrivals_of_part : (kind : Note → Bool) (before after : History) → Puts kind before after → arrivals after ≡ arrivals before
+unfolding arrivals
+arrivals_of_part kind before after p = through kind (λ h. arrivals h ≡ arrivals before) (λ n packet h is e. e) before after p refl
+
+pub arrivals_of_event : (s : Settings) (heard : Heard) (history : History) → arrivals (after_hearing s heard history) ≡ arrivals (began heard ∷ history)
+unfolding arrivals
+arrivals_of_event s heard history = through_event (λ h. arrivals h ≡ arrivals (began heard ∷ history)) (λ k m h e. e) (λ n packet h e. e) s heard history refl
