@@ -8,9 +8,9 @@ use Rattle.rams_model.specs.declared.note.Note.TheVariants as note
 use Rattle.rams_model.specs.Service.{Settings, Message, Heard, live, dropped, feedback, unframed, tick, heard_of, began, told, noted, History, arrivals, stream, after_message, after_messages, after_tick, after_hearing, history_of}
 use Rattle.rams_model.specs.Packets.{live_note}
 use Rattle.rams_model.specs.Laws.{NoneIs, is_event}
-use Rattle.rams_model.proofs.Legal.{is_tick, Allows, IsLegal, legal_part}
+use Rattle.rams_model.proofs.Legal.{is_tick, in_tick, Answers, Allows, IsLegal, legal_part}
 use Rattle.rams_model.proofs.Legality.{legal_history}
-use Rattle.rams_model.proofs.Items.{AreOfKind, Puts}
+use Rattle.rams_model.proofs.Items.{AreOfKind, is_note, Puts, message_puts}
 use Rattle.rams_model.proofs.Adding.{adds_hearing, adds_messages}
 
 -- What each note of a kind keeps is kept by a part of an event: a message's answer, a tick or a phase of it.
@@ -35,6 +35,23 @@ module _ (kind : Note → Bool) (s : Settings) (P : History → Type 0)
 
   pub onwards : (before after : History) → Puts kind before after → IsLegal s after → P before → P after
   onwards before after p l start = subst P (sym p.splits) (onwards_items p.items before p.notes (subst (IsLegal s) p.splits l) start)
+
+-- The notes that answer a message: what each that may come keeps is kept by the whole answer.
+module _ (s : Settings) (P : History → Type 0) (client : ℕ) (message : Message)
+    (step : (n : Note) (packet : Option Held) (history : History) → Allows s history n packet → Answers history client message → P history → P (noted n packet ∷ history)) where
+  pub in_answer : (history : History) → IsLegal s (after_message s client message (told client message ∷ history)) → P (told client message ∷ history)
+      → P (after_message s client message (told client message ∷ history))
+  in_answer history l p =
+      let start = told client message ∷ history in
+      (onwards is_note s (λ h. Answers h client message × P h) (λ n packet h is a legal q. (q.0, step n packet h a q.0 q.1))
+      start (after_message s client message start) (message_puts s client message start) l (refl, p)).1
+
+-- no tick is under way then
+pub no_tick_answers : (history : History) (client : ℕ) (message : Message) → Answers history client message → in_tick history ≡ true → ⊥
+no_tick_answers [] client message a e = absurd cc
+no_tick_answers (began heard ∷ history) client message a e = absurd cc
+no_tick_answers (told k m ∷ history) client message a e = true≢false (sym e)
+no_tick_answers (noted n packet ∷ history) client message a e = no_tick_answers history client message a e
 
 -- What each message and each note keeps is kept by a whole event, once it began.
 module _ (P : History → Type 0) (tells : (client : ℕ) (message : Message) (history : History) → P history → P (told client message ∷ history))

@@ -25,3 +25,4 @@ pub mod Items
 pub mod Legality
 pub mod Adding
 pub mod Induction
+pub mod Granting
