@@ -2,50 +2,22 @@
 use Rattle.std.proofs.Common.{◌≡◌, ℕ, ◌+◌, ◌-◌, ◌≤◌, Bool, true, false, cond, not, ◌&&◌, inl, inr, ⊎_elim, List, [], ◌∷◌, ◌++◌, length, Option, Some, None, refl, ap, ap₂, sym, ◌∙◌, subst, arith, eqb, leb, ltb}
 use Rattle.std.specs.Prelude.{◌==◌, filter, find, is_some, Result, Ok, Err, Contains}
 use Rattle.std.specs.List.{list_any, AllByRecursion as Each}
-use Rattle.std.proofs.lemmas.Bool.{cond_both, cond-true, and_parts, and_from, or_parts, or_from, or_left, or_right, or_cases, not-true, not-false, not_from_false, eqb-true, eqb-false, eq-eqb, ne_eqb, leb-true, true≢false}
+use Rattle.std.proofs.lemmas.Bool.{cond_both, and_parts, and_from, or_parts, or_from, or_left, or_right, or_cases, not-true, not-false, not_from_false, eqb-true, eqb-false, eq-eqb, ne_eqb, leb-true, true≢false}
 use Rattle.std.proofs.lemmas.List.Elements.{All-contains_itself, recursion_from_All, Contains-append_right}
 use Rattle.rams_model.specs.declared.event.Event.{Event}
 use Rattle.rams_model.specs.declared.fault.TlvFault.{TlvFault}
 use Rattle.rams_model.specs.declared.held.Held.{Held}
 use Rattle.rams_model.specs.declared.message.Stop.{Stop}
-use Rattle.rams_model.specs.declared.note.Cause.{Cause}
 use Rattle.rams_model.specs.declared.note.Note.{Note}
 use Rattle.rams_model.specs.declared.note.Cause.TheVariants as cause
 use Rattle.rams_model.specs.declared.note.Note.TheVariants as note
-use Rattle.rams_model.specs.Service.{Settings, stop_of, Message, bye, nack, asks, stops, Heard, live, dropped, feedback, unframed, tick, heard_of, began, told, noted, History, arrivals, hold, known, opened, is_among, placed, with_client, sequence, ssrc, Burst, next, after_note, newest_changed, bursts, if_open, newest_open, open_burst, has_open, Wanted, wanted, is_wanted, pending, is_pending, pending_of, idle, channel_left, may_take, reserved, asked_rate, is_slow, is_too_much, is_full, begins, changes, on_burst, on_request, verdict, is_before, is_early, Room, room, held_answer, number_answer, after_numbers, after_nack, stop_set, on_stop, stop_burst, after_stop, is_bye_of, after_bye, after_message, after_messages, run, send, is_lost, is_stop, after_run, run_sent, burst_served, all_served, repaired, all_repaired, all_forgotten, bursts_served, repairs_sent, after_tick, after_hearing, history_of}
+use Rattle.rams_model.specs.Service.{Settings, stop_of, Message, bye, nack, asks, stops, Heard, live, dropped, feedback, unframed, tick, heard_of, began, told, noted, History, arrivals, hold, known, opened, is_among, placed, with_client, sequence, ssrc, Burst, next, after_note, bursts, open_burst, has_open, Wanted, wanted, is_wanted, pending, is_pending, pending_of, idle, channel_left, may_take, reserved, asked_rate, is_slow, is_too_much, is_full, begins, changes, on_burst, on_request, verdict, is_before, is_early, Room, room, held_answer, number_answer, after_numbers, after_nack, stop_set, on_stop, stop_burst, after_stop, is_bye_of, after_bye, after_message, after_messages, run, send, is_lost, is_stop, after_run, run_sent, burst_served, all_served, repaired, all_repaired, all_forgotten, bursts_served, repairs_sent, after_tick, after_hearing, history_of}
 use Rattle.rams_model.specs.Formats.{Request, names, Framed}
 use Rattle.rams_model.specs.Packets.{from_number}
 use Rattle.rams_model.specs.Laws.{makes_known, ends_known, is_queued, ends_pending}
 use Rattle.rams_model.proofs.Since.{stands, known_stands, pending_stands}
-use Rattle.book_laws.specs.{IsMoment}
-use Rattle.book_laws.proofs.Legal.{Answers, in_tick, in_runs, is_of_runs, IsVerdict, IsNumberAnswer, Allows, IsLegal, legal_part}
-
--- a burst that is open still is after a change that doesn't end it
-pub open_changed : (change : Burst → Burst) → ((b : Burst) → (change b).ended ≡ b.ended) → (bs : List Burst) (b : Burst) → newest_open bs ≡ Some b
-    → newest_open (newest_changed change bs) ≡ Some (change b)
-open_changed change same [] b e = absurd cc
-open_changed change same (c ∷ bs) b e = still c.ended refl e
-  where
-    still : (ended : Option Cause) → c.ended ≡ ended → if_open ended c ≡ Some b → if_open (change c).ended (change c) ≡ Some (change b)
-    still None is o =
-        let this : c ≡ b = cc in
-        ap (λ (x : Option Cause). if_open x (change c)) (same c ∙ is) ∙ ap (λ (x : Burst). Some (change x)) this
-    still (Some why) is o = absurd cc
-
-own_changed : (k : ℕ) (change : Burst → Burst) → ((b : Burst) → (change b).ended ≡ b.ended) → (bs : List Burst) (b : Burst) → newest_open bs ≡ Some b
-    → newest_open (cond (eqb k k) (newest_changed change bs) bs) ≡ Some (change b)
-own_changed k change same bs b e =
-    ap newest_open (cond-true (eqb k k) (newest_changed change bs) bs (eq-eqb k k refl)) ∙ open_changed change same bs b e
-
-pub open_sent : (s : Settings) (k n number : ℕ) (h : Held) (history : History) (b : Burst) → open_burst s k history ≡ Some b
-    → open_burst s k (noted (note.Burst k n number) (Some h) ∷ history) ≡ Some (after_note s (note.Burst k n number) h.wire b)
-unfolding bursts
-open_sent s k n number h history b e = own_changed k (after_note s (note.Burst k n number) h.wire) (λ c. refl) (bursts s k history) b e
-
-pub open_stopped : (s : Settings) (k n : ℕ) (history : History) (b : Burst) → open_burst s k history ≡ Some b
-    → open_burst s k (noted (note.StopAt k n) None ∷ history) ≡ Some (record b { stop = Some n })
-unfolding bursts
-open_stopped s k n history b e = own_changed k (after_note s (note.StopAt k n) 0) (λ c. refl) (bursts s k history) b e
+use Rattle.rams_model.proofs.OpenBurst.{open_sent, open_stopped}
+use Rattle.rams_model.proofs.Legal.{Answers, in_tick, in_runs, is_of_runs, IsVerdict, IsNumberAnswer, Allows, IsLegal}
 
 -- a note that answers a request of the client
 abbrev IsOfRequest : ℕ → Note → Type 0
@@ -585,6 +557,3 @@ pub legal_history : (s : Settings) (events : List Event) → IsLegal s (history_
 unfolding history_of
 legal_history s [] = tt
 legal_history s (event ∷ events) = legal_hearing s (heard_of s.channel event) (history_of s events) (legal_history s events)
-
-pub legal_moment : (s : Settings) (history : History) → IsMoment s history → IsLegal s history
-legal_moment s history m = legal_part s m.later history (subst (IsLegal s) m.splits (legal_history s m.events))
