@@ -7,9 +7,6 @@ ghost use Rattle.channel_config.specs.{IsLawful, PassIfLawful};
 use rams_model::{Channel, ConfigFault};
 use std::marker::Model;
 
-#[cfg(test)]
-mod tests;
-
 /// Most bytes of a tick, in each of the settings that is such an amount.
 const MOST_BYTES: u64 = 1_000_000_000;
 
