@@ -25,7 +25,13 @@ const TICKS: [(u64, u64, [[u64; 3]; 2], [u64; 2], u64); 5] = [
     (3100, 1399, [[0, 0, 0], [1500, 1500, 0]], [3100, 4499], 1499),
     // what isn't kept is lost, and what is kept doesn't add up
     (1000, 300, [[400, 0, 0], [0, 0, 0]], [1000, 1300], 1300),
-    (1000, 900, [[300, 100, 0], [200, 300, 0]], [1000, 1600], 1100),
+    (
+        1000,
+        900,
+        [[300, 100, 0], [200, 300, 0]],
+        [1000, 1600],
+        1100,
+    ),
     (1000, 0, [[1000, 0, 0], [1, 2, 3]], [1000, 1000], 994),
 ];
 
@@ -82,6 +88,10 @@ fn spends_within_both_bounds(rt: HostRuntime) {
         let fits = budget.spend(client_left, size);
         assert_eq!(rt; fits, want, "{before} {client_left} {size}");
         let taken = if fits { size } else { 0 };
-        assert_eq!(rt; left - budget.left(), taken, "{before} {client_left} {size}");
+        assert_eq!(rt;
+            left - budget.left(),
+            taken,
+            "{before} {client_left} {size}"
+        );
     }
 }

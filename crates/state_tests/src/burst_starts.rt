@@ -15,7 +15,9 @@ type Want = Result<(u64, u64), Choice>;
 
 // 600 bytes from the first packet on, and 300 from the third.
 const FIRST: &[Packet] = &[(0, 100, true), (0, 200, false), (0, 300, false)];
+
 const THIRD: &[Packet] = &[(0, 100, false), (0, 200, false), (0, 300, true)];
+
 const EACH: &[Packet] = &[(0, 100, true), (0, 200, true), (0, 300, true)];
 
 // 200 and 100 ms old; the last packet is no access point.
@@ -42,7 +44,11 @@ const CHOICES: [(&[Packet], Ask, Want); 24] = [
     (FIRST, (650, 50, 0, None), Ok((1000, 600))),
     (FIRST, (649, 50, 0, None), Err(Choice::NoStart)),
     (THIRD, (300, 0, 0, None), Ok((1002, 300))),
-    (THIRD, (1000000299, 1000000000, 0, None), Err(Choice::NoStart)),
+    (
+        THIRD,
+        (1000000299, 1000000000, 0, None),
+        Err(Choice::NoStart),
+    ),
     // the newest of those that fit, also where all do
     (EACH, (10000, 0, 0, None), Ok((1002, 300))),
     (EACH, (299, 0, 0, None), Err(Choice::NoStart)),
@@ -110,7 +116,11 @@ fn the_newest_that_fits_is_chosen(rt: HostRuntime) -> Result<(), Fail> {
         assert!(rt; declared <= 1000000000);
         let index = index_of(&rt, rt.alloc(), packets)?;
         let choice = index.choose(room, declared, min_ms, max_ms);
-        assert_eq!(rt; choice, choice_of(want), "{room} {declared} {min_ms} {max_ms:?}");
+        assert_eq!(rt;
+            choice,
+            choice_of(want),
+            "{room} {declared} {min_ms} {max_ms:?}"
+        );
     }
     Ok(())
 }

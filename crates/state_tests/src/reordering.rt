@@ -130,7 +130,10 @@ fn the_end_of_a_start_lets_all_go(rt: HostRuntime) -> Result<(), Fail> {
     out.clear();
     window.end_start();
     drain(&mut window, &mut out)?;
-    assert_eq!(rt; out.as_slice(), [(65549, 655490), (65551, 655510)].as_slice());
+    assert_eq!(rt;
+        out.as_slice(),
+        [(65549, 655490), (65551, 655510)].as_slice()
+    );
     window.begin(85547);
     assert_eq!(rt; pass(&mut window, 85547, &mut out)?, Came::Kept);
     assert_eq!(rt; pass(&mut window, 65552, &mut out)?, Came::Late);
