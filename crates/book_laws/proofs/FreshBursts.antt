@@ -19,10 +19,10 @@ use Rattle.rams_model.proofs.LastAccept.{open_stands}
 use Rattle.rams_model.proofs.Rising.{below_hi}
 use Rattle.rams_model.proofs.Holding.{held_follow, held_from}
 use Rattle.rams_model.proofs.Choosing.{newest_chosen}
-use Rattle.book_laws.proofs.Legality.{open_sent}
+use Rattle.rams_model.proofs.OpenBurst.{open_sent}
 use Rattle.book_laws.proofs.RequestTable.{held_rises}
 use Rattle.book_laws.specs.{AreNotes, IsMoment}
-use Rattle.book_laws.proofs.Items.{Puts, message_puts, tick_puts}
+use Rattle.rams_model.proofs.Induction.{arrivals_of_event}
 use Rattle.book_laws.proofs.HeldPackets.{AreSmall, ArriveSmall, HearsSmall, small_from, small_held, heard_small, hi_grows}
 
 -- The burst has sent nothing; its first packet is below the end of what is held and before the stop, and this number was told to its client.
@@ -564,32 +564,16 @@ hearing_sound s k (feedback c ms) history small w = messages_sound s k c ms (beg
 hearing_sound s k (unframed c fault) history small w = w
 hearing_sound s k tick history small w = tick_sound s k history small w
 
--- what a datagram or a tick brings is no packet
-notes_bring_none : (items history : History) → AreNotes items → arrivals (items ++ history) ≡ arrivals history
-unfolding arrivals
-notes_bring_none [] history n = refl
-notes_bring_none (noted note packet ∷ items) history n = notes_bring_none items history n
-notes_bring_none (began heard ∷ items) history n = absurd n
-notes_bring_none (told client message ∷ items) history n = absurd n
-
-puts_none : (before after : History) → Puts before after → arrivals after ≡ arrivals before
-puts_none before after p = ap arrivals p.splits ∙ notes_bring_none p.items before p.notes
-
-messages_bring_none : (s : Settings) (c : ℕ) (ms : List Message) (history : History) → arrivals (after_messages s c ms history) ≡ arrivals history
-unfolding after_messages arrivals
-messages_bring_none s c [] history = refl
-messages_bring_none s c (m ∷ ms) history =
-    messages_bring_none s c ms (after_message s c m (told c m ∷ history))
-    ∙ puts_none (told c m ∷ history) (after_message s c m (told c m ∷ history)) (message_puts s c m (told c m ∷ history))
-
 arrive_small : (s : Settings) (heard : Heard) (history : History) → HearsSmall heard → ArriveSmall (arrivals history) → ArriveSmall (arrivals (after_hearing s heard history))
-unfolding after_hearing arrivals
-arrive_small s (live a) history h small = (h, small)
-arrive_small s (dropped note) history h small = small
-arrive_small s (feedback c ms) history h small = subst ArriveSmall (sym (messages_bring_none s c ms (began (feedback c ms) ∷ history))) small
-arrive_small s (unframed c fault) history h small = small
-arrive_small s tick history h small =
-    subst ArriveSmall (sym (puts_none (began tick ∷ history) (after_tick s (began tick ∷ history)) (tick_puts s (began tick ∷ history)))) small
+arrive_small s heard history h small = subst ArriveSmall (sym (arrivals_of_event s heard history)) (begun heard h)
+  where
+    begun : (heard : Heard) → HearsSmall heard → ArriveSmall (arrivals (began heard ∷ history))
+    unfolding arrivals
+    begun (live a) h = (h, small)
+    begun (dropped note) h = small
+    begun (feedback c ms) h = small
+    begun (unframed c fault) h = small
+    begun tick h = small
 
 all_small : (s : Settings) (events : List Event) → ArriveSmall (arrivals (history_of s events))
 unfolding history_of arrivals

@@ -7,7 +7,7 @@ use Rattle.rams_model.specs.declared.note.Note.TheVariants as note
 use Rattle.rams_model.specs.Service.{Settings, tick, began, told, noted, History, sequence, Burst, begun, in_tick, after_note, newest_changed, size_of, bursts, if_open, newest_open, open_burst}
 use Rattle.rams_model.specs.Laws.{ticks_begun}
 use Rattle.book_laws.specs.{gain, gains_in}
-use Rattle.book_laws.proofs.Legal.{IsLegal}
+use Rattle.rams_model.proofs.Legal.{IsLegal}
 use Rattle.book_laws.proofs.BurstAmounts.{at_end, at_newest, falls}
 use Rattle.book_laws.proofs.Reserved.{granted}
 

@@ -72,11 +72,11 @@ impl Numbering {
         ensures stands { (window : ℕ) (arrivals : List Arrival) (a : Arrival) →
             a.sequence ≡ seq → StandsFor self.old window arrivals → StandsFor self.new window (a ∷ arrivals) }
     {
-        self.take(seq)
+        self.advance(seq)
     }
 
-    /// Numbers the packet, and keeps what its number says.
-    fn take(&mut self, seq: u16) -> Noted
+    // Numbers the packet, and keeps what its number says; `note` adds what that means in history.
+    fn advance(&mut self, seq: u16) -> Noted
         requires { self.old.calls < 2 ^ 40 }
         ensures number { result ≡ noted (numbered self.old.greatest self.old.kept seq) }
         ensures step { self.new ≡ moved self.old seq result }
@@ -96,7 +96,7 @@ impl Numbering {
     }
 }
 
-/// What the numbering makes of a sequence number.
+// What the numbering makes of a sequence number.
 #[tactic(auto, unfolding(rams_model::specs::Packets::Numbering::numbered))]
 fn number_of(greatest: Option<u64>, kept: Option<u16>, seq: u16) -> Noted
     requires { IfSome greatest (λ g. (65536 ≤ g) × (g < 2 ^ 62)) }

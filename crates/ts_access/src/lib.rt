@@ -4,9 +4,6 @@
 ghost use Rattle.std.specs.Prelude.{◌≡◌, ◌/◌, ◌%◌, ◌==◌, length};
 ghost use Rattle.rams_model.specs.Packets.{has_access, has_flag};
 
-#[cfg(test)]
-mod tests;
-
 /// Bytes of a TS packet (ISO/IEC 13818-1, 2.4.3.2).
 const TS_PACKET: usize = 188;
 

@@ -3,8 +3,8 @@ use Rattle.std.specs.Prelude.{is_some}
 use Rattle.std.proofs.lemmas.Bool.{true≢false}
 use Rattle.rams_model.specs.Service.{History, has_open}
 use Rattle.book_laws.specs.Stops.{HasEnded}
-use Rattle.book_laws.proofs.Legal.{IsLegal}
-use Rattle.book_laws.proofs.Legality.{legal_moment}
+use Rattle.rams_model.proofs.Legal.{IsLegal}
+use Rattle.book_laws.proofs.Moments.{legal_moment}
 use Rattle.book_laws.proofs.Beginning.{none_is_open}
 use Rattle.book_laws.proofs.Stopping.{over, ended_or_open}
 use Rattle.book_laws.proofs.Causes.{cause_is_true}
