@@ -120,11 +120,13 @@ fn settings_are_checked(rt: HostRuntime) -> Result<(), Fail> {
         for &(setting, n) in changes {
             change(&mut channel, &mut tick_ms, setting, n)?;
         }
-        let checked = Config::check(channel, tick_ms);
-        assert_eq!(rt; checked.err(), fault, "{changes:?}");
-        if let Ok(config) = checked {
-            assert_eq!(rt; *config.channel(), channel, "{changes:?}");
-            assert_eq!(rt; config.tick_ms(), tick_ms, "{changes:?}");
+        match Config::check(channel, tick_ms) {
+            Ok(config) => {
+                assert_eq!(rt; None, fault, "{changes:?}");
+                assert_eq!(rt; *config.channel(), channel, "{changes:?}");
+                assert_eq!(rt; config.tick_ms(), tick_ms, "{changes:?}");
+            }
+            Err(found) => assert_eq!(rt; Some(found), fault, "{changes:?}"),
         }
     }
     Ok(())

@@ -3,12 +3,10 @@ ghost use Rattle.std.specs.Prelude.{◌≡◌, ◌+◌, ◌-◌, ◌^◌, ◌<�
 ghost use Rattle.std.specs.Int.{w16, w32, to_be_bytes};
 ghost use Rattle.rams_model.specs.Formats.{nack_packet, nack_words};
 
+use packet_bytes::VERSION_2;
 use ram_io::NoMemory;
 use rams_model::{FMT_NACK, RTPFB};
 use std::alloc::Global;
-
-// Version 2 in the first byte, with no padding and a format of 0 (RFC 4585, 6.1).
-const VERSION: u8 = 0x80;
 
 /// A whole generic NACK of these numbers, 1 to 8,000, in their order. Each word has the first number
 /// that is left, and as many of the following ones as it can name.
@@ -56,11 +54,11 @@ pub fn append_nack(
 
 // The header of a generic NACK, whose length is still to be written (RFC 4585, 6.1).
 fn header(sender: u32, media: u32) -> [u8; 12]
-    ensures { result ≡ (VERSION + FMT_NACK) ∷ RTPFB ∷ 0 ∷ 0 ∷ (to_be_bytes w32 sender ++ to_be_bytes w32 media) }
+    ensures { result ≡ (VERSION_2 + FMT_NACK) ∷ RTPFB ∷ 0 ∷ 0 ∷ (to_be_bytes w32 sender ++ to_be_bytes w32 media) }
 {
     let s = sender.to_be_bytes();
     let m = media.to_be_bytes();
-    let first = VERSION + FMT_NACK;
+    let first = VERSION_2 + FMT_NACK;
     [
         first, RTPFB, 0, 0, s[0], s[1], s[2], s[3], m[0], m[1], m[2], m[3],
     ]

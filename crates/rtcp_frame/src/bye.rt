@@ -4,8 +4,8 @@ ghost use Rattle.rams_model.specs.Formats.{bye_packet, words32};
 ghost use Rattle.rams_model.specs.Formats.Rtcp as rtcp;
 ghost use Rattle.rtcp_frame.specs.{shown_packet};
 
-use crate::packet::{Packet, VERSION};
-use packet_bytes::has_word;
+use crate::packet::Packet;
+use packet_bytes::{VERSION_2, has_word};
 use ram_io::NoMemory;
 use rams_model::BYE;
 use std::alloc::Global;
@@ -41,6 +41,7 @@ pub fn append_bye(text: &mut Vec<u8>, ssrc: u32) -> Result<(), NoMemory>
     ensures err { OnErr result (text.new.items ≡ text.old.items) }
 {
     let s = ssrc.to_be_bytes();
-    text.extend_from_slice(&[VERSION + 1, BYE, 0, 1, s[0], s[1], s[2], s[3]])?;
+    let first = VERSION_2 + 1;
+    text.extend_from_slice(&[first, BYE, 0, 1, s[0], s[1], s[2], s[3]])?;
     Ok(())
 }

@@ -1,8 +1,5 @@
 //! A packet of a datagram (RFC 3550, 6.1).
 
-// Version 2 in the first byte, with no padding and a count of 0.
-pub(crate) const VERSION: u8 = 0x80;
-
 /// A packet of a datagram.
 #[derive(Clone, Copy, Debug)]
 pub struct Packet<'a> {

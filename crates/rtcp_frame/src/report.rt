@@ -2,7 +2,7 @@
 ghost use Rattle.std.specs.Prelude.{◌≡◌, ◌++◌, IfOk, OnOk, OnErr};
 ghost use Rattle.rams_model.specs.Formats.{rr_packet, sdes_packet};
 
-use crate::packet::VERSION;
+use packet_bytes::VERSION_2;
 use ram_io::NoMemory;
 use rams_model::{RR, SDES};
 use std::alloc::Global;
@@ -22,7 +22,7 @@ pub fn append_rr(text: &mut Vec<u8>, ssrc: u32) -> Result<(), NoMemory>
     ensures err { OnErr result (text.new.items ≡ text.old.items) }
 {
     let s = ssrc.to_be_bytes();
-    text.extend_from_slice(&[VERSION, RR, 0, 1, s[0], s[1], s[2], s[3]])?;
+    text.extend_from_slice(&[VERSION_2, RR, 0, 1, s[0], s[1], s[2], s[3]])?;
     Ok(())
 }
 
@@ -42,7 +42,7 @@ pub fn append_sdes(text: &mut Vec<u8>, ssrc: u32) -> Result<(), NoMemory>
 {
     let s = ssrc.to_be_bytes();
     // one source; item 1, the canonical name, in three bytes; zeros up to a whole word
-    let first = VERSION + 1;
+    let first = VERSION_2 + 1;
     text.extend_from_slice(&[
         first, SDES, 0, 3, s[0], s[1], s[2], s[3], 1, 3, b's', b't', b'b', 0, 0, 0,
     ])?;

@@ -3,7 +3,7 @@ ghost use Rattle.std.specs.Prelude.{◌≡◌, ℕ, ◌+◌, ◌*◌, ◌<◌, �
 ghost use Rattle.rams_model.specs.Formats.{header, spelling, packet_at, AreCsrc, IsPacket, IsWholeExtension};
 ghost use Rattle.rtp_record.specs.{packet_of, behind};
 
-use packet_bytes::put;
+use packet_bytes::{VERSION_2, put};
 use ram_io::NoMemory;
 use std::alloc::Global;
 
@@ -93,7 +93,7 @@ fn fixed_header(f: &RtpFields<'_>) -> [u8; 12]
     let t = f.timestamp.to_be_bytes();
     let m = f.ssrc.to_be_bytes();
     [
-        128 + extension + (f.csrc.len() / 4) as u8,
+        VERSION_2 + extension + (f.csrc.len() / 4) as u8,
         marker + f.payload_type,
         s[0],
         s[1],
