@@ -1,6 +1,6 @@
 -- Each packet that came, is held or is sent again was read, and reads without its padding.
-use Rattle.std.proofs.Common.{◌≡◌, ℕ, ◌+◌, Bool, cond, not, List, [], ◌∷◌, ◌++◌, Option, Some, None, refl, subst, sym, ◌-◌, length, eqb, leb, ltb, Result, Ok, Err}
-use Rattle.std.specs.Prelude.{◌==◌, ◌&&◌, if◌then◌else◌, nat_le, filter, find, option_map, option_to_list, All, IsOk, Contains}
+use Rattle.std.proofs.Common.{◌≡◌, ℕ, Bool, cond, not, List, [], ◌∷◌, ◌++◌, Option, Some, None, refl, subst, sym, ◌-◌, length, eqb, ltb, Result, Ok, Err}
+use Rattle.std.specs.Prelude.{filter, option_map, option_to_list, All, IsOk, Contains}
 use Rattle.std.proofs.lemmas.Bool.{cond_both}
 use Rattle.std.proofs.lemmas.List.Elements.{All-nil, All-cons, All-head, All-tail, All-contains, All-append, All-filter, All-drop}
 use Rattle.rams_model.specs.declared.answer.Order.{Order}
@@ -8,20 +8,17 @@ use Rattle.rams_model.specs.declared.channel.Channel.{Channel}
 use Rattle.rams_model.specs.declared.event.Event.{Event}
 use Rattle.rams_model.specs.declared.fault.FrameFault.{FrameFault}
 use Rattle.rams_model.specs.declared.fault.RtpFault.{RtpFault}
-use Rattle.rams_model.specs.declared.fault.TlvFault.{TlvFault}
 use Rattle.rams_model.specs.declared.held.Held.{Held}
 use Rattle.rams_model.specs.declared.message.Info.{Info}
-use Rattle.rams_model.specs.declared.message.Stop.{Stop}
 use Rattle.rams_model.specs.declared.note.Cause.{Cause}
 use Rattle.rams_model.specs.declared.note.LiveNote.{LiveNote}
 use Rattle.rams_model.specs.declared.note.Note.{Note}
 use Rattle.rams_model.specs.declared.event.Event.TheVariants.{Live, Feedback, Tick}
-use Rattle.rams_model.specs.declared.note.Cause.TheVariants as cause
 use Rattle.rams_model.specs.declared.note.LiveNote.TheVariants.{Took, Restart, Jump, ForeignSsrc, ForeignType, TooBig}
 use Rattle.rams_model.specs.declared.note.Note.TheVariants as note
-use Rattle.rams_model.specs.Service.{Settings, stop_of, Message, bye, nack, asks, stops, Heard, live, dropped, feedback, unframed, tick, arrival, heard_packet, heard_feedback, heard_of, began, told, noted, History, arrivals, hold, known, opened, is_among, sequence, ssrc, Burst, next, open_burst, has_open, Wanted, pending, idle, channel_left, may_take, end_info, is_before, room, number_answer, after_numbers, stop_set, on_stop, stop_burst, after_stop, is_bye_of, after_bye, after_message, after_messages, run, send, is_lost, is_stop, after_run, run_sent, burst_served, all_served, repaired, all_repaired, all_forgotten, bursts_served, repairs_sent, after_tick, after_hearing, history_of, answer, Entry, Book, IsLawful, events_of, info_order, packet_order, again_order, update_order, end_order, order_of, newest_orders}
+use Rattle.rams_model.specs.Service.{Settings, Heard, live, dropped, arrival, heard_packet, heard_feedback, heard_of, began, told, noted, History, arrivals, hold, Burst, open_burst, end_info, history_of, answer, Entry, Book, IsLawful, events_of, info_order, packet_order, again_order, update_order, end_order, order_of, newest_orders}
 use Rattle.rams_model.specs.Formats.{Packet, packet_at, Framed, framed}
-use Rattle.rams_model.specs.Packets.{from_number, Arrival, Stream, held_as, with_packet, awaited, is_consecutive, consecutive_end, live_note, stream_after, stream_of, source}
+use Rattle.rams_model.specs.Packets.{Arrival, Stream, held_as, with_packet, awaited, is_consecutive, consecutive_end, live_note, stream_after, stream_of, source}
 use Rattle.rams_model.specs.Packets.Source as sources
 use Rattle.rams_model.proofs.Legal.{Allows, IsLegal}
 use Rattle.rams_model.proofs.Legality.{legal_history}

@@ -1,37 +1,36 @@
 -- A quiet burst is never lost, and has caught up when the time that its client was told is over.
-use Rattle.std.proofs.Common.{◌≡◌, ℕ, ◌-◌, ◌≤◌, Bool, true, false, cond, not, ◌&&◌, ◌||◌, List, [], ◌∷◌, ◌++◌, length, drop, Option, Some, None, refl, ap, sym, ◌∙◌, subst, ⊎_elim, arith, eqb, ltb, leb}
-use Rattle.std.specs.Prelude.{Result, Ok, Err, is_some}
+use Rattle.std.proofs.Common.{◌≡◌, ℕ, ◌-◌, ◌≤◌, Bool, true, false, not, ◌&&◌, ◌||◌, List, [], ◌∷◌, ◌++◌, length, drop, Option, Some, None, refl, ap, sym, ◌∙◌, subst, ⊎_elim, arith, eqb, leb}
+use Rattle.std.specs.Prelude.{is_some}
 use Rattle.std.proofs.lemmas.List.{length-drop}
 use Rattle.std.proofs.lemmas.Bool.{cond_both, cond-true, cond-false, cases_Bool, both_ways, true≢false, false_from_ne_true, and_parts, not-true}
 use Rattle.rams_model.specs.declared.event.Event.{Event}
 use Rattle.rams_model.specs.declared.fault.FrameFault.{FrameFault}
-use Rattle.rams_model.specs.declared.fault.RtpFault.{RtpFault}
 use Rattle.rams_model.specs.declared.held.Held.{Held}
 use Rattle.rams_model.specs.declared.note.Cause.{Cause}
 use Rattle.rams_model.specs.declared.note.LiveNote.{LiveNote}
 use Rattle.rams_model.specs.declared.note.Note.{Note}
-use Rattle.rams_model.specs.declared.event.Event.TheVariants.{Live, Feedback, Tick}
+use Rattle.rams_model.specs.declared.event.Event.TheVariants.{Tick}
 use Rattle.rams_model.specs.declared.note.Cause.TheVariants as cause
-use Rattle.rams_model.specs.declared.note.LiveNote.TheVariants.{TooBig, ForeignSsrc, ForeignType, Bad}
 use Rattle.rams_model.specs.declared.note.Note.TheVariants as note
-use Rattle.rams_model.specs.Service.{Settings, Message, messages, live, dropped, feedback, unframed, tick, arrival, heard_packet, heard_live, heard_feedback, heard_of, Item, began, told, noted, History, arrivals, stream, hold, opened, is_among, Burst, next, kept as kept_of, bursts, open_burst, after_tick, after_hearing, history_of}
-use Rattle.rams_model.specs.Packets.{hi, wires, from_number, Arrival, Follows, live_note, stream_of}
+use Rattle.rams_model.specs.Service.{Settings, Message, Heard, live, dropped, feedback, unframed, tick, heard_of, Item, began, told, noted, History, arrivals, hold, opened, is_among, Burst, next, kept as kept_of, bursts, open_burst, after_tick, after_hearing, history_of}
+use Rattle.rams_model.specs.Packets.{hi, wires, from_number, Arrival, Follows, stream_of}
 use Rattle.rams_model.specs.Packets.Source as sources
-use Rattle.rams_model.specs.Formats.{Packet, packet_at, Framed, framed}
 use Rattle.rams_model.specs.Laws.{source, until_end, moments, JoinsSlowly, IsQuiet, IsQuietBurst, AreAtLeast, told_join, NoneIs, is_accept_of, is_end_of}
 use Rattle.rams_model.proofs.Growing.{source_grows}
 use Rattle.rams_model.proofs.Since.{stands, opened_stands}
 use Rattle.rams_model.proofs.LastAccept.{last_accept, open_stands}
 use Rattle.book_laws.specs.{is_loss_of, ticks_since_told, QuietBurstsAreNeverLost, QuietBurstsKeepTheirJoinTimes}
 use Rattle.book_laws.proofs.Quiet.Packets.{held_to, no_fewer}
-use Rattle.book_laws.proofs.Quiet.Through.{IsOfTick, tick_through}
+use Rattle.rams_model.proofs.Legal.{is_tick}
+use Rattle.rams_model.proofs.Items.{is_of_tick, tick_puts}
+use Rattle.rams_model.proofs.Induction.{through, is_at_once, between, arrivals_of_event, arrivals_of_part}
 use Rattle.book_laws.proofs.Quiet.Sizes.{AreSmall, sized_filter, sized_source, at_least_one, small_history}
 use Rattle.burst_plan.specs.{gain}
 use Rattle.book_laws.proofs.Quiet.Near.{Nears, nears_none}
 use Rattle.book_laws.proofs.Quiet.States.{Sound, Good, open_is, open_parts}
 use Rattle.book_laws.proofs.Quiet.Turns.{is_opened}
 use Rattle.book_laws.proofs.Quiet.Kept.{good_tick, good_live, front_follows, front_sizes, drop_sized, same_head}
-use Rattle.book_laws.proofs.Quiet.Notes.{good_other, good_messages}
+use Rattle.book_laws.proofs.Quiet.Notes.{Stays, good_other, good_message}
 
 -- The beginning of any other event than a live packet or a tick.
 good_dropped : (s : Settings) (k : ℕ) (why : LiveNote) (history : History) → Good s k history → Good s k (began (dropped why) ∷ history)
@@ -46,58 +45,56 @@ good_framed : (s : Settings) (k client : ℕ) (ms : List Message) (history : His
 unfolding bursts moments told_join ticks_since_told arrivals
 good_framed s k client ms history good = record { keeps = good.keeps; sound = good.sound }
 
+good_begun : (s : Settings) (k : ℕ) (heard : Heard) (history : History) → is_tick heard ≡ false → Good s k history → Good s k (began heard ∷ history)
+good_begun s k (live a) history other good = good_live s k a history good
+good_begun s k (dropped why) history other good = good_dropped s k why history good
+good_begun s k (feedback client ms) history other good = good_framed s k client ms history good
+good_begun s k (unframed client fault) history other good = good_unframed s k client fault history good
+good_begun s k tick history other good = absurd (true≢false other)
+
+good_once : (s : Settings) (k : ℕ) (n : Note) (history : History) → is_at_once n ≡ true → Good s k history → Good s k (noted n None ∷ history)
+good_once s k (note.Live n) history is good = good_other s k (note.Live n) None history refl good
+good_once s k (note.BadFeedback client fault) history is good = good_other s k (note.BadFeedback client fault) None history refl good
+good_once s k n history is good = absurd (true≢false (sym is))
+
+-- what came of an event is small
+small_event : (s : Settings) (event : Event) (events : List Event) → AreSmall (arrivals (began (heard_of s.channel event) ∷ history_of s events))
+unfolding history_of
+small_event s event events = subst AreSmall (arrivals_of_event s (heard_of s.channel event) (history_of s events)) (small_history s (event ∷ events))
+
 -- Each event keeps it so.
-good_heard_live : (s : Settings) (k : ℕ) (bytes : List ℕ) (history : History) → Good s k history → Good s k (after_hearing s (heard_live s.channel bytes) history)
-unfolding after_hearing
-good_heard_live s k bytes history good =
-    cond_both (ltb 1470 (length bytes)) (dropped TooBig) (heard_packet s.channel (packet_at bytes)) (λ x. Good s k (after_hearing s x history)) (λ t. out TooBig) (λ f. read (packet_at bytes))
-  where
-    out : (why : LiveNote) → Good s k (after_hearing s (dropped why) history)
-    out why = good_other s k (note.Live why) None (began (dropped why) ∷ history) refl (good_dropped s k why history good)
-
-    comes : (a : Arrival) → Good s k (after_hearing s (live a) history)
-    comes a = good_other s k (note.Live (live_note s.channel.window (stream s history) a.sequence)) None (began (live a) ∷ history) refl (good_live s k a history good)
-
-    read : (r : Result Packet RtpFault) → Good s k (after_hearing s (heard_packet s.channel r) history)
-    read (Err fault) = out (Bad fault)
-    read (Ok p) =
-        cond_both (not (eqb p.ssrc s.channel.ssrc)) (dropped ForeignSsrc) (cond (not (eqb p.payload_type s.channel.pt)) (dropped ForeignType) (live (arrival s.channel p)))
-        (λ x. Good s k (after_hearing s x history)) (λ t. out ForeignSsrc)
-        (λ f. cond_both (not (eqb p.payload_type s.channel.pt)) (dropped ForeignType) (live (arrival s.channel p)) (λ x. Good s k (after_hearing s x history)) (λ t. out ForeignType)
-        (λ g. comes (arrival s.channel p)))
-
-good_heard_feedback : (s : Settings) (k client : ℕ) (r : Result (List Framed) FrameFault) (history : History) → AreSmall (arrivals history) → Good s k history
-    → Good s k (after_hearing s (heard_feedback client r) history)
-unfolding after_hearing arrivals
-good_heard_feedback s k client (Err fault) history small good =
-    good_other s k (note.BadFeedback client fault) None (began (unframed client fault) ∷ history) refl (good_unframed s k client fault history good)
-good_heard_feedback s k client (Ok packets) history small good =
-    (good_messages s k client (messages packets) (began (feedback client (messages packets)) ∷ history) (good_framed s k client (messages packets) history good, small)).0
+stays_history : (s : Settings) (k : ℕ) (events : List Event) → Stays s k (history_of s events)
+unfolding bursts arrivals
+stays_history s k events =
+    between s (Stays s k)
+    (λ event before n other is p. let heard = heard_of s.channel event in
+    (good_once s k n (began heard ∷ history_of s before) is (good_begun s k heard (history_of s before) other p.0), small_event s event before))
+    (λ client ms history p. (good_framed s k client ms history p.0, p.1)) (λ client m history l p. good_message s k client m history l p)
+    (λ before l p. let start = began tick ∷ history_of s before in
+    (good_tick s k (history_of s before) p.1 p.0, subst AreSmall (sym (arrivals_of_part is_of_tick start (after_tick s start) (tick_puts s start))) p.1))
+    (record { keeps = λ b others m ms is_newest is_open marks quiet. absurd cc; sound = tt }, tt) events
 
 good_history : (s : Settings) (k : ℕ) (events : List Event) → Good s k (history_of s events)
-unfolding history_of heard_of after_hearing bursts
-good_history s k [] = record { keeps = λ b others m ms is_newest is_open marks quiet. absurd cc; sound = tt }
-good_history s k (Live bytes ∷ events) = good_heard_live s k bytes (history_of s events) (good_history s k events)
-good_history s k (Tick ∷ events) = good_tick s k (history_of s events) (small_history s events) (good_history s k events)
-good_history s k (Feedback client bytes ∷ events) = good_heard_feedback s k client (framed bytes) (history_of s events) (small_history s events) (good_history s k events)
+good_history s k events = (stays_history s k events).0
 
 -- What a tick leaves as it was.
 record Kept (k : ℕ) (base history : History) : Type 0 where
   same_moments : moments k history ≡ moments k base
   same_arrivals : arrivals history ≡ arrivals base
 
-kept_note : (k : ℕ) (base : History) (note : Note) (packet : Option Held) (history : History) → IsOfTick note → Kept k base history → Kept k base (noted note packet ∷ history)
+kept_note : (k : ℕ) (base : History) (note : Note) (packet : Option Held) (history : History) → is_of_tick note ≡ true → Kept k base history → Kept k base (noted note packet ∷ history)
 unfolding moments arrivals
 kept_note k base (note.Burst client n q) packet history is a = record { same_moments = a.same_moments; same_arrivals = a.same_arrivals }
 kept_note k base (note.End client why) packet history is a = record { same_moments = a.same_moments; same_arrivals = a.same_arrivals }
 kept_note k base (note.Repair client n q) packet history is a = record { same_moments = a.same_moments; same_arrivals = a.same_arrivals }
 kept_note k base (note.Gone client n) packet history is a = record { same_moments = a.same_moments; same_arrivals = a.same_arrivals }
 kept_note k base (note.Forgot client) packet history is a = record { same_moments = a.same_moments; same_arrivals = a.same_arrivals }
-kept_note k base note packet history is a = absurd is
+kept_note k base note packet history is a = absurd (true≢false (sym is))
 
 kept_tick : (s : Settings) (k : ℕ) (before : History) → Kept k (began tick ∷ before) (after_tick s (began tick ∷ before))
 kept_tick s k before =
-    tick_through (Kept k (began tick ∷ before)) s (λ note packet h is p. kept_note k (began tick ∷ before) note packet h is p) (began tick ∷ before)
+    let start = began tick ∷ before in
+    through is_of_tick (Kept k start) (λ note packet h is p. kept_note k start note packet h is p) start (after_tick s start) (tick_puts s start)
     (record { same_moments = refl; same_arrivals = refl })
 
 -- Right after a tick, a quiet burst that is open and whose time is over has caught up.

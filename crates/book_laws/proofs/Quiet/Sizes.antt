@@ -1,5 +1,5 @@
 -- Each packet of the source has a wire size, and one of at most 1,500 bytes.
-use Rattle.std.proofs.Common.{◌≡◌, ℕ, ◌+◌, ◌≤◌, Bool, true, false, cond, not, List, [], ◌∷◌, ◌++◌, length, refl, subst, arith, eqb, ltb}
+use Rattle.std.proofs.Common.{◌≡◌, ℕ, ◌+◌, ◌≤◌, Bool, true, false, cond, not, List, [], ◌∷◌, ◌++◌, length, refl, sym, subst, arith, eqb, ltb}
 use Rattle.std.specs.Prelude.{filter, if◌then◌else◌, Result, Ok, Err}
 use Rattle.std.proofs.lemmas.List.{length-take, length-drop, length-append}
 use Rattle.std.proofs.lemmas.Bool.{cond_both, ltb-false}
@@ -12,12 +12,11 @@ use Rattle.rams_model.specs.declared.event.Event.TheVariants.{Live, Feedback, Ti
 use Rattle.rams_model.specs.declared.fault.RtpFault.TheVariants.{Short, Version, Csrc, Extension, Padding}
 use Rattle.rams_model.specs.declared.note.LiveNote.TheVariants.{Took, Restart, Jump, TooBig, ForeignSsrc, ForeignType}
 use Rattle.rams_model.specs.Formats.{Packet, header, spelling, stripped, wire_size, packet_at, fields_of, version, csrc_size, lacks_extension, miscounts_padding, Framed, framed}
-use Rattle.rams_model.specs.Service.{Settings, Message, messages, after_messages, live, dropped, feedback, tick, arrival, heard_packet, heard_live, heard_feedback, heard_of, began, History, arrivals, after_tick, after_hearing, history_of}
+use Rattle.rams_model.specs.Service.{Settings, messages, live, dropped, feedback, unframed, tick, arrival, heard_packet, heard_live, heard_feedback, heard_of, History, arrivals, after_hearing, history_of}
 use Rattle.rams_model.specs.Packets.{Arrival, Stream, held_as, with_packet, awaited, live_note, stream_after, stream_of, source}
 use Rattle.burst_plan.specs.{AreAtMost}
 use Rattle.rams_model.specs.Laws.{AreAtLeast}
-use Rattle.book_laws.proofs.Quiet.Through.{tick_through}
-use Rattle.book_laws.proofs.Quiet.Answers.{messages_through}
+use Rattle.rams_model.proofs.Induction.{arrivals_of_event}
 
 pub record IsSized (h : Held) : Type 0 where
   pub some : 1 ≤ h.wire
@@ -119,26 +118,17 @@ small_live s history bytes small =
 abbrev AreSmallIn : History → Type 0
 AreSmallIn history = AreSmall (arrivals history)
 
--- Notes bring no packet, nor do messages.
-small_messages : (s : Settings) (client : ℕ) (messages : List Message) (history : History) → AreSmallIn history → AreSmallIn (after_messages s client messages history)
-unfolding arrivals
-small_messages s client messages history small =
-    messages_through AreSmallIn s client (λ m h p. p) (λ note h asks p. p) messages history small
-
-small_tick : (s : Settings) (history : History) → AreSmallIn history → AreSmallIn (after_tick s history)
-unfolding arrivals
-small_tick s history small = tick_through AreSmallIn s (λ note packet h is p. p) history small
-
+-- Only a live packet brings one.
 small_feedback : (s : Settings) (client : ℕ) (r : Result (List Framed) FrameFault) (history : History) → AreSmallIn history
     → AreSmallIn (after_hearing s (heard_feedback client r) history)
-unfolding arrivals after_hearing
-small_feedback s client (Err fault) history small = small
-small_feedback s client (Ok packets) history small = small_messages s client (messages packets) (began (feedback client (messages packets)) ∷ history) small
+unfolding arrivals
+small_feedback s client (Err fault) history small = subst AreSmall (sym (arrivals_of_event s (unframed client fault) history)) small
+small_feedback s client (Ok packets) history small = subst AreSmall (sym (arrivals_of_event s (feedback client (messages packets)) history)) small
 
 -- All that ever arrived is small.
 pub small_history : (s : Settings) (events : List Event) → AreSmall (arrivals (history_of s events))
 unfolding history_of heard_of arrivals after_hearing
 small_history s [] = tt
 small_history s (Live bytes ∷ events) = small_live s (history_of s events) bytes (small_history s events)
-small_history s (Tick ∷ events) = small_tick s (began tick ∷ history_of s events) (small_history s events)
+small_history s (Tick ∷ events) = subst AreSmall (sym (arrivals_of_event s tick (history_of s events))) (small_history s events)
 small_history s (Feedback client bytes ∷ events) = small_feedback s client (framed bytes) (history_of s events) (small_history s events)

@@ -4,10 +4,9 @@ use Rattle.std.specs.Prelude.{find}
 use Rattle.std.proofs.lemmas.Bool.{cond_both, and_parts, leb-true}
 use Rattle.rams_model.specs.declared.held.Held.{Held}
 use Rattle.rams_model.specs.declared.note.Cause.{Cause}
-use Rattle.rams_model.specs.declared.note.Note.{Note}
 use Rattle.rams_model.specs.declared.note.Cause.TheVariants as cause
 use Rattle.rams_model.specs.declared.note.Note.TheVariants as note
-use Rattle.rams_model.specs.Service.{Settings, noted, History, hold, known, opened, sequence, Burst, next, open_burst, Wanted, pending, idle, channel_left, may_take, run, send, is_lost, is_stop, after_run, run_sent, burst_served, all_served, repaired, all_repaired, all_forgotten, bursts_served, repairs_sent, after_tick}
+use Rattle.rams_model.specs.Service.{Settings, noted, History, sequence, Burst, next, open_burst, Wanted, idle, channel_left, may_take, run, send, is_lost, is_stop, after_run, run_sent, burst_served, all_served, repaired, all_repaired, all_forgotten}
 use Rattle.rams_model.specs.Packets.{from_number}
 
 -- each of these clients is such a one
@@ -90,24 +89,3 @@ all_forgotten_through P s forgets (k ∷ ks) history p =
     let idles = eqb (idle s k history) s.channel.idle in
     all_forgotten_through P s forgets ks (cond idles (noted (note.Forgot k) None ∷ history) history)
     (cond_both idles (noted (note.Forgot k) None ∷ history) history P (λ t. forgets k history p) (λ f. p))
-
--- the notes of a tick
-abbrev pub IsOfTick : Note → Type 0
-IsOfTick (note.Burst k n q) = Unit {0}
-IsOfTick (note.End k why) = Unit {0}
-IsOfTick (note.Repair k n q) = Unit {0}
-IsOfTick (note.Gone k n) = Unit {0}
-IsOfTick (note.Forgot k) = Unit {0}
-IsOfTick note = ⊥
-
--- what stays so whatever a tick notes
-pub tick_through : (P : History → Type 0) (s : Settings) → ((note : Note) (packet : Option Held) (history : History) → IsOfTick note → P history → P (noted note packet ∷ history))
-    → (history : History) → P history → P (after_tick s history)
-unfolding after_tick
-tick_through P s any history p =
-    let runs = bursts_served s history in
-    let repairs = repairs_sent s runs in
-    all_forgotten_through P s (λ k h. any (note.Forgot k) None h tt) (known repairs) repairs
-    (all_repaired_through P s (hold s runs) (λ k n q x h le. any (note.Repair k n q) (Some x) h tt) (λ k n h. any (note.Gone k n) None h tt) (pending runs) runs
-    (all_served_through P (λ k. Unit {0}) s (hold s history) (λ k r n q x h. any (note.Burst k n q) (Some x) h tt) (λ k r why h. any (note.End k why) None h tt) (opened history)
-    (each_any (opened history)) history p))
