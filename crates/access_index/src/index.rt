@@ -9,6 +9,7 @@ ghost use Rattle.access_index.specs.{above, new_index, pushed, left_from, start_
 use crate::Choice;
 use ext_seq::age_ms;
 use ram_io::NoMemory;
+use rams_model::MOST_ON_WIRE;
 use std::alloc::Global;
 use std::collections::VecDeque;
 use std::marker::Model;
@@ -85,7 +86,7 @@ impl Index {
     pub fn push(&mut self, n: u64, ts: u32, wire: u32, access: bool)
         requires room { self.old.hi - self.old.lo < self.old.capacity }
         requires next { self.old.lo < self.old.hi → n ≡ self.old.hi }
-        requires wire { wire ≤ 1500 }
+        requires wire { wire ≤ MOST_ON_WIRE }
         requires small { n < 2 ^ 62 }
         requires few { self.old.calls < 2 ^ 40 }
         ensures step { self.new ≡ pushed self.old n ts wire access }

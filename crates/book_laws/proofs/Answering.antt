@@ -1,10 +1,8 @@
 -- Each message that was told is followed by its whole answer, and a note's message is the last that was told.
-use Rattle.std.proofs.Common.{◌≡◌, ℕ, inl, inr, ◌⊎◌, ⊎_elim, List, [], ◌∷◌, ◌++◌, Option, Some, None, refl, ap, sym, ◌∙◌, subst, append_assoc}
+use Rattle.std.proofs.Common.{◌≡◌, ℕ, Bool, inl, inr, ◌⊎◌, ⊎_elim, List, [], ◌∷◌, ◌++◌, Option, Some, None, refl, ap, sym, ◌∙◌, subst, append_assoc}
 use Rattle.rams_model.specs.declared.event.Event.{Event}
 use Rattle.rams_model.specs.declared.note.Note.{Note}
-use Rattle.rams_model.specs.declared.note.Note.TheVariants.{Live as LiveNoted, BadFeedback}
-use Rattle.rams_model.specs.Service.{Settings, Message, Heard, live, dropped, feedback, unframed, tick, heard_of, Item, began, told, noted, History, stream, after_message, after_tick, history_of}
-use Rattle.rams_model.specs.Packets.{live_note}
+use Rattle.rams_model.specs.Service.{Settings, Message, Heard, feedback, tick, heard_of, Item, began, told, noted, History, after_message, after_tick, history_of}
 use Rattle.book_laws.specs.{AreNotes, IsAnswered, IsNoNote, BeginAnew}
 use Rattle.rams_model.proofs.Legal.{Answers, newest_told}
 use Rattle.rams_model.proofs.Items.{AreOfKind, is_note, is_of_tick, message_puts, tick_puts}

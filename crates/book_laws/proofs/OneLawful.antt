@@ -1,16 +1,14 @@
 -- A lawful book tells what the history of its events tells.
-use Rattle.std.proofs.Common.{◌≡◌, ℕ, ◌⊎◌, inl, inr, ⊎_elim, List, [], ◌∷◌, ◌++◌, Option, None, refl, ap, ap₂, sym, ◌∙◌, subst, append_assoc}
+use Rattle.std.proofs.Common.{◌≡◌, ◌⊎◌, inl, inr, ⊎_elim, List, [], ◌∷◌, ◌++◌, Option, refl, ap, ap₂, sym, ◌∙◌, append_assoc}
 use Rattle.std.specs.Prelude.{option_to_list}
 use Rattle.std.proofs.lemmas.List.{append-nil}
 use Rattle.rams_model.specs.declared.answer.Order.{Order}
 use Rattle.rams_model.specs.declared.event.Event.{Event}
 use Rattle.rams_model.specs.declared.held.Held.{Held}
 use Rattle.rams_model.specs.declared.note.Note.{Note}
-use Rattle.rams_model.specs.declared.note.Note.TheVariants.{Live as LiveNoted, BadFeedback}
-use Rattle.rams_model.specs.Service.{Answered, Settings, Message, Heard, live, dropped, feedback, unframed, tick, heard_of, Item, began, told, noted, History, stream, after_message, after_messages, after_tick, order_of, newest_notes, newest_orders, Book, after_hearing, history_of, events_of, IsLawful, book}
-use Rattle.rams_model.specs.Packets.{live_note}
+use Rattle.rams_model.specs.Service.{Answered, Settings, Heard, heard_of, Item, began, told, noted, History, order_of, newest_notes, newest_orders, Book, after_hearing, history_of, events_of, IsLawful, book}
 use Rattle.rams_model.proofs.OneBook.{same_events, is_lawful, only_book}
-use Rattle.book_laws.specs.{IsMoment, AreNotes, IsTheBook, notes_in, notes_of, orders_of, TellsTheHistory, WasMade}
+use Rattle.book_laws.specs.{IsMoment, IsTheBook, notes_in, notes_of, orders_of, TellsTheHistory, WasMade}
 use Rattle.rams_model.proofs.Induction.{through_event}
 
 pub the_book : (s : Settings) (events : List Event) → IsTheBook s events (book s events)

@@ -1,17 +1,12 @@
 -- What the open bursts reserve fits the share.
-use Rattle.std.proofs.Common.{◌≡◌, ℕ, ◌+◌, ◌-◌, ◌≤◌, true, false, cond, not, ⊎_elim, List, [], ◌∷◌, Option, Some, None, refl, ap, sym, ◌∙◌, subst, arith, eqb}
-use Rattle.std.specs.Prelude.{Result, Ok, Err, unwrap_or, if◌then◌else◌}
+use Rattle.std.proofs.Common.{◌≡◌, ℕ, ◌+◌, ◌-◌, ◌≤◌, true, false, cond, ⊎_elim, List, [], ◌∷◌, Option, Some, None, refl, ap, sym, ◌∙◌, subst, arith, eqb}
 use Rattle.std.specs.List.{sum_by}
-use Rattle.std.proofs.lemmas.Bool.{cond_both, cond-true, cond-false, cases_Bool, eqb-true, eqb-false, ne_eqb, eq-eqb, ltb-false, or_left}
-use Rattle.rams_model.specs.declared.fault.TlvFault.{TlvFault}
+use Rattle.std.proofs.lemmas.Bool.{cond_both, cond-true, cond-false, cases_Bool, eqb-true, eqb-false, ne_eqb, eq-eqb, or_left}
 use Rattle.rams_model.specs.declared.held.Held.{Held}
-use Rattle.rams_model.specs.declared.note.Note.{Note}
 use Rattle.rams_model.specs.declared.note.Note.TheVariants as note
-use Rattle.rams_model.specs.Service.{Settings, rate_of, tick, began, told, noted, History, hold, opened, is_among, placed, with_client, without, Burst, next, bursts, open_burst, has_open, most_of, reserved, asked_rate, is_slow, is_too_much, is_full, join_from, begins, changes, on_burst, on_request, verdict}
-use Rattle.rams_model.specs.Formats.{Request, names}
-use Rattle.rams_model.specs.Packets.{chosen}
+use Rattle.rams_model.specs.Service.{Settings, tick, began, told, noted, History, opened, is_among, placed, with_client, without, Burst, bursts, open_burst, has_open, most_of, reserved}
 use Rattle.rams_model.proofs.Legal.{IsLegal}
-use Rattle.rams_model.proofs.Granting.{accepted, updated}
+use Rattle.rams_model.proofs.Granting.{accept_grants, update_grants}
 use Rattle.book_laws.proofs.Sums.{one_at, times, all_sum, sum_without, sum_placed, times-none, times-among, others_sum, one_changed, part_of_sum}
 use Rattle.book_laws.proofs.BurstAmounts.{opened_open, open_among, closed_among, most_falls, most_begun, most_changed, most_at_tick, of_others}
 
@@ -84,9 +79,9 @@ fits s (began tick ∷ history) l k e =
 fits s (began heard ∷ history) l k e = fits s history l k e
 fits s (told client message ∷ history) l k e = fits s history l k e
 fits s (noted (note.Accept client first rate join) packet ∷ history) l k e =
-    let g = (accepted s history client first rate join l.0).2 in omega (arith, g.fits, more_reserved s history client first rate join packet g.none)
+    let g = (accept_grants s history client first rate join l.0).2 in omega (arith, g.fits, more_reserved s history client first rate join packet g.none)
 fits s (noted (note.Update client rate join) packet ∷ history) l k e =
-    let g = updated s history client rate join l.0 in omega (arith, g.fits, changed_reserved s history client rate join packet g.burst g.is_open)
+    let g = update_grants s history client rate join l.0 in omega (arith, g.fits, changed_reserved s history client rate join packet g.burst g.is_open)
 fits s (noted (note.End client cause) packet ∷ history) l k e =
     let ks = opened history in
     let f = most_at s (noted (note.End client cause) packet ∷ history) in

@@ -7,7 +7,7 @@ use Rattle.std.proofs.lemmas.List.Elements.{All-nil, All-push, All-weaker, Conta
 use Rattle.rams_model.specs.declared.held.Held.{Held}
 use Rattle.rams_model.specs.declared.note.Note.TheVariants as note
 use Rattle.rams_model.specs.Service.{Settings, live, Item, began, told, noted, History, arrivals, hold}
-use Rattle.rams_model.specs.Packets.{Stream, consecutive_end, stream_of}
+use Rattle.rams_model.specs.Packets.{consecutive_end}
 use Rattle.rams_model.specs.Packets.Source as sources
 use Rattle.rams_model.specs.Laws.{source}
 use Rattle.rams_model.proofs.Growing.{source_grows}

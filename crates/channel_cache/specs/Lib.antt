@@ -6,7 +6,6 @@ pub mod Brought
 pub mod Step
 pub mod Seen
 pub mod Laws
-
 unfoldable pub use Rattle.channel_cache.specs.Arrivals.{arrival_of, note_heard, arrivals_heard, live_note_of, arrivals_after}
 unfoldable pub use Rattle.channel_cache.specs.Whole.{AreWhole}
 pub use Rattle.channel_cache.specs.Whole.{IsBare, IsWhole}

@@ -6,10 +6,10 @@ ghost use Rattle.ext_seq.specs.{Seen, new_numbering, noted, moved, IsWithin, IsN
 use crate::distance::{SEQUENCE_NUMBERS, ahead};
 use std::marker::Model;
 
-/// A packet jumps from so many ahead of the greatest number on (RFC 3550, A.1).
+// A packet jumps from so many ahead of the greatest number on (RFC 3550, A.1).
 const MAX_DROPOUT: u64 = 3000;
 
-/// A packet that is fewer than so many behind it is out of order (RFC 3550, A.1).
+// A packet that is fewer than so many behind it is out of order (RFC 3550, A.1).
 const MAX_MISORDER: u64 = 100;
 
 /// What the numbering makes of a sequence number.

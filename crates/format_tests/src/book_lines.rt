@@ -1,6 +1,7 @@
 //! Lines of a book behind a text, written by hand.
 use book_text::{append_count, append_no_channel, append_note, append_refused, append_send};
 use rams_model::{Cause, FrameFault, LineFault, LiveNote, Note, RtpFault};
+use std::alloc::Global;
 use std::test::Fail;
 
 /// What becomes of live packets, and the line of event 4 and channel 7.
@@ -20,60 +21,95 @@ const LIVE: [(LiveNote, &str); 13] = [
     (LiveNote::Bad(RtpFault::Padding), "4 7 bad padding\n"),
 ];
 
-const CLIENT: u64 = 281_474_976_710_655;
+/// Notes of a client that have its number, and perhaps a packet's, and their words where the client
+/// is 5 and the packet 65,546.
+fn notes(client: u64, n: u64) -> [(Note, &'static str); 20] {
+    let (first, rate, join) = (65_547, 1_500, 3_000);
+    let accept = Note::Accept {
+        client,
+        first,
+        rate,
+        join,
+    };
+    let seq = 65_535;
+    [
+        (accept, "accept 5 first 65547 rate 1500 join 3000"),
+        (
+            Note::Update { client, rate, join },
+            "update 5 rate 1500 join 3000",
+        ),
+        (Note::Again { client }, "again 5"),
+        (Note::Refuse { client, code: 507 }, "refuse 5 507"),
+        (Note::StopAt { client, n }, "stop 5 65546"),
+        (Note::StopKept { client, n }, "stop-kept 5 65546"),
+        (Note::StopIdle { client }, "stop-idle 5"),
+        (Note::Queued { client, n }, "queued 5 65546"),
+        (Note::Already { client, n }, "already 5 65546"),
+        (Note::Unheld { client, low: 12 }, "unheld 5 12"),
+        (Note::Early { client, n }, "early 5 65546"),
+        (Note::TableFull { client, n }, "table-full 5 65546"),
+        (Note::ClientFull { client, n }, "client-full 5 65546"),
+        (Note::QueueFull { client, n }, "queue-full 5 65546"),
+        (Note::ForeignNack { client }, "foreign-nack 5"),
+        (Note::Bye { client }, "bye 5"),
+        (Note::ByeIdle { client }, "bye-idle 5"),
+        (Note::Burst { client, n, seq }, "burst 5 65546 65535"),
+        (Note::Repair { client, n, seq }, "repair 5 65546 65535"),
+        (Note::Gone { client, n }, "gone 5 65546"),
+    ]
+}
 
-const N: u64 = 65_546;
-
-/// Notes of a client, and their words, with `C` for the client.
-const NOTES: [(Note, &str); 31] = [
-    (Note::Accept { client: CLIENT, first: 65_547, rate: 1_500, join: 3_000 }, "accept C first 65547 rate 1500 join 3000"),
-    (Note::Update { client: CLIENT, rate: 3_200, join: 1 }, "update C rate 3200 join 1"),
-    (Note::Again { client: CLIENT }, "again C"),
-    (Note::Refuse { client: CLIENT, code: 507 }, "refuse C 507"),
-    (Note::StopAt { client: CLIENT, n: N }, "stop C 65546"),
-    (Note::StopKept { client: CLIENT, n: N }, "stop-kept C 65546"),
-    (Note::StopIdle { client: CLIENT }, "stop-idle C"),
-    (Note::Queued { client: CLIENT, n: N }, "queued C 65546"),
-    (Note::Already { client: CLIENT, n: N }, "already C 65546"),
-    (Note::Unheld { client: CLIENT, low: 12 }, "unheld C 12"),
-    (Note::Early { client: CLIENT, n: N }, "early C 65546"),
-    (Note::TableFull { client: CLIENT, n: N }, "table-full C 65546"),
-    (Note::ClientFull { client: CLIENT, n: N }, "client-full C 65546"),
-    (Note::QueueFull { client: CLIENT, n: N }, "queue-full C 65546"),
-    (Note::ForeignNack { client: CLIENT }, "foreign-nack C"),
-    (Note::Bye { client: CLIENT }, "bye C"),
-    (Note::ByeIdle { client: CLIENT }, "bye-idle C"),
-    (Note::Burst { client: CLIENT, n: N, seq: 0 }, "burst C 65546 0"),
-    (Note::Repair { client: CLIENT, n: N, seq: 65_535 }, "repair C 65546 65535"),
-    (Note::Gone { client: CLIENT, n: N }, "gone C 65546"),
-    (Note::Forgot { client: CLIENT }, "forgot C"),
-    (Note::End { client: CLIENT, cause: Cause::Stopped }, "end C stopped"),
-    (Note::End { client: CLIENT, cause: Cause::Lost }, "end C lost"),
-    (Note::End { client: CLIENT, cause: Cause::Limit }, "end C limit"),
-    (Note::End { client: CLIENT, cause: Cause::Bye }, "end C bye"),
-    (Note::BadFeedback { client: CLIENT, fault: FrameFault::Empty }, "bad-feedback C empty"),
-    (Note::BadFeedback { client: CLIENT, fault: FrameFault::Short }, "bad-feedback C short"),
-    (Note::BadFeedback { client: CLIENT, fault: FrameFault::Version }, "bad-feedback C version"),
-    (Note::BadFeedback { client: CLIENT, fault: FrameFault::Length }, "bad-feedback C length"),
-    (Note::BadFeedback { client: CLIENT, fault: FrameFault::Padding }, "bad-feedback C padding"),
-    (Note::BadFeedback { client: CLIENT, fault: FrameFault::Body }, "bad-feedback C body"),
+/// Why bursts end, and the cause's word.
+const CAUSES: [(Cause, &str); 4] = [
+    (Cause::Stopped, "stopped"),
+    (Cause::Lost, "lost"),
+    (Cause::Limit, "limit"),
+    (Cause::Bye, "bye"),
 ];
+
+/// Why feedback is refused, and the fault's word.
+const FAULTS: [(FrameFault, &str); 6] = [
+    (FrameFault::Empty, "empty"),
+    (FrameFault::Short, "short"),
+    (FrameFault::Version, "version"),
+    (FrameFault::Length, "length"),
+    (FrameFault::Padding, "padding"),
+    (FrameFault::Body, "body"),
+];
+
+/// The note's line of event 4 and channel 7.
+fn line_of(alloc: Global, note: &Note) -> Result<String, Fail> {
+    let mut text = Vec::new(alloc);
+    append_note(&mut text, 4, 7, note)?;
+    Ok(String::from_utf8(text)?)
+}
 
 #[test]
 fn notes_are_lines(rt: HostRuntime) -> Result<(), Fail> {
     let alloc = rt.alloc();
     for (note, line) in LIVE {
-        let mut text = Vec::new(alloc);
-        append_note(&mut text, 4, 7, &Note::Live(note))?;
-        assert_eq!(rt; text.as_slice(), line.as_bytes());
+        assert_eq!(rt; line_of(alloc, &Note::Live(note))?.as_str(), line);
     }
-    for (note, line) in NOTES {
-        let mut text = b"a\n".to_vec(alloc)?;
-        append_note(&mut text, u64::MAX, 65_535, &note)?;
-        let words = line.replace(alloc, "C", "281474976710655")?;
-        let line = format!(in alloc; "a\n18446744073709551615 65535 {words}\n")?;
-        assert_eq!(rt; text.as_slice(), line.as_bytes());
+    for (note, words) in notes(5, 65_546) {
+        let line = format!(in alloc; "4 7 {words}\n")?;
+        assert_eq!(rt; line_of(alloc, &note)?, line);
     }
+    for (cause, word) in CAUSES {
+        let line = format!(in alloc; "4 7 end 5 {word}\n")?;
+        assert_eq!(rt; line_of(alloc, &Note::End { client: 5, cause })?, line);
+    }
+    for (fault, word) in FAULTS {
+        let line = format!(in alloc; "4 7 bad-feedback 5 {word}\n")?;
+        let note = Note::BadFeedback { client: 5, fault };
+        assert_eq!(rt; line_of(alloc, &note)?, line);
+    }
+    let forgot = Note::Forgot {
+        client: 281_474_976_710_655,
+    };
+    let mut text = b"a\n".to_vec(alloc)?;
+    append_note(&mut text, u64::MAX, 65_535, &forgot)?;
+    let line = "a\n18446744073709551615 65535 forgot 281474976710655\n";
+    assert_eq!(rt; text.as_slice(), line.as_bytes());
     Ok(())
 }
 

@@ -77,7 +77,11 @@ fn an_original_number_is_missing(rt: HostRuntime) -> Result<(), Fail> {
         let mut text = Vec::from_slice(alloc, &[first, 0x63, 1, 0xf4, 0, 0, 0, 0, 0, 0, 0, 1])?;
         text.extend_from_slice(behind)?;
         let packet = Rtp::read(&text).expect(&rt, "a packet");
-        assert_eq!(rt; restore(alloc, &packet, 33).err(), fault, "{first} {behind:?}");
+        assert_eq!(rt;
+            restore(alloc, &packet, 33).err(),
+            fault,
+            "{first} {behind:?}"
+        );
     }
     Ok(())
 }

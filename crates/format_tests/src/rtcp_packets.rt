@@ -34,7 +34,11 @@ const DATAGRAMS: [(&str, &[u8], &str); 19] = [
         "Short",
     ),
     ("version 1", &[0x40, 0xc9, 0x00, 0x00], "Version"),
-    ("version before length", &[0xc0, 0xc9, 0x00, 0x01], "Version"),
+    (
+        "version before length",
+        &[0xc0, 0xc9, 0x00, 0x01],
+        "Version",
+    ),
     ("a word is missing", &[0x80, 0xc9, 0x00, 0x01], "Length"),
     ("a header alone", &[0x80, 0xc9, 0x00, 0x00], "201 0 0, "),
     (
@@ -80,7 +84,11 @@ const DATAGRAMS: [(&str, &[u8], &str); 19] = [
         ],
         "Padding",
     ),
-    ("padding in a header alone", &[0xa0, 0xc9, 0x00, 0x00], "Padding"),
+    (
+        "padding in a header alone",
+        &[0xa0, 0xc9, 0x00, 0x00],
+        "Padding",
+    ),
     (
         "feedback of its two sources",
         &[

@@ -68,10 +68,7 @@ const ROWS: [(&[(&str, u32)], Option<ConfigFault>); 47] = [
     (&[("pt", 99), ("ring", 0)], RANGE),
     // the payload types differ
     (&[("pt", 99)], Some(ConfigFault::Rule(1))),
-    (
-        &[("pt", 99), ("burst", 1_599)],
-        Some(ConfigFault::Rule(1)),
-    ),
+    (&[("pt", 99), ("burst", 1_599)], Some(ConfigFault::Rule(1))),
     // a burst has room for a packet of 1,500 bytes beside what the source declares
     (&[("burst", 1_600)], None),
     (&[("burst", 1_599)], Some(ConfigFault::Rule(2))),
@@ -87,10 +84,7 @@ const ROWS: [(&[(&str, u32)], Option<ConfigFault>); 47] = [
         &[("share", 5_599), ("depth", 100)],
         Some(ConfigFault::Rule(3)),
     ),
-    (
-        &[("reserve", 1_000_000_000)],
-        Some(ConfigFault::Rule(3)),
-    ),
+    (&[("reserve", 1_000_000_000)], Some(ConfigFault::Rule(3))),
 ];
 
 /// Sets one of the settings, or the tick.

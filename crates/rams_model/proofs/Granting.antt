@@ -112,12 +112,12 @@ unfolding verdict
 updated_by s history k rate join (Err fault) v = absurd cc
 updated_by s history k rate join (Ok r) v = subst (Grants s history k r) v (grants s k history r)
 
-pub accepted : (s : Settings) (history : History) (k first rate join : ℕ) → (v : IsVerdict s history k (note.Accept k first rate join))
+pub accept_grants : (s : Settings) (history : History) (k first rate join : ℕ) → (v : IsVerdict s history k (note.Accept k first rate join))
     → (r : Request) × (v.request ≡ Ok r) × Accepted s history k first rate join r
-accepted s history k first rate join v = accepted_by s history k first rate join v.request v.is_verdict
+accept_grants s history k first rate join v = accepted_by s history k first rate join v.request v.is_verdict
 
-pub updated : (s : Settings) (history : History) (k rate join : ℕ) → IsVerdict s history k (note.Update k rate join) → Updated s history k rate join
-updated s history k rate join v = updated_by s history k rate join v.request v.is_verdict
+pub update_grants : (s : Settings) (history : History) (k rate join : ℕ) → IsVerdict s history k (note.Update k rate join) → Updated s history k rate join
+update_grants s history k rate join v = updated_by s history k rate join v.request v.is_verdict
 
 -- what is held rises
 pub held_rises : (s : Settings) (history : History) → Rises 0 (hold s history)

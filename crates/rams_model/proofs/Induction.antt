@@ -96,10 +96,10 @@ is_at_once _ = false
 -- What holds between messages and between events alone: each message's whole answer keeps it, and each whole tick.
 module _ (s : Settings) (P : History → Type 0)
     (at_once : (event : Event) (events : List Event) (n : Note) → is_tick (heard_of s.channel event) ≡ false → is_at_once n ≡ true → P (history_of s events)
-        → P (noted n None ∷ began (heard_of s.channel event) ∷ history_of s events))
+    → P (noted n None ∷ began (heard_of s.channel event) ∷ history_of s events))
     (begins : (client : ℕ) (ms : List Message) (history : History) → P history → P (began (feedback client ms) ∷ history))
     (answers : (client : ℕ) (message : Message) (history : History) → IsLegal s (after_message s client message (told client message ∷ history)) → P history
-        → P (after_message s client message (told client message ∷ history)))
+    → P (after_message s client message (told client message ∷ history)))
     (ticks : (events : List Event) → IsLegal s (after_tick s (began tick ∷ history_of s events)) → P (history_of s events) → P (after_tick s (began tick ∷ history_of s events))) where
   each_message : (client : ℕ) (ms : List Message) (history : History) → IsLegal s (after_messages s client ms history) → P history → P (after_messages s client ms history)
   unfolding after_messages

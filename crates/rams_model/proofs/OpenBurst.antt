@@ -81,12 +81,12 @@ at_accept s k client first rate join Q packet history keeps h =
     cond_both (eqb client k) (begun s first rate join (sequence s k history) ∷ bursts s k history) (bursts s k history) (λ bs. Holds Q (newest_open bs))
     (λ t. keeps.begins first rate join (ap (λ (c : ℕ). note.Accept c first rate join) (eqb-true client k t))) (λ f. h)
 
-at_end_note : (s : Settings) (k client : ℕ) (why : Cause) (Q : Burst → Type 0) (packet : Option Held) (history : History) → Holds Q (open_burst s k history)
+pub at_end_note : (s : Settings) (k client : ℕ) (why : Cause) (Q : Burst → Type 0) (packet : Option Held) (history : History) → (eqb client k ≡ false → Holds Q (open_burst s k history))
     → Holds Q (open_burst s k (noted (note.End client why) packet ∷ history))
 unfolding bursts
 at_end_note s k client why Q packet history h =
     cond_both (eqb client k) (newest_changed (after_note s (note.End client why) (size_of packet)) (bursts s k history)) (bursts s k history) (λ bs. Holds Q (newest_open bs))
-    (λ t. over (bursts s k history)) (λ f. h)
+    (λ t. over (bursts s k history)) h
   where
     over : (bs : List Burst) → Holds Q (newest_open (newest_changed (after_note s (note.End client why) (size_of packet)) bs))
     over [] = tt
@@ -104,7 +104,7 @@ at_note s k Q (note.Burst client n q) packet history keeps h =
     at_own (eqb client k) Q (after_note s (note.Burst client n q) (size_of packet)) (bursts s k history) (λ b. refl) (λ t b. keeps.changes b t) h
 at_note s k Q (note.Repair client n q) packet history keeps h =
     at_own (eqb client k) Q (after_note s (note.Repair client n q) (size_of packet)) (bursts s k history) (λ b. refl) (λ t b. keeps.changes b t) h
-at_note s k Q (note.End client why) packet history keeps h = at_end_note s k client why Q packet history h
+at_note s k Q (note.End client why) packet history keeps h = at_end_note s k client why Q packet history (λ f. h)
 at_note s k Q n packet history keeps h = h
 
 pub at_tick : (s : Settings) (k : ℕ) (P Q : Burst → Type 0) (history : History) → ((b : Burst) → P b → Q (in_tick s b)) → Holds P (open_burst s k history)

@@ -30,7 +30,8 @@ fn header(words: u16, sender: u32, media: u32) -> [u8; 12]
     let w = words.to_be_bytes();
     let s = sender.to_be_bytes();
     let m = media.to_be_bytes();
+    let first = VERSION + FMT_RAMS;
     [
-        VERSION + FMT_RAMS, RTPFB, w[0], w[1], s[0], s[1], s[2], s[3], m[0], m[1], m[2], m[3],
+        first, RTPFB, w[0], w[1], s[0], s[1], s[2], s[3], m[0], m[1], m[2], m[3],
     ]
 }

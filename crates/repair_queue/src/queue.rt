@@ -5,10 +5,10 @@ use ram_io::NoMemory;
 use std::alloc::Global;
 use std::marker::Model;
 
-/// Most repairs of a channel that are pending at once.
+// Most repairs of a channel that are pending at once.
 const MOST_PENDING: usize = 4096;
 
-/// Most repairs of one client that are pending at once.
+// Most repairs of one client that are pending at once.
 const MOST_OF_CLIENT: u32 = 256;
 
 /// The pending repairs, the oldest first. An index beside them answers an ask without going through

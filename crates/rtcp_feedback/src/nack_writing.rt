@@ -60,8 +60,9 @@ fn header(sender: u32, media: u32) -> [u8; 12]
 {
     let s = sender.to_be_bytes();
     let m = media.to_be_bytes();
+    let first = VERSION + FMT_NACK;
     [
-        VERSION + FMT_NACK, RTPFB, 0, 0, s[0], s[1], s[2], s[3], m[0], m[1], m[2], m[3],
+        first, RTPFB, 0, 0, s[0], s[1], s[2], s[3], m[0], m[1], m[2], m[3],
     ]
 }
 

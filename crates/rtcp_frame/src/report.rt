@@ -42,8 +42,9 @@ pub fn append_sdes(text: &mut Vec<u8>, ssrc: u32) -> Result<(), NoMemory>
 {
     let s = ssrc.to_be_bytes();
     // one source; item 1, the canonical name, in three bytes; zeros up to a whole word
+    let first = VERSION + 1;
     text.extend_from_slice(&[
-        VERSION + 1, SDES, 0, 3, s[0], s[1], s[2], s[3], 1, 3, b's', b't', b'b', 0, 0, 0,
+        first, SDES, 0, 3, s[0], s[1], s[2], s[3], 1, 3, b's', b't', b'b', 0, 0, 0,
     ])?;
     Ok(())
 }

@@ -30,6 +30,15 @@ const PLAIN_STOP: [u32; 4] = [
     0x0300_0000, // SFMT=3 (RAMS-T)
 ];
 
+const UNREADABLE_STOP: [u32; 6] = [
+    0x86cd_0005, // v=2, p=0, FMT=6 (RAMS), RTPFB, length 5
+    SENDER,      // sender
+    SOURCE,      // media source
+    0x0300_0000, // SFMT=3 (RAMS-T)
+    0x3d00_0002, // TLV 61 (first multicast packet), length 2 in place of 4
+    0x0001_0000, // number 1, padding
+];
+
 /// What a client is told of a burst of 4,000 bytes a tick, which lasts 1,000 ms at most.
 const ACCEPTED: Info = Info {
     msn: 0,
@@ -173,9 +182,20 @@ const UPDATED: Info = Info {
     ..ACCEPTED
 };
 
-/// A request that names another bit rate changes the rate; the stop is the packet that is next.
-const UPDATES: [Row; 6] = [
+/// A request that names another bit rate changes the rate; the stop is the packet that is next. A RAMS-T
+/// that can't be read is refused.
+const UPDATES: [Row; 7] = [
     (Start(10, 0, 4), "[Live(Took(65546))]", 0, None),
+    (
+        Heard(5, &[&UNREADABLE_STOP]),
+        "[Refuse { client: 5, code: 404 }]",
+        1,
+        Some(Info {
+            msn: 0,
+            code: 404,
+            ..COMPLETED
+        }),
+    ),
     (
         Asks(5, &SLOW),
         "[Accept { client: 5, first: 65546, rate: 1600, join: 46 }]",

@@ -3,12 +3,12 @@ use std::alloc::{AllocError, Global};
 use std::test::Fail;
 use ts_access::has_access;
 
-/// The first six bytes of a TS packet: sync byte, packet identifier 0, control byte, length of the
-/// adaptation field, its flags.
+// The first six bytes of a TS packet: sync byte, packet identifier 0, control byte, length of the
+// adaptation field, its flags.
 const FLAGGED: [u8; 6] = [0x47, 0x40, 0x00, 0x20, 0x01, 0x40];
 
-/// Payloads, each as the first bytes of its pieces and how long they are with the zeros behind, and
-/// whether one of their packets has the flag.
+// Payloads, each as the first bytes of its pieces and how long they are with the zeros behind, and
+// whether one of their packets has the flag.
 const PAYLOADS: [(&[(&[u8], usize)], bool); 17] = [
     (&[(&FLAGGED, 188)], true),
     // no adaptation field
@@ -37,7 +37,7 @@ const PAYLOADS: [(&[(&[u8], usize)], bool); 17] = [
     (&[(&[], 1), (&FLAGGED, 376)], false),
 ];
 
-/// The bytes of a payload.
+// The bytes of a payload.
 fn payload(alloc: Global, pieces: &[(&[u8], usize)]) -> Result<Vec<u8>, AllocError> {
     let mut bytes = Vec::new(alloc);
     for (head, len) in pieces {

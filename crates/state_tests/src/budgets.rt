@@ -1,8 +1,8 @@
 //! Amounts that are reserved and spent, counted out by hand.
 use link_budget::Budget;
 
-/// A share and its reserve, two amounts that are asked for in turn, whether each is reserved, and what
-/// is reserved then.
+// A share and its reserve, two amounts that are asked for in turn, whether each is reserved, and what
+// is reserved then.
 const RESERVED: [(u64, u64, [u64; 2], [bool; 2], u64); 8] = [
     // two bursts of 4,000 bytes beside 1,500 for repairs
     (9500, 1500, [4000, 4000], [true, true], 8000),
@@ -17,19 +17,25 @@ const RESERVED: [(u64, u64, [u64; 2], [bool; 2], u64); 8] = [
     (u64::MAX, 1, [u64::MAX, 2], [false, true], 2),
 ];
 
-/// A share and a swell, the sizes of the packets in two ticks, what each tick has as it begins, and
-/// what the second leaves.
+// A share and a swell, the sizes of the packets in two ticks, what each tick has as it begins, and
+// what the second leaves.
 const TICKS: [(u64, u64, [[u64; 3]; 2], [u64; 2], u64); 5] = [
     // nothing is sent in the first tick; the second has room for three packets, or for two
     (3100, 1400, [[0, 0, 0], [1500, 1500, 1500]], [3100, 4500], 0),
     (3100, 1399, [[0, 0, 0], [1500, 1500, 0]], [3100, 4499], 1499),
     // what isn't kept is lost, and what is kept doesn't add up
     (1000, 300, [[400, 0, 0], [0, 0, 0]], [1000, 1300], 1300),
-    (1000, 900, [[300, 100, 0], [200, 300, 0]], [1000, 1600], 1100),
+    (
+        1000,
+        900,
+        [[300, 100, 0], [200, 300, 0]],
+        [1000, 1600],
+        1100,
+    ),
     (1000, 0, [[1000, 0, 0], [1, 2, 3]], [1000, 1000], 994),
 ];
 
-/// Of 3,100 bytes: what is spent before, what the client has left, a size, and whether it fits.
+// Of 3,100 bytes: what is spent before, what the client has left, a size, and whether it fits.
 const SPENT: [(u64, u64, u64, bool); 9] = [
     (0, 1500, 1500, true),
     (0, 1499, 1500, false),
@@ -82,6 +88,10 @@ fn spends_within_both_bounds(rt: HostRuntime) {
         let fits = budget.spend(client_left, size);
         assert_eq!(rt; fits, want, "{before} {client_left} {size}");
         let taken = if fits { size } else { 0 };
-        assert_eq!(rt; left - budget.left(), taken, "{before} {client_left} {size}");
+        assert_eq!(rt;
+            left - budget.left(),
+            taken,
+            "{before} {client_left} {size}"
+        );
     }
 }

@@ -4,7 +4,7 @@ use burst_plan::{
     quiet_bursts_catch_up, rate_of, stop_of,
 };
 
-/// The bit rate of a request, the ms of a tick, the most of a client in bytes, and the rate.
+// The bit rate of a request, the ms of a tick, the most of a client in bytes, and the rate.
 const RATES: [(Option<u64>, u32, u64, u64); 12] = [
     // as no bit rate is named
     (None, 10, 4000, 4000),
@@ -24,7 +24,7 @@ const RATES: [(Option<u64>, u32, u64, u64); 12] = [
     (Some(1 << 63), 8001, u64::MAX, 9_224_524_958_359_382_654),
 ];
 
-/// A rate in bytes, the ms of a tick, and the bit rate.
+// A rate in bytes, the ms of a tick, and the bit rate.
 const BIT_RATES: [(u64, u32, u64); 5] = [
     (4000, 10, 3_200_000),
     (1599, 7, 1_827_428),
@@ -33,7 +33,7 @@ const BIT_RATES: [(u64, u32, u64); 5] = [
     (1_000_000_000, 1, 8_000_000_000_000),
 ];
 
-/// Bytes behind, a rate, declared bytes, what a burst may keep, and the ticks until it has caught up.
+// Bytes behind, a rate, declared bytes, what a burst may keep, and the ticks until it has caught up.
 const JOINS: [(u64, u64, u64, u64, u64); 12] = [
     // one byte is gained in a tick: a slow client, and one packet per tick
     (46, 1600, 100, 0, 46),
@@ -54,7 +54,7 @@ const JOINS: [(u64, u64, u64, u64, u64); 12] = [
     (u64::MAX, u64::MAX, u64::MAX - 1500, 0, u64::MAX),
 ];
 
-/// The first packet of a burst, the one that would be sent next, what is named, and the stop.
+// The first packet of a burst, the one that would be sent next, what is named, and the stop.
 const STOPS: [(u64, u64, Option<u32>, u64); 12] = [
     // none is named
     (131_070, 131_074, None, 131_074),

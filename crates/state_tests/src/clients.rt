@@ -4,10 +4,10 @@ use std::alloc::Global;
 use std::process::Abort;
 use std::test::Fail;
 
-/// Most clients of a table, and those that fill it.
+// Most clients of a table, and those that fill it.
 const FULL: [(u32, &[u32]); 3] = [(0, &[]), (1, &[5]), (3, &[2, 5, 9])];
 
-/// Known clients in the order in which they came, a client, and the least that is above it.
+// Known clients in the order in which they came, a client, and the least that is above it.
 const NEXT: [(&[u32], Option<u64>, Option<u64>); 8] = [
     (&[], None, None),
     (&[], Some(0), None),
@@ -34,7 +34,7 @@ fn admit(rt: &impl Abort, alloc: Global, table: &mut Table, client: u32) -> Resu
     table.admit(alloc, u64::from(client), client, 500)
 }
 
-/// A table of at most so many clients, in which these are known.
+// A table of at most so many clients, in which these are known.
 fn table_of(rt: &impl Abort, alloc: Global, most: u32, clients: &[u32]) -> Result<Table, Fail> {
     let mut table = Table::new(alloc, most)?;
     for client in clients {
@@ -43,7 +43,7 @@ fn table_of(rt: &impl Abort, alloc: Global, most: u32, clients: &[u32]) -> Resul
     Ok(table)
 }
 
-/// The entry of a client that was admitted.
+// The entry of a client that was admitted.
 fn admitted(ssrc: u32) -> Entry {
     Entry {
         ssrc,

@@ -12,11 +12,11 @@ use std::alloc::Global;
 use std::process::Abort;
 use std::test::Fail;
 
-/// A sequence number, its note, and what is held after it: the number of the oldest packet, and one
-/// above that of the newest.
+// A sequence number, its note, and what is held after it: the number of the oldest packet, and one
+// above that of the newest.
 type Step = (u16, LiveNote, u64, u64);
 
-/// Most places by which a packet may come late, most packets held, and what comes.
+// Most places by which a packet may come late, most packets held, and what comes.
 const ROWS: [(u32, u32, &[Step]); 5] = [
     // some come out of order, one too late
     (
@@ -81,7 +81,7 @@ const ROWS: [(u32, u32, &[Step]); 5] = [
     ),
 ];
 
-/// A packet: its sequence number, how many bytes of payload, another byte at a place, and its note.
+// A packet: its sequence number, how many bytes of payload, another byte at a place, and its note.
 const NOTED: [(u16, usize, (usize, u8), LiveNote); 9] = [
     (1, 1459, (0, 0x80), TooBig),
     (10, 4, (0, 0x80), Took(65546)),
@@ -94,7 +94,7 @@ const NOTED: [(u16, usize, (usize, u8), LiveNote); 9] = [
     (11, 1458, (0, 0x80), Took(65547)),
 ];
 
-/// A packet with a header extension, two contributing sources and two bytes of padding.
+// A packet with a header extension, two contributing sources and two bytes of padding.
 const PADDED: [u8; 32] = [
     0xb2, 0xa1, 0x00, 0x0a, // v=2, p=1, x=1, cc=2, m=1, pt=33, sequence number 10
     0x00, 0x00, 0x00, 0x00, // timestamp
@@ -106,7 +106,7 @@ const PADDED: [u8; 32] = [
     0xaa, 0xbb, 0x00, 0x02, // payload of two bytes, padding of two
 ];
 
-/// The same packet without its padding.
+// The same packet without its padding.
 const BARE: [u8; 30] = [
     0x92, 0xa1, 0x00, 0x0a, // v=2, p=0, x=1, cc=2, m=1, pt=33, sequence number 10
     0x00, 0x00, 0x00, 0x00, // timestamp
@@ -125,7 +125,7 @@ fn cache_of(rt: &impl Abort, alloc: Global, channel: Channel) -> Result<Cache, F
     Ok(Cache::new(alloc, &config)?)
 }
 
-/// Takes a packet, and compares its note.
+// Takes a packet, and compares its note.
 fn expect_note(
     rt: &impl Abort,
     alloc: Global,
@@ -141,7 +141,7 @@ fn expect_note(
     Ok(())
 }
 
-/// Takes packets with these sequence numbers, and compares the note of each and what is held then.
+// Takes packets with these sequence numbers, and compares the note of each and what is held then.
 fn expect_steps(
     rt: &impl Abort,
     alloc: Global,

@@ -6,8 +6,8 @@ use reorder_window::{Came, Window};
 use std::alloc::AllocError;
 use std::test::Fail;
 
-/// How far a window waits, and the numbers that come after its start at 65,546: each with what becomes
-/// of it, and the numbers that go out then.
+// How far a window waits, and the numbers that come after its start at 65,546: each with what becomes
+// of it, and the numbers that go out then.
 type Row = (u32, &'static [(u64, Came, &'static [u64])]);
 
 const ROWS: [Row; 5] = [
@@ -75,7 +75,7 @@ const ROWS: [Row; 5] = [
     ),
 ];
 
-/// Releases all that can be.
+// Releases all that can be.
 fn drain(window: &mut Window<u64>, out: &mut Vec<(u64, u64)>) -> Result<(), AllocError>
     ensures ended { window.new.ended ≡ window.old.ended }
     ensures settled { OnOk result (first_free window.new ≡ None) }
@@ -87,7 +87,7 @@ fn drain(window: &mut Window<u64>, out: &mut Vec<(u64, u64)>) -> Result<(), Allo
     Ok(())
 }
 
-/// Lets an item arrive, which is ten times its number, and releases all that can be.
+// Lets an item arrive, which is ten times its number, and releases all that can be.
 fn pass(window: &mut Window<u64>, n: u64, out: &mut Vec<(u64, u64)>) -> Result<Came, AllocError>
     requires going { window.old.ended ≡ false }
     requires settled { first_free window.old ≡ None }
@@ -130,7 +130,10 @@ fn the_end_of_a_start_lets_all_go(rt: HostRuntime) -> Result<(), Fail> {
     out.clear();
     window.end_start();
     drain(&mut window, &mut out)?;
-    assert_eq!(rt; out.as_slice(), [(65549, 655490), (65551, 655510)].as_slice());
+    assert_eq!(rt;
+        out.as_slice(),
+        [(65549, 655490), (65551, 655510)].as_slice()
+    );
     window.begin(85547);
     assert_eq!(rt; pass(&mut window, 85547, &mut out)?, Came::Kept);
     assert_eq!(rt; pass(&mut window, 65552, &mut out)?, Came::Late);

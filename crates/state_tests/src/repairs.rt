@@ -4,10 +4,10 @@ use std::alloc::Global;
 use std::process::Abort;
 use std::test::Fail;
 
-/// Pending repairs, each its client and its number.
+// Pending repairs, each its client and its number.
 const PAIRS: [(u64, u64); 5] = [(6, 11), (5, 12), (6, 10), (7, 11), (5, 10)];
 
-/// Which of them are done, and what is pending then.
+// Which of them are done, and what is pending then.
 const SETTLED: [([bool; 5], &[(u64, u64)]); 4] = [
     ([false; 5], &PAIRS),
     ([true; 5], &[]),
@@ -18,7 +18,7 @@ const SETTLED: [([bool; 5], &[(u64, u64)]); 4] = [
     ([false, true, true, false, true], &[(6, 11), (7, 11)]),
 ];
 
-/// A client that leaves, and what is pending then.
+// A client that leaves, and what is pending then.
 const FORGOTTEN: [(u64, &[(u64, u64)]); 3] = [
     (5, &[(6, 11), (6, 10), (7, 11)]),
     (6, &[(5, 12), (7, 11), (5, 10)]),
@@ -29,7 +29,7 @@ fn ask(rt: &impl Abort, queue: &mut Queue, client: u64, n: u64, answer: Asked) {
     assert_eq!(rt; queue.ask(client, n), answer, "{n} for {client}");
 }
 
-/// A queue in which the pairs are pending.
+// A queue in which the pairs are pending.
 fn queue_of(rt: &impl Abort, alloc: Global) -> Result<Queue, Fail> {
     let mut queue = Queue::new(alloc)?;
     for (client, n) in PAIRS {

@@ -5,7 +5,7 @@ use std::alloc::{AllocError, Global};
 use std::process::Abort;
 use std::test::Fail;
 
-/// So many packets at most, the numbers that are put in, and the interval that is held then.
+// So many packets at most, the numbers that are put in, and the interval that is held then.
 const ROWS: [(u32, &[u64], u64, u64); 10] = [
     (4, &[], 0, 0),
     (1, &[65546, 65547, 65548], 65548, 65549),
@@ -22,7 +22,7 @@ const ROWS: [(u32, &[u64], u64, u64); 10] = [
     (2, &[131070, 131071, 131072], 131071, 131073),
 ];
 
-/// The packet of a number; its bytes are the number's.
+// The packet of a number; its bytes are the number's.
 fn packet(alloc: Global, n: u64) -> Result<Held, AllocError> {
     Ok(Held {
         n,
@@ -33,7 +33,7 @@ fn packet(alloc: Global, n: u64) -> Result<Held, AllocError> {
     })
 }
 
-/// The numbers from `lo` up to `hi` are held, each with its own packet, and none around them is.
+// The numbers from `lo` up to `hi` are held, each with its own packet, and none around them is.
 fn expect_held(rt: &impl Abort, ring: &Ring, lo: u64, hi: u64) {
     assert_eq!(rt; (ring.lo(), ring.hi()), (lo, hi));
     for n in lo..hi {

@@ -1,7 +1,7 @@
 //! Sequence numbers as the channel meets them (RFC 3550, A.1), and numbers named by 16 bits.
 use ext_seq::{Noted, Numbering, age_ms, least_from, resolve_in};
 
-/// Lists of sequence numbers, each with what it becomes. A list goes to a numbering of its own.
+// Lists of sequence numbers, each with what it becomes. A list goes to a numbering of its own.
 const LISTS: [&[(u16, Noted)]; 5] = [
     // around the wrap, then a restart
     &[
@@ -40,7 +40,7 @@ const LISTS: [&[(u16, Noted)]; 5] = [
     ],
 ];
 
-/// An interval of numbers, 16 bits, and the number in it that they name.
+// An interval of numbers, 16 bits, and the number in it that they name.
 const RESOLVED: [(u64, u64, u16, Option<u64>); 8] = [
     (65546, 65546, 10, None),
     (65546, 65547, 10, Some(65546)),
@@ -54,7 +54,7 @@ const RESOLVED: [(u64, u64, u16, Option<u64>); 8] = [
     (65546, 131082, 10, Some(65546)),
 ];
 
-/// A number, 16 bits, and the least number from there on that they name.
+// A number, 16 bits, and the least number from there on that they name.
 const LEAST: [(u64, u16, u64); 4] = [
     (65546, 10, 65546),
     (65546, 9, 131081),
@@ -62,7 +62,7 @@ const LEAST: [(u64, u16, u64); 4] = [
     (9223372036854775807, 65534, 9223372036854841342),
 ];
 
-/// Two timestamps, and by how many ms the second is older.
+// Two timestamps, and by how many ms the second is older.
 const AGES: [(u32, u32, u32); 5] = [
     (18000, 0, 200),
     (18089, 0, 200),

@@ -1,6 +1,6 @@
 use Rattle.std.proofs.Common.{◌≡◌, false, None}
 use Rattle.reorder_window.specs.{first_free}
-use Rattle.reorder_window.proofs.tests.the_end_of_a_start_lets_all_go.Given as goal
+use Rattle.state_tests.proofs.reordering.the_end_of_a_start_lets_all_go.Given as goal
 
 -- the start goes on, and nothing can be released
 abbrev pub invariant-loop-n : goal.invariant-loop-n
