@@ -4,7 +4,6 @@ pub mod Numbers
 pub mod Parts
 pub mod Judging
 pub mod Spelling
-
 unfoldable pub use Rattle.trace_text.specs.Shown.{shown, Gives, is_ranged, Unread, Narrows, HasDigits}
 unfoldable pub use Rattle.trace_text.specs.Cursor.{words_left, is_end, is_named, Reads, ReadsWord, IsWord, pair_in}
 unfoldable pub use Rattle.trace_text.specs.Numbers.{names_in, places_in, amounts_in, bounds_in, said_in, keeping_in, numbers_in, channel_of, line_of_numbers}

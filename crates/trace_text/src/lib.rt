@@ -22,7 +22,6 @@ mod words;
 pub use bytes::{decode, decode_to};
 pub use laws::{lines_are_spelled_as_read, spelled_lines_are_read, the_words_tell};
 pub use line::{Judged, Line};
-pub use order::kind_of_first_word;
 pub use rams_model::{LineFault, Mode};
 pub use read::read_line;
 pub use state::State;
