@@ -5,6 +5,7 @@ use Rattle.std.proofs.lemmas.Bool.Decides.{nat_tests}
 use Rattle.std.proofs.lemmas.List.Sums.{sum_by_push}
 use Rattle.rams_model.specs.declared.held.Held.{Held}
 use Rattle.rams_model.specs.Packets.{wires, from_number, behind, last_timestamp, Follows}
+use Rattle.rams_model.proofs.Holding.{all_from}
 use Rattle.access_index.specs.{AccessPoint, more_behind, point_of, points_of}
 
 -- an access point in front of others
@@ -17,14 +18,6 @@ points_from [] = []
 points_from (h ∷ hs) = in_front h.access (record { n = h.n; ts = h.ts; behind = wires (h ∷ hs) }) (points_from hs)
 
 -- ---- the packets from a number on
-pub from_step : (from : ℕ) (h : Held) (hs ks : List Held) → nat_le from h.n ≡ true → ks ≡ hs → (if nat_le from h.n then h ∷ ks else ks) ≡ h ∷ hs
-from_step from h hs ks is same = ap (λ b. if b then h ∷ ks else ks) is ∙ ap (λ js. h ∷ js) same
-
-pub from_all : (k from : ℕ) (hs : List Held) → Follows k hs → from ≤ k → from_number from hs ≡ hs
-from_all k from [] follows low = refl
-from_all k from (h ∷ hs) follows low =
-    from_step from h hs (from_number from hs) (let n = follows.0 in grind (arith, nat_tests)) (from_all (k + 1) from hs follows.1 (omega arith))
-
 pub from_rest : (from : ℕ) (h : Held) (hs : List Held) → h.n < from → from_number from (h ∷ hs) ≡ from_number from hs
 from_rest from h hs low = ap (λ b. if b then h ∷ from_number from hs else from_number from hs) (let out : nat_le from h.n ≡ false = grind (arith, nat_tests) in out)
 
@@ -39,7 +32,7 @@ points_same_step all hs h false bytes rest = rest
 pub points_same_in : (k : ℕ) (all hs : List Held) → Follows k hs → ((n : ℕ) → k ≤ n → from_number n all ≡ from_number n hs) → map (point_of all) (filter (λ h. h.access) hs) ≡ points_from hs
 points_same_in k all [] follows same = refl
 points_same_in k all (h ∷ hs) follows same =
-    points_same_step all hs h h.access (ap wires (same h.n (omega (arith, follows.0)) ∙ from_all k h.n (h ∷ hs) follows (omega (arith, follows.0))))
+    points_same_step all hs h h.access (ap wires (same h.n (omega (arith, follows.0)) ∙ all_from h.n k (h ∷ hs) follows (omega (arith, follows.0))))
     (points_same_in (k + 1) all hs follows.1 (λ n above. same n (omega arith) ∙ from_rest n h hs (omega (arith, follows.0))))
 
 pub points_same : (k : ℕ) (hs : List Held) → Follows k hs → points_of hs ≡ points_from hs
@@ -88,11 +81,11 @@ pub passing_step : (test : AccessPoint → Bool) (p : AccessPoint) (ps : List Ac
 passing_step test p ps true is rest = ap (λ b. if b then p ∷ filter test ps else filter test ps) is ∙ ap (λ qs. p ∷ qs) rest
 passing_step test p ps false is rest = rest
 
-pub all_from : (k from : ℕ) (hs : List Held) → Follows k hs → from ≤ k → filter (λ p. nat_le from p.n) (points_from hs) ≡ points_from hs
-all_from k from [] follows low = refl
-all_from k from (h ∷ hs) follows low =
+pub points_all_from : (k from : ℕ) (hs : List Held) → Follows k hs → from ≤ k → filter (λ p. nat_le from p.n) (points_from hs) ≡ points_from hs
+points_all_from k from [] follows low = refl
+points_all_from k from (h ∷ hs) follows low =
     passing_step (λ p. nat_le from p.n) (record { n = h.n; ts = h.ts; behind = wires (h ∷ hs) }) (points_from hs) h.access (let n = follows.0 in grind (arith, nat_tests))
-    (all_from (k + 1) from hs follows.1 (omega arith))
+    (points_all_from (k + 1) from hs follows.1 (omega arith))
 
 pub failing_step : (test : AccessPoint → Bool) (p : AccessPoint) (ps : List AccessPoint) (b : Bool) → test p ≡ false → filter test (in_front b p ps) ≡ filter test ps
 failing_step test p ps true is = ap (λ b. if b then p ∷ filter test ps else filter test ps) is
@@ -100,7 +93,7 @@ failing_step test p ps false is = refl
 
 pub points_from-from_step : (k from : ℕ) (h : Held) (hs : List Held) → Follows k (h ∷ hs) → (k < from) ⊎ (from ≤ k) → points_from (from_number from hs) ≡ filter (λ p. nat_le from p.n) (points_from hs)
     → points_from (from_number from (h ∷ hs)) ≡ filter (λ p. nat_le from p.n) (points_from (h ∷ hs))
-points_from-from_step k from h hs follows (inr low) rest = ap points_from (from_all k from (h ∷ hs) follows low) ∙ sym (all_from k from (h ∷ hs) follows low)
+points_from-from_step k from h hs follows (inr low) rest = ap points_from (all_from from k (h ∷ hs) follows low) ∙ sym (points_all_from k from (h ∷ hs) follows low)
 points_from-from_step k from h hs follows (inl high) rest =
     ap points_from (from_rest from h hs (omega (arith, follows.0)))
     ∙ (rest ∙ sym (failing_step (λ p. nat_le from p.n) (record { n = h.n; ts = h.ts; behind = wires (h ∷ hs) }) (points_from hs) h.access (let n = follows.0 in grind (arith, nat_tests))))
@@ -114,7 +107,7 @@ pub follows-from_step : (k from : ℕ) (h : Held) (hs : List Held) → Follows k
     → Follows (min (max (k + 1) from) (k + 1 + length hs)) (from_number from hs) → Follows (min (max k from) (k + length (h ∷ hs))) (from_number from (h ∷ hs))
 follows-from_step k from h hs follows (inr low) rest =
     let same : k ≡ min (max k from) (k + length (h ∷ hs)) = omega arith in
-    subst (λ (n : ℕ). Follows n (from_number from (h ∷ hs))) same (subst (λ (js : List Held). Follows k js) (sym (from_all k from (h ∷ hs) follows low)) follows)
+    subst (λ (n : ℕ). Follows n (from_number from (h ∷ hs))) same (subst (λ (js : List Held). Follows k js) (sym (all_from from k (h ∷ hs) follows low)) follows)
 follows-from_step k from h hs follows (inl high) rest =
     let same : min (max (k + 1) from) (k + 1 + length hs) ≡ min (max k from) (k + length (h ∷ hs)) = omega arith in
     subst (λ (n : ℕ). Follows n (from_number from (h ∷ hs))) same
@@ -127,7 +120,7 @@ follows-from k from (h ∷ hs) follows = follows-from_step k from h hs follows (
 pub length-from_step : (k from : ℕ) (h : Held) (hs : List Held) → Follows k (h ∷ hs) → (k < from) ⊎ (from ≤ k)
     → min (max (k + 1) from) (k + 1 + length hs) + length (from_number from hs) ≡ k + 1 + length hs
     → min (max k from) (k + length (h ∷ hs)) + length (from_number from (h ∷ hs)) ≡ k + length (h ∷ hs)
-length-from_step k from h hs follows (inr low) rest = omega (arith, ap length (from_all k from (h ∷ hs) follows low))
+length-from_step k from h hs follows (inr low) rest = omega (arith, ap length (all_from from k (h ∷ hs) follows low))
 length-from_step k from h hs follows (inl high) rest = omega (arith, rest, ap length (from_rest from h hs (omega (arith, follows.0))))
 
 pub length-from : (k from : ℕ) (hs : List Held) → Follows k hs → min (max k from) (k + length hs) + length (from_number from hs) ≡ k + length hs
@@ -137,7 +130,7 @@ length-from k from (h ∷ hs) follows = length-from_step k from h hs follows (ca
 -- the last packet stays while any does
 pub last-from_step : (k from : ℕ) (h : Held) (hs : List Held) → Follows k (h ∷ hs) → from < k + length (h ∷ hs) → (k < from) ⊎ (from ≤ k)
     → (from < k + 1 + length hs → last_timestamp (from_number from hs) ≡ last_timestamp hs) → last_timestamp (from_number from (h ∷ hs)) ≡ last_timestamp (h ∷ hs)
-last-from_step k from h hs follows some (inr low) rest = ap last_timestamp (from_all k from (h ∷ hs) follows low)
+last-from_step k from h hs follows some (inr low) rest = ap last_timestamp (all_from from k (h ∷ hs) follows low)
 last-from_step k from h [] follows some (inl high) rest = absurd (omega arith)
 last-from_step k from h (j ∷ hs) follows some (inl high) rest = ap last_timestamp (from_rest from h (j ∷ hs) (omega (arith, follows.0))) ∙ rest (omega arith)
 

@@ -1,7 +1,6 @@
 pub mod Kept
 pub mod Marks
 pub mod Seen
-
 unfoldable pub use Rattle.access_index.specs.Kept.{shown, seen_of, RiseIn, above}
 unfoldable pub use Rattle.access_index.specs.Marks.{point_of, points_of, refused, choice_of}
 pub use Rattle.access_index.specs.Marks.{StandsFor}

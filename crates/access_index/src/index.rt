@@ -9,6 +9,7 @@ ghost use Rattle.access_index.specs.{above, new_index, pushed, left_from, start_
 use crate::Choice;
 use ext_seq::age_ms;
 use ram_io::NoMemory;
+use rams_model::MOST_ON_WIRE;
 use std::alloc::Global;
 use std::collections::VecDeque;
 use std::marker::Model;
@@ -85,7 +86,7 @@ impl Index {
     pub fn push(&mut self, n: u64, ts: u32, wire: u32, access: bool)
         requires room { self.old.hi - self.old.lo < self.old.capacity }
         requires next { self.old.lo < self.old.hi → n ≡ self.old.hi }
-        requires wire { wire ≤ 1500 }
+        requires wire { wire ≤ MOST_ON_WIRE }
         requires small { n < 2 ^ 62 }
         requires few { self.old.calls < 2 ^ 40 }
         ensures step { self.new ≡ pushed self.old n ts wire access }
@@ -130,7 +131,7 @@ impl Index {
         self.search(room, declared, min_ms, max_ms)
     }
 
-    /// The choice by the search alone.
+    // The choice among the points alone; `choose` adds that it is the one among the marks.
     fn search(&self, room: u64, declared: u64, min_ms: u32, max_ms: Option<u32>) -> Choice
         requires { declared ≤ 10 ^ 9 }
         ensures { result ≡ choice self.now room declared min_ms max_ms }
@@ -151,7 +152,7 @@ impl Index {
     }
 }
 
-/// The points with numbers below `lo`, which stand in front, go.
+// The points with numbers below `lo`, which stand in front, go.
 fn drop_points(points: &mut VecDeque<Point>, lo: u64)
     ensures items { points.new.items ≡ above lo points.old.items }
     ensures capacity { deque_capacity points.new ≡ deque_capacity points.old }
@@ -161,7 +162,7 @@ fn drop_points(points: &mut VecDeque<Point>, lo: u64)
     }
 }
 
-/// A start at a point of this age, where it isn't too old.
+// A start at a point of this age, where it isn't too old.
 fn start_at(n: u64, behind: u64, age: u32, max_ms: Option<u32>) -> Choice
     ensures { result ≡ start_unless max_ms age n behind }
 {

@@ -6,8 +6,6 @@
 
 mod choice;
 mod index;
-#[cfg(test)]
-mod tests;
 
 pub use choice::Choice;
 pub use index::Index;

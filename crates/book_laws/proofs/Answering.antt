@@ -1,12 +1,12 @@
 -- Each message that was told is followed by its whole answer, and a note's message is the last that was told.
-use Rattle.std.proofs.Common.{◌≡◌, ℕ, inl, inr, ◌⊎◌, ⊎_elim, List, [], ◌∷◌, ◌++◌, Option, Some, None, refl, ap, sym, ◌∙◌, subst, append_assoc}
+use Rattle.std.proofs.Common.{◌≡◌, ℕ, Bool, inl, inr, ◌⊎◌, ⊎_elim, List, [], ◌∷◌, ◌++◌, Option, Some, None, refl, ap, sym, ◌∙◌, subst, append_assoc}
 use Rattle.rams_model.specs.declared.event.Event.{Event}
-use Rattle.rams_model.specs.declared.note.Note.TheVariants.{Live as LiveNoted, BadFeedback}
-use Rattle.rams_model.specs.Service.{Settings, Message, Heard, live, dropped, feedback, unframed, tick, heard_of, Item, began, told, noted, History, stream, after_message, after_messages, after_hearing, history_of}
-use Rattle.rams_model.specs.Packets.{live_note}
+use Rattle.rams_model.specs.declared.note.Note.{Note}
+use Rattle.rams_model.specs.Service.{Settings, Message, Heard, feedback, tick, heard_of, Item, began, told, noted, History, after_message, after_tick, history_of}
 use Rattle.book_laws.specs.{AreNotes, IsAnswered, IsNoNote, BeginAnew}
-use Rattle.book_laws.proofs.Legal.{Answers, newest_told}
-use Rattle.book_laws.proofs.Items.{message_puts, tick_puts}
+use Rattle.rams_model.proofs.Legal.{Answers, newest_told}
+use Rattle.rams_model.proofs.Items.{AreOfKind, is_note, is_of_tick, message_puts, tick_puts}
+use Rattle.rams_model.proofs.Induction.{between}
 
 -- the message that was told last is the one that is answered
 told_last : (history : History) (k : ℕ) (m : Message) → newest_told history ≡ Some (k, m) → IsAnswered history k m
@@ -113,24 +113,21 @@ step s items e history n plain answer whole k m later before same =
 event_step : (s : Settings) (items : History) (heard : Heard) (history : History) → AreNotes items → AreWhole s history → AreWhole s (items ++ began heard ∷ history)
 event_step s items heard history n whole = step s items (began heard) history n tt (λ k m e. absurd cc) whole
 
-messages_step : (s : Settings) (k : ℕ) (ms : List Message) (history : History) → AreWhole s history → AreWhole s (after_messages s k ms history)
-unfolding after_messages
-messages_step s k [] history whole = whole
-messages_step s k (m ∷ ms) history whole =
-    let p = message_puts s k m (told k m ∷ history) in
-    messages_step s k ms (after_message s k m (told k m ∷ history))
-    (subst (AreWhole s) (sym p.splits) (step s p.items (told k m) history p.notes tt (λ j n e. sym p.splits) whole))
+-- notes of a kind are notes
+are_notes : (kind : Note → Bool) (items : History) → AreOfKind kind items → AreNotes items
+are_notes kind [] a = tt
+are_notes kind (noted note packet ∷ items) a = are_notes kind items a.1
+are_notes kind (began heard ∷ items) a = a
+are_notes kind (told client message ∷ items) a = a
 
-hearing_step : (s : Settings) (heard : Heard) (history : History) → AreWhole s history → AreWhole s (after_hearing s heard history)
-unfolding after_hearing
-hearing_step s (live a) history whole =
-    event_step s (noted (LiveNoted (live_note s.channel.window (stream s history) a.sequence)) None ∷ []) (live a) history tt whole
-hearing_step s (dropped note) history whole = event_step s (noted (LiveNoted note) None ∷ []) (dropped note) history tt whole
-hearing_step s (feedback client ms) history whole =
-    messages_step s client ms (began (feedback client ms) ∷ history) (event_step s [] (feedback client ms) history tt whole)
-hearing_step s (unframed client fault) history whole = event_step s (noted (BadFeedback client fault) None ∷ []) (unframed client fault) history tt whole
-hearing_step s tick history whole =
-    let p = tick_puts s (began tick ∷ history) in subst (AreWhole s) (sym p.splits) (event_step s p.items tick history p.notes whole)
+message_step : (s : Settings) (k : ℕ) (m : Message) (history : History) → AreWhole s history → AreWhole s (after_message s k m (told k m ∷ history))
+message_step s k m history whole =
+    let p = message_puts s k m (told k m ∷ history) in
+    subst (AreWhole s) (sym p.splits) (step s p.items (told k m) history (are_notes is_note p.items p.notes) tt (λ j n e. sym p.splits) whole)
+
+tick_step : (s : Settings) (history : History) → AreWhole s history → AreWhole s (after_tick s (began tick ∷ history))
+tick_step s history whole =
+    let p = tick_puts s (began tick ∷ history) in subst (AreWhole s) (sym p.splits) (event_step s p.items tick history (are_notes is_of_tick p.items p.notes) whole)
 
 none_told : (s : Settings) → AreWhole s []
 none_told s k m [] before e = absurd cc
@@ -138,6 +135,7 @@ none_told s k m (i ∷ later) before e = absurd cc
 
 -- Each message of a channel's history is followed by its whole answer.
 pub are_whole : (s : Settings) (events : List Event) → AreWhole s (history_of s events)
-unfolding history_of
-are_whole s [] = none_told s
-are_whole s (event ∷ events) = hearing_step s (heard_of s.channel event) (history_of s events) (are_whole s events)
+are_whole s events =
+    between s (AreWhole s) (λ event before n other at_once whole. event_step s (noted n None ∷ []) (heard_of s.channel event) (history_of s before) tt whole)
+    (λ k ms history whole. event_step s [] (feedback k ms) history tt whole) (λ k m history l whole. message_step s k m history whole)
+    (λ before l whole. tick_step s (history_of s before) whole) (none_told s) events

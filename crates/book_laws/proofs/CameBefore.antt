@@ -26,9 +26,10 @@ use Rattle.rams_model.specs.Laws.{source, NoneIs, is_event}
 use Rattle.rams_model.proofs.PlainPackets.{below_at}
 use Rattle.rams_model.proofs.RtpPackets.{spelled_so, read_so}
 use Rattle.book_laws.specs.{IsTakenAs, Retransmits, IsOfTheSource, Sent, note_sends, order_sends}
-use Rattle.book_laws.proofs.Legal.{in_tick, is_tick, Allows, IsLegal}
-use Rattle.book_laws.proofs.Legality.{legal_history, in_tick_from_runs}
-use Rattle.book_laws.proofs.Adding.{adds_hearing}
+use Rattle.rams_model.proofs.Legal.{in_tick, is_tick, Allows, IsLegal}
+use Rattle.rams_model.proofs.Legality.{legal_history, in_tick_from_runs}
+use Rattle.rams_model.proofs.Induction.{arrivals_of_event}
+use Rattle.rams_model.proofs.Adding.{adds_hearing}
 use Rattle.book_laws.proofs.SentSources.{held_of_source}
 
 -- ---- where packets come from
@@ -107,9 +108,6 @@ same_arrivals [] history none = refl
 same_arrivals (began heard ∷ later) history none = absurd (true≢false none.0)
 same_arrivals (told client message ∷ later) history none = same_arrivals later history none.1
 same_arrivals (noted n p ∷ later) history none = same_arrivals later history none.1
-
-after_arrivals : (s : Settings) (heard : Heard) (history : History) → arrivals (after_hearing s heard history) ≡ arrivals (began heard ∷ history)
-after_arrivals s heard history = let a = adds_hearing s heard history in ap arrivals a.splits ∙ same_arrivals a.later (began heard ∷ history) a.none
 
 -- a packet of a live event that passes the tests was read
 record WasRead (c : Channel) (bytes : List ℕ) (a : Arrival) : Type 0 where
@@ -196,7 +194,7 @@ came_in s (e ∷ book) h l c =
     let history = history_of s (events_of book) in
     let heard = heard_of s.channel e.event in
     let before : Contains (all_of (stream_of s.channel.window (arrivals (began heard ∷ history)))) h =
-    subst (λ (came : List Arrival). Contains (all_of (stream_of s.channel.window came)) h) (after_arrivals s heard history) c in
+    subst (λ (came : List Arrival). Contains (all_of (stream_of s.channel.window came)) h) (arrivals_of_event s heard history) c in
     ⊎_elim (λ o. came_earlier s e book h (came_in s book h l.1 o)) (λ new. new) (came_by s e book e.event h refl l.0 before)
 
 -- ---- the datagrams of packets

@@ -14,7 +14,7 @@ use Rattle.rams_model.specs.Laws.{ticks_begun}
 use Rattle.rams_model.proofs.LastAccept.{last_accept}
 use Rattle.book_laws.specs.{LastAccept}
 use Rattle.book_laws.specs.Stops.{next_number, IsLost, Leaves, EndsBecause}
-use Rattle.book_laws.proofs.Legal.{IsLegal, IsBye, EndsFor, Ends}
+use Rattle.rams_model.proofs.Legal.{IsLegal, IsBye, EndsFor, Ends}
 use Rattle.book_laws.proofs.Answering.{is_answered}
 use Rattle.book_laws.proofs.Stopping.{stop_stands, accept_of_open, open_since}
 

@@ -6,7 +6,7 @@ use Rattle.rams_model.specs.declared.note.Note.TheVariants as note
 use Rattle.rams_model.specs.Service.{Settings, tick, began, told, noted, History, hold, as_tick_began, Burst, size_of, bursts, open_burst, is_burst_of, is_repair_of, sent_now, budget_of, cap, may_take}
 use Rattle.rams_model.specs.Laws.{is_sending_to, sizes_sent}
 use Rattle.book_laws.specs.{left_of}
-use Rattle.book_laws.proofs.Legal.{in_tick, Sends, Repairs, IsLegal}
+use Rattle.rams_model.proofs.Legal.{in_tick, Sends, Repairs, IsLegal}
 use Rattle.book_laws.proofs.BurstAmounts.{left_falls, left_taken}
 use Rattle.book_laws.proofs.Shares.{sends_within}
 

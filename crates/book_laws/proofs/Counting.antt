@@ -9,8 +9,8 @@ use Rattle.rams_model.specs.Service.{Settings, History, known, opened, is_among,
 use Rattle.rams_model.proofs.Since.{opened_stands}
 use Rattle.rams_model.proofs.LastAccept.{open_stands}
 use Rattle.book_laws.specs.{StandOnce, SumsTo, CountsEachOnce}
-use Rattle.book_laws.proofs.Legal.{IsLegal}
-use Rattle.book_laws.proofs.Legality.{EachOnce, same_repair, some_of, known_once, opened_once, pending_once, pending_contains}
+use Rattle.rams_model.proofs.Legal.{IsLegal}
+use Rattle.rams_model.proofs.Legality.{EachOnce, same_repair, some_of, known_once, opened_once, pending_once, pending_contains}
 use Rattle.book_laws.proofs.RequestTable.{listed_contains, contains_listed}
 
 stand_once : {A : Type 0} (same : A → A → Bool) → ((x : A) → same x x ≡ true) → (xs : List A) → EachOnce same xs → StandOnce xs

@@ -1,7 +1,7 @@
 -- A burst that has sent nothing yet: its client is sent nothing else, so the number that its Accept named is the client's next one.
 use Rattle.std.proofs.Common.{◌≡◌, ℕ, ◌+◌, ◌-◌, ◌%◌, ◌<◌, ◌≤◌, ◌≢◌, Bool, true, false, cond, not, ◌&&◌, ◌⊎◌, inl, inr, ⊎_elim, List, [], ◌∷◌, ◌++◌, length, Option, Some, None, refl, ap, sym, ◌∙◌, subst, arith, eqb, leb, ltb}
-use Rattle.std.specs.Prelude.{find, is_some, Result, Ok, Err}
-use Rattle.std.proofs.lemmas.Bool.{cond_both, cond-true, cond-false, both_ways, and_from, or_cases, cases_Bool, eqb-true, eqb-false, eq-eqb, ltb-false, lt-ltb, le-leb, true≢false}
+use Rattle.std.specs.Prelude.{is_some, Result, Ok, Err}
+use Rattle.std.proofs.lemmas.Bool.{cond_both, cond-true, cond-false, both_ways, and_from, or_cases, cases_Bool, eqb-true, eqb-false, eq-eqb, lt-ltb, le-leb, true≢false}
 use Rattle.rams_model.specs.declared.event.Event.{Event}
 use Rattle.rams_model.specs.declared.fault.TlvFault.{TlvFault}
 use Rattle.rams_model.specs.declared.held.Held.{Held}
@@ -10,19 +10,19 @@ use Rattle.rams_model.specs.declared.note.Cause.{Cause}
 use Rattle.rams_model.specs.declared.note.Note.{Note}
 use Rattle.rams_model.specs.declared.note.Cause.TheVariants as cause
 use Rattle.rams_model.specs.declared.note.Note.TheVariants as note
-use Rattle.rams_model.specs.Service.{Settings, stop_of, Message, bye, nack, asks, stops, Heard, live, dropped, feedback, unframed, tick, heard_of, began, told, noted, History, arrivals, hold, known, opened, is_among, sendings, sequence, ssrc, Burst, next, begun, in_tick, after_note, newest_changed, size_of, bursts, if_open, newest_open, open_burst, has_open, Wanted, pending, pending_of, is_pending, idle, reserved, channel_left, may_take, asked_rate, is_slow, is_too_much, is_full, begins, changes, on_burst, on_request, verdict, is_before, is_early, Room, room, held_answer, number_answer, after_numbers, after_nack, stop_set, on_stop, stop_burst, after_stop, is_bye_of, after_bye, after_message, after_messages, run, send, is_lost, is_stop, after_run, run_sent, burst_served, all_served, repaired, all_repaired, all_forgotten, bursts_served, repairs_sent, idle_forgotten, after_tick, after_hearing, history_of}
-use Rattle.rams_model.specs.Formats.{Request, names, Framed}
+use Rattle.rams_model.specs.Service.{Settings, stop_of, Message, bye, nack, asks, stops, Heard, live, dropped, feedback, unframed, tick, heard_of, began, told, noted, History, arrivals, hold, known, opened, is_among, sendings, sequence, ssrc, Burst, next, after_note, newest_changed, bursts, newest_open, open_burst, has_open, pending, is_before, stop_set, on_stop, stop_burst, after_stop, is_bye_of, after_bye, after_message, run, send, is_lost, is_stop, after_run, burst_served, all_served, bursts_served, repairs_sent, idle_forgotten, after_tick, after_hearing, history_of}
+use Rattle.rams_model.specs.Formats.{Framed}
 use Rattle.rams_model.specs.Packets.{lo, hi, from_number, has_number, Follows}
-use Rattle.rams_model.specs.Laws.{Rises, IsAmong, IsChoice}
 use Rattle.rams_model.proofs.Since.{opened_stands}
 use Rattle.rams_model.proofs.LastAccept.{open_stands}
-use Rattle.rams_model.proofs.Rising.{below_hi}
 use Rattle.rams_model.proofs.Holding.{held_follow, held_from}
-use Rattle.rams_model.proofs.Choosing.{newest_chosen}
-use Rattle.book_laws.proofs.Legality.{open_sent}
-use Rattle.book_laws.proofs.RequestTable.{held_rises}
-use Rattle.book_laws.specs.{AreNotes, IsMoment}
-use Rattle.book_laws.proofs.Items.{Puts, message_puts, tick_puts}
+use Rattle.rams_model.proofs.OpenBurst.{open_sent, Holds, Keeps, at_note, at_end_note, at_tick}
+use Rattle.rams_model.proofs.Legal.{is_tick, Answers, Allows, IsLegal}
+use Rattle.rams_model.proofs.Legality.{in_tick_from_runs}
+use Rattle.rams_model.proofs.Items.{is_run_of, is_repair, is_forgotten, served_puts, all_repaired_put, all_forgotten_put}
+use Rattle.rams_model.proofs.Granting.{accept_grants, update_grants, accepted_below}
+use Rattle.book_laws.specs.{IsMoment}
+use Rattle.rams_model.proofs.Induction.{through, in_answer, no_tick_answers, is_at_once, between, arrivals_of_event}
 use Rattle.book_laws.proofs.HeldPackets.{AreSmall, ArriveSmall, HearsSmall, small_from, small_held, heard_small, hi_grows}
 
 -- The burst has sent nothing; its first packet is below the end of what is held and before the stop, and this number was told to its client.
@@ -32,9 +32,11 @@ record Fresh (top number : ℕ) (b : Burst) : Type 0 where
   named : b.last.first ≡ Some number
 
 -- between events
+abbrev GoodBurst : ℕ → ℕ → Burst → Type 0
+GoodBurst top number b = (1500 ≤ b.rate) × (b.sent ≡ [] → Fresh top number b)
+
 abbrev GoodOf : ℕ → ℕ → Option Burst → Type 0
-GoodOf top number None = Unit {0}
-GoodOf top number (Some b) = (1500 ≤ b.rate) × (b.sent ≡ [] → Fresh top number b)
+GoodOf top number = Holds (GoodBurst top number)
 
 abbrev Good : Settings → ℕ → History → Type 0
 Good s k history = GoodOf (hi (hold s history)) (sequence s k history) (open_burst s k history)
@@ -51,139 +53,59 @@ Numbered s k (_ ∷ history) = Numbered s k history
 abbrev Sound : Settings → ℕ → History → Type 0
 Sound s k history = Good s k history × Numbered s k history
 
--- a change of the newest burst that doesn't end it
-changed_open : (P : Option Burst → Type 0) (change : Burst → Burst) → ((b : Burst) → (change b).ended ≡ b.ended) → (bs : List Burst) → P None
-    → ((b : Burst) → newest_open bs ≡ Some b → P (Some (change b))) → P (newest_open (newest_changed change bs))
-changed_open P change same [] none some = none
-changed_open P change same (b ∷ bs) none some = at b.ended refl
-  where
-    at : (e : Option Cause) → b.ended ≡ e → P (if_open (change b).ended (change b))
-    at None is = subst (λ (x : Option Cause). P (if_open x (change b))) (sym (same b ∙ is)) (some b (ap (λ (x : Option Cause). if_open x b) is))
-    at (Some why) is = subst (λ (x : Option Cause). P (if_open x (change b))) (sym (same b ∙ is)) none
-
--- of this client, or of another
-own_or_other : (P : Option Burst → Type 0) (c k : ℕ) (change : Burst → Burst) → ((b : Burst) → (change b).ended ≡ b.ended) → (bs : List Burst) → P None
-    → ((b : Burst) → c ≡ k → newest_open bs ≡ Some b → P (Some (change b))) → P (newest_open bs) → P (newest_open (cond (eqb c k) (newest_changed change bs) bs))
-own_or_other P c k change same bs none own other =
-    cond_both (eqb c k) (newest_changed change bs) bs (λ l. P (newest_open l))
-    (λ t. changed_open P change same bs none (λ b e. own b (eqb-true c k t) e)) (λ f. other)
-
--- an End
-ended : (P : Option Burst → Type 0) (c k : ℕ) (why : Cause) (bs : List Burst) → P None → (eqb c k ≡ false → P (newest_open bs))
-    → P (newest_open (cond (eqb c k) (newest_changed (λ b. record b { ended = Some why }) bs) bs))
-ended P c k why bs none other =
-    cond_both (eqb c k) (newest_changed (λ b. record b { ended = Some why }) bs) bs (λ l. P (newest_open l)) (λ t. closed bs) other
-  where
-    closed : (bs : List Burst) → P (newest_open (newest_changed (λ b. record b { ended = Some why }) bs))
-    closed [] = none
-    closed (b ∷ bs) = none
-
 end_sound : (s : Settings) (k c : ℕ) (why : Cause) (packet : Option Held) (history : History) → (eqb c k ≡ false → Good s k history) → Numbered s k history
     → Sound s k (noted (note.End c why) packet ∷ history)
-unfolding bursts sendings arrivals
-end_sound s k c why packet history g n = (ended (GoodOf (hi (hold s history)) (sequence s k history)) c k why (bursts s k history) tt g, n)
+unfolding sendings arrivals
+end_sound s k c why packet history g n = (at_end_note s k c why (GoodBurst (hi (hold s history)) (sequence s k history)) packet history g, n)
 
--- the answers to requests
-update_sound : (s : Settings) (k c rate join : ℕ) (history : History) → 1500 ≤ rate → Sound s k history → Sound s k (noted (note.Update c rate join) None ∷ history)
-unfolding bursts sendings arrivals
-update_sound s k c rate join history le w =
-    let top = hi (hold s history) in
-    let number = sequence s k history in (
-      own_or_other (GoodOf top number) c k (after_note s (note.Update c rate join) 0) (λ b. refl) (bursts s k history) tt
-          (λ b same e. let g : GoodOf top number (Some b) = subst (GoodOf top number) e w.0 in
-          (le, λ none. let f = g.1 none in record { reached = f.reached; before = f.before; named = f.named }))
-          w.0,
-      w.1,
-    )
+abbrev is_stop_at : Note → Bool
+is_stop_at (note.StopAt client n) = true
+is_stop_at n = false
 
-accept_sound : (s : Settings) (k c first rate join : ℕ) (history : History) → 1500 ≤ rate → first < hi (hold s history) → Sound s k history
-    → Sound s k (noted (note.Accept c first rate join) None ∷ history)
-unfolding bursts sendings arrivals
-accept_sound s k c first rate join history le lt w = (
-  cond_both (eqb c k) (begun s first rate join (sequence s k history) ∷ bursts s k history) (bursts s k history)
-      (λ l. GoodOf (hi (hold s history)) (sequence s k history) (newest_open l))
-      (λ t. (le, λ none. record { reached = lt; before = refl; named = refl })) (λ f. w.0),
-  w.1,
-)
+-- what a note makes of it, but for a stop
+keeps_good : (s : Settings) (k : ℕ) (n : Note) (packet : Option Held) (history : History) → Allows s history n packet → is_stop_at n ≡ false
+    → Keeps s k (GoodBurst (hi (hold s history)) (sequence s k history)) n packet history
+keeps_good s k (note.Accept client first rate join) packet history a e = record {
+  begins = λ f r j is. let first_is : first ≡ f = cc in let rate_is : rate ≡ r = cc in
+      let granted = (accept_grants s history client first rate join a).2 in
+      let below = accepted_below s history client first rate join _ granted in
+      (omega (arith, granted.fast, rate_is), λ none. record { reached = omega (arith, below, first_is); before = refl; named = refl });
+  changes = λ b own is g. g;
+}
+keeps_good s k (note.Update client rate join) packet history a e = record {
+  begins = λ f r j is. absurd cc;
+  changes = λ b own is g. let fast = (update_grants s history client rate join a).fast in
+      (omega (arith, fast), λ none. let f = g.1 none in record { reached = f.reached; before = f.before; named = f.named });
+}
+keeps_good s k (note.StopAt client m) packet history a e = absurd (true≢false e)
+keeps_good s k (note.Burst client m q) packet history a e = record { begins = λ f r j is. absurd cc; changes = λ b own is g. (g.0, λ none. cc) }
+keeps_good s k (note.Repair client m q) packet history a e = record { begins = λ f r j is. absurd cc; changes = λ b own is g. (g.0, λ none. let f = g.1 none in record { reached = f.reached; before = f.before; named = f.named }) }
+keeps_good s k (note.End client why) packet history a e =
+    record { begins = λ f r j is. absurd cc; changes = λ b own is g. (g.0, λ none. let f = g.1 none in record { reached = f.reached; before = f.before; named = f.named }) }
+keeps_good s k n packet history a e = record { begins = λ f r j is. absurd cc; changes = λ b own is g. g }
 
-below_top : (n : ℕ) (h : Held) (hs : List Held) → Rises n hs → IsAmong h hs → h.n < hi hs
-unfolding hi
-below_top n h [] r a = absurd a
-below_top n h (j ∷ []) r a = ⊎_elim (λ (same : j ≡ h). let e : j.n ≡ h.n = ap (λ (x : Held). x.n) same in omega (arith, e)) (λ no_one. absurd no_one) a
-below_top n h (j ∷ i ∷ hs) r a =
-    ⊎_elim
-    (λ (same : j ≡ h). let e : j.n ≡ h.n = ap (λ (x : Held). x.n) same in let lt = below_hi n j (i ∷ hs) r in omega (arith, e, lt))
-    (λ later. below_top (j.n + 1) h (i ∷ hs) r.1 later) a
+-- the answers to requests and NACKs
+abbrev is_plain : Message → Bool
+is_plain (nack media sender lows) = true
+is_plain (asks sender request) = true
+is_plain m = false
 
-suffices : (s : Settings) (rate : ℕ) → is_slow s rate ≡ false → 1500 ≤ rate
-suffices s rate f = let le = ltb-false rate (s.channel.declared + 1500) f in omega (arith, le)
+unplain : (history : History) (c d : ℕ) (m other : Message) → is_plain m ≡ true → is_plain other ≡ false → Answers history c m → Answers history d other → ⊥
+unplain history c d m other t f here there = true≢false (sym t ∙ ap plain_of (sym here ∙ there) ∙ f)
+  where
+    plain_of : Option (ℕ × Message) → Bool
+    plain_of None = false
+    plain_of (Some answers) = is_plain answers.1
 
-abbrev NoteSound : Settings → ℕ → History → Note → Type 0
-NoteSound s k history n = Sound s k (noted n None ∷ history)
-
-begins_sound : (s : Settings) (k c rate least : ℕ) (most : Option ℕ) (history : History) (o : Result Held ℕ) → IsChoice s.channel (hold s history) least most o → Sound s k history
-    → NoteSound s k history (begins s (hold s history) c rate history o)
-unfolding bursts sendings arrivals
-begins_sound s k c rate least most history (Err code) i w = w
-begins_sound s k c rate least most history (Ok h) i w =
-    cond_both (is_slow s rate) _ _ (NoteSound s k history) (λ t. w)
-    (λ f. cond_both (is_too_much s (reserved s history + rate + s.channel.depth)) _ _ (NoteSound s k history) (λ t. w)
-    (λ g. accept_sound s k c h.n rate _ history (suffices s rate f) (below_top 0 h (hold s history) (held_rises s history) i.0.among) w))
-
-changes_sound : (s : Settings) (k c rate : ℕ) (history : History) (b : Burst) → Sound s k history → NoteSound s k history (changes s (hold s history) c rate history b)
-unfolding bursts sendings arrivals
-changes_sound s k c rate history b w =
-    cond_both (is_slow s rate) _ _ (NoteSound s k history) (λ t. w)
-    (λ f. cond_both (is_too_much s (reserved s history - b.rate + rate)) _ _ (NoteSound s k history) (λ t. w)
-    (λ g. update_sound s k c rate _ history (suffices s rate f) w))
-
-on_burst_sound : (s : Settings) (k c rate : ℕ) (history : History) (b : Burst) (bps : Option ℕ) → Sound s k history
-    → NoteSound s k history (on_burst s (hold s history) c rate history b bps)
-unfolding bursts sendings arrivals
-on_burst_sound s k c rate history b None w = w
-on_burst_sound s k c rate history b (Some bps) w =
-    cond_both (eqb rate b.rate) _ _ (NoteSound s k history) (λ t. w) (λ f. changes_sound s k c rate history b w)
-
-on_request_sound : (s : Settings) (k c : ℕ) (r : Request) (history : History) (o : Option Burst) → Sound s k history
-    → NoteSound s k history (on_request s (hold s history) c r history o)
-unfolding bursts sendings arrivals
-on_request_sound s k c r history (Some b) w = on_burst_sound s k c (asked_rate s r) history b r.bps w
-on_request_sound s k c r history None w =
-    cond_both (is_full s c history) _ _ (NoteSound s k history) (λ t. w)
-    (λ f. begins_sound s k c (asked_rate s r) _ r.max_ms history _ (newest_chosen s.channel (hold s history) _ r.max_ms (held_rises s history)) w)
-
-verdict_sound : (s : Settings) (k c : ℕ) (history : History) (request : Result Request TlvFault) → Sound s k history → NoteSound s k history (verdict s c history request)
-unfolding verdict bursts sendings arrivals
-verdict_sound s k c history (Err fault) w = w
-verdict_sound s k c history (Ok r) w =
-    cond_both r.preamble _ _ (NoteSound s k history) (λ t. w)
-    (λ f. cond_both (not (names r s.channel.ssrc)) _ _ (NoteSound s k history) (λ t. w)
-    (λ g. on_request_sound s k c r history (open_burst s c history) w))
-
--- the answers to NACKs
-held_answer_sound : (most : Room) (s : Settings) (k c : ℕ) (history : History) (low : ℕ) (o : Option Held) → Sound s k history
-    → NoteSound s k history (held_answer most s c history low o)
-unfolding bursts sendings arrivals
-held_answer_sound most s k c history low None w = w
-held_answer_sound most s k c history low (Some h) w =
-    cond_both (is_early (open_burst s c history) h.n) _ _ (NoteSound s k history) (λ t. w)
-    (λ f. cond_both (is_pending c h.n history) _ _ (NoteSound s k history) (λ t. w)
-    (λ g. cond_both (is_full s c history) _ _ (NoteSound s k history) (λ t. w)
-    (λ i. cond_both (leb most.of_client (length (pending_of c history))) _ _ (NoteSound s k history) (λ t. w)
-    (λ j. cond_both (leb most.in_all (length (pending history))) _ _ (NoteSound s k history) (λ t. w) (λ l. w)))))
-
-numbers_sound : (s : Settings) (k : ℕ) (held : List Held) (c : ℕ) (lows : List ℕ) (history : History) → Sound s k history → Sound s k (after_numbers s held c lows history)
-unfolding after_numbers number_answer
-numbers_sound s k held c [] history w = w
-numbers_sound s k held c (low ∷ lows) history w =
-    numbers_sound s k held c lows (noted (number_answer room s held c history low) None ∷ history)
-    (held_answer_sound room s k c history low (find (λ h. eqb (h.n % 65536) low) held) w)
-
-nack_sound : (s : Settings) (k c media : ℕ) (lows : List ℕ) (history : History) → Sound s k history → Sound s k (after_nack s c media lows history)
-unfolding bursts sendings arrivals
-nack_sound s k c media lows history w =
-    cond_both (eqb media s.channel.ssrc) (after_numbers s (hold s history) c lows history) (noted (note.ForeignNack c) None ∷ history) (Sound s k)
-    (λ t. numbers_sound s k (hold s history) c lows history w) (λ f. w)
+note_sound : (s : Settings) (k c : ℕ) (m : Message) → is_plain m ≡ true → (n : Note) (packet : Option Held) (history : History) → Allows s history n packet → Answers history c m
+    → Sound s k history → Sound s k (noted n packet ∷ history)
+unfolding sendings arrivals
+note_sound s k c m p (note.Burst client n number) packet history a answers w = absurd (no_tick_answers history c m answers (in_tick_from_runs history a.running))
+note_sound s k c m p (note.Repair client n number) packet history a answers w = absurd (no_tick_answers history c m answers a.ticking)
+note_sound s k c m p (note.StopAt client n) packet history a answers w = absurd (unplain history c client m (stops (Ok a.stop)) p refl answers a.is_answer)
+note_sound s k c m p (note.Bye client) packet history a answers w = absurd (unplain history c client m (bye a.packet) p refl answers a.is_answer)
+note_sound s k c m p (note.Forgot client) packet history a answers w = absurd (no_tick_answers history c m answers a.ticking)
+note_sound s k c m p n packet history a answers w = (at_note s k (GoodBurst (hi (hold s history)) (sequence s k history)) n packet history (keeps_good s k n packet history a refl) w.0, w.1)
 
 -- the answers to RAMS-Ts
 at_least_next : (first next : ℕ) (named : Option ℕ) → next ≤ stop_of first next named
@@ -205,13 +127,16 @@ set_sound s k c b n history e le w =
     (λ f. subst (λ (bs : List Burst). GoodOf top number (newest_open bs)) (sym (cond-false (eqb c k) (newest_changed change (bursts s k history)) (bursts s k history) f)) w.0)
     w.1)
     (λ f. (
-      own_or_other (GoodOf top number) c k change (λ b. refl) (bursts s k history) tt
-          (λ d same o. let g : GoodOf top number (Some d) = subst (GoodOf top number) o w.0 in
-          let own : open_burst s k history ≡ Some b = subst (λ (j : ℕ). open_burst s j history ≡ Some b) same e in
-          let is : b ≡ d = some_is b d (sym own ∙ o) in
-          let first : b.first ≡ d.first = ap (λ (x : Burst). x.first) is in
-          let above : b.first < n = let ne = eqb-false n (next b) f in omega (arith, le, ne) in
-          (g.0, λ none. let fresh = g.1 none in record { reached = fresh.reached; before = lt-ltb d.first n (omega (arith, first, above)); named = fresh.named }))
+      at_note s k (GoodBurst top number) (note.StopAt c n) None history
+          (record {
+            begins = λ first rate join is. absurd cc;
+            changes = λ d own o g.
+                let here : open_burst s k history ≡ Some b = subst (λ (j : ℕ). open_burst s j history ≡ Some b) (eqb-true c k own) e in
+                let is : b ≡ d = some_is b d (sym here ∙ o) in
+                let first : b.first ≡ d.first = ap (λ (x : Burst). x.first) is in
+                let above : b.first < n = let ne = eqb-false n (next b) f in omega (arith, le, ne) in
+                (g.0, λ none. let fresh = g.1 none in record { reached = fresh.reached; before = lt-ltb d.first n (omega (arith, first, above)); named = fresh.named });
+          })
           w.0,
       w.1,
     ))
@@ -269,27 +194,26 @@ bye_sound s k c p history w =
     (λ t. end_sound s k c cause.Bye None left (λ g. (left_sound s k c history (inr g) w).0) w.1)
     (λ g. left_sound s k c history (inl g) w))
 
-message_sound : (s : Settings) (k c : ℕ) (m : Message) (history : History) → Sound s k history → Sound s k (after_message s c m history)
-message_sound s k c (bye p) history w = bye_sound s k c p history w
-message_sound s k c (nack media from lows) history w = nack_sound s k c media lows history w
-message_sound s k c (asks from request) history w = verdict_sound s k c history request w
-message_sound s k c (stops stop) history w = stop_sound s k c stop history w
-
-messages_sound : (s : Settings) (k c : ℕ) (ms : List Message) (history : History) → Sound s k history → Sound s k (after_messages s c ms history)
-unfolding after_messages bursts sendings arrivals
-messages_sound s k c [] history w = w
-messages_sound s k c (m ∷ ms) history w =
-    messages_sound s k c ms (after_message s c m (told c m ∷ history)) (message_sound s k c m (told c m ∷ history) w)
+message_sound : (s : Settings) (k c : ℕ) (m : Message) (history : History) → IsLegal s (after_message s c m (told c m ∷ history)) → Sound s k history
+    → Sound s k (after_message s c m (told c m ∷ history))
+unfolding bursts sendings arrivals
+message_sound s k c (bye p) history l w = bye_sound s k c p (told c (bye p) ∷ history) w
+message_sound s k c (stops stop) history l w = stop_sound s k c stop (told c (stops stop) ∷ history) w
+message_sound s k c m history l w = in_answer s (Sound s k) c m (note_sound s k c m refl) history l w
 
 -- In a tick, before the burst is served: its budget has room for a packet.
+abbrev ReadyBurst : ℕ → ℕ → Burst → Type 0
+ReadyBurst top number b = (1500 ≤ b.rate) × (b.sent ≡ [] → Fresh top number b × (1500 ≤ b.left))
+
 abbrev ReadyOf : ℕ → ℕ → Option Burst → Type 0
-ReadyOf top number None = Unit {0}
-ReadyOf top number (Some b) = (1500 ≤ b.rate) × (b.sent ≡ [] → Fresh top number b × (1500 ≤ b.left))
+ReadyOf top number = Holds (ReadyBurst top number)
 
 -- after it was served: it has sent something
+abbrev ServedBurst : Burst → Type 0
+ServedBurst b = (1500 ≤ b.rate) × (b.sent ≢ [])
+
 abbrev ServedOf : Option Burst → Type 0
-ServedOf None = Unit {0}
-ServedOf (Some b) = (1500 ≤ b.rate) × (b.sent ≢ [])
+ServedOf = Holds ServedBurst
 
 abbrev Ready : Settings → List Held → ℕ → History → Type 0
 Ready s held k history = ReadyOf (hi held) (sequence s k history) (open_burst s k history) × Numbered s k history
@@ -310,26 +234,25 @@ unfolding bursts sendings arrivals
 tick_ready s k history w =
     let top = hi (hold s history) in
     let number = sequence s k history in (
-      changed_open (ReadyOf top number) (in_tick s) (λ b. refl) (bursts s k history) tt
-          (λ b e. let g : GoodOf top number (Some b) = subst (GoodOf top number) e w.0 in
-          (g.0, λ none. let f = g.1 none in (record { reached = f.reached; before = f.before; named = f.named }, omega (arith, g.0)))),
+      at_tick s k (GoodBurst top number) (ReadyBurst top number) history
+          (λ b g. (g.0, λ none. let f = g.1 none in (record { reached = f.reached; before = f.before; named = f.named }, omega (arith, g.0)))) w.0,
       w.1,
     )
 
 -- the notes of the run of another client leave all this as it is
-record Keeps (s : Settings) (k : ℕ) (history later : History) : Type 0 where
+record SameFor (s : Settings) (k : ℕ) (history later : History) : Type 0 where
   opened : open_burst s k later ≡ open_burst s k history
   number : sequence s k later ≡ sequence s k history
   numbered : Numbered s k history → Numbered s k later
 
-keeps_all : (s : Settings) (k : ℕ) (history : History) → Keeps s k history history
+keeps_all : (s : Settings) (k : ℕ) (history : History) → SameFor s k history history
 keeps_all s k history = record { opened = refl; number = refl; numbered = λ n. n }
 
-keeps_both : (s : Settings) (k : ℕ) (before mid after : History) → Keeps s k before mid → Keeps s k mid after → Keeps s k before after
+keeps_both : (s : Settings) (k : ℕ) (before mid after : History) → SameFor s k before mid → SameFor s k mid after → SameFor s k before after
 keeps_both s k before mid after p q =
     record { opened = q.opened ∙ p.opened; number = q.number ∙ p.number; numbered = λ n. q.numbered (p.numbered n) }
 
-keeps_burst : (s : Settings) (k c n number : ℕ) (packet : Option Held) (history : History) → eqb c k ≡ false → Keeps s k history (noted (note.Burst c n number) packet ∷ history)
+keeps_burst : (s : Settings) (k c n number : ℕ) (packet : Option Held) (history : History) → eqb c k ≡ false → SameFor s k history (noted (note.Burst c n number) packet ∷ history)
 unfolding bursts sendings
 keeps_burst s k c n number packet history f = record {
   opened = ap newest_open (cond-false (eqb c k) _ (bursts s k history) f);
@@ -337,47 +260,41 @@ keeps_burst s k c n number packet history f = record {
   numbered = λ w. (λ b same. absurd (eqb-false c k f same), w);
 }
 
-keeps_end : (s : Settings) (k c : ℕ) (why : Cause) (packet : Option Held) (history : History) → eqb c k ≡ false → Keeps s k history (noted (note.End c why) packet ∷ history)
+keeps_end : (s : Settings) (k c : ℕ) (why : Cause) (packet : Option Held) (history : History) → eqb c k ≡ false → SameFor s k history (noted (note.End c why) packet ∷ history)
 unfolding bursts sendings
 keeps_end s k c why packet history f =
     record { opened = ap newest_open (cond-false (eqb c k) _ (bursts s k history) f); number = refl; numbered = λ w. w }
 
-keeps_send : (s : Settings) (k c : ℕ) (hs : List Held) (history : History) → eqb c k ≡ false → Keeps s k history (send s c hs history)
-unfolding send
-keeps_send s k c [] history f = keeps_all s k history
-keeps_send s k c (h ∷ hs) history f =
-    let sent = noted (note.Burst c h.n (sequence s c history)) (Some h) ∷ history in
-    keeps_both s k history sent (send s c hs sent) (keeps_burst s k c h.n (sequence s c history) (Some h) history f) (keeps_send s k c hs sent f)
+keeps_served : (s : Settings) (held : List Held) (k c : ℕ) (o : Option Burst) (history : History) → eqb c k ≡ false → SameFor s k history (burst_served s held c o history)
+keeps_served s held k c o history f =
+    through (is_run_of c) (SameFor s k history) each history (burst_served s held c o history) (served_puts s held c o history) (keeps_all s k history)
+  where
+    away : (client : ℕ) → eqb client c ≡ true → eqb client k ≡ false
+    away client is = subst (λ (j : ℕ). eqb j k ≡ false) (sym (eqb-true client c is)) f
 
-keeps_after_run : (s : Settings) (k c : ℕ) (o : Option Burst) (history : History) → eqb c k ≡ false → Keeps s k history (after_run s c o history)
-keeps_after_run s k c None history f = keeps_all s k history
-keeps_after_run s k c (Some b) history f =
-    cond_both (is_stop b.stop (next b)) _ _ (Keeps s k history) (λ t. keeps_end s k c cause.Stopped None history f)
-    (λ g. cond_both (eqb b.ticks s.channel.limit) _ _ (Keeps s k history) (λ t. keeps_end s k c cause.Limit None history f) (λ i. keeps_all s k history))
+    each : (n : Note) (packet : Option Held) (later : History) → is_run_of c n ≡ true → SameFor s k history later → SameFor s k history (noted n packet ∷ later)
+    each (note.Burst client n number) packet later is p =
+        keeps_both s k history later (noted (note.Burst client n number) packet ∷ later) p (keeps_burst s k client n number packet later (away client is))
+    each (note.End client why) packet later is p =
+        keeps_both s k history later (noted (note.End client why) packet ∷ later) p (keeps_end s k client why packet later (away client is))
+    each n packet later is p = absurd (true≢false (sym is))
 
-keeps_served : (s : Settings) (held : List Held) (k c : ℕ) (o : Option Burst) (history : History) → eqb c k ≡ false → Keeps s k history (burst_served s held c o history)
-keeps_served s held k c None history f = keeps_all s k history
-keeps_served s held k c (Some b) history f =
-    let sent = send s c (run b.stop (next b) b.left (from_number (next b) held)) history in
-    cond_both (is_lost (next b) held) _ _ (Keeps s k history) (λ t. keeps_end s k c cause.Lost None history f)
-    (λ g. keeps_both s k history sent (run_sent s c sent) (keeps_send s k c _ history f) (keeps_after_run s k c (open_burst s c sent) sent f))
-
-keep_ready : (s : Settings) (held : List Held) (k : ℕ) (history later : History) → Keeps s k history later → Ready s held k history → Ready s held k later
+keep_ready : (s : Settings) (held : List Held) (k : ℕ) (history later : History) → SameFor s k history later → Ready s held k history → Ready s held k later
 keep_ready s held k history later p w = (
   subst (λ (o : Option Burst). ReadyOf (hi held) (sequence s k later) o) (sym p.opened)
       (subst (λ (n : ℕ). ReadyOf (hi held) n (open_burst s k history)) (sym p.number) w.0),
   p.numbered w.1,
 )
 
-keep_served : (s : Settings) (k : ℕ) (history later : History) → Keeps s k history later → Served s k history → Served s k later
+keep_served : (s : Settings) (k : ℕ) (history later : History) → SameFor s k history later → Served s k history → Served s k later
 keep_served s k history later p w = (subst ServedOf (sym p.opened) w.0, p.numbered w.1)
 
 -- a burst that has sent something sends on
 burst_sent : (s : Settings) (k n number : ℕ) (h : Held) (history : History) → Served s k history → Served s k (noted (note.Burst k n number) (Some h) ∷ history)
 unfolding bursts
 burst_sent s k n number h history w = (
-  own_or_other ServedOf k k (after_note s (note.Burst k n number) h.wire) (λ b. refl) (bursts s k history) tt
-      (λ b same e. let g : ServedOf (Some b) = subst ServedOf e w.0 in (g.0, λ none. cc)) w.0,
+  at_note s k ServedBurst (note.Burst k n number) (Some h) history
+      (record { begins = λ f r j is. absurd cc; changes = λ b own is g. (g.0, λ none. cc) }) w.0,
   (λ b same e none. let g : ServedOf (Some b) = subst ServedOf e w.0 in absurd (g.1 none), w.1),
 )
 
@@ -390,7 +307,7 @@ send_served s k (h ∷ hs) history w =
 end_served : (s : Settings) (k c : ℕ) (why : Cause) (packet : Option Held) (history : History) → (eqb c k ≡ false → ServedOf (open_burst s k history)) → Numbered s k history
     → Served s k (noted (note.End c why) packet ∷ history)
 unfolding bursts
-end_served s k c why packet history g n = (ended ServedOf c k why (bursts s k history) tt g, n)
+end_served s k c why packet history g n = (at_end_note s k c why ServedBurst packet history g, n)
 
 run_served : (s : Settings) (k : ℕ) (o : Option Burst) (history : History) → Served s k history → Served s k (after_run s k o history)
 run_served s k None history w = w
@@ -506,31 +423,20 @@ all_are_served s start k (c ∷ ks) history small w turn = let n = now (eqb c k)
 repair_served : (s : Settings) (k c n number : ℕ) (packet : Option Held) (history : History) → Served s k history → Served s k (noted (note.Repair c n number) packet ∷ history)
 unfolding bursts
 repair_served s k c n number packet history w = (
-  own_or_other ServedOf c k (after_note s (note.Repair c n number) (size_of packet)) (λ b. refl) (bursts s k history) tt
-      (λ b same e. let g : ServedOf (Some b) = subst ServedOf e w.0 in g) w.0,
+  at_note s k ServedBurst (note.Repair c n number) packet history (record { begins = λ f r j is. absurd cc; changes = λ b own is g. (g.0, g.1) }) w.0,
   (λ b same e. let g : ServedOf (Some b) = subst ServedOf e w.0 in g.1, w.1),
 )
 
-repaired_served : (s : Settings) (held : List Held) (k : ℕ) (w : Wanted) (o : Option Held) (history : History) → Served s k history → Served s k (repaired s held w o history)
+each_repair : (s : Settings) (k : ℕ) (n : Note) (packet : Option Held) (history : History) → is_repair n ≡ true → Served s k history → Served s k (noted n packet ∷ history)
 unfolding bursts
-repaired_served s held k w None history done = done
-repaired_served s held k w (Some h) history done =
-    cond_both (leb h.wire (may_take s held w.client history) && leb h.wire (channel_left s history)) _ _ (Served s k)
-    (λ t. repair_served s k w.client w.n (sequence s w.client history) (Some h) history done) (λ f. done)
+each_repair s k (note.Repair client n number) packet history is done = repair_served s k client n number packet history done
+each_repair s k (note.Gone client n) packet history is done = done
+each_repair s k n packet history is done = absurd (true≢false (sym is))
 
-all_repaired_served : (s : Settings) (held : List Held) (k : ℕ) (ws : List Wanted) (history : History) → Served s k history → Served s k (all_repaired s held ws history)
-unfolding all_repaired
-all_repaired_served s held k [] history done = done
-all_repaired_served s held k (w ∷ ws) history done =
-    all_repaired_served s held k ws (repaired s held w (find (λ h. eqb h.n w.n) held) history)
-    (repaired_served s held k w (find (λ h. eqb h.n w.n) held) history done)
-
-all_forgotten_served : (s : Settings) (k : ℕ) (ks : List ℕ) (history : History) → Served s k history → Served s k (all_forgotten s ks history)
-unfolding all_forgotten bursts
-all_forgotten_served s k [] history done = done
-all_forgotten_served s k (c ∷ ks) history done =
-    all_forgotten_served s k ks (cond (eqb (idle s c history) s.channel.idle) (noted (note.Forgot c) None ∷ history) history)
-    (cond_both (eqb (idle s c history) s.channel.idle) (noted (note.Forgot c) None ∷ history) history (Served s k) (λ t. done) (λ f. done))
+each_forgotten : (s : Settings) (k : ℕ) (n : Note) (packet : Option Held) (history : History) → is_forgotten n ≡ true → Served s k history → Served s k (noted n packet ∷ history)
+unfolding bursts
+each_forgotten s k (note.Forgot client) packet history is done = done
+each_forgotten s k n packet history is done = absurd (true≢false (sym is))
 
 tick_sound : (s : Settings) (k : ℕ) (history : History) → AreSmall (hold s history) → Sound s k history → Sound s k (after_tick s (began tick ∷ history))
 unfolding after_tick arrivals
@@ -545,9 +451,9 @@ tick_sound s k history small w =
     let served = bursts_served s start in
     let runs = all_are_served s start k (opened start) start small ready turn in
     let repairs = repairs_sent s served in
-    let sent = all_repaired_served s (hold s served) k (pending served) served runs in
-    let done = all_forgotten_served s k (known repairs) repairs sent in
+    let sent = through is_repair (Served s k) (each_repair s k) served repairs (all_repaired_put s (hold s served) (pending served) served) runs in
     let after = idle_forgotten s repairs in
+    let done = through is_forgotten (Served s k) (each_forgotten s k) repairs after (all_forgotten_put s (known repairs) repairs) sent in
     (good_served (hi (hold s after)) (sequence s k after) (open_burst s k after) done.0, done.1)
 
 -- a live packet moves the end of what is held no further down
@@ -555,52 +461,43 @@ higher : (low top number : ℕ) (o : Option Burst) → low ≤ top → GoodOf lo
 higher low top number None le g = tt
 higher low top number (Some b) le g = (g.0, λ none. let f = g.1 none in record { reached = omega (arith, f.reached, le); before = f.before; named = f.named })
 
-hearing_sound : (s : Settings) (k : ℕ) (heard : Heard) (history : History) → AreSmall (hold s history) → Sound s k history → Sound s k (after_hearing s heard history)
-unfolding after_hearing bursts sendings arrivals
-hearing_sound s k (live a) history small w =
-    (higher (hi (hold s history)) (hi (hold s (began (live a) ∷ history))) (sequence s k history) (open_burst s k history) (hi_grows s a history) w.0, w.1)
-hearing_sound s k (dropped note) history small w = w
-hearing_sound s k (feedback c ms) history small w = messages_sound s k c ms (began (feedback c ms) ∷ history) w
-hearing_sound s k (unframed c fault) history small w = w
-hearing_sound s k tick history small w = tick_sound s k history small w
-
--- what a datagram or a tick brings is no packet
-notes_bring_none : (items history : History) → AreNotes items → arrivals (items ++ history) ≡ arrivals history
-unfolding arrivals
-notes_bring_none [] history n = refl
-notes_bring_none (noted note packet ∷ items) history n = notes_bring_none items history n
-notes_bring_none (began heard ∷ items) history n = absurd n
-notes_bring_none (told client message ∷ items) history n = absurd n
-
-puts_none : (before after : History) → Puts before after → arrivals after ≡ arrivals before
-puts_none before after p = ap arrivals p.splits ∙ notes_bring_none p.items before p.notes
-
-messages_bring_none : (s : Settings) (c : ℕ) (ms : List Message) (history : History) → arrivals (after_messages s c ms history) ≡ arrivals history
-unfolding after_messages arrivals
-messages_bring_none s c [] history = refl
-messages_bring_none s c (m ∷ ms) history =
-    messages_bring_none s c ms (after_message s c m (told c m ∷ history))
-    ∙ puts_none (told c m ∷ history) (after_message s c m (told c m ∷ history)) (message_puts s c m (told c m ∷ history))
-
 arrive_small : (s : Settings) (heard : Heard) (history : History) → HearsSmall heard → ArriveSmall (arrivals history) → ArriveSmall (arrivals (after_hearing s heard history))
-unfolding after_hearing arrivals
-arrive_small s (live a) history h small = (h, small)
-arrive_small s (dropped note) history h small = small
-arrive_small s (feedback c ms) history h small = subst ArriveSmall (sym (messages_bring_none s c ms (began (feedback c ms) ∷ history))) small
-arrive_small s (unframed c fault) history h small = small
-arrive_small s tick history h small =
-    subst ArriveSmall (sym (puts_none (began tick ∷ history) (after_tick s (began tick ∷ history)) (tick_puts s (began tick ∷ history)))) small
+unfolding arrivals
+arrive_small s heard history h small = subst ArriveSmall (sym (arrivals_of_event s heard history)) (begun heard h)
+  where
+    begun : (heard : Heard) → HearsSmall heard → ArriveSmall (arrivals (began heard ∷ history))
+    begun (live a) h = (h, small)
+    begun (dropped note) h = small
+    begun (feedback c ms) h = small
+    begun (unframed c fault) h = small
+    begun tick h = small
 
 all_small : (s : Settings) (events : List Event) → ArriveSmall (arrivals (history_of s events))
 unfolding history_of arrivals
 all_small s [] = tt
 all_small s (event ∷ events) = arrive_small s (heard_of s.channel event) (history_of s events) (heard_small s.channel event) (all_small s events)
 
+begun_sound : (s : Settings) (k : ℕ) (heard : Heard) (history : History) → is_tick heard ≡ false → Sound s k history → Sound s k (began heard ∷ history)
+unfolding bursts sendings arrivals
+begun_sound s k tick history other w = absurd (true≢false other)
+begun_sound s k (live a) history other w =
+    (higher (hi (hold s history)) (hi (hold s (began (live a) ∷ history))) (sequence s k history) (open_burst s k history) (hi_grows s a history) w.0, w.1)
+begun_sound s k heard history other w = w
+
+once_sound : (s : Settings) (k : ℕ) (n : Note) (history : History) → is_at_once n ≡ true → Sound s k history → Sound s k (noted n None ∷ history)
+unfolding bursts sendings arrivals
+once_sound s k (note.Live n) history is w = w
+once_sound s k (note.BadFeedback client fault) history is w = w
+once_sound s k n history is w = absurd (true≢false (sym is))
+
 sound_history : (s : Settings) (k : ℕ) (events : List Event) → Sound s k (history_of s events)
-unfolding history_of bursts
-sound_history s k [] = (tt, tt)
-sound_history s k (event ∷ events) =
-    hearing_sound s k (heard_of s.channel event) (history_of s events) (small_held s (history_of s events) (all_small s events)) (sound_history s k events)
+unfolding bursts sendings arrivals
+sound_history s k events =
+    between s (Sound s k)
+    (λ event before n other is w. let heard = heard_of s.channel event in
+    once_sound s k n (began heard ∷ history_of s before) is (begun_sound s k heard (history_of s before) other w))
+    (λ client ms history w. w) (λ client m history l w. message_sound s k client m history l w)
+    (λ before l w. tick_sound s k (history_of s before) (small_held s (history_of s before) (all_small s before)) w) (tt, tt) events
 
 pub numbered_part : (s : Settings) (k : ℕ) (later history : History) → Numbered s k (later ++ history) → Numbered s k history
 numbered_part s k [] history n = n

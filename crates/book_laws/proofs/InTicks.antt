@@ -7,8 +7,8 @@ use Rattle.rams_model.specs.declared.note.Note.TheVariants as note
 use Rattle.rams_model.specs.Service.{Settings, Heard, live, dropped, feedback, unframed, tick, began, told, noted, History, opened, Burst, open_burst, channel_left}
 use Rattle.rams_model.specs.Laws.{NoneIs, is_event, is_sending, sizes_sent, ticks_begun}
 use Rattle.book_laws.specs.{is_tick_start, is_past_runs, gain, gains_in, left_of, IsOpenAtEachTick}
-use Rattle.book_laws.proofs.Legal.{is_tick, in_tick, in_runs, IsLegal}
-use Rattle.book_laws.proofs.Legality.{in_tick_from_runs}
+use Rattle.rams_model.proofs.Legal.{is_tick, in_tick, in_runs, IsLegal}
+use Rattle.rams_model.proofs.Legality.{in_tick_from_runs}
 use Rattle.book_laws.proofs.Sums.{part_of_sum}
 use Rattle.book_laws.proofs.BurstAmounts.{open_among}
 use Rattle.book_laws.proofs.Shares.{lefts, covered}

@@ -1,13 +1,10 @@
-pub mod Legal
-pub mod Items
+pub mod Moments
 pub mod Answering
-pub mod Legality
 pub mod SinceAccept
 pub mod Stopping
 pub mod Causes
 pub mod SentSources
 pub mod Beginning
-pub mod Adding
 pub mod CameBefore
 pub mod FirstLines
 pub mod RequestTable

@@ -7,9 +7,9 @@ use Rattle.rams_model.specs.declared.note.Note.TheVariants as note
 use Rattle.rams_model.specs.Service.{Settings, tick, began, told, noted, History, sequence, Burst, begun, in_tick, after_note, newest_changed, size_of, bursts, if_open, newest_open, open_burst}
 use Rattle.rams_model.specs.Laws.{ticks_begun}
 use Rattle.book_laws.specs.{gain, gains_in}
-use Rattle.book_laws.proofs.Legal.{IsLegal}
+use Rattle.rams_model.proofs.Legal.{IsLegal}
 use Rattle.book_laws.proofs.BurstAmounts.{at_end, at_newest, falls}
-use Rattle.book_laws.proofs.Reserved.{granted}
+use Rattle.rams_model.proofs.Granting.{accept_grants, update_grants}
 
 -- the rate of an open burst
 rate_at : Option Burst → ℕ
@@ -39,14 +39,14 @@ rate_within s k (began tick ∷ history) l =
 rate_within s k (began heard ∷ history) l = rate_within s k history l
 rate_within s k (told client message ∷ history) l = rate_within s k history l
 rate_within s k (noted (note.Accept client first rate join) packet ∷ history) l =
-    let g = granted s history client (note.Accept client first rate join) l.0 in
+    let g = (accept_grants s history client first rate join l.0).2 in
     cond_both (eqb client k) (begun s first rate join (sequence s k history) ∷ bursts s k history) (bursts s k history) (λ bs. rate_at (newest_open bs) ≤ s.channel.burst)
-    (λ t. g.0) (λ f. rate_within s k history l.1)
+    (λ t. g.within) (λ f. rate_within s k history l.1)
 rate_within s k (noted (note.Update client rate join) packet ∷ history) l =
-    let g = granted s history client (note.Update client rate join) l.0 in
+    let g = update_grants s history client rate join l.0 in
     cond_both (eqb client k) (newest_changed (after_note s (note.Update client rate join) (size_of packet)) (bursts s k history)) (bursts s k history)
     (λ bs. rate_at (newest_open bs) ≤ s.channel.burst)
-    (λ t. updated s (note.Update client rate join) (size_of packet) rate s.channel.burst (λ b. refl) g.0 (bursts s k history)) (λ f. rate_within s k history l.1)
+    (λ t. updated s (note.Update client rate join) (size_of packet) rate s.channel.burst (λ b. refl) g.within (bursts s k history)) (λ f. rate_within s k history l.1)
 rate_within s k (noted note packet ∷ history) l = omega (arith, falls s rate_at rate-none k note packet history refl (λ b. omega arith), rate_within s k history l.1)
 
 gain_within : (s : Settings) (o : Option Burst) → rate_at o ≤ s.channel.burst → gain s o ≤ s.channel.burst

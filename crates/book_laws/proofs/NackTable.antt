@@ -9,8 +9,8 @@ use Rattle.rams_model.specs.declared.note.Note.TheVariants.{Unheld, Early, Alrea
 use Rattle.rams_model.specs.Service.{Settings, nack, began, told, noted, History, arrivals, hold, Burst, next, open_burst, pending, pending_of, is_pending, is_full, is_before, is_early, room, held_answer, number_answer, after_numbers, after_nack, history_of}
 use Rattle.rams_model.specs.Laws.{Rises, IsAmong}
 use Rattle.book_laws.specs.{AreNotes, items_of, IsFirst, Line, unheld, early, already, table_full, client_full, queue_full, queued, table, IsNamed, Names, WillSend, Applies, Gives, line_of, IsByTable, IsNumberAnswer, IsForeignNack, AreAnswers, IsNackAnswered}
-use Rattle.book_laws.proofs.Legal as legal
-use Rattle.book_laws.proofs.Legal.{Allows, IsForeign}
+use Rattle.rams_model.proofs.Legal as legal
+use Rattle.rams_model.proofs.Legal.{Allows, IsForeign}
 use Rattle.book_laws.proofs.FirstLines.{first_here, first_later}
 use Rattle.book_laws.proofs.Answering.{is_answered, are_whole}
 use Rattle.book_laws.proofs.RequestTable.{is_full_so, isn't_full_so, at_least, held_rises}

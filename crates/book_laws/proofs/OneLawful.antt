@@ -1,17 +1,15 @@
 -- A lawful book tells what the history of its events tells.
-use Rattle.std.proofs.Common.{◌≡◌, ℕ, ◌⊎◌, inl, inr, ⊎_elim, List, [], ◌∷◌, ◌++◌, Option, None, refl, ap, ap₂, sym, ◌∙◌, subst, append_assoc}
+use Rattle.std.proofs.Common.{◌≡◌, ◌⊎◌, inl, inr, ⊎_elim, List, [], ◌∷◌, ◌++◌, Option, refl, ap, ap₂, sym, ◌∙◌, append_assoc}
 use Rattle.std.specs.Prelude.{option_to_list}
 use Rattle.std.proofs.lemmas.List.{append-nil}
 use Rattle.rams_model.specs.declared.answer.Order.{Order}
 use Rattle.rams_model.specs.declared.event.Event.{Event}
 use Rattle.rams_model.specs.declared.held.Held.{Held}
 use Rattle.rams_model.specs.declared.note.Note.{Note}
-use Rattle.rams_model.specs.declared.note.Note.TheVariants.{Live as LiveNoted, BadFeedback}
-use Rattle.rams_model.specs.Service.{Answered, Settings, Message, Heard, live, dropped, feedback, unframed, tick, heard_of, Item, began, told, noted, History, stream, after_message, after_messages, after_tick, order_of, newest_notes, newest_orders, Book, after_hearing, history_of, events_of, IsLawful, book}
-use Rattle.rams_model.specs.Packets.{live_note}
+use Rattle.rams_model.specs.Service.{Answered, Settings, Heard, heard_of, Item, began, told, noted, History, order_of, newest_notes, newest_orders, Book, after_hearing, history_of, events_of, IsLawful, book}
 use Rattle.rams_model.proofs.OneBook.{same_events, is_lawful, only_book}
-use Rattle.book_laws.specs.{IsMoment, AreNotes, IsTheBook, notes_in, notes_of, orders_of, TellsTheHistory, WasMade}
-use Rattle.book_laws.proofs.Items.{Puts, message_puts, tick_puts}
+use Rattle.book_laws.specs.{IsMoment, IsTheBook, notes_in, notes_of, orders_of, TellsTheHistory, WasMade}
+use Rattle.rams_model.proofs.Induction.{through_event}
 
 pub the_book : (s : Settings) (events : List Event) → IsTheBook s events (book s events)
 the_book s events = record { lawful = is_lawful s events; same_events = same_events s events; only = only_book s events }
@@ -66,31 +64,11 @@ noted_too s before history note packet g =
           ∙ ap (λ (l : List Order). orders_of s before ++ l) (sym (ap (newest_orders s history) (append-nil own) ∙ orders_first s history [] own));
     }
 
-items_too : (s : Settings) (before history items : History) → AreNotes items → Goes s before history → Goes s before (items ++ history)
-items_too s before history [] n g = g
-items_too s before history (noted note packet ∷ items) n g = noted_too s before (items ++ history) note packet (items_too s before history items n g)
-items_too s before history (began heard ∷ items) n g = absurd n
-items_too s before history (told client message ∷ items) n g = absurd n
-
-puts_too : (s : Settings) (before history later : History) → Puts history later → Goes s before history → Goes s before later
-puts_too s before history later p g = subst (Goes s before) (sym p.splits) (items_too s before history p.items p.notes g)
-
-messages_too : (s : Settings) (k : ℕ) (ms : List Message) (before history : History) → Goes s before history → Goes s before (after_messages s k ms history)
-unfolding after_messages newest_notes newest_orders
-messages_too s k [] before history g = g
-messages_too s k (m ∷ ms) before history g =
-    let asked = told k m ∷ history in
-    messages_too s k ms before (after_message s k m asked) (puts_too s before asked (after_message s k m asked) (message_puts s k m asked) (told_too s before history (told k m) g refl refl refl refl))
-
 hearing_goes : (s : Settings) (heard : Heard) (history : History) → Goes s history (after_hearing s heard history)
-unfolding after_hearing
-hearing_goes s (live a) history =
-    noted_too s history (began (live a) ∷ history) (LiveNoted (live_note s.channel.window (stream s history) a.sequence)) None (begins s (live a) history)
-hearing_goes s (dropped note) history = noted_too s history (began (dropped note) ∷ history) (LiveNoted note) None (begins s (dropped note) history)
-hearing_goes s (feedback client ms) history = messages_too s client ms history (began (feedback client ms) ∷ history) (begins s (feedback client ms) history)
-hearing_goes s (unframed client fault) history =
-    noted_too s history (began (unframed client fault) ∷ history) (BadFeedback client fault) None (begins s (unframed client fault) history)
-hearing_goes s tick history = puts_too s history (began tick ∷ history) (after_tick s (began tick ∷ history)) (tick_puts s (began tick ∷ history)) (begins s tick history)
+unfolding newest_notes newest_orders
+hearing_goes s heard history =
+    through_event (Goes s history) (λ k m after g. told_too s history after (told k m) g refl refl refl refl) (λ n packet after g. noted_too s history after n packet g)
+    s heard history (begins s heard history)
 
 pub tells : (s : Settings) (entries : Book) → IsLawful s entries → TellsTheHistory s entries
 unfolding history_of

@@ -9,7 +9,7 @@ use Rattle.rams_model.specs.Service.{Settings, Message, asks, stops, Item, began
 use Rattle.rams_model.specs.Formats.{Request}
 use Rattle.book_laws.specs.{AreNotes, items_of, AnsweredBy, IsFirst}
 use Rattle.book_laws.specs.Refusals.{Line, again, update, accept, table, code_of, asked, Applies, joins_in, Begins, Gives, IsByTable, IsRefusedWith, IsRequestRefused, IsStopRefused, IsAccept, IsUpdate, IsAnsweredExactly}
-use Rattle.book_laws.proofs.Legal.{IsVerdict, IsUnread}
+use Rattle.rams_model.proofs.Legal.{IsVerdict, IsUnread}
 use Rattle.book_laws.proofs.FirstLines.{one_first}
 use Rattle.book_laws.proofs.Answering.{is_answered, IsWhole, are_whole}
 use Rattle.book_laws.proofs.RequestTable.{verdict_lines}

@@ -13,7 +13,7 @@ use Rattle.rams_model.specs.declared.note.Note.TheVariants.{Update, Again, Refus
 use Rattle.rams_model.specs.Service.{Settings, rate_of, History, hold, known, opened, is_among, Burst, next, open_burst, has_open, most_of, reserved, is_slow, is_too_much, is_full, join_from, begins, changes, on_burst, on_request, verdict}
 use Rattle.rams_model.specs.Formats.{Request, is_listed, names}
 use Rattle.rams_model.specs.Packets.{is_eligible, age, is_at_most, chosen}
-use Rattle.rams_model.specs.Laws.{Rises, IsAmong, IsNewest, NonePasses, is_old_enough, IsRefusedFor, IsChoice}
+use Rattle.rams_model.specs.Laws.{Rises, IsAmong, IsNewest, is_old_enough, IsRefusedFor, IsChoice}
 use Rattle.rams_model.specs.Laws.Meaning as laws
 use Rattle.rams_model.proofs.Since.{opened_stands}
 use Rattle.rams_model.proofs.LastAccept.{open_stands}

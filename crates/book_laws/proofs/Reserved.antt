@@ -1,72 +1,14 @@
 -- What the open bursts reserve fits the share.
-use Rattle.std.proofs.Common.{◌≡◌, ℕ, ◌+◌, ◌-◌, ◌≤◌, true, false, cond, not, ⊎_elim, List, [], ◌∷◌, Option, Some, None, refl, ap, sym, ◌∙◌, subst, arith, eqb}
-use Rattle.std.specs.Prelude.{Result, Ok, Err, unwrap_or, if◌then◌else◌}
+use Rattle.std.proofs.Common.{◌≡◌, ℕ, ◌+◌, ◌-◌, ◌≤◌, true, false, cond, ⊎_elim, List, [], ◌∷◌, Option, Some, None, refl, ap, sym, ◌∙◌, subst, arith, eqb}
 use Rattle.std.specs.List.{sum_by}
-use Rattle.std.proofs.lemmas.Bool.{cond_both, cond-true, cond-false, cases_Bool, eqb-true, eqb-false, ne_eqb, eq-eqb, ltb-false, or_left}
-use Rattle.rams_model.specs.declared.fault.TlvFault.{TlvFault}
+use Rattle.std.proofs.lemmas.Bool.{cond_both, cond-true, cond-false, cases_Bool, eqb-true, eqb-false, ne_eqb, eq-eqb, or_left}
 use Rattle.rams_model.specs.declared.held.Held.{Held}
-use Rattle.rams_model.specs.declared.note.Note.{Note}
 use Rattle.rams_model.specs.declared.note.Note.TheVariants as note
-use Rattle.rams_model.specs.Service.{Settings, rate_of, tick, began, told, noted, History, hold, opened, is_among, placed, with_client, without, Burst, next, bursts, open_burst, has_open, most_of, reserved, asked_rate, is_slow, is_too_much, is_full, join_from, begins, changes, on_burst, on_request, verdict}
-use Rattle.rams_model.specs.Formats.{Request, names}
-use Rattle.rams_model.specs.Packets.{chosen}
-use Rattle.book_laws.proofs.Legal.{IsVerdict, IsLegal}
+use Rattle.rams_model.specs.Service.{Settings, tick, began, told, noted, History, opened, is_among, placed, with_client, without, Burst, bursts, open_burst, has_open, most_of, reserved}
+use Rattle.rams_model.proofs.Legal.{IsLegal}
+use Rattle.rams_model.proofs.Granting.{accept_grants, update_grants}
 use Rattle.book_laws.proofs.Sums.{one_at, times, all_sum, sum_without, sum_placed, times-none, times-among, others_sum, one_changed, part_of_sum}
 use Rattle.book_laws.proofs.BurstAmounts.{opened_open, open_among, closed_among, most_falls, most_begun, most_changed, most_at_tick, of_others}
-
--- what an Accept and an Update leave of the share, and the rate that they give
-abbrev pub Grants : Settings → History → Note → Type 0
-Grants s history (note.Accept k first rate join) =
-    (rate ≤ s.channel.burst) × (open_burst s k history ≡ None) × (reserved s history + rate + s.channel.depth + s.channel.reserve ≤ s.channel.share)
-Grants s history (note.Update k rate join) =
-    (rate ≤ s.channel.burst) × ((b : Burst) × (open_burst s k history ≡ Some b) × (reserved s history - b.rate + rate + s.channel.reserve ≤ s.channel.share))
-Grants s history note = Unit {0}
-
-asked_within : (s : Settings) (bps : Option ℕ) → rate_of bps s.tick s.channel.burst ≤ s.channel.burst
-asked_within s None = omega arith
-asked_within s (Some bps) = omega arith
-
-grants_begin : (s : Settings) (held : List Held) (k rate : ℕ) (history : History) → rate ≤ s.channel.burst → open_burst s k history ≡ None → (r : Result Held ℕ) → Grants s history (begins s held k rate history r)
-grants_begin s held k rate history most none (Err code) = tt
-grants_begin s held k rate history most none (Ok h) =
-    let amount = reserved s history + rate + s.channel.depth in
-    cond_both (is_slow s rate) (note.Refuse k 403) (if is_too_much s amount then note.Refuse k 501 else note.Accept k h.n rate (join_from s held h.n rate)) (Grants s history) (λ t. tt)
-    (λ f.
-    cond_both (is_too_much s amount) (note.Refuse k 501) (note.Accept k h.n rate (join_from s held h.n rate)) (Grants s history) (λ t. tt)
-    (λ fits. (most, none, ltb-false s.channel.share (amount + s.channel.reserve) fits)))
-
-grants_change : (s : Settings) (held : List Held) (k rate : ℕ) (history : History) (b : Burst) → rate ≤ s.channel.burst → open_burst s k history ≡ Some b → Grants s history (changes s held k rate history b)
-grants_change s held k rate history b most is =
-    let amount = reserved s history - b.rate + rate in
-    cond_both (is_slow s rate) (note.Refuse k 403) (if is_too_much s amount then note.Refuse k 501 else note.Update k rate (join_from s held (next b) rate)) (Grants s history) (λ t. tt)
-    (λ f.
-    cond_both (is_too_much s amount) (note.Refuse k 501) (note.Update k rate (join_from s held (next b) rate)) (Grants s history) (λ t. tt)
-    (λ fits. (most, (b, is, ltb-false s.channel.share (amount + s.channel.reserve) fits))))
-
-grants_on_burst : (s : Settings) (held : List Held) (k rate : ℕ) (history : History) (b : Burst) → rate ≤ s.channel.burst → open_burst s k history ≡ Some b → (bps : Option ℕ) → Grants s history (on_burst s held k rate history b bps)
-grants_on_burst s held k rate history b most is None = tt
-grants_on_burst s held k rate history b most is (Some bps) =
-    cond_both (eqb rate b.rate) (note.Again k) (changes s held k rate history b) (Grants s history) (λ t. tt) (λ f. grants_change s held k rate history b most is)
-
-grants_on_request : (s : Settings) (held : List Held) (k : ℕ) (r : Request) (history : History) (o : Option Burst) → open_burst s k history ≡ o → Grants s history (on_request s held k r history o)
-grants_on_request s held k r history (Some b) is = grants_on_burst s held k (asked_rate s r) history b (asked_within s r.bps) is r.bps
-grants_on_request s held k r history None is =
-    let start = chosen s.channel held (unwrap_or r.min_ms 0) r.max_ms in
-    cond_both (is_full s k history) (note.Refuse k 503) (begins s held k (asked_rate s r) history start) (Grants s history) (λ t. tt)
-    (λ f. grants_begin s held k (asked_rate s r) history (asked_within s r.bps) is start)
-
-grants : (s : Settings) (k : ℕ) (history : History) (request : Result Request TlvFault) → Grants s history (verdict s k history request)
-unfolding verdict
-grants s k history (Err fault) = tt
-grants s k history (Ok r) =
-    let asked = on_request s (hold s history) k r history (open_burst s k history) in
-    cond_both r.preamble (note.Refuse k 512) (if not (names r s.channel.ssrc) then note.Refuse k 509 else asked) (Grants s history) (λ t. tt)
-    (λ f.
-    cond_both (not (names r s.channel.ssrc)) (note.Refuse k 509) asked (Grants s history) (λ t. tt)
-    (λ g. grants_on_request s (hold s history) k r history (open_burst s k history) refl))
-
-pub granted : (s : Settings) (history : History) (k : ℕ) (note : Note) → IsVerdict s history k note → Grants s history note
-granted s history k note v = subst (Grants s history) v.is_verdict (grants s k history v.request)
 
 -- a client's burst in a sum over clients
 abbrev most_at : Settings → History → ℕ → ℕ
@@ -137,9 +79,9 @@ fits s (began tick ∷ history) l k e =
 fits s (began heard ∷ history) l k e = fits s history l k e
 fits s (told client message ∷ history) l k e = fits s history l k e
 fits s (noted (note.Accept client first rate join) packet ∷ history) l k e =
-    let g = granted s history client (note.Accept client first rate join) l.0 in omega (arith, g.2, more_reserved s history client first rate join packet g.1)
+    let g = (accept_grants s history client first rate join l.0).2 in omega (arith, g.fits, more_reserved s history client first rate join packet g.none)
 fits s (noted (note.Update client rate join) packet ∷ history) l k e =
-    let g = granted s history client (note.Update client rate join) l.0 in omega (arith, g.1.2, changed_reserved s history client rate join packet g.1.0 g.1.1)
+    let g = update_grants s history client rate join l.0 in omega (arith, g.fits, changed_reserved s history client rate join packet g.burst g.is_open)
 fits s (noted (note.End client cause) packet ∷ history) l k e =
     let ks = opened history in
     let f = most_at s (noted (note.End client cause) packet ∷ history) in

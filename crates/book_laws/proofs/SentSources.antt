@@ -7,13 +7,13 @@ use Rattle.std.proofs.lemmas.List.Elements.{All-nil, All-push, All-weaker, Conta
 use Rattle.rams_model.specs.declared.held.Held.{Held}
 use Rattle.rams_model.specs.declared.note.Note.TheVariants as note
 use Rattle.rams_model.specs.Service.{Settings, live, Item, began, told, noted, History, arrivals, hold}
-use Rattle.rams_model.specs.Packets.{Stream, consecutive_end, stream_of}
+use Rattle.rams_model.specs.Packets.{consecutive_end}
 use Rattle.rams_model.specs.Packets.Source as sources
 use Rattle.rams_model.specs.Laws.{source}
 use Rattle.rams_model.proofs.Growing.{source_grows}
 use Rattle.rams_model.proofs.Holding.{longest_end}
 use Rattle.book_laws.specs.{Sending, sending, first_sendings, IsPacketOf}
-use Rattle.book_laws.proofs.Legal.{IsLegal, Sends}
+use Rattle.rams_model.proofs.Legal.{IsLegal, Sends}
 
 -- what is held is of the source
 pub held_of_source : (s : Settings) (history : History) (h : Held) → Contains (hold s history) h → Contains (source s history) h

@@ -8,7 +8,7 @@ use Rattle.rams_model.specs.Service.{Settings, tick, Item, began, told, noted, H
 use Rattle.rams_model.specs.Laws.{NoneIs, is_accept_of, ends_known, numbers_sent}
 use Rattle.rams_model.proofs.LastAccept.{last_accept}
 use Rattle.book_laws.specs.{is_burst_of, numbers_to, AreSequencedFrom, FirstSendingHas}
-use Rattle.book_laws.proofs.Legal.{IsLegal, legal_part}
+use Rattle.rams_model.proofs.Legal.{IsLegal, legal_part}
 use Rattle.book_laws.proofs.FreshBursts.{Numbered, numbered_part}
 
 -- the client of the newest burst was told this number

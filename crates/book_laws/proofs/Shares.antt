@@ -8,7 +8,7 @@ use Rattle.rams_model.specs.declared.note.Note.TheVariants as note
 use Rattle.rams_model.specs.Service.{Settings, tick, began, told, noted, History, opened, size_of, open_burst, most_of, channel_left}
 use Rattle.rams_model.specs.Laws.{is_sending}
 use Rattle.book_laws.specs.{left_of}
-use Rattle.book_laws.proofs.Legal.{in_runs, Sends, IsLegal}
+use Rattle.rams_model.proofs.Legal.{in_runs, Sends, IsLegal}
 use Rattle.book_laws.proofs.Sums.{all_sum, less_by, part_of_sum, sum_without}
 use Rattle.book_laws.proofs.BurstAmounts.{open_among, left_falls, left_taken, left_at_tick}
 use Rattle.book_laws.proofs.Reserved.{within_share}

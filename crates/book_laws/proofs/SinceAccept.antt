@@ -10,7 +10,7 @@ use Rattle.rams_model.specs.declared.note.Note.TheVariants as note
 use Rattle.rams_model.specs.Service.{Settings, stop_of, tick, began, told, noted, History, sequence, Burst, next, begun, in_tick, after_note, newest_changed, size_of, bursts, if_open, newest_open, is_before}
 use Rattle.rams_model.specs.Laws.{NoneIs, is_accept_of, IsByStop}
 use Rattle.book_laws.specs.{Sending, sending, first_sendings, AreNumberedFrom}
-use Rattle.book_laws.proofs.Legal.{IsLegal, Sends, Stops, Ends, EndsFor}
+use Rattle.rams_model.proofs.Legal.{IsLegal, Sends, Stops, Ends, EndsFor}
 
 -- the number of the newest StopAt of the client
 unfoldable pub stop_since : ℕ → History → Option ℕ

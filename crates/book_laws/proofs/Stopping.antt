@@ -17,7 +17,7 @@ use Rattle.rams_model.proofs.LastAccept.{open_stands}
 use Rattle.rams_model.proofs.Stopping.{least_named}
 use Rattle.book_laws.specs.{LastAccept, Sending, sending, first_sendings, AreNumberedFrom}
 use Rattle.book_laws.specs.Stops.{Stands, next_number, EndsAtItsStop, HasEnded, IsStopFor, is_any_stop, StopsAsNamed}
-use Rattle.book_laws.proofs.Legal.{IsLegal, legal_part, Sends, Stops, Ends}
+use Rattle.rams_model.proofs.Legal.{IsLegal, legal_part, Sends, Stops, Ends}
 use Rattle.book_laws.proofs.Answering.{is_answered}
 use Rattle.book_laws.proofs.SinceAccept.{stop_since, end_since, by_test, IsNewestOf, newest_since, IsOpenOf, open_of, IsFair}
 

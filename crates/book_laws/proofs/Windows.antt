@@ -7,7 +7,7 @@ use Rattle.rams_model.specs.declared.note.Note.TheVariants as note
 use Rattle.rams_model.specs.Service.{Settings, tick, began, told, noted, History, as_tick_began, Burst, in_tick, newest_changed, size_of, bursts, if_open, newest_open, open_burst, after_sending, channel_left, budget_of, cap}
 use Rattle.rams_model.specs.Laws.{NoneIs, is_sending, is_sending_to, sizes_sent, ticks_begun}
 use Rattle.book_laws.specs.{is_tick_start, may_be_sent, left_of, gain, gains_in, BeginsWithATick}
-use Rattle.book_laws.proofs.Legal.{IsLegal}
+use Rattle.rams_model.proofs.Legal.{IsLegal}
 use Rattle.book_laws.proofs.Shares.{sending_fits}
 use Rattle.book_laws.proofs.ClientCaps.{since_tick, within_cap}
 

@@ -11,7 +11,6 @@ pub mod Numbers
 pub mod JoinTimes
 pub mod QuietBurst
 pub mod StopAnswers
-
 pub use Rattle.book_laws.specs.Moments.{IsMoment, LastAccept}
 unfoldable pub use Rattle.book_laws.specs.Sendings.{sending, first_sendings, AreNumberedFrom, IsPacketOf, FirstSendingsAreConsecutive, WhatIsSentIsHeld, NothingIsSentUnasked, WhoeverWasAcceptedHasALastAccept, ABurstBeginsAtAnEligibleAccessPoint, IsTakenAs, IsOfTheSource, EachDatagramIsTheRetransmissionOfASourcePacket, note_sends, order_sends, EachSendingIsOrderedOnce}
 pub use Rattle.book_laws.specs.Sendings.{Sending, BeginsAsAsked, Retransmits, Sent}

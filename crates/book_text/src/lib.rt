@@ -7,8 +7,6 @@
 mod line;
 mod note;
 mod tail;
-#[cfg(test)]
-mod tests;
 
 pub use line::{append_count, append_no_channel, append_refused, append_send};
 pub use note::append_note;

@@ -40,7 +40,7 @@ pub fn append_send(
     Ok(())
 }
 
-/// Bytes in hexadecimal digits, whose letters are small; `-` for none.
+// Bytes in hexadecimal digits, whose letters are small; `-` for none.
 fn hex(text: &mut Vec<u8>, bytes: &[u8]) -> Result<(), NoMemory>
     ensures { OnOk result (text.new.items ≡ text.old.items ++ hex_word bytes.now) }
 {

@@ -19,7 +19,7 @@ pub fn append_note(text: &mut Vec<u8>, event: u64, id: u16, note: &Note) -> Resu
     line.append_to(text)
 }
 
-/// The words of a note, without a space in front.
+// The words of a note, without a space in front.
 fn words(line: &mut Tail, note: &Note)
     requires { length line.old + 110 ≤ 160 }
     ensures line { line.new ≡ note_words note.now ++ line.old }
@@ -58,7 +58,7 @@ fn words(line: &mut Tail, note: &Note)
     }
 }
 
-/// What became of a live packet.
+// What became of a live packet.
 fn live_words(line: &mut Tail, note: &LiveNote)
     requires { length line.old + 34 ≤ 160 }
     ensures line { line.new ≡ live_words note.now ++ line.old }
@@ -127,7 +127,7 @@ fn end(line: &mut Tail, client: u64, cause: Cause)
     told(line, b"end", client, name)
 }
 
-/// A word, a client, and what was told of it.
+// A word, a client, and what was told of it.
 fn told(line: &mut Tail, name: &[u8], client: u64, what: &[u8])
     requires { length name.now + length what.now + length line.old + 21 ≤ 160 }
     ensures line { line.new ≡ name.now ++ spaced client ++ what.now ++ line.old }
@@ -158,7 +158,7 @@ fn update(line: &mut Tail, client: u64, rate: u64, join: u64)
     line.named(b"update", client);
 }
 
-/// A packet that is sent, under its number and its retransmission's.
+// A packet that is sent, under its number and its retransmission's.
 fn sent(line: &mut Tail, name: &[u8], client: u64, n: u64, seq: u16)
     requires { length name.now + length line.old + 63 ≤ 160 }
     ensures line { line.new ≡ name.now ++ spaced client ++ spaced n ++ spaced seq ++ line.old }

@@ -6,7 +6,7 @@ use itoa::write_digits;
 use ram_io::NoMemory;
 use std::marker::Model;
 
-/// Bytes of the longest line of a note, and more.
+// Bytes of the longest line of a note, and more.
 const ROOM: usize = 160;
 
 /// The end of a line. It is written from its last byte to its first, as digits are, and then appended

@@ -1,7 +1,6 @@
 pub mod JoinTime
 pub mod QuietTicks
 pub mod Example
-
 unfoldable pub use Rattle.burst_plan.specs.JoinTime.{gain, JoinTimesAreLeast, JoinTimesAreKept}
 pub use Rattle.burst_plan.specs.JoinTime.{IsLeastTicks}
 unfoldable pub use Rattle.burst_plan.specs.QuietTicks.{sent, unsent, unspent, after, AreAtMost, AreQuiet, pair, pairs_after, QuietTicksComeNearer, QuietBurstsKeepTheirJoinTime, AreWithin, QuietBurstsFallBackNoFurther}

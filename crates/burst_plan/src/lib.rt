@@ -7,8 +7,6 @@
 mod laws;
 mod rate;
 mod stop;
-#[cfg(test)]
-mod tests;
 
 pub use laws::{
     catching_up_ends, five_packets_in_three_ticks, join_times_are_kept, quiet_bursts_catch_up,

@@ -2,11 +2,10 @@
 ghost use Rattle.std.specs.Prelude.{◌≡◌, ◌+◌, ◌≤◌, ◌^◌};
 ghost use Rattle.rams_model.specs.Service.{rate_of, join_ticks, bits_of};
 
-/// Bits per second of one byte in a tick of one ms.
-const BITS_BY_MS: u64 = 8000;
+use rams_model::MOST_ON_WIRE;
 
-/// The largest wire size of a packet, in bytes.
-const MOST_WIRE: u64 = 1500;
+// Bits per second of one byte in a tick of one ms.
+const BITS_BY_MS: u64 = 8000;
 
 /// The rate of a burst, in bytes per tick: `burst`, the most that a client is sent, or the Max
 /// Receive Bitrate `bps` of its request where that is less (RFC 6285, 7.2), which is in bits per
@@ -29,7 +28,7 @@ pub fn join_ticks(behind: u64, rate: u64, declared: u64, depth: u64) -> u64
     requires { declared + 1500 ≤ rate }
     ensures { result ≡ join_ticks behind rate declared depth }
 {
-    let most_waste = MOST_WIRE - 1;
+    let most_waste = u64::from(MOST_ON_WIRE) - 1;
     let waste = most_waste - depth.min(most_waste);
     behind.div_ceil(rate - waste - declared)
 }

@@ -7,3 +7,4 @@ pub mod Starting
 pub mod Stepping
 pub mod Shown
 pub mod Booked
+mod Settling

@@ -4,6 +4,7 @@ use Rattle.std.proofs.lemmas.List.{length-append}
 use Rattle.std.proofs.lemmas.Bool.Decides.{nat_tests}
 use Rattle.rams_model.specs.declared.held.Held.{Held}
 use Rattle.rams_model.specs.Packets.{lo, hi, last_of, from_number, Follows}
+use Rattle.rams_model.proofs.Holding.{all_from}
 use Rattle.packet_ring.specs.{with_next, pushed, IsRing}
 use Rattle.packet_ring.specs.Seen as rings
 use Rattle.access_index.specs.{StandsFor}
@@ -15,20 +16,9 @@ from_step : (n : ℕ) (h : Held) (hs ks : List Held) (b : Bool) → b ≡ false 
 from_step n h hs ks true isnt is = cc
 from_step n h hs ks false isnt is = is
 
-from_keeps : (n : ℕ) (h : Held) (hs ks : List Held) (b : Bool) → b ≡ true → from_number n hs ≡ ks → (if b then h ∷ from_number n hs else from_number n hs) ≡ h ∷ ks
-from_keeps n h hs ks true does is = ap (λ (l : List Held). h ∷ l) is
-from_keeps n h hs ks false does is = cc
-
--- all, from the first on or from below it
-from_first : (n m : ℕ) (hs : List Held) → Follows m hs → n ≤ m → from_number n hs ≡ hs
-from_first n m [] follows low = refl
-from_first n m (h ∷ hs) follows low =
-    let above : n ≤ h.n = omega (arith, follows.0) in
-    from_keeps n h hs hs (nat_le n h.n) (grind (arith, nat_tests)) (from_first n (m + 1) hs follows.1 (omega arith))
-
 -- all but the first so many
 from_later : (m d : ℕ) (hs : List Held) → Follows m hs → d ≤ length hs → from_number (m + d) hs ≡ drop d hs
-from_later m zero hs follows few = ap (λ n. from_number n hs) (omega arith) ∙ from_first m m hs follows (omega arith)
+from_later m zero hs follows few = ap (λ n. from_number n hs) (omega arith) ∙ all_from m m hs follows (omega arith)
 from_later m (suc d) [] follows few = refl
 from_later m (suc d) (h ∷ hs) follows few =
     let below : h.n < m + suc d = omega (arith, follows.0) in

@@ -6,15 +6,14 @@ pub mod Brought
 pub mod Step
 pub mod Seen
 pub mod Laws
-
 unfoldable pub use Rattle.channel_cache.specs.Arrivals.{arrival_of, note_heard, arrivals_heard, live_note_of, arrivals_after}
 unfoldable pub use Rattle.channel_cache.specs.Whole.{AreWhole}
 pub use Rattle.channel_cache.specs.Whole.{IsBare, IsWhole}
-unfoldable pub use Rattle.channel_cache.specs.Waiting.{new_intake, packets_of, AreItems, UnlessKept}
-pub use Rattle.channel_cache.specs.Waiting.{IsItem, IsIntake, Holds}
+unfoldable pub use Rattle.channel_cache.specs.Waiting.{new_intake, packets_of, AreItems, count, UnlessKept}
+pub use Rattle.channel_cache.specs.Waiting.{IsItem, IsIntake, IsSettled, Grows, Holds}
 unfoldable pub use Rattle.channel_cache.specs.Brought.{due, Waits, UnlessTaken}
 pub use Rattle.channel_cache.specs.Brought.{Brings}
-unfoldable pub use Rattle.channel_cache.specs.Step.{IsTop, count, kept_other}
+unfoldable pub use Rattle.channel_cache.specs.Step.{IsTop, kept_other}
 pub use Rattle.channel_cache.specs.Step.{AreInStep, Stand}
 unfoldable pub use Rattle.channel_cache.specs.Seen.{new_cache, ring_of, DiffersInKept}
 pub use Rattle.channel_cache.specs.Seen.{StandsFor, IsCache}

@@ -10,7 +10,8 @@ use Rattle.reorder_window.specs.{new_window}
 use Rattle.reorder_window.specs.Seen as windows
 use Rattle.channel_cache.specs.declared.intake.Intake.{Intake}
 use Rattle.channel_cache.specs.Brought.{Waits}
-use Rattle.channel_cache.specs.Step.{AreInStep, count, kept_other}
+use Rattle.channel_cache.specs.Waiting.{count}
+use Rattle.channel_cache.specs.Step.{AreInStep, kept_other}
 
 -- what a cache keeps
 pub record Seen : Type 0 where

@@ -1,5 +1,5 @@
 -- The numbering and the packets in time, step by step.
-use Rattle.std.specs.Prelude.{◌≡◌, ℕ, ◌+◌, false, List, [], length, Option, Some, None}
+use Rattle.std.specs.Prelude.{◌≡◌, ℕ, false, List, [], Option, Some, None}
 use Rattle.rams_model.specs.declared.held.Held.{Held}
 use Rattle.rams_model.specs.Packets.{Arrival, stream_of}
 use Rattle.ext_seq.specs.{IsWithin}
@@ -21,10 +21,6 @@ pub record AreInStep (v : numbers.Seen) (intake : Intake) : Type 0 where
   pub settled : first_free intake.window ≡ None
   pub top : IsTop v.greatest intake.window
   pub within : IsWithin v.calls v.greatest
-
--- how many packets wait or were held
-abbrev pub count : Intake → ℕ
-count intake = intake.stock.pushes + length intake.window.kept
 
 -- They stand for these live packets, the newest first.
 pub record Stand (v : numbers.Seen) (intake : Intake) (arrivals : List Arrival) : Type 0 where

@@ -1,10 +1,10 @@
 -- The packets of a channel that came in time: those that wait for others, and those that are held.
-use Rattle.std.specs.Prelude.{◌≡◌, ℕ, ◌+◌, ◌^◌, ◌<◌, ◌≤◌, false, List, [], ◌∷◌, ◌++◌, map}
+use Rattle.std.specs.Prelude.{◌≡◌, ℕ, ◌+◌, ◌^◌, ◌<◌, ◌≤◌, false, List, [], ◌∷◌, ◌++◌, length, map, None}
 use Rattle.rams_model.specs.declared.held.Held.{Held}
 use Rattle.rams_model.specs.Packets.{hi}
 use Rattle.packet_ring.specs.Seen as rings
 use Rattle.reorder_window.specs.declared.window.Came.{Came}
-use Rattle.reorder_window.specs.{Start, released, new_window, RisesIn}
+use Rattle.reorder_window.specs.{Start, released, new_window, first_free, RisesIn}
 use Rattle.reorder_window.specs.declared.window.Came.TheVariants.{Kept, Late, Twice}
 use Rattle.reorder_window.specs.Seen as windows
 use Rattle.channel_cache.specs.declared.intake.Intake.{Intake}
@@ -35,6 +35,23 @@ pub record IsIntake (v : Intake) : Type 0 where
   pub next : v.window.awaited ≤ v.window.greatest + 1
   pub small : v.window.greatest < 2 ^ 62
   pub items : AreItems v.window.kept
+
+-- how many packets wait or were held
+abbrev pub count : Intake → ℕ
+count v = v.stock.pushes + length v.window.kept
+
+-- Between two packets of a start: it goes on, and none of those that wait could go out.
+pub record IsSettled (v : Intake) : Type 0 where
+  pub lawful : IsIntake v
+  pub going : v.window.ended ≡ false
+  pub settled : first_free v.window ≡ None
+
+-- As packets come the sizes stay, what is held ends no earlier, and so many packets more were counted at most.
+pub record Grows (old new : Intake) (more : ℕ) : Type 0 where
+  pub width : new.window.width ≡ old.window.width
+  pub capacity : new.stock.ring.capacity ≡ old.stock.ring.capacity
+  pub end : hi old.stock.ring.held ≤ hi new.stock.ring.held
+  pub counted : count new ≤ count old + more
 
 -- for a packet that was dropped
 abbrev pub UnlessKept : Came → Type 0 → Type 0

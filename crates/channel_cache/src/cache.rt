@@ -3,7 +3,7 @@ ghost use Rattle.std.specs.Prelude.{◌≡◌, ◌+◌, ◌^◌, ◌<◌, ◌≤
 ghost use Rattle.rams_model.specs.Packets.{chosen, lo, hi, Arrival, live_note, stream_of};
 ghost use Rattle.packet_ring.specs.{packet_of, IsRing};
 ghost use Rattle.access_index.specs.{choice_of};
-ghost use Rattle.channel_cache.specs.{arrival_of, live_note_of, arrivals_after, UnlessTaken, new_cache, ring_of, StandsFor, DiffersInKept, AreInStep, Stand, count, kept_other, IsBare, IsWhole};
+ghost use Rattle.channel_cache.specs.{arrival_of, live_note_of, arrivals_after, UnlessTaken, new_cache, ring_of, StandsFor, DiffersInKept, AreInStep, Stand, Grows, count, kept_other, IsBare, IsWhole};
 
 use crate::incoming::{Incoming, read_live};
 use crate::intake::Intake;
@@ -71,7 +71,7 @@ impl Cache {
         let note = match read_live(channel, bytes) {
             Ok(packet) => {
                 let incoming = Incoming::of(alloc, channel, &packet)?;
-                take(&mut self.numbering, &mut self.intake, incoming)
+                receive(&mut self.numbering, &mut self.intake, incoming)
             }
             Err(note) => note,
         };
@@ -117,8 +117,8 @@ impl Cache {
     }
 }
 
-/// Numbers a packet of the channel, and takes it in where it comes in time.
-fn take(numbering: &mut Numbering, intake: &mut Intake, incoming: Incoming) -> LiveNote
+// Numbers a packet of the channel, and takes it in where it comes in time.
+fn receive(numbering: &mut Numbering, intake: &mut Intake, incoming: Incoming) -> LiveNote
     requires in_step { AreInStep numbering.old intake.old }
     requires bare { IsBare incoming.packet }
     requires low { incoming.sequence < 65536 }
@@ -126,10 +126,7 @@ fn take(numbering: &mut Numbering, intake: &mut Intake, incoming: Incoming) -> L
     requires counted { count intake.old < 2 ^ 40 }
     ensures in_step { AreInStep numbering.new intake.new }
     ensures numbered { numbering.new.calls ≡ numbering.old.calls + 1 }
-    ensures counted { count intake.new ≤ count intake.old + 1 }
-    ensures width { intake.new.window.width ≡ intake.old.window.width }
-    ensures capacity { intake.new.stock.ring.capacity ≡ intake.old.stock.ring.capacity }
-    ensures grows { hi intake.old.stock.ring.held ≤ hi intake.new.stock.ring.held }
+    ensures grows { Grows intake.old intake.new 1 }
     ensures kept { UnlessTaken result ((numbering.new ≡ kept_other numbering.old numbering.new) × (intake.new ≡ intake.old)) }
     ensures stands { (arrivals : List Arrival) → Stand numbering.old intake.old arrivals →
         (result ≡ live_note intake.old.window.width (stream_of intake.old.window.width arrivals) incoming.sequence)
@@ -140,7 +137,7 @@ fn take(numbering: &mut Numbering, intake: &mut Intake, incoming: Incoming) -> L
             intake.begin_with(n, incoming);
             LiveNote::Took(n)
         }
-        Noted::Forward(n) | Noted::Behind(n) => intake.take(n, incoming),
+        Noted::Forward(n) | Noted::Behind(n) => intake.continue_with(n, incoming),
         Noted::Jump => LiveNote::Jump,
         Noted::Restart(n) => {
             intake.restart_with(n, incoming);

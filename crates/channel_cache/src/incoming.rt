@@ -8,17 +8,10 @@ ghost use Rattle.channel_cache.specs.{arrival_of, IsBare, IsWhole};
 use bytes::Bytes;
 use channel_config::{Access, Channel};
 use ram_io::NoMemory;
-use rams_model::{Held, LiveNote};
+use rams_model::{Held, LiveNote, MOST_PACKET, RTX_OVERHEAD};
 use rtp_record::Rtp;
 use std::alloc::Global;
 use ts_access::has_access;
-
-/// Most bytes of a live packet: its retransmission then takes at most 1,500 on the wire.
-const MOST_BYTES: usize = 1470;
-
-/// What a retransmission takes on the wire beside the packet: two bytes for the original number (RFC
-/// 4588, 4), 28 for the headers of IPv4 and UDP.
-const HEADERS: u32 = 30;
 
 /// A packet of the channel that has no number yet.
 #[derive(Drop)]
@@ -39,7 +32,7 @@ pub fn read_live<'a>(channel: &Channel, bytes: &'a [u8]) -> Result<Rtp<'a>, Live
     ensures heard { MatchResult result (λ p. heard_live channel.now bytes.now ≡ live (arrival channel.now p)) (λ note. heard_live channel.now bytes.now ≡ dropped note) }
     ensures lawful { IfOk result (λ p. IsPacket p × (length (stripped p) ≤ 1470)) }
 {
-    if bytes.len() > MOST_BYTES {
+    if bytes.len() > MOST_PACKET as usize {
         return Err(LiveNote::TooBig);
     }
     let packet = match Rtp::read(bytes) {
@@ -55,7 +48,7 @@ pub fn read_live<'a>(channel: &Channel, bytes: &'a [u8]) -> Result<Rtp<'a>, Live
     Ok(packet)
 }
 
-/// Whether a decoder may start with the packet, by what the channel says.
+// Whether a decoder may start with the packet, by what the channel says.
 fn is_access_point(access: Access, packet: &Rtp<'_>) -> bool
     ensures { result ≡ is_access_point access packet.now }
 {
@@ -89,7 +82,7 @@ impl Incoming {
         ensures value { result ≡ held_as n (arrival_of self) }
         ensures whole { IsWhole result }
     {
-        let wire = self.packet.len() as u32 + HEADERS;
+        let wire = self.packet.len() as u32 + RTX_OVERHEAD;
         Held {
             n,
             ts: self.timestamp,

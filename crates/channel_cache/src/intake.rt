@@ -5,7 +5,7 @@ ghost use Rattle.rams_model.specs.Packets.{hi};
 ghost use Rattle.packet_ring.specs.Seen as rings;
 ghost use Rattle.reorder_window.specs.{Start, came, start_after, begun, came_of, arrived, first_free};
 ghost use Rattle.reorder_window.specs.Seen as windows;
-ghost use Rattle.channel_cache.specs.{new_intake, packets_of, IsIntake, UnlessKept, Holds, IsWhole};
+ghost use Rattle.channel_cache.specs.{new_intake, packets_of, IsIntake, IsSettled, Grows, count, UnlessKept, Holds, IsWhole};
 
 use crate::stock::Stock;
 use ram_io::NoMemory;
@@ -39,8 +39,7 @@ impl Intake {
         requires empty { self.old.window.kept ≡ [] }
         requires above { hi self.old.stock.ring.held ≤ n }
         requires small { n < 2 ^ 62 }
-        ensures intake { IsIntake self.new }
-        ensures settled { first_free self.new.window ≡ None }
+        ensures settled { IsSettled self.new }
         ensures step { self.new ≡ record self.old { window = begun self.old.window n } }
         ensures stands { (before : List Held) → rings.StandsFor self.old.stock.ring before → Holds self.new before (record { first = n; items = [] }) }
     {
@@ -49,20 +48,14 @@ impl Intake {
 
     /// Takes a packet under its number, and holds all that need not wait any longer.
     pub fn place(&mut self, held: Held) -> Came
-        requires intake { IsIntake self.old }
-        requires going { self.old.window.ended ≡ false }
-        requires settled { first_free self.old.window ≡ None }
+        requires settled { IsSettled self.old }
         requires small { held.n < 2 ^ 62 }
         requires whole { IsWhole held }
-        requires few { self.old.stock.pushes + length self.old.window.kept < 2 ^ 40 }
+        requires few { count self.old < 2 ^ 40 }
         ensures came { result ≡ came_of self.old.window held.n }
-        ensures intake { IsIntake self.new }
-        ensures settled { first_free self.new.window ≡ None }
-        ensures going { self.new.window.ended ≡ false }
+        ensures settled { IsSettled self.new }
+        ensures grows { Grows self.old self.new 1 }
         ensures window { self.new.window ≡ (let w = arrived self.old.window held.n held result in record w { kept = self.new.window.kept }) }
-        ensures capacity { self.new.stock.ring.capacity ≡ self.old.stock.ring.capacity }
-        ensures grows { hi self.old.stock.ring.held ≤ hi self.new.stock.ring.held }
-        ensures few { self.new.stock.pushes + length self.new.window.kept ≤ self.old.stock.pushes + length self.old.window.kept + 1 }
         ensures dropped { UnlessKept result (self.new ≡ self.old) }
         ensures stands { (before : List Held) (s : Start Held) → Holds self.old before s →
             (result ≡ came self.old.window.width s held.n) × Holds self.new before (start_after s held.n held result) }
@@ -77,28 +70,24 @@ impl Intake {
     /// Ends the start, and holds all its packets.
     pub fn end_start(&mut self)
         requires intake { IsIntake self.old }
-        requires few { self.old.stock.pushes + length self.old.window.kept ≤ 2 ^ 40 }
+        requires few { count self.old ≤ 2 ^ 40 }
         ensures intake { IsIntake self.new }
+        ensures grows { Grows self.old self.new 0 }
         ensures window { self.new.window ≡ record self.old.window { ended = true; kept = [] } }
-        ensures capacity { self.new.stock.ring.capacity ≡ self.old.stock.ring.capacity }
-        ensures grows { hi self.old.stock.ring.held ≤ hi self.new.stock.ring.held }
-        ensures few { self.new.stock.pushes ≡ self.old.stock.pushes + length self.old.window.kept }
         ensures stands { (before : List Held) (s : Start Held) → Holds self.old before s → rings.StandsFor self.new.stock.ring (before ++ packets_of s.items) }
     {
         self.window.end_start();
         self.drain();
     }
 
-    /// Holds all packets that need not wait any longer.
+    // Holds all packets that need not wait any longer.
     fn drain(&mut self)
         requires intake { IsIntake self.old }
-        requires few { self.old.stock.pushes + length self.old.window.kept ≤ 2 ^ 40 }
+        requires few { count self.old ≤ 2 ^ 40 }
         ensures intake { IsIntake self.new }
         ensures settled { first_free self.new.window ≡ None }
+        ensures grows { Grows self.old self.new 0 }
         ensures window { self.new.window ≡ record self.old.window { kept = self.new.window.kept } }
-        ensures capacity { self.new.stock.ring.capacity ≡ self.old.stock.ring.capacity }
-        ensures grows { hi self.old.stock.ring.held ≤ hi self.new.stock.ring.held }
-        ensures few { self.new.stock.pushes + length self.new.window.kept ≡ self.old.stock.pushes + length self.old.window.kept }
         ensures stands { (before : List Held) (s : Start Held) (out : List (ℕ × Held)) → windows.StandsFor self.old.window s out → rings.StandsFor self.old.stock.ring (before ++ packets_of out) → Holds self.new before s }
     {
         while let Some((_, held)) = self.window.release() {

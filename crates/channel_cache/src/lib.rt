@@ -11,8 +11,6 @@ mod intake;
 mod laws;
 mod starts;
 mod stock;
-#[cfg(test)]
-mod tests;
 
 pub use access_index::Choice;
 pub use cache::Cache;

@@ -4,14 +4,20 @@ ghost use Rattle.rams_model.specs.Service.{settings, checked, names_in_range, by
 ghost use Rattle.std.specs.Int.{is_in_range as is_between};
 ghost use Rattle.channel_config.specs.{IsLawful, PassIfLawful};
 
-use rams_model::{Channel, ConfigFault};
+use rams_model::{Channel, ConfigFault, MOST_ON_WIRE};
 use std::marker::Model;
 
-#[cfg(test)]
-mod tests;
+/// Most channels of a trace, and of a server.
+pub const MOST_CHANNELS: usize = 64;
 
-/// Most bytes of a tick, in each of the settings that is such an amount.
-const MOST_BYTES: u64 = 1_000_000_000;
+/// Most bytes of a tick, in each setting that is such an amount.
+const MOST_IN_A_TICK: u64 = 1_000_000_000;
+
+/// The retransmission of an RTP packet without a payload.
+const LEAST_ON_WIRE: u64 = 42;
+
+/// A tick has room for a packet of any size.
+const LEAST_IN_A_TICK: u64 = MOST_ON_WIRE as u64;
 
 /// A channel's settings with the length of a tick, checked to be lawful.
 #[derive(Clone, Copy, Debug, PartialEq, Eq)]
@@ -47,7 +53,7 @@ impl Config {
         if c.pt == c.rtx {
             return Err(ConfigFault::Rule(1));
         }
-        if c.burst < c.declared + 1500 {
+        if c.burst < c.declared + LEAST_IN_A_TICK {
             return Err(ConfigFault::Rule(2));
         }
         if c.share < c.reserve + c.burst + c.depth {
@@ -79,20 +85,42 @@ impl Config {
 fn is_in_range(c: &Channel, tick_ms: u32) -> bool
     ensures { result ≡ (tick_in_range tick_ms && channel_in_range c.now) }
 {
-    (1..=1000).contains(&tick_ms) && is_channel_in_range(c)
+    is_tick_in_range(tick_ms) && is_channel_in_range(c)
 }
 
-fn is_channel_in_range(c: &Channel) -> bool
+/// Whether a tick's length in ms is in its range.
+pub fn is_tick_in_range(tick_ms: u32) -> bool
+    ensures { result ≡ tick_in_range tick_ms }
+{
+    (1..=1000).contains(&tick_ms)
+}
+
+/// Whether a channel's number is in its range.
+pub fn is_id_in_range(id: u16) -> bool
+    ensures { result ≡ is_between 1 65535 id }
+{
+    id >= 1
+}
+
+/// Whether each number of a channel's settings is in its range.
+pub fn is_channel_in_range(c: &Channel) -> bool
     ensures { result ≡ channel_in_range c.now }
 {
     are_names_in_range(*c) && are_bytes_in_range(c) && are_bounds_in_range(c)
+}
+
+/// Whether a tick of so many bytes has room for a packet, and they aren't too many.
+pub fn is_amount(bytes: u64) -> bool
+    ensures { result ≡ is_between 1500 most_bytes bytes }
+{
+    (LEAST_IN_A_TICK..=MOST_IN_A_TICK).contains(&bytes)
 }
 
 // The numbers that name things. The type of the others in `names_in_range` holds no more.
 fn are_names_in_range(c: Channel) -> bool
     ensures { result ≡ names_in_range c }
 {
-    c.id >= 1 && c.pt <= 127 && c.rtx <= 127
+    is_id_in_range(c.id) && c.pt <= 127 && c.rtx <= 127
 }
 
 // The amounts of bytes.
@@ -102,10 +130,10 @@ fn are_bytes_in_range(c: &Channel) -> bool
     is_amount(c.share)
         && is_amount(c.reserve)
         && is_amount(c.burst)
-        && c.declared <= MOST_BYTES
-        && (42..=1500).contains(&c.minwire)
-        && c.depth <= MOST_BYTES
-        && c.swell <= MOST_BYTES
+        && c.declared <= MOST_IN_A_TICK
+        && (LEAST_ON_WIRE..=u64::from(MOST_ON_WIRE)).contains(&c.minwire)
+        && c.depth <= MOST_IN_A_TICK
+        && c.swell <= MOST_IN_A_TICK
 }
 
 // How much is kept, and how long.
@@ -117,13 +145,6 @@ fn are_bounds_in_range(c: &Channel) -> bool
         && (1..=1_000_000).contains(&c.limit)
         && (1..=1_000_000).contains(&c.idle)
         && (1..=1024).contains(&c.clients)
-}
-
-// At least one packet's bytes.
-fn is_amount(bytes: u64) -> bool
-    ensures { result ≡ is_between 1500 most_bytes bytes }
-{
-    (1500..=MOST_BYTES).contains(&bytes)
 }
 
 /// Settings pass the check exactly where they are lawful.

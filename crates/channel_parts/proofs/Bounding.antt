@@ -13,7 +13,7 @@ use Rattle.rams_model.specs.Laws.{Rises, IsChoice}
 use Rattle.rams_model.proofs.Rising.{lower, below_hi}
 use Rattle.rams_model.proofs.Holding.{held_follow, rises_from}
 use Rattle.rams_model.proofs.Choosing.{newest_chosen}
-use Rattle.book_laws.proofs.Legal.{IsVerdict, Allows, IsLegal}
+use Rattle.rams_model.proofs.Legal.{IsVerdict, Allows, IsLegal}
 use Rattle.book_laws.proofs.Reserved.{granted}
 use Rattle.channel_parts.specs.{IsWithinBounds}
 use Rattle.channel_parts.proofs.Granting.{asked}

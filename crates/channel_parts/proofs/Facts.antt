@@ -2,7 +2,7 @@
 use Rattle.std.proofs.Common.{refl, arith}
 use Rattle.std.proofs.lemmas.List.Elements.{All-from_recursion}
 use Rattle.rams_model.specs.Service.{hold, known, opened, bursts, open_burst, pending}
-use Rattle.book_laws.proofs.Legality.{legal_moment}
+use Rattle.book_laws.proofs.Moments.{legal_moment}
 use Rattle.book_laws.proofs.BurstAmounts.{opened_open}
 use Rattle.channel_parts.specs.{KnownClientsRise, OpenedClientsRise, OpenedHaveBursts, KnownClientsAreFew, OnlyKnownClientsHaveBursts, OpenedAreTheKnownWithBursts, RepairsAreOfKnownClients, RepairsAreWithinLimits, IsWithinBounds, OpenBurstsAreWithinBounds, OpenBurstsHaveATickLeft, KnownClientsAreIdleForLess, ReservedLeavesTheReserve, EachBurstIsReserved, AcceptsReserve, UpdatesReserve, EndsRelease, OtherNotesReserveNothing, EventsReserveNothing, MessagesReserveNothing, LeftIsWithinShareAndSwell, TheEndOfTheHeldNeverFalls, HeldNumbersAreSmall, ReadPacketsHaveLowNumbers, SequencesHave16Bits}
 use Rattle.channel_parts.proofs.Ordered.{sorted, known_rise, opened_rise}

@@ -19,7 +19,7 @@ use Rattle.client_table.specs.declared.entry.Burst.{Burst}
 use Rattle.client_table.specs.declared.entry.Entry.{Entry}
 use Rattle.client_table.specs.{clients_of}
 use Rattle.book_laws.specs.{IsMoment}
-use Rattle.book_laws.proofs.Legality.{legal_history}
+use Rattle.rams_model.proofs.Legality.{legal_history}
 use Rattle.channel_parts.specs.declared.parts.Parts.{Parts}
 use Rattle.channel_parts.specs.{IsWithinBounds, burst_kept, IsEntry, IsTable, StandsFor, IsBurstInBounds, amount_of, HeldPacketsAreInOrder, KnownClientsHaveEntries, EntriesAreOfTheirClients, EntriesAreInBounds, ReservedIsOfTheEntries}
 use Rattle.channel_parts.proofs.Ordered.{Rise, known_rise, not_below}

@@ -9,7 +9,7 @@ use Rattle.rams_model.specs.declared.note.Note.TheVariants as note
 use Rattle.rams_model.specs.Service.{Settings, History, hold, Burst, open_burst, pending, pending_of, is_pending, reserved, asked_rate, is_slow, is_too_much, is_full, begins, changes, on_burst, on_request, verdict, room, is_early, held_answer, number_answer}
 use Rattle.rams_model.specs.Packets.{chosen}
 use Rattle.rams_model.specs.Formats.{Request, names}
-use Rattle.book_laws.proofs.Legal.{IsVerdict, IsNumberAnswer}
+use Rattle.rams_model.proofs.Legal.{IsVerdict, IsNumberAnswer}
 
 -- A burst may begin there: its client is known or can be, the rate is enough, and it is a chosen access point.
 pub record MayBegin (s : Settings) (k : ℕ) (history : History) (held : List Held) (first rate : ℕ) : Type 0 where

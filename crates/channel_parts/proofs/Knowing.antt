@@ -8,8 +8,8 @@ use Rattle.rams_model.specs.Service.{Settings, Item, began, told, noted, History
 use Rattle.rams_model.specs.Laws.{makes_known, ends_known, is_accept_of, is_end_of}
 use Rattle.rams_model.proofs.Since.{stands, known_stands}
 use Rattle.rams_model.proofs.LastAccept.{open_stands}
-use Rattle.book_laws.proofs.Legal.{IsForgotten, IsLegal}
-use Rattle.book_laws.proofs.Legality.{each_other, each_weaker}
+use Rattle.rams_model.proofs.Legal.{IsForgotten, IsLegal}
+use Rattle.rams_model.proofs.Legality.{each_other, each_weaker}
 
 -- an item makes a client known, or doesn't end that and it was known
 pub known_step : (k : ℕ) (i : Item) (history : History) → is_among k (known (i ∷ history)) ≡ (makes_known k i || (not (ends_known k i) && is_among k (known history)))

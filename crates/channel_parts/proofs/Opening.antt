@@ -12,9 +12,9 @@ use Rattle.rams_model.specs.Service.{Settings, Message, bye, nack, asks, stops, 
 use Rattle.rams_model.specs.Formats.{Framed}
 use Rattle.rams_model.specs.Laws.{makes_known, ends_known, is_accept_of, is_end_of}
 use Rattle.book_laws.specs.{AreNotes}
-use Rattle.book_laws.proofs.Legal.{newest_told, Allows, IsLegal, legal_part}
-use Rattle.book_laws.proofs.Legality.{legal_history}
-use Rattle.book_laws.proofs.Items.{message_puts, tick_puts}
+use Rattle.rams_model.proofs.Legal.{newest_told, Allows, IsLegal, legal_part}
+use Rattle.rams_model.proofs.Legality.{legal_history}
+use Rattle.rams_model.proofs.Items.{message_puts, tick_puts}
 use Rattle.book_laws.proofs.BurstAmounts.{opened_open}
 use Rattle.channel_parts.proofs.Ordered.{rise_passed, known_rise, opened_rise, same_rise}
 use Rattle.channel_parts.proofs.Knowing.{open_step, still_known, made_known, forgotten_rests}

@@ -9,7 +9,7 @@ use Rattle.rams_model.specs.declared.note.Note.TheVariants as note
 use Rattle.rams_model.specs.Service.{Settings, Message, began, told, noted, History, sequence, Burst, next, open_burst, Wanted, idle, channel_left, may_take, after_message, after_messages, run, send, is_lost, is_stop, after_run, run_sent, burst_served, all_served, repaired, all_repaired, all_forgotten}
 use Rattle.rams_model.specs.Packets.{from_number}
 use Rattle.book_laws.specs.{AreNotes}
-use Rattle.book_laws.proofs.Items.{message_puts}
+use Rattle.rams_model.proofs.Items.{message_puts}
 
 module _ (P : History → Type 0) (step : (n : Note) (packet : Option Held) (history : History) → P history → P (noted n packet ∷ history)) where
   pub through_notes : (items history : History) → AreNotes items → P history → P (items ++ history)

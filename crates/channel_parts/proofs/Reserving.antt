@@ -8,7 +8,7 @@ use Rattle.rams_model.specs.declared.note.Cause.{Cause}
 use Rattle.rams_model.specs.declared.note.Note.{Note}
 use Rattle.rams_model.specs.declared.note.Note.TheVariants as note
 use Rattle.rams_model.specs.Service.{Settings, Heard, tick, began, told, noted, History, opened, is_among, placed, with_client, without, Burst, after_note, newest_changed, size_of, bursts, in_tick, if_open, newest_open, open_burst, most_of, reserved, channel_left}
-use Rattle.book_laws.proofs.Legal.{IsLegal}
+use Rattle.rams_model.proofs.Legal.{IsLegal}
 use Rattle.book_laws.proofs.Sums.{sum_placed, one_changed, part_of_sum}
 use Rattle.book_laws.proofs.BurstAmounts.{open_among, closed_among, most_begun, most_changed, of_others}
 use Rattle.book_laws.proofs.Reserved.{times-opened, fits}

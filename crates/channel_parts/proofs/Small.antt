@@ -16,7 +16,7 @@ use Rattle.rams_model.specs.Packets.Source as sources
 use Rattle.rams_model.proofs.PlainPackets.{below_at}
 use Rattle.rams_model.proofs.RtpPackets.{spelled_so}
 use Rattle.channel_cache.specs.{arrivals_heard, arrivals_after}
-use Rattle.book_laws.proofs.Legality.{each_passed, each_weaker}
+use Rattle.rams_model.proofs.Legality.{each_passed, each_weaker}
 use Rattle.channel_parts.specs.{HaveLowNumbers}
 use Rattle.channel_parts.proofs.Numbers.{hi-hold, hi-hold_none}
 

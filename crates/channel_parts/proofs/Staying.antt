@@ -21,13 +21,13 @@ use Rattle.channel_cache.specs.Seen as caches
 use Rattle.channel_cache.proofs.Booked.{noted_so}
 use Rattle.link_budget.specs.{amounts}
 use Rattle.client_table.specs.Clients.{Clients}
-use Rattle.book_laws.proofs.Items.{tick_puts}
+use Rattle.rams_model.proofs.Items.{tick_puts}
 use Rattle.channel_parts.specs.declared.parts.Parts.{Parts}
 use Rattle.channel_parts.specs.{HaveLowNumbers, IsTable, IsQueue, IsBudget, IsCache, StandsFor, GoOn, OtherEventsLeaveTheCache, LivePacketsChangeTheCache}
 use Rattle.channel_parts.proofs.Knowing.{OfKnown, pending_known}
 use Rattle.channel_parts.proofs.Passing.{through_notes, through_messages}
 use Rattle.channel_parts.proofs.Small.{reads_low}
-use Rattle.book_laws.proofs.Legality.{legal_history}
+use Rattle.rams_model.proofs.Legality.{legal_history}
 
 -- Notes and messages bring no live packet.
 arrivals_after_messages : (s : Settings) (k : ℕ) (ms : List Message) (history : History) → arrivals (after_messages s k ms history) ≡ arrivals history

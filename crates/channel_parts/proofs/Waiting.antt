@@ -6,7 +6,7 @@ use Rattle.rams_model.specs.declared.note.Note.TheVariants as note
 use Rattle.rams_model.specs.Service.{Settings, began, told, noted, History, known, is_among, placed, with_client, Wanted, is_wanted, pending, is_full}
 use Rattle.repair_queue.specs.{IsWithinLimits}
 use Rattle.repair_queue.proofs.Pending.{length-filter-le, filter-filter-le, limits_less, limits_push}
-use Rattle.book_laws.proofs.Legal.{IsLegal}
+use Rattle.rams_model.proofs.Legal.{IsLegal}
 use Rattle.channel_parts.proofs.Granting.{asked, waits}
 
 -- one more client, where there is room

@@ -8,8 +8,8 @@
 
 mod laws;
 mod parts;
-#[cfg(test)]
-mod tests;
+pub mod response;
+mod stop;
 
 pub use channel_cache::{Cache, Choice};
 pub use channel_config::{Channel, Config};
@@ -24,3 +24,4 @@ pub use parts::Parts;
 pub use ram_io::NoMemory;
 pub use rams_model::Held;
 pub use repair_queue::{Asked, Queue, Wanted};
+pub use stop::is_before_stop;

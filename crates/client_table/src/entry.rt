@@ -40,7 +40,7 @@ pub struct Entry {
 
 impl Entry {
     /// The entry of a client that just became known.
-    pub(crate) fn new(ssrc: u32, seq0: u16) -> Entry
+    pub fn new(ssrc: u32, seq0: u16) -> Entry
         ensures { result ≡ new_entry ssrc seq0 }
     {
         Entry {

@@ -5,8 +5,6 @@
 
 mod entry;
 mod table;
-#[cfg(test)]
-mod tests;
 mod walk;
 
 pub use entry::{AdmitFault, Burst, Entry};

@@ -24,7 +24,7 @@ impl Model for Table {
     ghost Value = { Clients };
 
     ghost use Rattle.std.specs.BTreeMap.{IsOrdered};
-    ghost use Rattle.client_table.specs.{seen, entry_at, AreJoined, nobody, clients_of, AreRising, entry_of, new_entry, with_client, without, next_of, IsLeastAbove, LendsEntry, clients_left, AreAll, AreChanged};
+    ghost use Rattle.client_table.specs.Joined.{seen, entry_at, AreJoined};
 
     ghost view = { λ t. seen t.most t.entries.slots t.index.entries };
 
@@ -40,7 +40,10 @@ impl Table {
     ghost use Rattle.std.specs.Prelude.{◌≡◌, ◌≤◌, ◌↔◌, Some, None, Err, All, length, option_copied, IfOk, OnOk, OnErr};
     ghost use Rattle.std.specs.Option.{option_copied_mut};
     ghost use Rattle.std.specs.Borrow.{sem};
-    ghost use Rattle.client_table.specs.Clients.{Clients};
+    ghost use Rattle.client_table.specs.Clients.{Clients, nobody, clients_of, AreRising, entry_of, new_entry, with_client, without, next_of, IsLeastAbove};
+    ghost use Rattle.client_table.specs.Lends.{LendsEntry};
+    ghost use Rattle.client_table.specs.Left.{clients_left};
+    ghost use Rattle.client_table.specs.Changes.{AreAll, AreChanged};
     ghost use Rattle.client_table.specs.declared.entry.AdmitFault.TheVariants.{Full};
 
     /// A table in which nobody is known, for at most so many clients. It takes the room of their entries.

@@ -1,6 +1,6 @@
 //! Going through the known clients.
 ghost use Rattle.std.specs.Prelude.{◌≡◌, length};
-ghost use Rattle.client_table.specs.{entry_at, joined};
+ghost use Rattle.client_table.specs.Joined.{entry_at, joined};
 
 use crate::entry::Entry;
 use slab::Slab;

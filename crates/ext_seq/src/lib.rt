@@ -7,8 +7,6 @@
 mod distance;
 mod low_bits;
 mod numbering;
-#[cfg(test)]
-mod tests;
 
 pub use distance::age_ms;
 pub use low_bits::{least_from, resolve_in};

@@ -6,10 +6,10 @@ ghost use Rattle.ext_seq.specs.{Seen, new_numbering, noted, moved, IsWithin, IsN
 use crate::distance::{SEQUENCE_NUMBERS, ahead};
 use std::marker::Model;
 
-/// A packet jumps from so many ahead of the greatest number on (RFC 3550, A.1).
+// A packet jumps from so many ahead of the greatest number on (RFC 3550, A.1).
 const MAX_DROPOUT: u64 = 3000;
 
-/// A packet that is fewer than so many behind it is out of order (RFC 3550, A.1).
+// A packet that is fewer than so many behind it is out of order (RFC 3550, A.1).
 const MAX_MISORDER: u64 = 100;
 
 /// What the numbering makes of a sequence number.
@@ -72,11 +72,11 @@ impl Numbering {
         ensures stands { (window : ℕ) (arrivals : List Arrival) (a : Arrival) →
             a.sequence ≡ seq → StandsFor self.old window arrivals → StandsFor self.new window (a ∷ arrivals) }
     {
-        self.take(seq)
+        self.advance(seq)
     }
 
-    /// Numbers the packet, and keeps what its number says.
-    fn take(&mut self, seq: u16) -> Noted
+    // Numbers the packet, and keeps what its number says; `note` adds what that means in history.
+    fn advance(&mut self, seq: u16) -> Noted
         requires { self.old.calls < 2 ^ 40 }
         ensures number { result ≡ noted (numbered self.old.greatest self.old.kept seq) }
         ensures step { self.new ≡ moved self.old seq result }
@@ -96,7 +96,7 @@ impl Numbering {
     }
 }
 
-/// What the numbering makes of a sequence number.
+// What the numbering makes of a sequence number.
 #[tactic(auto, unfolding(rams_model::specs::Packets::Numbering::numbered))]
 fn number_of(greatest: Option<u64>, kept: Option<u16>, seq: u16) -> Noted
     requires { IfSome greatest (λ g. (65536 ≤ g) × (g < 2 ^ 62)) }

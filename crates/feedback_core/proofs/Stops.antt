@@ -1,5 +1,5 @@
 -- Which line a termination meets.
-use Rattle.std.proofs.Common.{◌≡◌, ℕ, ◌+◌, ◌-◌, List, ◌∷◌, Option, Some, None, Result, Err, refl, ap, sym, ◌∙◌, eqb}
+use Rattle.std.proofs.Common.{◌≡◌, ℕ, ◌+◌, ◌-◌, List, ◌∷◌, Option, Some, None, Result, Err, option_map, refl, ap, sym, ◌∙◌, eqb}
 use Rattle.std.proofs.lemmas.Bool.{cond-true, cond-false, eq-eqb, ne_eqb}
 use Rattle.rams_model.specs.declared.channel.Channel.{Channel}
 use Rattle.rams_model.specs.declared.fault.TlvFault.{TlvFault}
@@ -7,7 +7,7 @@ use Rattle.rams_model.specs.declared.message.Info.{Info}
 use Rattle.rams_model.specs.declared.message.Stop.{Stop}
 use Rattle.rams_model.specs.declared.note.Cause.TheVariants as causes
 use Rattle.rams_model.specs.declared.note.Note.TheVariants as notes
-use Rattle.rams_model.specs.Service.{Settings, noted, History, next_msn, bare_info, refuse_info, info_order, end_order, order_of, stop_of, after_stop, stop_burst, on_stop, stop_set, next, open_burst, Wanted}
+use Rattle.rams_model.specs.Service.{Settings, noted, History, refuse_info, end_info, info_order, end_order, order_of, stop_of, after_stop, stop_burst, on_stop, stop_set, next, open_burst, Wanted}
 use Rattle.rams_model.specs.Service.Bursts as model
 use Rattle.link_budget.specs.Amounts.{Amounts}
 use Rattle.client_table.specs.declared.entry.Burst.{Burst}
@@ -72,12 +72,12 @@ stop_set_at s before history queue v o named n opened unset e ne w =
     refl (stop_at s n before history v queue o is w)
 
 -- the burst has ended
-pub stop_ends : (s : Settings) (before history : History) (queue : List Wanted) (v : Visitor) (o : Open) (named : Option ℕ) (n : ℕ) (channel : Channel) (budget : Amounts) (info : Info)
+pub stop_ends : (s : Settings) (before history : History) (queue : List Wanted) (v : Visitor) (o : Open) (named : Option ℕ) (n : ℕ) (channel : Channel) (budget : Amounts) (info : Option Info)
     → open_of v.entry ≡ Some o → o.burst.stop ≡ None → n ≡ stop_of o.burst.first o.burst.next named → n ≡ o.burst.next → channel ≡ s.channel
-    → budget ≡ record v.budget { reserved = v.budget.reserved - (o.burst.rate + channel.depth) } → info ≡ bare_info (next_msn o.last) 201 → IsVisit s before history v queue
+    → budget ≡ record v.budget { reserved = v.budget.reserved - (o.burst.rate + channel.depth) } → info ≡ end_info o.last causes.Stopped → IsVisit s before history v queue
     → IsSaid s before history (stop_burst v.client named (open_burst s v.client history) history) queue
     (record v { entry = Some (record o.entry { burst = None }); budget = budget })
-    (record { note = notes.StopAt v.client n; end = Some causes.Stopped; info = Some info })
+    (record { note = notes.StopAt v.client n; end = Some causes.Stopped; info = info })
 unfolding order_of
 stop_ends s before history queue v o named n channel budget info opened unset e ends ce taken ie w =
     let is = is_opened s before history v queue o w opened in
@@ -92,11 +92,11 @@ stop_ends s before history queue v o named n channel budget info opened unset e 
     let taken' : budget ≡ record v.budget { reserved = v.budget.reserved - (o.burst.rate + s.channel.depth) } =
     taken ∙ ap (λ (c : Channel). record v.budget { reserved = v.budget.reserved - (o.burst.rate + c.depth) }) ce in
     let after : Visitor = record v { entry = Some (record o.entry { burst = None }); budget = budget } in
-    said_two s before history (stop_burst v.client named (open_burst s v.client history) history) queue after (notes.StopAt v.client n) causes.Stopped (Some info)
+    said_two s before history (stop_burst v.client named (open_burst s v.client history) history) queue after (notes.StopAt v.client n) causes.Stopped info
     (stops_by s history v o named None is unset ∙ ap (λ (m : ℕ). stop_set v.client (next is.burst) m history) (sym n')
     ∙ cond-true (eqb n (next is.burst)) _ _ (eq-eqb n (next is.burst) last))
     refl
-    (ap (λ (i : Info). Some (info_order v.client i)) (ie ∙ ap (λ (i : Info). bare_info (next_msn i) 201) is'.last_is)
+    (ap (option_map (info_order v.client)) (ie ∙ ap (λ (i : Info). end_info i causes.Stopped) is'.last_is)
     ∙ ap (end_order v.client causes.Stopped) (sym is'.is_open))
     (ended s causes.Stopped before middle v' queue o' budget is' taken' stopped)
 

@@ -10,9 +10,9 @@ use Rattle.rams_model.specs.declared.note.Note.TheVariants as note
 use Rattle.rams_model.specs.Service.{Settings, Message, bye, Heard, live, dropped, feedback, unframed, tick, heard_of, Item, began, told, noted, History, known, is_among, sendings, ssrc, has_open, wanted, pending, after_message, after_messages, after_tick, after_hearing, history_of}
 use Rattle.rams_model.specs.Laws.{makes_known, ends_known, is_accept_of, is_end_of}
 use Rattle.book_laws.specs.{AreNotes}
-use Rattle.book_laws.proofs.Legal.{IsLegal, Allows, newest_told, in_tick, legal_part}
-use Rattle.book_laws.proofs.Legality.{legal_history, in_tick_from_runs}
-use Rattle.book_laws.proofs.Items.{message_puts, tick_puts}
+use Rattle.rams_model.proofs.Legal.{IsLegal, Allows, newest_told, in_tick, legal_part}
+use Rattle.rams_model.proofs.Legality.{legal_history, in_tick_from_runs}
+use Rattle.rams_model.proofs.Items.{message_puts, tick_puts}
 use Rattle.channel_parts.proofs.Knowing.{known_step, open_step, still_known, made_known, forgotten_rests, OfKnown, pending_known}
 use Rattle.channel_parts.proofs.Opening.{AreKnown, open_known, messages_part}
 

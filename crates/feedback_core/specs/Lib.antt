@@ -6,7 +6,6 @@ pub mod Counting
 pub mod Framing
 pub mod Pages
 pub mod Places
-
 unfoldable pub use Rattle.feedback_core.specs.Visitors.{open_in, open_of, entry_under, begun_burst, is_sent_later, woken}
 unfoldable pub use Rattle.feedback_core.specs.Visits.{IsClient}
 pub use Rattle.feedback_core.specs.Visits.{IsUnknown, IsKnown, IsAsBefore, IsVisit}

@@ -22,7 +22,7 @@ use rtcp_frame::{Packets, packets};
 use std::alloc::Global;
 
 /// The longest datagram whose notes there can be memory for, in bytes.
-const MOST_BYTES: usize = 1 << 56;
+const LONGEST_DATAGRAM: usize = 1 << 56;
 
 /// What the channel answers to a datagram that came to its feedback target (RFC 4585) from this client,
 /// an IPv4 address times 65536 plus its port.
@@ -46,7 +46,7 @@ pub fn answer_feedback(
 {
     match packets(datagram) {
         Ok(packets) => {
-            if datagram.len() > MOST_BYTES {
+            if datagram.len() > LONGEST_DATAGRAM {
                 return Err(NoMemory);
             }
             answer_framed(alloc, parts, client, packets)

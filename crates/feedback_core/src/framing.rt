@@ -5,6 +5,7 @@ ghost use Rattle.rtcp_feedback.specs.{shown_feedback};
 ghost use Rattle.rtcp_frame.specs.{packets_left, shown_packet};
 ghost use Rattle.feedback_core.specs.{most_of, most_of_message, most_of_nack, most_notes, shown_message};
 
+use rams_model::{BYE, FMT_NACK, FMT_RAMS, RTPFB, SFMT_RAMS_R, SFMT_RAMS_T};
 use rtcp_feedback::{Feedback, feedback};
 use rtcp_frame::{Packet, Packets};
 
@@ -39,33 +40,33 @@ pub(crate) fn message_of<'a>(packet: &Packet<'a>) -> Option<Message<'a>>
     ensures message { option_map shown_message result ≡ message_of (shown_packet packet.now) }
     ensures few { IfSome result (λ message. most_of_message message ≤ most_of (shown_packet packet.now)) }
 {
-    if packet.kind == 203 {
+    if packet.kind == BYE {
         return Some(Message::Bye(*packet));
     }
     let message = feedback(packet)?;
     feedback_message(message)
 }
 
-// Transport layer feedback of format 1 is a generic NACK, of format 6 a RAMS message.
+// Transport layer feedback by its format.
 fn feedback_message(message: Feedback<'_>) -> Option<Message<'_>>
     ensures message { option_map shown_message result ≡ feedback_message (Some (shown_feedback message.entry)) }
     ensures few { IfSome result (λ m. most_of_message m ≤ (if message.entry.fmt == 1 then most_of_nack message.entry.fci.now else 2)) }
 {
     match message.fmt {
-        1 => Some(Message::Nack(message)),
-        6 => rams_message(message),
+        FMT_NACK => Some(Message::Nack(message)),
+        FMT_RAMS => rams_message(message),
         _ => None,
     }
 }
 
-// A RAMS message by its first byte.
+// A RAMS message by its sub-format, the first byte.
 fn rams_message(message: Feedback<'_>) -> Option<Message<'_>>
     ensures message { option_map shown_message result ≡ rams_message (shown_feedback message.entry) }
     ensures few { IfSome result (λ m. most_of_message m ≤ 2) }
 {
     match message.fci.first() {
-        Some(1) => Some(Message::Request(message)),
-        Some(3) => Some(Message::Stop(message)),
+        Some(&SFMT_RAMS_R) => Some(Message::Request(message)),
+        Some(&SFMT_RAMS_T) => Some(Message::Stop(message)),
         _ => None,
     }
 }
@@ -87,7 +88,7 @@ fn most_of(packet: &Packet<'_>) -> usize
     requires { most_of (shown_packet packet.now) < 2 ^ 63 }
     ensures { result ≡ most_of (shown_packet packet.now) }
 {
-    if packet.kind == 205 && packet.count == 1 {
+    if packet.kind == RTPFB && packet.count == FMT_NACK {
         17 * (packet.body.len() / 4) + 1
     } else {
         2

@@ -5,19 +5,17 @@
 #![tactic(auto)]
 
 mod answering;
+mod bye;
 mod feedback;
 mod framing;
 mod holding;
-mod leaving;
-mod numbers;
+mod nack;
 mod page;
 mod placing;
+mod rams_i;
+mod rams_r;
+mod rams_t;
 mod said;
-mod stopping;
-mod telling;
-#[cfg(test)]
-mod tests;
-mod verdict;
 mod visitor;
 
 pub use channel_parts::Parts;

@@ -2,6 +2,7 @@
 ghost use Rattle.std.specs.Prelude.{◌≡◌, ◌&&◌, not, is_some};
 ghost use Rattle.feedback_core.specs.{open_of, entry_under, is_sent_later, woken};
 
+use channel_parts::is_before_stop;
 use client_table::{Burst, Entry, Info};
 use link_budget::Budget;
 
@@ -57,13 +58,7 @@ impl Visitor {
     {
         match self.entry {
             Some(entry) => entry,
-            None => Entry {
-                ssrc,
-                seq: seq0,
-                idle: 0,
-                last: None,
-                burst: None,
-            },
+            None => Entry::new(ssrc, seq0),
         }
     }
 
@@ -81,10 +76,6 @@ impl Visitor {
         let Some(open) = self.open() else {
             return false;
         };
-        let is_stopped = match open.burst.stop {
-            Some(stop) => stop <= n,
-            None => false,
-        };
-        open.burst.next <= n && !is_stopped
+        open.burst.next <= n && is_before_stop(open.burst.stop, n)
     }
 }

@@ -7,7 +7,7 @@ ghost use Rattle.hex_text.specs.{is_lower_digit, pair_bytes, value_of};
 
 use std::simd::u8x16;
 
-/// Writes the 16 bytes of 32 digits over `out`.
+// Writes the 16 bytes of 32 digits over `out`.
 #[inline]
 pub(crate) fn decode_block(digits: &[u8], out: &mut [u8])
     requires count { length digits.now ≡ 32 }
@@ -32,7 +32,7 @@ fn values_of(digits: u8x16) -> u8x16
     (digits & u8x16::splat(15)) + nines
 }
 
-/// Writes the 32 digits of 16 bytes over `out`.
+// Writes the 32 digits of 16 bytes over `out`.
 #[inline]
 pub(crate) fn encode_block(bytes: &[u8], out: &mut [u8])
     requires bytes { length bytes.now ≡ 16 }

@@ -19,7 +19,7 @@ pub fn decode_into(text: &[u8], out: &mut [u8]) -> bool
     decode_all(text, &mut out[..text.len() / 2])
 }
 
-/// Writes the bytes of a text over all of `out`, and says whether the text is lower-case digits.
+// Writes the bytes of a text over all of `out`, and says whether the text is lower-case digits.
 fn decode_all(text: &[u8], out: &mut [u8]) -> bool
     requires { length out.old ≡ length text.now / 2 }
     ensures digits { result ≡ is_lower_hex text.now }
@@ -29,7 +29,7 @@ fn decode_all(text: &[u8], out: &mut [u8]) -> bool
     decode_pairs(pairs, out) & odd.is_empty()
 }
 
-/// Writes the bytes of lower-case digits, two a byte, over all of `out`.
+// Writes the bytes of lower-case digits, two a byte, over all of `out`.
 pub(crate) fn decode_known(digits: &[u8], out: &mut [u8])
     requires lower { is_lower_hex digits.now ≡ true }
     requires room { length out.old ≡ length digits.now / 2 }
@@ -66,7 +66,7 @@ fn decode_pairs(text: &[u8], out: &mut [u8]) -> bool
     good
 }
 
-/// What a lower-case digit stands for; 255 for any other byte.
+// What a lower-case digit stands for; 255 for any other byte.
 #[inline]
 fn value(digit: u8) -> u8
     ensures { result ≡ value_of digit }

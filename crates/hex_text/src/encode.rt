@@ -14,7 +14,7 @@ pub fn encode_into(bytes: &[u8], out: &mut [u8])
     encode_all(bytes, &mut out[..2 * bytes.len()]);
 }
 
-/// Writes two digits for each byte over all of `out`. All but the last few bytes go in blocks of 16.
+// Writes two digits for each byte over all of `out`. All but the last few bytes go in blocks of 16.
 pub(crate) fn encode_all(bytes: &[u8], out: &mut [u8])
     requires { length out.old ≡ 2 * length bytes.now }
     ensures { out.new ≡ encode_lower bytes.now }
@@ -37,7 +37,7 @@ fn encode_bytes(bytes: &[u8], out: &mut [u8])
     }
 }
 
-/// The digit of a number below 16.
+// The digit of a number below 16.
 #[inline]
 pub(crate) fn digit(n: u8) -> u8
     requires { n < 16 }

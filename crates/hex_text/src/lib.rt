@@ -10,8 +10,6 @@ mod block;
 mod decode;
 mod encode;
 mod laws;
-#[cfg(test)]
-mod tests;
 mod vectors;
 
 pub use decode::decode_into;

@@ -8,7 +8,7 @@ use ram_io::{Failed, NoMemory, Sink};
 use std::alloc::Global;
 use std::marker::Model;
 
-/// Most bytes that wait.
+// Most bytes that wait.
 const ROOM: usize = 65536;
 
 /// Texts that wait to be put to a sink together, at most 65,536 bytes.
@@ -77,7 +77,7 @@ impl Gather {
         Ok(())
     }
 
-    /// Puts what waits to the sink, and keeps it.
+    // Puts what waits to the sink, and keeps it.
     fn pass<K: Sink>(&self, sink: &mut K) -> Result<(), Failed>
         ensures all { OnOk result (Appends (K.held sink.old) (K.held sink.new) self.now) }
         ensures prefix { (rest : List ℕ) × Passes (K.held sink.old) (K.held sink.new) self.now rest }
@@ -88,7 +88,7 @@ impl Gather {
         put_all(sink, &self.waiting)
     }
 
-    /// Puts what waits and then the piece to the sink.
+    // Puts what waits and then the piece to the sink.
     fn put_long<K: Sink>(&mut self, sink: &mut K, piece: &[u8]) -> Result<(), Failed>
         ensures all { OnOk result (Passes (K.held sink.old) (K.held sink.new) (self.old ++ piece.now) self.new) }
         ensures prefix { (rest : List ℕ) × Passes (K.held sink.old) (K.held sink.new) (self.old ++ piece.now) rest }
@@ -103,7 +103,7 @@ impl Gather {
         Ok(())
     }
 
-    /// Puts what waits to the sink, and lets the piece wait.
+    // Puts what waits to the sink, and lets the piece wait.
     fn put_after_flush<K: Sink>(&mut self, sink: &mut K, piece: &[u8]) -> Result<(), Failed>
         requires { length piece.now ≤ 65536 }
         ensures all { OnOk result (Passes (K.held sink.old) (K.held sink.new) (self.old ++ piece.now) self.new) }
@@ -132,7 +132,7 @@ impl Gather {
     }
 }
 
-/// Puts the whole text. Where the sink fails, a front of the text has gone.
+// Puts the whole text. Where the sink fails, a front of the text has gone.
 fn put_all<K: Sink>(sink: &mut K, text: &[u8]) -> Result<(), Failed>
     ensures all { OnOk result (Appends (K.held sink.old) (K.held sink.new) text.now) }
     ensures prefix { (rest : List ℕ) × Passes (K.held sink.old) (K.held sink.new) text.now rest }

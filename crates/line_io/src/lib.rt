@@ -6,8 +6,6 @@
 
 mod gather;
 mod reader;
-#[cfg(test)]
-mod tests;
 mod window;
 
 pub use gather::Gather;

@@ -44,7 +44,7 @@ impl Model for LineReader {
     ghost invariant = { λ r. AreRanges r.line r.end r.from r.to r.bytes.items };
 }
 
-/// A buffer of this many zeros.
+// A buffer of this many zeros.
 fn buffer(alloc: Global, size: usize) -> Result<Vec<u8>, AllocError>
     ensures { IfOk result (λ v. length v.items ≡ size) }
 {
@@ -102,7 +102,7 @@ impl LineReader {
         &self.bytes[self.from..self.to]
     }
 
-    /// Takes pieces until they bring a line feed or the source ends.
+    // Takes pieces until they bring a line feed or the source ends.
     fn take_line<S: Source>(&mut self, source: &mut S) -> Result<Next, Failed>
         requires { HasNoFeed self.old.kept }
         ensures next { IfOk result (λ next. TakesNext
@@ -129,7 +129,7 @@ impl LineReader {
         Ok(Next::Long)
     }
 
-    /// Takes one piece of the source behind what is kept, and says how many bytes it has.
+    // Takes one piece of the source behind what is kept, and says how many bytes it has.
     fn refill<S: Source>(&mut self, source: &mut S) -> Result<usize, Failed>
         requires { length self.old.kept ≤ 4096 }
         ensures grown { IfOk result (IsGrown self.old.kept self.new.kept) }
@@ -151,7 +151,7 @@ impl LineReader {
         Ok(taken)
     }
 
-    /// Hands out the bytes up to this line feed, the first of those kept.
+    // Hands out the bytes up to this line feed, the first of those kept.
     fn cut_line(&mut self, at: usize) -> Next
         requires { IsCutAt self.old.kept at }
         ensures next { (a b : Option (List ℕ)) → Keeps a (prepend_known self.old.kept b)
@@ -166,7 +166,7 @@ impl LineReader {
         Next::Line
     }
 
-    /// Hands out what is kept, where the source has ended.
+    // Hands out what is kept, where the source has ended.
     fn finish(&mut self) -> Next
         requires clean { HasNoFeed self.old.kept }
         requires small { length self.old.kept ≤ 4096 }
@@ -191,7 +191,7 @@ impl LineReader {
         self.from = self.end + 1;
     }
 
-    /// Hands out the front of a line that is too long, and keeps it.
+    // Hands out the front of a line that is too long, and keeps it.
     fn cut_front(&mut self)
         requires { 4096 < length self.old.kept }
         ensures line { self.new.line ≡ take 4097 self.old.kept }

@@ -7,10 +7,10 @@ ghost use Rattle.line_io.specs.{HasNoFeed, IsCutAt};
 use memchr::memchr;
 use ram_io::{Failed, Source};
 
-/// Most bytes of a line without its line feed, and most that one call asks of a source.
+// Most bytes of a line without its line feed, and most that one call asks of a source.
 pub(crate) const LONGEST: usize = 4096;
 
-/// The place of the first line feed. None of the first `seen` bytes is one.
+// The place of the first line feed. None of the first `seen` bytes is one.
 pub(crate) fn find_feed(bytes: &[u8], seen: usize) -> Option<usize>
     requires within { seen ≤ length bytes.now }
     requires clean { HasNoFeed (take seen bytes.now) }
@@ -23,8 +23,8 @@ pub(crate) fn find_feed(bytes: &[u8], seen: usize) -> Option<usize>
     }
 }
 
-/// Moves the window to the front of the buffer if fewer than `LONGEST` bytes are free behind it,
-/// and says where it begins now.
+// Moves the window to the front of the buffer if fewer than `LONGEST` bytes are free behind it,
+// and says where it begins now.
 pub(crate) fn make_room(bytes: &mut [u8], from: usize, to: usize) -> usize
     requires ordered { from ≤ to }
     requires within { to ≤ length bytes.old }
@@ -39,8 +39,8 @@ pub(crate) fn make_room(bytes: &mut [u8], from: usize, to: usize) -> usize
     0
 }
 
-/// Takes up to `LONGEST` bytes of the source to this place of the buffer, and says how many.
-/// Where the source fails, nothing is taken.
+// Takes up to `LONGEST` bytes of the source to this place of the buffer, and says how many.
+// Where the source fails, nothing is taken.
 pub(crate) fn take_into<S: Source>(
     source: &mut S,
     bytes: &mut [u8],

@@ -1,3 +1,2 @@
 pub mod Rendering
-
 unfoldable pub use Rattle.order_datagrams.specs.Rendering.{Renders, IsRetransmission, EachOrderOfAnAnswerRenders, EachOrderOfABookRenders}

@@ -6,8 +6,6 @@
 
 mod datagram;
 mod laws;
-#[cfg(test)]
-mod tests;
 
 pub use channel_config::Config;
 pub use datagram::{append_order, render_order, renders};

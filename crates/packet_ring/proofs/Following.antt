@@ -6,34 +6,20 @@ use Rattle.std.proofs.lemmas.Bool.{cond_both, eqb-true, eqb-false, le-leb, lt-le
 use Rattle.std.proofs.lemmas.List.{length-drop}
 use Rattle.rams_model.specs.declared.held.Held.{Held}
 use Rattle.rams_model.specs.Packets.{lo, hi, last_of, from_number, Follows}
+use Rattle.rams_model.proofs.Holding.{later_ones, all_from, hi_is}
 use Rattle.rams_model.proofs.Rising.{hi_of_end}
 use Rattle.packet_ring.specs.{pushed, empty_ring, packet_of, IsRing}
 use Rattle.packet_ring.specs.Seen.{Seen}
 use Rattle.packet_ring.proofs.Ends.{hi-last_of}
 
--- what follows goes on following from its own first
-own_first : (n : ℕ) (hs : List Held) → Follows n hs → Follows (lo hs) hs
-own_first n [] f = tt
-own_first n (h ∷ hs) f = (refl, subst (λ (m : ℕ). Follows (m + 1) hs) (sym f.0) f.1)
-
-later_ones : (k n : ℕ) (hs : List Held) → Follows n hs → Follows (lo (drop k hs)) (drop k hs)
-later_ones zero n hs f = own_first n hs f
-later_ones (suc k) n [] f = tt
-later_ones (suc k) n (h ∷ hs) f = later_ones k (n + 1) hs f.1
-
 one_behind : (n : ℕ) (hs : List Held) (h : Held) → Follows n hs → h.n ≡ n + length hs → Follows n (hs ++ h ∷ [])
 one_behind n [] h f next = (omega (arith, next), tt)
 one_behind n (k ∷ hs) h f next = (f.0, one_behind (n + 1) hs h f.1 (omega (arith, next)))
 
-ends_from : (n : ℕ) (h : Held) (hs : List Held) → Follows n (h ∷ hs) → hi (h ∷ hs) ≡ n + length (h ∷ hs)
-unfolding hi
-ends_from n h [] f = omega (arith, f.0)
-ends_from n h (k ∷ hs) f = let end = ends_from (n + 1) k hs f.1 in omega (arith, end)
-
 ends_at : (hs : List Held) → Follows (lo hs) hs → hi hs ≡ lo hs + length hs
 unfolding hi
 ends_at [] f = refl
-ends_at (h ∷ hs) f = ends_from h.n h hs f
+ends_at (h ∷ hs) f = hi_is h.n h hs f
 
 -- ---- the rings
 ring_of : (capacity : ℕ) (hs : List Held) → 1 ≤ capacity → length hs ≤ capacity → Follows (lo hs) hs → hi hs ≤ 2 ^ 62 → IsRing (record { capacity = capacity; held = hs })
@@ -59,7 +45,7 @@ pushed_is_ring v h was small =
     let end : hi more ≡ h.n + 1 = hi_of_end v.held h [] in
     cond_both (eqb h.n (hi v.held)) (last_of v.capacity more) (h ∷ []) (λ l. IsRing (record { capacity = v.capacity; held = l }))
     (λ t. ring_of v.capacity (last_of v.capacity more) was.room (omega (arith, length-drop (length more - v.capacity) more))
-    (later_ones (length more - v.capacity) (lo more) more (behind_all v.held h was.follows (eqb-true h.n (hi v.held) t)))
+    (later_ones (lo more) (length more - v.capacity) more (behind_all v.held h was.follows (eqb-true h.n (hi v.held) t)))
     (omega (arith, hi-last_of v.capacity more was.room, end)))
     (λ f. alone v.capacity h was.room small)
 
@@ -91,11 +77,6 @@ has_its_number n [] = tt
 has_its_number n (h ∷ hs) = cond_both (eqb h.n n) (Some h) (packet_of n hs) (λ found. IfSome found (λ k. k.n ≡ n)) (λ t. eqb-true h.n n t) (λ f. has_its_number n hs)
 
 -- ---- the packets from a number on
-all_from : (n m : ℕ) (hs : List Held) → Follows m hs → n ≤ m → from_number n hs ≡ hs
-all_from n m [] f below = refl
-all_from n m (h ∷ hs) f below =
-    cond-true (leb n h.n) (h ∷ from_number n hs) (from_number n hs) (le-leb n h.n (omega (arith, f.0))) ∙ ap (λ (l : List Held). h ∷ l) (all_from n (m + 1) hs f.1 (omega arith))
-
 not_from : (n : ℕ) (h : Held) (hs : List Held) → h.n < n → from_number n (h ∷ hs) ≡ from_number n hs
 not_from n h hs below = cond-false (leb n h.n) (h ∷ from_number n hs) (from_number n hs) (lt-leb n h.n below)
 

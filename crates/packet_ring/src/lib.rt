@@ -3,8 +3,6 @@
 
 mod laws;
 mod ring;
-#[cfg(test)]
-mod tests;
 
 pub use laws::{held_ends_as_its_source, packets_stand_in_order};
 pub use ram_io::NoMemory;

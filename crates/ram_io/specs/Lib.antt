@@ -3,7 +3,6 @@ pub mod Faults
 pub mod Memory
 pub mod Moments
 pub mod Wire
-
 unfoldable pub use Rattle.ram_io.specs.Calls.{IsFailing, number_after, called, faulted}
 pub use Rattle.ram_io.specs.Calls.{Counts}
 unfoldable pub use Rattle.ram_io.specs.Faults.{Rose}

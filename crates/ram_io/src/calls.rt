@@ -5,12 +5,12 @@ ghost use Rattle.ram_io.specs.{called, faulted, IsFailing, HasCause, new_counts}
 use crate::failed::Failed;
 use std::marker::Model;
 
-/// Counts the calls of an object and its faults.
+// Counts the calls of an object and its faults.
 #[derive(Debug, Drop)]
 pub(crate) struct Calls {
-    /// The numbers, from 0, of the calls that fail.
+    // The numbers, from 0, of the calls that fail.
     fails: Vec<u64>,
-    /// The number of the next call; no call from 2^64 on stands in the list.
+    // The number of the next call; no call from 2^64 on stands in the list.
     next: Option<u64>,
     faults: u64,
 }
@@ -34,7 +34,7 @@ impl Calls {
         }
     }
 
-    /// Counts a call, and a fault where it is one of those that fail.
+    // Counts a call, and a fault where it is one of those that fail.
     pub(crate) fn begin(&mut self) -> Result<(), Failed>
         ensures fails { IsErr result ↔ IsFailing self.old }
         ensures ok { OnOk result (self.new ≡ called self.old) }
@@ -51,7 +51,7 @@ impl Calls {
         Ok(())
     }
 
-    /// Counts a fault; the count stops at 2^64 - 1.
+    // Counts a fault; the count stops at 2^64 - 1.
     pub(crate) fn fault(&mut self) -> Failed
         ensures counted { self.new ≡ faulted self.old }
         ensures later { self.old.faults ≤ self.new.faults }

@@ -3,6 +3,8 @@
 //! Each trait but `Clock` and `Gate` counts its faults, and answers `Failed` only where that count
 //! rose in the call. What an object has left or holds is told by the objects in memory, and not by
 //! the real ones: the clauses on content hold where it is told.
+//!
+//! `Wire`, `Clock` and `Gate` have no caller yet: they wait for commands that are still to come.
 #![tactic(auto)]
 
 mod calls;
@@ -17,8 +19,6 @@ mod mem_wire;
 mod sink;
 mod source;
 mod std_edge;
-#[cfg(test)]
-mod tests;
 mod wire;
 
 pub use clock::Clock;

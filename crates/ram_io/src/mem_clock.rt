@@ -10,7 +10,7 @@ use std::marker::Model;
 #[derive(Debug, Drop)]
 pub struct MemClock {
     moments: Vec<u64>,
-    /// The place of the next moment; it stays at the last one.
+    // The place of the next moment; it stays at the last one.
     next: usize,
 }
 

@@ -14,9 +14,9 @@ use std::marker::Model;
 #[derive(Debug, Drop)]
 pub struct MemSink {
     bytes: Vec<u8>,
-    /// The most bytes that it holds.
+    // The most bytes that it holds.
     room: usize,
-    /// The most bytes that a call takes.
+    // The most bytes that a call takes.
     most: usize,
     calls: Calls,
 }

@@ -14,9 +14,9 @@ use std::marker::Model;
 #[derive(Debug, Drop)]
 pub struct MemSource {
     bytes: Vec<u8>,
-    /// How many of the bytes were taken.
+    // How many of the bytes were taken.
     taken: usize,
-    /// The most bytes that a call gives.
+    // The most bytes that a call gives.
     most: usize,
     calls: Calls,
 }

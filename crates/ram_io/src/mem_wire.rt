@@ -9,7 +9,7 @@ use crate::wire::{Arrival, Incoming, Wire};
 use std::alloc::Global;
 use std::marker::Model;
 
-/// The most bytes of a datagram that `receive` gives.
+// The most bytes of a datagram that `receive` gives.
 const MOST: usize = 2_000;
 
 /// A datagram that went to `to` from the local port `port`. Its bytes are the `len` bytes of
@@ -26,15 +26,15 @@ pub struct Sent {
 #[derive(Debug, Drop)]
 pub struct MemWire {
     arrivals: Vec<Incoming>,
-    /// How many of the arrivals were taken.
+    // How many of the arrivals were taken.
     taken: usize,
     places: Vec<Sent>,
     bytes: Vec<u8>,
-    /// The most bytes that it holds.
+    // The most bytes that it holds.
     room: usize,
-    /// The most datagrams that it holds.
+    // The most datagrams that it holds.
     sends: usize,
-    /// Of `receive` and `send` together.
+    // Of `receive` and `send` together.
     calls: Calls,
 }
 
@@ -110,7 +110,7 @@ impl MemWire {
     }
 }
 
-/// Gives what came, its datagram in the front of `buf`.
+// Gives what came, its datagram in the front of `buf`.
 fn deliver(incoming: &Incoming, buf: &mut [u8]) -> Option<Arrival>
     requires room { length buf.old ≡ 2000 }
     requires client { IsFromClient incoming.now }

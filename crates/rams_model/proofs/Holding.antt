@@ -2,12 +2,12 @@
 use Rattle.std.proofs.Common.{◌≡◌, ℕ, zero, suc, ◌+◌, ◌-◌, ◌≤◌, true, false, List, [], ◌∷◌, ◌++◌, length, drop, refl, ap, sym, ◌∙◌, subst, arith, eqb, leb}
 use Rattle.std.proofs.lemmas.Bool.{both_ways, cond_both, cond-true, and_parts, eqb-true, le-leb, leb-true, leb-false}
 use Rattle.rams_model.specs.declared.held.Held.{Held}
-use Rattle.rams_model.specs.Packets.{lo, hi, from_number, Stream, is_consecutive, consecutive_end, source, Follows}
+use Rattle.rams_model.specs.Packets.{lo, hi, from_number, is_consecutive, consecutive_end, source, Follows}
 use Rattle.rams_model.specs.Packets.Source as sources
 use Rattle.rams_model.specs.Service.{Settings, History, stream, hold}
 use Rattle.rams_model.specs.Laws.{Rises, IsLongestEnd}
 
-follows_from : (hs : List Held) → is_consecutive hs ≡ true → Follows (lo hs) hs
+pub follows_from : (hs : List Held) → is_consecutive hs ≡ true → Follows (lo hs) hs
 follows_from [] e = tt
 follows_from (h ∷ []) e = (refl, tt)
 follows_from (h ∷ k ∷ hs) e =
@@ -20,11 +20,11 @@ end_is_consecutive [] = refl
 end_is_consecutive (h ∷ hs) = cond_both (is_consecutive (h ∷ hs)) (h ∷ hs) (consecutive_end hs) (λ l. is_consecutive l ≡ true) (λ t. t) (λ f. end_is_consecutive hs)
 
 -- what follows goes on following from its own first
-own_first : (n : ℕ) (hs : List Held) → Follows n hs → Follows (lo hs) hs
+pub own_first : (n : ℕ) (hs : List Held) → Follows n hs → Follows (lo hs) hs
 own_first n [] f = tt
 own_first n (h ∷ hs) f = (refl, subst (λ (m : ℕ). Follows (m + 1) hs) (sym f.0) f.1)
 
-later_ones : (n k : ℕ) (hs : List Held) → Follows n hs → Follows (lo (drop k hs)) (drop k hs)
+pub later_ones : (n k : ℕ) (hs : List Held) → Follows n hs → Follows (lo (drop k hs)) (drop k hs)
 later_ones n zero hs f = own_first n hs f
 later_ones n (suc k) [] f = tt
 later_ones n (suc k) (h ∷ hs) f = later_ones (n + 1) k hs f.1
@@ -36,7 +36,7 @@ held_follow s history =
     later_ones (lo all) (length all - s.channel.ring) all (follows_from all (end_is_consecutive (source s.channel.window (stream s history))))
 
 -- all packets stand from a number on that is at most the first's
-all_from : (n m : ℕ) (hs : List Held) → Follows m hs → n ≤ m → from_number n hs ≡ hs
+pub all_from : (n m : ℕ) (hs : List Held) → Follows m hs → n ≤ m → from_number n hs ≡ hs
 all_from n m [] f le = refl
 all_from n m (h ∷ hs) f le =
     cond-true (leb n h.n) (h ∷ from_number n hs) (from_number n hs) (le-leb n h.n (omega (arith, le, f.0)))
@@ -57,7 +57,7 @@ stand_from n m (h ∷ hs) f le within =
     (λ g. let rest = stand_from n (m + 1) hs f.1 (omega (arith, f.0, leb-false n h.n g)) (omega (arith, within)) in (rest.0, omega (arith, rest.1)))
 
 -- the end of the interval
-hi_is : (m : ℕ) (h : Held) (hs : List Held) → Follows m (h ∷ hs) → hi (h ∷ hs) ≡ m + length (h ∷ hs)
+pub hi_is : (m : ℕ) (h : Held) (hs : List Held) → Follows m (h ∷ hs) → hi (h ∷ hs) ≡ m + length (h ∷ hs)
 unfolding hi
 hi_is m h [] f = omega (arith, f.0)
 hi_is m h (k ∷ hs) f = let rest = hi_is (m + 1) k hs f.1 in omega (arith, rest)

@@ -19,3 +19,10 @@ pub mod TlvLaws
 pub mod RamsLaws
 pub mod PacketLaws
 pub mod NackLaws
+pub mod OpenBurst
+pub mod Legal
+pub mod Items
+pub mod Legality
+pub mod Adding
+pub mod Induction
+pub mod Granting

@@ -7,7 +7,6 @@ pub mod TransportFeedback
 pub mod Rams
 pub mod RamsInfo
 pub mod Joined
-
 unfoldable pub use Rattle.rams_model.specs.Formats.RtpPacket.{flag, header, spelling, stripped, wire_size, retransmission, is_plain, packet_of}
 pub use Rattle.rams_model.specs.Formats.RtpPacket.{Packet}
 unfoldable pub use Rattle.rams_model.specs.Formats.Rtp.{version, has_padding, has_extension, csrc_size, behind_header, behind_csrc, extension_size, behind_extension, padding_size, lacks_extension, miscounts_padding, fields_of, packet_at, AreCsrc, WhatIsReadIsSpelledSo, WhatIsSpelledSoIsRead, original_number, original}

@@ -3,7 +3,6 @@ pub mod Numbering
 pub mod Source
 pub mod Hold
 pub mod Access
-
 unfoldable pub use Rattle.rams_model.specs.Packets.Numbering.{ahead, least_from, following, is_kept, after_greatest, numbered}
 pub use Rattle.rams_model.specs.Packets.Numbering.{Numbered, first, forward, backward, jump, restart}
 unfoldable pub use Rattle.rams_model.specs.Packets.Source.{held_as, empty_stream, has_number, with_packet, least, is_missing, awaited, greatest, in_time, note_of, live_note, stream_after, stream_of, source, is_consecutive, Follows, consecutive_end, hold}

@@ -15,7 +15,6 @@ pub mod Tick
 pub mod Orders
 pub mod LawfulBook
 pub mod EventAnswer
-
 unfoldable pub use Rattle.rams_model.specs.Service.ChannelSettings.{settings, most_bytes, names_in_range, bytes_in_range, bounds_in_range, channel_in_range, tick_in_range, checked}
 pub use Rattle.rams_model.specs.Service.ChannelSettings.{Settings}
 unfoldable pub use Rattle.rams_model.specs.Service.Messages.{named, rams_message, feedback_message, message_of, is_rams, with_one_rams, messages}

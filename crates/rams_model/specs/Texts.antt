@@ -4,7 +4,6 @@ pub mod TraceLines
 pub mod TraceOrder
 pub mod BookText
 pub mod BookLines
-
 unfoldable pub use Rattle.rams_model.specs.Texts.Words.{onto_first, lines_of, into_first, whole_lines, lines_read, words_of, is_digit, front, first_word, spaced_words, text_of, is_hex_digit, is_number, number_in, decoded, bytes_in, word32_in, word32, is_hex, hex_word}
 unfoldable pub use Rattle.rams_model.specs.Texts.TraceLines.{◌>>=◌, field, whole, one, hex_in, access_in, version_in, head_in, kept_in, rest_in, channel_in, live_in, feedback_in, tune_in, give_in, mcast_in, ask_in, drop_in, receiver_in, line_in, line_of, id_in_range, client_in_range, line_in_range, ranged, line_at, access_word, kept_words, channel_words, line_words, line_text, is_short, is_word32, is_version, version_says, channel_has_form, line_has_form, is_spelled}
 pub use Rattle.rams_model.specs.Texts.TraceLines.{TraceLine, head_line, channel_line, live_line, feedback_line, tick_line, end_line, tune_line, give_line, mcast_line, ask_line, drop_line}

@@ -18,7 +18,7 @@ use Rattle.server_hub.proofs.Pairing.{same_length}
 use Rattle.trace_text.proofs.Checks.{checked_same}
 use Rattle.trace_book.specs.{Stage, eventless}
 use Rattle.rams_replay.specs.declared.replay.Turn.TheVariants.{GoesOn, Done}
-use Rattle.rams_replay.specs.{HubServes, Serves, Stands, CanOpen, Opens, OpensIn, Comes, Took, claim_of}
+use Rattle.rams_replay.specs.{HubServes, Serves, Stands, CanOpen, OpensIn, Comes, Took, claim_of}
 use Rattle.rams_replay.proofs.Telling.{settings_all, settings_stand}
 use Rattle.rams_replay.proofs.Turning.{Accepted, accepted_parts}
 
@@ -70,6 +70,10 @@ shares_claimed : (channels : List Served) → shares_of (settings_all channels) 
 shares_claimed channels =
     sym (sum-map (λ s. s.channel.share) (settings_all channels)) ∙ ap sum (shares_listed channels) ∙ sum-map (λ k. k.share) (map claim_of channels)
 
+-- the head line is still that of the trace
+later_head : (r later : Reached) (c : Channel) (j : Joined r later c) → later.head ≡ Some j.head
+later_head r later c j = ap (λ (x : Reached). x.head) (sym j.is_later) ∙ j.is_head
+
 module _ (v : Seen) (r later : Reached) (c : Channel) (channels : List Served) (events : ℕ) (j : Joined r later c) (claims : r.channels ≡ map claim_of channels) where
   fits : Serves v j.head channels events → refused v (settings c v.tick) ≡ None
   fits serves =
@@ -81,37 +85,39 @@ module _ (v : Seen) (r later : Reached) (c : Channel) (channels : List Served) (
       let room : leb (shares_of (settings_of v) + c.share) v.link ≡ true = ap (λ n. leb (n + c.share) v.link) shares ∙ ap (leb (sum_by (λ k. k.share) r.channels + c.share)) serves.link ∙ j.fits in
       rw (few, new, room) refl
 
-  can_open : (hub : Option Seen) → hub ≡ Some v → HubServes hub r.head channels events → CanOpen v c
-  can_open hub there serves =
+  can_open : (tick : ℕ) → tick ≡ tick_of later.head → (hub : Option Seen) → hub ≡ Some v → HubServes hub r.head channels events → CanOpen v (settings c tick)
+  can_open tick same hub there serves =
       let at = subst (λ (h : Option Head). HubServes (Some v) h channels events) j.is_head (subst (λ (o : Option Seen). HubServes o r.head channels events) there serves) in
-      record { lawful = subst (λ (n : ℕ). checked (settings c n) ≡ Ok (settings c n)) (sym at.tick) j.lawful; fits = fits at }
+      let is : tick ≡ v.tick = same ∙ ap tick_of (later_head r later c j) ∙ sym at.tick in
+      record { tick = is; fits = subst (λ (n : ℕ). refused v (settings c n) ≡ None) (sym is) (fits at) }
 
 -- the channel can be opened
-pub opens_next : (hub : Option Seen) (events version : ℕ) (later : Reached) (c : Channel) (stage : Stage) → Comes hub events later (channel_line version c) stage → IsSomeAnd hub (λ v. CanOpen v c)
-opens_next hub events version later c stage comes = by hub refl
+pub opens_next : (hub : Option Seen) (events version : ℕ) (later : Reached) (s : Settings) (stage : Stage) → s.tick ≡ tick_of later.head → Comes hub events later (channel_line version s.channel) stage
+    → IsSomeAnd hub (λ v. CanOpen v s)
+opens_next hub events version later s stage tick comes = by hub refl
   where
-    j : Joined stage.reached later c
-    j = joins stage.reached later c version comes.comes
+    j : Joined stage.reached later s.channel
+    j = joins stage.reached later s.channel version comes.comes
 
     nowhere : HubServes None (Some j.head) stage.channels stage.events → ⊥
     nowhere serves = serves
 
-    by : (o : Option Seen) → hub ≡ o → IsSomeAnd o (λ v. CanOpen v c)
+    by : (o : Option Seen) → hub ≡ o → IsSomeAnd o (λ v. CanOpen v s)
     by None is =
         absurd (nowhere (subst (λ (h : Option Head). HubServes None h stage.channels stage.events) j.is_head (subst (λ (o : Option Seen). HubServes o stage.reached.head stage.channels stage.events) is comes.before.served)))
-    by (Some v) is = can_open v stage.reached later c stage.channels stage.events j comes.before.claims hub is comes.before.served
+    by (Some v) is = can_open v stage.reached later s.channel stage.channels stage.events j comes.before.claims s.tick tick hub is comes.before.served
 
 -- what stands behind the line of a channel
-pub opened_turn : (hub new : Option Seen) (events version number : ℕ) (later : Reached) (c : Channel) (stage : Stage) → OpensIn c hub new → Comes hub events later (channel_line version c) stage
-    → Took (eventless stage later (channel_line version c)) new events later number GoesOn
-opened_turn None new events version number later c stage opens comes = absurd opens
-opened_turn (Some v) None events version number later c stage opens comes = absurd opens
-opened_turn (Some v) (Some w) events version number later c stage opens comes =
+pub opened_turn : (hub new : Option Seen) (events version number : ℕ) (later : Reached) (s : Settings) (stage : Stage) → s.tick ≡ tick_of later.head → OpensIn s hub new
+    → Comes hub events later (channel_line version s.channel) stage → Took (eventless stage later (channel_line version s.channel)) new events later number GoesOn
+opened_turn None new events version number later s stage tick opens comes = absurd opens
+opened_turn (Some v) None events version number later s stage tick opens comes = absurd opens
+opened_turn (Some v) (Some w) events version number later s stage tick opens comes =
     let r = stage.reached in
+    let c = s.channel in
     let j = joins r later c version comes.comes in
     let at : Serves v j.head stage.channels stage.events = subst (λ (h : Option Head). HubServes (Some v) h stage.channels stage.events) j.is_head comes.before.served in
-    let head : later.head ≡ Some j.head = ap (λ (x : Reached). x.head) (sym j.is_later) ∙ j.is_head in
-    let tick : v.tick ≡ tick_of later.head = at.tick ∙ sym (ap tick_of head) in
+    let head = later_head r later c j in
     let more = stage.channels ++ served (settings c (tick_of later.head)) [] ∷ [] in
     let stands = subst (λ (n : ℕ). AllServe w.channels (stage.channels ++ served (settings c n) [] ∷ [])) tick (opens.stands stage.channels at.stands) in (
       record {

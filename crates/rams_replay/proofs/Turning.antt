@@ -1,6 +1,7 @@
 -- The turns of lines.
 use Rattle.std.proofs.Common.{◌≡◌, ℕ, ◌+◌, ◌<◌, ◌≤◌, Bool, true, false, not, ◌&&◌, cond, if◌then◌else◌, List, [], ◌∷◌, ◌++◌, map, Option, None, Some, Result, Ok, Err, is_some, refl, sym, subst, ap, ◌∙◌, arith, eqb, ltb, length, ◌⊎◌, inl, inr}
 use Rattle.std.proofs.lemmas.Bool.{and_parts, lt-ltb}
+use Rattle.rams_model.specs.declared.channel.Channel.{Channel}
 use Rattle.rams_model.specs.declared.event.Event.{Event}
 use Rattle.rams_model.specs.declared.fault.LineFault.{LineFault}
 use Rattle.rams_model.specs.declared.mode.LineKind.{LineKind}
@@ -19,8 +20,8 @@ use Rattle.rams_replay.specs.{Comes, HubServes, Stands, StandsSomewhere, CountsO
 use Rattle.rams_replay.specs.declared.replay.Turn.TheVariants.{GoesOn, Answered as AnsweredTurn, NoChannel, Ticked, Refused, TooLong, Done}
 use Rattle.trace_book.specs.TraceText as text
 use Rattle.trace_text.specs.declared.line.Line.{Line}
-use Rattle.trace_text.specs.{shown}
-use Rattle.trace_text.specs.declared.line.Line.TheVariants.{Tune, Give, Mcast, Ask, Drop}
+use Rattle.trace_text.specs.{shown, IsOther}
+use Rattle.trace_text.specs.declared.line.Line.TheVariants.{Channel as ChannelLine, Tune, Give, Mcast, Ask, Drop}
 
 -- What an accepted line says of the lines before it, and of those with it.
 pub record Accepted (r later : Reached) (line : TraceLine) : Type 0 where
@@ -120,11 +121,11 @@ event_stage hub events later line stage comes is =
     let does : Ok (begun stage.reached) ≡ Ok later = sym is ∙ (accepted_parts stage.reached later line comes.comes).does in
     stands_begun hub events stage later (cc does) comes.before
 
--- a line of a receiver, which no trace of `run` has
+-- a line of a receiver, which no trace of `run` has, or of a channel
 abbrev pub IsReceiver : Line → Type 0
 IsReceiver l =
     ((x : ℕ) × (y : ℕ) × (z : ℕ) × (l ≡ Tune x y z)) ⊎ (((x : ℕ) × (l ≡ Give x)) ⊎ (((x : ℕ) × (y : ℕ) × (z : ℕ) × (l ≡ Mcast x y z))
-    ⊎ (((x : ℕ) × (y : ℕ) × (l ≡ Ask x y)) ⊎ ((x : ℕ) × (y : ℕ) × (l ≡ Drop x y)))))
+    ⊎ (((x : ℕ) × (y : ℕ) × (l ≡ Ask x y)) ⊎ (((x : ℕ) × (y : ℕ) × (l ≡ Drop x y)) ⊎ ((x : ℕ) × (y : Channel) × (l ≡ ChannelLine x y))))))
 
 silent_turn : (hub : Option Seen) (events number : ℕ) (later : Reached) (stage : Stage) (line : TraceLine) → Comes hub events later line stage → with_line stage.reached line ≡ Ok (begun stage.reached)
     → after_line stage later line (brought line) ≡ goes_on (record { reached = later; channels = stage.channels; events = stage.events }) []
@@ -140,12 +141,13 @@ module _ (hub : Option Seen) (events number : ℕ) (later : Reached) (stage : St
       subst (λ (x : Line). Took (after_line stage later (shown x) (brought (shown x))) hub events later number GoesOn) (sym is)
       (silent_turn hub events number later stage (shown k) (subst (λ (x : Line). Comes hub events later (shown x) stage) is comes) does silent)
 
-  pub receiver_turn : IsReceiver l → Took (after_line stage later (shown l) (brought (shown l))) hub events later number GoesOn
-  receiver_turn (inl p) = as_line (Tune p.0 p.1 p.2) p.3 refl refl
-  receiver_turn (inr (inl p)) = as_line (Give p.0) p.1 refl refl
-  receiver_turn (inr (inr (inl p))) = as_line (Mcast p.0 p.1 p.2) p.3 refl refl
-  receiver_turn (inr (inr (inr (inl p)))) = as_line (Ask p.0 p.1) p.2 refl refl
-  receiver_turn (inr (inr (inr (inr p)))) = as_line (Drop p.0 p.1) p.2 refl refl
+  pub receiver_turn : IsOther l → IsReceiver l → Took (after_line stage later (shown l) (brought (shown l))) hub events later number GoesOn
+  receiver_turn other (inl p) = as_line (Tune p.0 p.1 p.2) p.3 refl refl
+  receiver_turn other (inr (inl p)) = as_line (Give p.0) p.1 refl refl
+  receiver_turn other (inr (inr (inl p))) = as_line (Mcast p.0 p.1 p.2) p.3 refl refl
+  receiver_turn other (inr (inr (inr (inl p)))) = as_line (Ask p.0 p.1) p.2 refl refl
+  receiver_turn other (inr (inr (inr (inr (inl p))))) = as_line (Drop p.0 p.1) p.2 refl refl
+  receiver_turn other (inr (inr (inr (inr (inr p))))) = absurd (subst IsOther p.2 other)
 
 -- an event comes behind a channel line, so there is a hub
 no_channel : (r : Reached) (channels : List Served) → r.channels ≡ map claim_of channels → channels ≡ [] → has_channel r ≡ false

@@ -1,10 +1,9 @@
 -- What a line of a trace does, as code has it.
 use Rattle.std.specs.Prelude.{◌≡◌, ℕ, ◌+◌, ◌==◌, List, [], ◌∷◌, ◌++◌, map, find, Option, Some, None, Ok, All}
 use Rattle.std.specs.List.{flat_map}
-use Rattle.rams_model.specs.declared.channel.Channel.{Channel}
 use Rattle.rams_model.specs.declared.status.Status.{Status}
 use Rattle.rams_model.specs.declared.status.Status.TheVariants as statuses
-use Rattle.rams_model.specs.Service.{Answered, Settings, settings, checked}
+use Rattle.rams_model.specs.Service.{Answered, Settings}
 use Rattle.rams_model.specs.Texts.{answer_text, TraceLine, Claim, Head, Reached, accepted}
 use Rattle.book_text.specs.{no_channel_line}
 use Rattle.order_datagrams.specs.{Renders}
@@ -123,22 +122,22 @@ pub record CountsOne (old new : Seen) : Type 0 where
   pub link : new.link ≡ old.link
   pub calls : new.calls ≡ old.calls + 1
 
--- a channel with these settings can be opened: they are lawful, and it fits the link beside the others
-pub record CanOpen (v : Seen) (c : Channel) : Type 0 where
-  pub lawful : checked (settings c v.tick) ≡ Ok (settings c v.tick)
-  pub fits : refused_add v (settings c v.tick) ≡ None
+-- a channel with these settings can be opened: they are of the hub's tick, and it fits the link beside the others
+pub record CanOpen (v : Seen) (s : Settings) : Type 0 where
+  pub tick : s.tick ≡ v.tick
+  pub fits : refused_add v s ≡ None
 
 -- the channel was opened, beside the others
-pub record Opens (c : Channel) (old new : Seen) : Type 0 where
-  pub stands : (channels : List Served) → StandsFor old channels → StandsFor new (channels ++ served (settings c old.tick) [] ∷ [])
+pub record Opens (s : Settings) (old new : Seen) : Type 0 where
+  pub stands : (channels : List Served) → StandsFor old channels → StandsFor new (channels ++ served s [] ∷ [])
   pub tick : new.tick ≡ old.tick
   pub link : new.link ≡ old.link
   pub calls : new.calls ≡ old.calls
 
 -- the same of a hub that is there
-abbrev pub OpensIn : Channel → Option Seen → Option Seen → Type 0
-OpensIn c (Some old) (Some new) = Opens c old new
-OpensIn c _ _ = ⊥
+abbrev pub OpensIn : Settings → Option Seen → Option Seen → Type 0
+OpensIn s (Some old) (Some new) = Opens s old new
+OpensIn s _ _ = ⊥
 
 -- this line was accepted behind those of the stage
 pub record Comes (hub : Option Seen) (events : ℕ) (reached : Reached) (line : TraceLine) (stage : Stage) : Type 0 where

@@ -7,7 +7,7 @@ ghost use Rattle.rams_replay.specs.{is_run, begins_with_run, status_of, is_words
 
 use crate::book::write_book;
 use crate::stop::Stop;
-use crate::words::is_run;
+use crate::words::{begins_with_run, is_run};
 use ram_io::{Clock, Gate, Octets, Sink, Source, Wire};
 use rams_model::Status;
 use std::alloc::Global;
@@ -42,13 +42,12 @@ pub fn run<R: Threads + Wait + Sync, S: Source, K: Sink, W: Wire, C: Clock, G: G
     ensures wire { wire.new ≡ wire.old }
     ensures clock { clock.new ≡ clock.old }
 {
+    if begins_with_run(words) {
+        return plain(alloc, words, source, sink);
+    }
     traces_are_served_lawfully();
     traces_stay_within_the_link();
-    if is_run(words) {
-        write_status(alloc, source, sink)
-    } else {
-        Status::Words
-    }
+    Status::Words
 }
 
 /// Runs a command that waits for nobody: the first word is `run`.

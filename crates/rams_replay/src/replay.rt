@@ -2,16 +2,17 @@
 ghost use Rattle.std.specs.Prelude.{◌≡◌, ◌<◌, ◌^◌, ℕ, true, IfOk, OnOk, IsSomeAnd, None, is_some, List};
 ghost use Rattle.server_hub.specs.{StandsFor};
 ghost use Rattle.server_hub.specs.Served.{Served};
-ghost use Rattle.trace_text.specs.{shown, HasDigits};
+ghost use Rattle.rams_model.specs.Texts.{tick_of};
+ghost use Rattle.trace_text.specs.{shown, told, HasDigits, IsOther, IsSettled};
 ghost use Rattle.trace_book.specs.{Stage, opening, turn, after_line, counted, event_of as brought};
 ghost use Rattle.rams_replay.specs.{Stands, StandsSomewhere, Comes, CanOpen, OpensIn, CountsOne, Tells, Took, CanWrite, ending, event_of, turn_named};
 
 use channel_config::Config;
 use ram_io::NoMemory;
-use rams_model::{Answer, Channel, LineFault};
-use server_hub::{AddFault, At, Hub};
+use rams_model::{Answer, LineFault};
+use server_hub::{At, Hub};
 use std::alloc::Global;
-use trace_text::{Line, Mode, State, decode_to};
+use trace_text::{Judged, Line, Mode, State, decode_to};
 
 /// Most events of a trace.
 const MOST_EVENTS: u64 = 1_000_000;
@@ -81,7 +82,25 @@ pub fn take_line(alloc: Global, replay: &mut Replay, line: &[u8]) -> Result<Turn
 }
 
 /// What a line does that may come.
-fn after_line(alloc: Global, replay: &mut Replay, line: Line<'_>) -> Result<Turn, NoMemory>
+fn after_line(alloc: Global, replay: &mut Replay, line: Judged<'_>) -> Result<Turn, NoMemory>
+    requires settled { IsSettled (tick_of replay.old.state.head) line }
+    requires comes { (stage : Stage) × Comes replay.old.hub replay.old.events replay.old.state (told line) stage }
+    ensures turn { IfOk result (λ t. (stage : Stage) (number : ℕ) → Comes replay.old.hub replay.old.events replay.old.state (told line.entry) stage
+        → Took (after_line stage replay.old.state (told line.entry) (brought (told line.entry))) replay.new.hub replay.new.events replay.new.state number t) }
+    ensures write { IfOk result CanWrite }
+{
+    match line {
+        Judged::Channel { config, .. } => {
+            open(alloc, &mut replay.hub, config)?;
+            Ok(Turn::GoesOn)
+        }
+        Judged::Other(line) => after_other(alloc, replay, line),
+    }
+}
+
+/// What a line does that opens no channel.
+fn after_other(alloc: Global, replay: &mut Replay, line: Line<'_>) -> Result<Turn, NoMemory>
+    requires other { IsOther line }
     requires digits { HasDigits line }
     requires comes { (stage : Stage) × Comes replay.old.hub replay.old.events replay.old.state (shown line) stage }
     ensures turn { IfOk result (λ t. (stage : Stage) (number : ℕ) → Comes replay.old.hub replay.old.events replay.old.state (shown line.entry) stage
@@ -91,10 +110,6 @@ fn after_line(alloc: Global, replay: &mut Replay, line: Line<'_>) -> Result<Turn
     match line {
         Line::Head { tick_ms, link, .. } => {
             replay.hub = Some(Hub::new(alloc, tick_ms, link)?);
-            Ok(Turn::GoesOn)
-        }
-        Line::Channel { channel, .. } => {
-            open(alloc, &mut replay.hub, channel)?;
             Ok(Turn::GoesOn)
         }
         Line::Live { id, hex } => {
@@ -109,29 +124,24 @@ fn after_line(alloc: Global, replay: &mut Replay, line: Line<'_>) -> Result<Turn
         }
         Line::Tick => serve(alloc, &mut replay.hub, &mut replay.events, Heard::Tick),
         Line::End => Ok(Turn::Done),
-        // No trace of `run` has these.
+        // No trace of `run` has these, and a channel line is none of the others.
         Line::Tune { .. }
         | Line::Give { .. }
         | Line::Mcast { .. }
         | Line::Ask { .. }
-        | Line::Drop { .. } => Ok(Turn::GoesOn),
+        | Line::Drop { .. }
+        | Line::Channel { .. } => Ok(Turn::GoesOn),
     }
 }
 
-/// A channel line opens its channel. The lines before it have shown that it may stand there.
-fn open(alloc: Global, hub: &mut Option<Hub>, channel: Channel) -> Result<(), NoMemory>
-    requires { IsSomeAnd hub.old (λ v. CanOpen v channel) }
-    ensures { OnOk result (OpensIn channel hub.old hub.new) }
+/// A channel line opens its channel. The lines before it have shown that it may stand there, so that
+/// only memory can be missing.
+fn open(alloc: Global, hub: &mut Option<Hub>, config: Config) -> Result<(), NoMemory>
+    requires { IsSomeAnd hub.old (λ v. CanOpen v config) }
+    ensures { OnOk result (OpensIn config hub.old hub.new) }
 {
     let Some(hub) = hub else { unreachable!() };
-    let Ok(config) = Config::check(channel, hub.tick_ms()) else {
-        unreachable!()
-    };
-    match hub.add(alloc, config) {
-        Ok(()) => Ok(()),
-        Err(AddFault::NoMemory) => Err(NoMemory),
-        Err(_) => unreachable!(),
-    }
+    hub.add(alloc, config).or(Err(NoMemory))
 }
 
 /// An event of the server, unless it is one too many.

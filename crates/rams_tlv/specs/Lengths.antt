@@ -2,6 +2,7 @@
 use Rattle.std.specs.Prelude.{ℕ, Bool}
 use Rattle.rams_tlv.specs.declared.tlvs.Message.{Message}
 use Rattle.rams_tlv.specs.declared.tlvs.Message.TheVariants as message
+use Rattle.rams_model.specs.declared.rams.TheConstants.{SFMT_RAMS_R, SFMT_RAMS_I, SFMT_RAMS_T}
 use Rattle.rams_model.specs.Formats.{request_length, info_length, stop_length}
 
 -- whether the value of a type that the message reads has its length
@@ -12,6 +13,6 @@ lengths message.Stop kind n = stop_length kind n
 
 -- the message's first byte (RFC 6285, 7)
 abbrev pub sfmt : Message → ℕ
-sfmt message.Request = 1
-sfmt message.Info = 2
-sfmt message.Stop = 3
+sfmt message.Request = SFMT_RAMS_R
+sfmt message.Info = SFMT_RAMS_I
+sfmt message.Stop = SFMT_RAMS_T

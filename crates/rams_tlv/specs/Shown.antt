@@ -3,7 +3,7 @@ use Rattle.std.specs.Prelude.{◌≡◌, ℕ, ◌≤◌, ◌%◌, List, length, 
 use Rattle.std.specs.Borrow.{Bor}
 use Rattle.rams_model.specs.Formats.{words32}
 use Rattle.rams_model.specs.Formats.Rams as rams
-use Rattle.rams_tlv.specs.declared.request.Request.{Request}
+use Rattle.rams_tlv.specs.declared.rams_r.Request.{Request}
 
 -- a list of SSRCs, as numbers
 abbrev pub shown_ssrcs : Option (Bor (List ℕ)) → Option (List ℕ)

@@ -4,18 +4,15 @@
 //! A writer gives the whole RTCP packet.
 #![tactic(auto)]
 
-mod message;
-mod request;
-mod room;
-#[cfg(test)]
-mod tests;
+mod packet;
+mod rams_i;
+mod rams_r;
+mod rams_t;
+mod tlv_writing;
 mod tlvs;
-mod writing;
 
-pub use message::{read_info, read_stop};
 pub use ram_io::NoMemory;
+pub use rams_i::{append_info, read_info, write_info};
 pub use rams_model::{Info, Stop, TlvFault};
-pub use request::{Request, names, read_request};
-pub use writing::{
-    append_info, append_request, append_stop, write_info, write_request, write_stop,
-};
+pub use rams_r::{Request, append_request, names, read_request, write_request};
+pub use rams_t::{append_stop, read_stop, write_stop};

@@ -20,7 +20,7 @@ pub fn put<T: Drop>(kept: &mut Vec<(u64, T)>, n: u64, item: T)
     let _ = kept.insert(place, (n, item));
 }
 
-/// The place of the first item with a greater number, behind all where there is none.
+// The place of the first item with a greater number, behind all where there is none.
 fn place_of<T>(kept: &[(u64, T)], n: u64) -> usize
     ensures within { result ≤ length kept.now }
     ensures place { result ≡ position_or_len (λ e. nat_lt n e.0) kept.now }

@@ -6,8 +6,6 @@
 
 mod kept;
 mod laws;
-#[cfg(test)]
-mod tests;
 mod window;
 
 pub use laws::items_are_packets;

@@ -86,11 +86,12 @@ impl<T: Drop> Window<T> {
         ensures stands { (s : Start T) (out : List (ℕ × T)) → StandsFor self.old s out →
             (result ≡ came self.old.width s n) × StandsFor self.new (start_after s n item result) out }
     {
-        self.take(n, item)
+        self.keep_in_time(n, item)
     }
 
-    /// Keeps an item that comes in time, and says what became of it.
-    fn take(&mut self, n: u64, item: T) -> Came
+    // Says what became of an item, and keeps it where it comes in time. What it is in history, `arrive`
+    // adds.
+    fn keep_in_time(&mut self, n: u64, item: T) -> Came
         requires going { self.old.ended ≡ false }
         requires settled { first_free self.old ≡ None }
         requires small { n < 2 ^ 62 }
@@ -128,11 +129,11 @@ impl<T: Drop> Window<T> {
         ensures stands { (s : Start T) (out : List (ℕ × T)) → StandsFor self.old s out →
             MatchOption result (out ≡ released self.old.width self.old.ended s) (λ e. StandsFor self.new s (out ++ e ∷ [])) }
     {
-        self.take_first()
+        self.pop_free()
     }
 
-    /// Takes out the first item, where it can be released.
-    fn take_first(&mut self) -> Option<(u64, T)>
+    // Takes out the first item, where it can be released. What went out so far, `release` adds.
+    fn pop_free(&mut self) -> Option<(u64, T)>
         ensures item { result ≡ first_free self.old }
         ensures step { self.new ≡ after_release self.old }
         ensures was { IsWindow self.old }

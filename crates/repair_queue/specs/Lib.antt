@@ -1,6 +1,5 @@
 pub mod Queue
 pub mod Index
-
 unfoldable pub use Rattle.repair_queue.specs.Queue.{is_of, count_of, asked_of, answered, unmarked, without}
 pub use Rattle.repair_queue.specs.Queue.{IsWithinLimits}
 unfoldable pub use Rattle.repair_queue.specs.Index.{same_pair, counted}

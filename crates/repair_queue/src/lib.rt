@@ -6,8 +6,6 @@
 
 mod index;
 mod queue;
-#[cfg(test)]
-mod tests;
 mod wanted;
 
 pub use queue::Queue;

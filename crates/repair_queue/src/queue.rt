@@ -5,10 +5,10 @@ use ram_io::NoMemory;
 use std::alloc::Global;
 use std::marker::Model;
 
-/// Most repairs of a channel that are pending at once.
+// Most repairs of a channel that are pending at once.
 const MOST_PENDING: usize = 4096;
 
-/// Most repairs of one client that are pending at once.
+// Most repairs of one client that are pending at once.
 const MOST_OF_CLIENT: u32 = 256;
 
 /// The pending repairs, the oldest first. An index beside them answers an ask without going through
@@ -25,7 +25,7 @@ impl Model for Queue {
 
     ghost Value = { List Repair };
 
-    ghost use Rattle.repair_queue.specs.{IsWithinLimits, Indexes, asked_of, answered, unmarked, without, count_of};
+    ghost use Rattle.repair_queue.specs.{IsWithinLimits, Indexes};
 
     ghost view = { λ q. q.pending.items };
 
@@ -38,6 +38,7 @@ impl Model for Queue {
 
 impl Queue {
     ghost use Rattle.std.specs.Prelude.{◌≡◌, ◌<◌, [], length, nat_lt, IfOk};
+    ghost use Rattle.repair_queue.specs.{asked_of, answered, unmarked, without, count_of, IsWithinLimits};
 
     /// A queue in which nothing is pending. It takes room for 4,096 repairs, so that no other call takes
     /// memory.

@@ -1,6 +1,6 @@
 -- Numbers that are still to come.
 use Rattle.std.specs.Prelude.{ℕ, List}
-use Rattle.rtcp_feedback.specs.declared.iter.NackIter.{NackIter}
+use Rattle.rtcp_feedback.specs.declared.nack_iter.NackIter.{NackIter}
 use Rattle.rtcp_feedback.specs.Numbers.{numbers_from}
 
 abbrev pub numbers_left : NackIter → List ℕ

@@ -1,6 +1,6 @@
 -- A feedback message as code has it.
 use Rattle.rams_model.specs.Formats.TransportFeedback as model
-use Rattle.rtcp_feedback.specs.declared.message.Feedback.{Feedback}
+use Rattle.rtcp_feedback.specs.declared.feedback_message.Feedback.{Feedback}
 
 -- a message without where it lies in memory
 abbrev pub shown_feedback : Feedback → model.Feedback

@@ -2,18 +2,16 @@
 //! written.
 #![tactic(auto)]
 
-mod iter;
-mod message;
-mod nack;
-mod reading;
-#[cfg(test)]
-mod tests;
-mod writing;
+mod feedback_message;
+mod feedback_reading;
+mod nack_iter;
+mod nack_reading;
+mod nack_writing;
 
-pub use iter::NackIter;
-pub use message::Feedback;
-pub use nack::nack_numbers;
+pub use feedback_message::Feedback;
+pub use feedback_reading::feedback;
+pub use nack_iter::NackIter;
+pub use nack_reading::nack_numbers;
+pub use nack_writing::{append_nack, write_nack};
 pub use ram_io::NoMemory;
 pub use rams_model::NackFault;
-pub use reading::feedback;
-pub use writing::{append_nack, write_nack};

@@ -1,2 +1,1 @@
 pub mod PacketSteps
-pub mod Named

@@ -1,8 +1,8 @@
 //! The packets of a datagram, one after another.
 ghost use Rattle.std.specs.Prelude.{◌≡◌, is_ok, true};
-ghost use Rattle.rtcp_frame.specs.{packets_in};
+ghost use Rattle.rtcp_frame.specs.Datagram.{packets_in};
 
-use crate::front::cut;
+use crate::header::cut;
 use crate::packet::Packet;
 
 /// The packets of a datagram, in their order.

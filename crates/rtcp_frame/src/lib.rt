@@ -3,17 +3,17 @@
 //! What is read lies in the datagram: nothing is copied.
 #![tactic(auto)]
 
-mod framing;
-mod front;
+mod bye;
+mod compound;
+mod header;
 mod iter;
 mod packet;
-#[cfg(test)]
-mod tests;
-mod writing;
+mod report;
 
-pub use framing::packets;
+pub use bye::{append_bye, bye_names, write_bye};
+pub use compound::packets;
 pub use iter::Packets;
-pub use packet::{Packet, bye_names};
+pub use packet::Packet;
 pub use ram_io::NoMemory;
 pub use rams_model::FrameFault;
-pub use writing::{append_bye, append_rr, append_sdes, write_bye, write_rr, write_sdes};
+pub use report::{append_rr, append_sdes, write_rr, write_sdes};

@@ -3,7 +3,7 @@ ghost use Rattle.std.specs.Prelude.{◌≡◌, ℕ, ◌+◌, ◌*◌, ◌<◌, �
 ghost use Rattle.rams_model.specs.Formats.{header, spelling, packet_at, AreCsrc, IsPacket, IsWholeExtension};
 ghost use Rattle.rtp_record.specs.{packet_of, behind};
 
-use crate::room::put;
+use packet_bytes::put;
 use ram_io::NoMemory;
 use std::alloc::Global;
 
@@ -78,7 +78,7 @@ pub fn append_rtp_behind(
     Ok(())
 }
 
-/// The twelve bytes with which a packet without padding begins.
+// The twelve bytes with which a packet without padding begins.
 #[tactic(auto, unfolding(rams_model::specs::Formats::RtpPacket::header))]
 fn fixed_header(f: &RtpFields<'_>) -> [u8; 12]
     requires kind { f.now.payload_type < 128 }

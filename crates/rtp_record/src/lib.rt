@@ -7,10 +7,7 @@
 
 mod fields;
 mod places;
-mod room;
 mod rtp;
-#[cfg(test)]
-mod tests;
 
 pub use fields::{RtpFields, append_rtp, append_rtp_behind, write_rtp};
 pub use ram_io::NoMemory;

@@ -6,8 +6,8 @@ ghost use Rattle.rams_model.specs.Formats.{csrc_size, extension_size, behind_csr
 use byteorder::{BigEndian, ByteOrder};
 use rams_model::RtpFault;
 
-/// The number in the two bytes from a place on, big-endian.
-pub fn short_at(bytes: &[u8], at: usize) -> u16
+// The number in the two bytes from a place on, big-endian.
+pub(crate) fn short_at(bytes: &[u8], at: usize) -> u16
     requires { at + 2 ≤ length bytes.now }
     ensures { result ≡ from_be_bytes w16 (drop at bytes.now) }
 {
@@ -15,8 +15,8 @@ pub fn short_at(bytes: &[u8], at: usize) -> u16
     BigEndian::read_u16(rest)
 }
 
-/// The number in the four bytes from a place on, big-endian.
-pub fn word_at(bytes: &[u8], at: usize) -> u32
+// The number in the four bytes from a place on, big-endian.
+pub(crate) fn word_at(bytes: &[u8], at: usize) -> u32
     requires { at + 4 ≤ length bytes.now }
     ensures { result ≡ from_be_bytes w32 (drop at bytes.now) }
 {
@@ -24,9 +24,9 @@ pub fn word_at(bytes: &[u8], at: usize) -> u32
     BigEndian::read_u32(rest)
 }
 
-/// Where the header extension ends that begins there, if the first byte announces one: its own
-/// header says how many words follow (RFC 3550, 5.3.1).
-pub fn extension_end(bytes: &[u8], at: usize) -> Result<usize, RtpFault>
+// Where the header extension ends that begins there, if the first byte announces one: its own
+// header says how many words follow (RFC 3550, 5.3.1).
+pub(crate) fn extension_end(bytes: &[u8], at: usize) -> Result<usize, RtpFault>
     requires whole { 12 ≤ length bytes.now }
     requires start { at ≡ 12 + csrc_size bytes.now }
     requires within { at ≤ length bytes.now }
@@ -46,9 +46,9 @@ pub fn extension_end(bytes: &[u8], at: usize) -> Result<usize, RtpFault>
     Ok(at + size)
 }
 
-/// Where the padding begins, behind a payload that begins there: the last byte counts its bytes, if
-/// the first byte announces padding.
-pub fn padding_start(bytes: &[u8], at: usize) -> Result<usize, RtpFault>
+// Where the padding begins, behind a payload that begins there: the last byte counts its bytes, if
+// the first byte announces padding.
+pub(crate) fn padding_start(bytes: &[u8], at: usize) -> Result<usize, RtpFault>
     requires whole { 12 ≤ at }
     requires start { at ≡ 12 + csrc_size bytes.now + extension_size bytes.now }
     requires within { at ≤ length bytes.now }

@@ -45,6 +45,7 @@ impl<'a> Rtp<'a> {
         Rtp::cut(bytes)
     }
 
+    // The packet that the bytes are. `read` says of it what the definitions imply.
     #[tactic(auto, unfolding(rams_model::specs::Formats::Rtp::packet_at))]
     fn cut(bytes: &'a [u8]) -> Result<Rtp<'a>, RtpFault>
         ensures { result ≡ packet_at bytes.now }
@@ -179,7 +180,7 @@ impl<'a> Rtp<'a> {
     }
 }
 
-/// The first byte of a packet without padding.
+// The first byte of a packet without padding.
 fn clear_padding_bit(first: u8) -> u8
     ensures { result ≡ without_padding_bit first }
 {

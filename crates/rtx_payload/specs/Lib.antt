@@ -1,4 +1,3 @@
 pub mod Restored
-
 unfoldable pub use Rattle.rtx_payload.specs.Restored.{RestoringGivesTheOriginal}
 pub use Rattle.rtx_payload.specs.Restored.{Brings}

@@ -5,8 +5,6 @@
 #![tactic(auto)]
 
 mod restoring;
-#[cfg(test)]
-mod tests;
 mod writing;
 
 pub use ram_io::NoMemory;

@@ -12,9 +12,9 @@ use Rattle.rams_model.specs.Service.{Settings, Heard, live, dropped, tick, arriv
 use Rattle.rams_model.specs.declared.note.LiveNote.TheVariants.{TooBig, ForeignSsrc, ForeignType}
 use Rattle.rams_model.specs.Formats.{Packet, packet_at, Framed, framed}
 use Rattle.rams_model.specs.Laws.{NoneIs, is_event, is_sending, sizes_sent, ticks_begun}
-use Rattle.book_laws.proofs.Legal.{is_tick, IsLegal}
-use Rattle.book_laws.proofs.Legality.{legal_history}
-use Rattle.book_laws.proofs.Adding.{adds_hearing}
+use Rattle.rams_model.proofs.Legal.{is_tick, IsLegal}
+use Rattle.rams_model.proofs.Legality.{legal_history}
+use Rattle.rams_model.proofs.Adding.{adds_hearing}
 use Rattle.book_laws.proofs.Windows.{channel_within}
 use Rattle.book_laws.proofs.InTicks.{only_ticks}
 use Rattle.server_hub.specs.declared.event.At.{At}

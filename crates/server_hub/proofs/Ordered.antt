@@ -13,7 +13,7 @@ use Rattle.rams_model.specs.declared.answer.Order.TheVariants as order
 use Rattle.rams_model.specs.declared.note.Note.TheVariants as note
 use Rattle.rams_model.specs.Service.{Settings, end_info, Heard, began, told, noted, History, Burst, size_of, open_burst, order_of, again_order, update_order, end_order, packet_order, newest_orders}
 use Rattle.rams_model.specs.Laws.{NoneIs, is_event, is_sending, sizes_sent}
-use Rattle.book_laws.proofs.Legal.{Allows, IsLegal}
+use Rattle.rams_model.proofs.Legal.{Allows, IsLegal}
 use Rattle.server_hub.specs.Sent as sent
 use Rattle.session_core.proofs.Sized.{held_sized}
 

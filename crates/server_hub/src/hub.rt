@@ -5,7 +5,7 @@ use crate::steps::{feedback_at, live_at};
 use crate::ticks::tick_all;
 use channel_config::Config;
 use ram_io::NoMemory;
-use rams_model::Answer;
+use rams_model::{Answer, MOST_ON_WIRE};
 use session_core::Core;
 use std::alloc::Global;
 use std::marker::Model;
@@ -33,7 +33,7 @@ pub struct Hub {
 
 impl Model for Hub {
     ghost use Rattle.std.specs.Prelude.{vec_capacity};
-    ghost use Rattle.server_hub.specs.{AreFields, served, hi_of, channel_of, answer_of, after_event_of, answers_to_tick, after_tick, told, told_to, after_event, AllKeepJoinTimes, IsHub, StandsFor, KeepsSettings, AddsSettings, new_hub, settings_of, has_id, refused};
+    ghost use Rattle.server_hub.specs.{AreFields};
     ghost use Rattle.server_hub.specs.Seen.{Seen};
 
     ghost Value = { Seen };
@@ -48,6 +48,7 @@ impl Hub {
     ghost use Rattle.std.specs.Prelude.{◌≡◌, ◌+◌, ◌^◌, ◌<◌, ◌≤◌, ◌++◌, ◌==◌, List, [], ◌∷◌, Err, IfNone, IfOk, IfSome, IsOkUnless, OnErr, OnOk, find, is_some, option_copied, option_map};
     ghost use Rattle.rams_model.specs.declared.event.Event.TheVariants as events;
     ghost use Rattle.server_hub.specs.declared.event.AddFault.TheVariants as faults;
+    ghost use Rattle.server_hub.specs.{served, hi_of, channel_of, answer_of, after_event_of, answers_to_tick, after_tick, told, told_to, after_event, AllKeepJoinTimes, IsHub, StandsFor, KeepsSettings, AddsSettings, new_hub, settings_of, has_id, refused};
     ghost use Rattle.server_hub.specs.Served.{Served};
 
     /// A hub without channels, for ticks of `tick_ms` ms and a link of so many bytes a tick. It takes the
@@ -55,7 +56,7 @@ impl Hub {
     pub fn new(alloc: Global, tick_ms: u32, link: u64) -> Result<Hub, NoMemory>
         requires tick_least { 1 ≤ tick_ms }
         requires tick_most { tick_ms ≤ 1000 }
-        requires link_least { 1500 ≤ link }
+        requires link_least { MOST_ON_WIRE ≤ link }
         requires link_most { link ≤ 1000000000 }
         ensures value { IfOk result (λ hub. hub ≡ new_hub tick_ms link) }
         ensures stands { IfOk result (λ hub. StandsFor hub []) }

@@ -9,8 +9,6 @@ mod hub;
 pub mod laws;
 mod places;
 mod steps;
-#[cfg(test)]
-mod tests;
 mod ticks;
 
 pub use channel_config::Config;

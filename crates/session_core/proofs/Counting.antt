@@ -18,7 +18,7 @@ use Rattle.channel_config.specs.{IsLawful}
 use Rattle.channel_parts.proofs.Facts.{known_clients_are_few, opened_are_the_known_with_bursts, repairs_are_within_limits}
 use Rattle.channel_parts.proofs.Given.{moment}
 use Rattle.book_laws.specs.{IsMoment}
-use Rattle.book_laws.proofs.Items.{Puts, none, one, both}
+use Rattle.rams_model.proofs.Items.{Puts, none, one, both}
 use Rattle.session_core.specs.{IsCountable}
 
 -- the notes since the newest event began

@@ -12,8 +12,8 @@ use Rattle.rams_model.specs.declared.note.Note.{Note}
 use Rattle.rams_model.specs.declared.note.Note.TheVariants as note
 use Rattle.rams_model.specs.Service.{Settings, end_info, began, told, noted, History, arrivals, hold, Burst, open_burst, info_order, packet_order, again_order, update_order, end_order, order_of, newest_orders, history_of, answer}
 use Rattle.rams_model.specs.Packets.{Arrival}
-use Rattle.book_laws.proofs.Legal.{Allows, IsLegal}
-use Rattle.book_laws.proofs.Legality.{legal_history}
+use Rattle.rams_model.proofs.Legal.{Allows, IsLegal}
+use Rattle.rams_model.proofs.Legality.{legal_history}
 use Rattle.book_laws.proofs.HeldPackets as packets
 use Rattle.book_laws.proofs.HeldPackets.{ArriveSmall, small_held}
 use Rattle.book_laws.proofs.Quiet.Sizes.{AreSmall, small_history}

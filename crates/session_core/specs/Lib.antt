@@ -1,7 +1,6 @@
 pub mod Seen
 pub mod Bounds
 pub mod JoinTimes
-
 unfoldable pub use Rattle.session_core.specs.Seen.{Planned}
 pub use Rattle.session_core.specs.Seen.{IsCore, StandsFor, IsPlanOf}
 unfoldable pub use Rattle.session_core.specs.Bounds.{IsShort, SendsShort, HasAtMost, IsCountable}

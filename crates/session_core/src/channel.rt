@@ -18,7 +18,7 @@ pub struct Core {
 }
 
 impl Model for Core {
-    ghost use Rattle.session_core.specs.{IsCore, StandsFor, IsPlanOf, SendsShort, HasAtMost, IsCountable, JoinTimesAreKept};
+    ghost use Rattle.session_core.specs.{IsCore};
     ghost use Rattle.session_core.specs.Seen.{Seen};
 
     ghost Value = { Seen };
@@ -34,6 +34,7 @@ impl Core {
     ghost use Rattle.rams_model.specs.declared.event.Event.TheVariants.{Live, Feedback, Tick};
     ghost use Rattle.rams_model.specs.Packets.{lo, hi};
     ghost use Rattle.rams_model.specs.Service.{hold, history_of, answer};
+    ghost use Rattle.session_core.specs.{StandsFor, IsPlanOf, SendsShort, HasAtMost, IsCountable, JoinTimesAreKept};
 
     /// The core of a channel to which nothing came yet. It takes the room for the channel's live
     /// packets, for 4,096 repairs and for as many clients as it may have.
@@ -150,7 +151,7 @@ impl Core {
 }
 
 impl Stepped for Core {
-
+    ghost use Rattle.session_core.specs.{StandsFor};
     ghost settings = { λ core. core.settings };
 
     ghost calls = { λ core. core.calls };

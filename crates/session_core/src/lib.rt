@@ -7,8 +7,6 @@
 mod channel;
 mod live;
 mod stepped;
-#[cfg(test)]
-mod tests;
 
 pub use channel::Core;
 pub use channel_config::Config;

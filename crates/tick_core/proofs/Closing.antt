@@ -26,7 +26,7 @@ use Rattle.channel_parts.specs.{HaveLowNumbers, burst_kept, WasTold, IsEntry, Is
 use Rattle.channel_parts.proofs.Facts.{opened_are_the_known_with_bursts, only_known_clients_have_bursts, repairs_are_of_known_clients, held_numbers_are_small, events_reserve_nothing}
 use Rattle.channel_parts.proofs.Ordered.{known_rise}
 use Rattle.tick_core.specs.declared.plan.TickPlan.{TickPlan}
-use Rattle.tick_core.specs.{idle_after, begun_left, ends_wait, is_over, IsPlanFor, Rise, burst_begun, entry_begun, burst_ended, entry_ended, AreAllChanged, committing, with_all_committed, MayCommitAll}
+use Rattle.tick_core.specs.{idle_after, begun_left, ends_wait, is_over, IsPlanFor, Rise, opened_for_tick, entry_begun, burst_ended, entry_ended, AreAllChanged, committing, with_all_committed, MayCommitAll}
 use Rattle.tick_core.specs.Committed.{Committed}
 use Rattle.tick_core.proofs.Shown.{notes_before}
 use Rattle.tick_core.proofs.Serving.{tick_open}
@@ -37,9 +37,9 @@ use Rattle.tick_core.proofs.Adding.{Fits, Adds, none, plus, then, all_served_add
 use Rattle.tick_core.proofs.Midway.{shown, IsMidEntry, IsMid, IsCarriedOut, all_mid}
 
 -- ---- an entry as a tick begins
-begun_shown : (s : Settings) (burst : Option Burst) (o : Option model.Burst) → burst ≡ option_map (burst_kept s) o → option_map burst_begun burst ≡ option_map shown (option_map (in_tick s) o)
-begun_shown s burst None is = ap (option_map burst_begun) is
-begun_shown s burst (Some b) is = ap (option_map burst_begun) is
+begun_shown : (s : Settings) (burst : Option Burst) (o : Option model.Burst) → burst ≡ option_map (burst_kept s) o → option_map opened_for_tick burst ≡ option_map shown (option_map (in_tick s) o)
+begun_shown s burst None is = ap (option_map opened_for_tick) is
+begun_shown s burst (Some b) is = ap (option_map opened_for_tick) is
 
 begun_told : (s : Settings) (o : Option model.Burst) (e e2 : Entry) → e2.last ≡ e.last → WasTold o e → WasTold (option_map (in_tick s) o) e2
 begun_told s None e e2 same told = tt

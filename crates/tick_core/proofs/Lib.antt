@@ -16,4 +16,3 @@ pub mod Adding
 pub mod Midway
 pub mod Closing
 pub mod Carrying
-pub mod Filling

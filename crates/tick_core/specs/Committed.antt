@@ -14,11 +14,11 @@ use Rattle.packet_ring.specs.{packet_of}
 use Rattle.tick_core.specs.Forgetting.{idle_after}
 
 -- a burst as a tick begins: until the tick ends, `kept` is all that it may still be sent
-abbrev pub burst_begun : Burst → Burst
-burst_begun b = record b { ticks = b.ticks + 1; kept = b.rate + b.kept }
+abbrev pub opened_for_tick : Burst → Burst
+opened_for_tick b = record b { ticks = b.ticks + 1; kept = b.rate + b.kept }
 
 abbrev pub entry_begun : List Wanted → ℕ → Entry → Entry
-entry_begun ws client e = record e { idle = idle_after ws client e; burst = option_map burst_begun e.burst }
+entry_begun ws client e = record e { idle = idle_after ws client e; burst = option_map opened_for_tick e.burst }
 
 -- no number of the entry is large
 pub record IsSmallBurst (b : Burst) : Type 0 where

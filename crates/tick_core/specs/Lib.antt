@@ -4,8 +4,6 @@ pub mod Repairs
 pub mod Forgetting
 pub mod Plans
 pub mod Committed
-pub mod ByHand
-
 unfoldable pub use Rattle.tick_core.specs.Drafts.{new_draft, with_note, with_packet, told_end, with_end}
 pub use Rattle.tick_core.specs.Drafts.{Drafted}
 unfoldable pub use Rattle.tick_core.specs.Runs.{unsent, after_packet, sent_after, run_from, with_run, IsInTime, AreInTime, run_of, after_run, end_of, kept_back, allowance, left_by_run, allowance_of, with_served, with_all_served, allowances_of}
@@ -15,6 +13,5 @@ pub use Rattle.tick_core.specs.Repairs.{Repaired, IsPlaceOf}
 unfoldable pub use Rattle.tick_core.specs.Forgetting.{idle_after, with_forgotten, with_all_forgotten, AreIdleInTime}
 unfoldable pub use Rattle.tick_core.specs.Plans.{begun_left, drafted_runs, drafted_repairs, drafted_tick, planned_answer, planned_flags, ends_wait, is_over}
 pub use Rattle.tick_core.specs.Plans.{IsPlanOf, IsPlanFor}
-unfoldable pub use Rattle.tick_core.specs.Committed.{burst_begun, entry_begun, IsSmallIfOpen, IsSmallIfKnown, AreSmall, burst_ended, entry_ended, burst_sent, entry_sent, IsNextSmall, IsNextSmallIfKnown, entry_closed, changed_by, changed, amount_of, amount_for, committing, with_sending, with_closed, with_committed, with_all_committed, MayCommit, MayCommitAll}
+unfoldable pub use Rattle.tick_core.specs.Committed.{opened_for_tick, entry_begun, IsSmallIfOpen, IsSmallIfKnown, AreSmall, burst_ended, entry_ended, burst_sent, entry_sent, IsNextSmall, IsNextSmallIfKnown, entry_closed, changed_by, changed, amount_of, amount_for, committing, with_sending, with_closed, with_committed, with_all_committed, MayCommit, MayCommitAll}
 pub use Rattle.tick_core.specs.Committed.{IsSmallBurst, IsSmallEntry, AreAllChanged, MayEnd}
-pub use Rattle.tick_core.specs.ByHand.{IsReady, AreReady}

@@ -1,8 +1,9 @@
 //! The notes and orders of a tick, as they are made.
 ghost use Rattle.std.specs.Prelude.{◌≡◌, IfOk};
-ghost use Rattle.rams_model.specs.Service.{answered, bare_info, end_info};
+ghost use Rattle.rams_model.specs.Service.{answered};
 ghost use Rattle.tick_core.specs.{new_draft, with_note, with_packet, with_end, told_end};
 
+use channel_parts::response::end_info;
 use ram_io::NoMemory;
 use rams_model::{Answer, Cause, Held, Info, Note, Order};
 use std::alloc::Global;
@@ -102,31 +103,4 @@ fn end_order(client: u64, cause: Cause, last: Option<Info>) -> Option<Order>
     let last = last?;
     let info = end_info(&last, cause)?;
     Some(Order::Info { client, info })
-}
-
-
-// A code alone, or nothing for a client that left.
-fn end_info(last: &Info, cause: Cause) -> Option<Info>
-    ensures { result ≡ end_info last.now cause }
-{
-    let code = match cause {
-        Cause::Stopped => 201,
-        Cause::Limit => 201,
-        Cause::Lost => 502,
-        Cause::Bye => return None,
-    };
-    Some(bare_info(last.msn.wrapping_add(1), code))
-}
-
-fn bare_info(msn: u8, code: u16) -> Info
-    ensures { result ≡ bare_info msn code }
-{
-    Info {
-        msn,
-        code,
-        first: None,
-        join_ms: None,
-        length_ms: None,
-        bps: None,
-    }
 }

@@ -1,16 +1,16 @@
 //! What is kept of the clients, as a tick begins, goes on and ends.
 ghost use Rattle.std.specs.Prelude.{◌≡◌, option_map};
 ghost use Rattle.client_table.specs.{entry_of};
-ghost use Rattle.tick_core.specs.{burst_begun, entry_begun, IsSmallIfOpen, IsSmallEntry, burst_ended, entry_ended, burst_sent, entry_sent, entry_closed, IsNextSmall, IsNextSmallIfKnown, changed, AreSmall, AreAllChanged};
+ghost use Rattle.tick_core.specs.{opened_for_tick, entry_begun, IsSmallIfOpen, IsSmallEntry, burst_ended, entry_ended, burst_sent, entry_sent, entry_closed, IsNextSmall, IsNextSmallIfKnown, changed, AreSmall, AreAllChanged};
 
 use crate::forgetting::idle_after;
 use client_table::{Burst, Entry, Table};
 use repair_queue::Queue;
 
 /// An open burst as a tick begins. Until the tick ends, `kept` is all that it may still be sent.
-fn begun_burst(burst: Option<Burst>) -> Option<Burst>
+fn opened_for_tick(burst: Option<Burst>) -> Option<Burst>
     requires { IsSmallIfOpen burst }
-    ensures { result ≡ option_map burst_begun burst }
+    ensures { result ≡ option_map opened_for_tick burst }
 {
     let burst = burst?;
     Some(Burst {
@@ -51,7 +51,7 @@ fn begun_entry(queue: &Queue, client: u64, entry: &Entry) -> Entry
 {
     Entry {
         idle: idle_after(queue, client, entry),
-        burst: begun_burst(entry.burst),
+        burst: opened_for_tick(entry.burst),
         ..*entry
     }
 }

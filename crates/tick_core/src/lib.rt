@@ -9,8 +9,6 @@ mod forgetting;
 mod plan;
 mod repairs;
 mod runs;
-#[cfg(test)]
-mod tests;
 
 pub use channel_parts::Parts;
 pub use commit::commit_tick;

@@ -35,7 +35,7 @@ pub fn plan_tick(alloc: Global, parts: &Parts) -> Result<TickPlan, NoMemory>
 }
 
 /// The plan, by what the parts keep.
-pub(crate) fn plan_of(alloc: Global, parts: &Parts) -> Result<TickPlan, NoMemory>
+fn plan_of(alloc: Global, parts: &Parts) -> Result<TickPlan, NoMemory>
     requires held { AreInOrder parts.now.cache.held }
     requires small { AreInTime parts.now.config parts.now.table }
     requires idle { AreIdleInTime parts.now.table }

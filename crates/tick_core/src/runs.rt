@@ -8,6 +8,7 @@ use crate::allowance::Allowance;
 use crate::draft::Draft;
 use channel_cache::Cache;
 use channel_config::Config;
+use channel_parts::is_before_stop;
 use client_table::{Burst, Entry, Table};
 use ram_io::NoMemory;
 use rams_model::{Cause, Held, Note};
@@ -24,21 +25,11 @@ pub struct Sent {
     pub seq: u16,
 }
 
-/// Whether a number is before the stop, where one is set.
-fn is_before(stop: Option<u64>, n: u64) -> bool
-    ensures { result ≡ is_before stop n }
-{
-    match stop {
-        Some(stop) => n < stop,
-        None => true,
-    }
-}
-
 // The packet may be sent next: before the stop, and within what is left.
 fn may_go(held: &Held, stop: Option<u64>, at: &Sent) -> bool
     ensures { result ≡ (is_before stop at.now.next && nat_le held.now.wire at.now.left) }
 {
-    is_before(stop, at.next) && u64::from(held.wire) <= at.left
+    is_before_stop(stop, at.next) && u64::from(held.wire) <= at.left
 }
 
 /// The packet that a burst is sent next: held, before the stop, and no larger than what is left.

@@ -1,6 +1,7 @@
 -- The words of each kind of line: what is read is spelled so.
 use Rattle.std.proofs.Common.{◌≡◌, ℕ, Bool, true, false, if◌then◌else◌, List, [], ◌∷◌, codes, bytes_eq, decimal, Option, Some, None, refl, sym, ap, subst, ◌∙◌}
-use Rattle.rams_model.specs.Texts.{word32, TraceLine, tick_line, end_line, Words, whole, head_in, live_in, feedback_in, tune_in, give_in, mcast_in, ask_in, drop_in, line_in, line_words, line_has_form}
+use Rattle.rams_model.specs.Texts.{word32, TraceLine, tick_line, end_line, whole, head_in, live_in, feedback_in, tune_in, give_in, mcast_in, ask_in, drop_in, line_in, line_words, line_has_form}
+use Rattle.rams_model.specs.Texts.TraceLines.{Words}
 use Rattle.trace_text.proofs.ChannelWords.{Is, channel_is}
 use Rattle.trace_text.proofs.Spelled.{number_is, and_both, is_word}
 use Rattle.trace_text.proofs.Steps.{hex_is, version_is, field_step, one_step, whole_step}

@@ -3,7 +3,8 @@ use Rattle.std.proofs.Common.{◌≡◌, ℕ, true, ◌&&◌, ◌||◌, ◌==◌
 use Rattle.std.proofs.lemmas.Bool.{and_parts, eqb-true}
 use Rattle.std.specs.List.{list_all}
 use Rattle.rams_model.specs.declared.channel.Channel.{Channel}
-use Rattle.rams_model.specs.Texts.{number_in, word32_in, word32, Words, channel_line, access_in, access_word, channel_in, line_has_form, channel_words, is_short, is_word32}
+use Rattle.rams_model.specs.Texts.{number_in, word32_in, word32, channel_line, access_in, access_word, channel_in, line_has_form, channel_words, is_short, is_word32}
+use Rattle.rams_model.specs.Texts.TraceLines.{Words}
 use Rattle.trace_text.specs.declared.channel_line.Numbers.{Numbers}
 use Rattle.trace_text.specs.declared.channel_line.Names.{Names}
 use Rattle.trace_text.specs.declared.channel_line.Places.{Places}

@@ -1,7 +1,8 @@
 -- The words of a channel line, part by part: what is read is spelled so.
 use Rattle.std.proofs.Common.{◌≡◌, Bool, true, ◌&&◌, ◌||◌, ◌==◌, if◌then◌else◌, [], ◌∷◌, codes, decimal, Option, Some, None, option_map, option_and_then, refl, sym, ap, subst, ◌∙◌}
 use Rattle.std.proofs.lemmas.Bool.{and_parts}
-use Rattle.rams_model.specs.Texts.{word32, TraceLine, Words, access_word, channel_in, line_words, line_has_form, is_short, is_word32, is_version}
+use Rattle.rams_model.specs.Texts.{word32, TraceLine, access_word, channel_in, line_words, line_has_form, is_short, is_word32, is_version}
+use Rattle.rams_model.specs.Texts.TraceLines.{Words}
 use Rattle.trace_text.specs.declared.channel_line.Numbers.{Numbers}
 use Rattle.trace_text.specs.declared.channel_line.Names.{Names}
 use Rattle.trace_text.specs.declared.channel_line.Places.{Places}

@@ -1,11 +1,19 @@
 -- How a line is judged from its reading, its words and what came before.
-use Rattle.std.proofs.Common.{◌≡◌, ℕ, Bool, true, false, not, ◌&&◌, ◌==◌, if◌then◌else◌, List, Option, Some, None, Result, Ok, Err, refl, sym, ap, subst, ◌∙◌, inl, inr}
+use Rattle.std.proofs.Common.{◌≡◌, ℕ, Bool, true, false, not, ◌&&◌, ◌==◌, if◌then◌else◌, List, Option, Some, None, is_some, Result, Ok, Err, refl, sym, ap, subst, ◌∙◌, inl, inr}
 use Rattle.std.proofs.lemmas.Bool.{and_parts}
+use Rattle.std.specs.List.{list_any}
+use Rattle.std.specs.Result.{IfErr}
 use Rattle.rams_model.specs.declared.channel.Channel.{Channel}
+use Rattle.rams_model.specs.declared.fault.ConfigFault.{ConfigFault}
 use Rattle.rams_model.specs.declared.fault.LineFault.{LineFault}
-use Rattle.rams_model.specs.declared.fault.LineFault.TheVariants.{Form, Order, Range}
+use Rattle.rams_model.specs.declared.fault.LineFault.TheVariants.{Form, Order, Range, Twice, Rule}
 use Rattle.rams_model.specs.declared.mode.LineKind.TheVariants as kind
-use Rattle.rams_model.specs.Texts.{front, TraceLine, head_line, channel_line, live_line, feedback_line, tick_line, end_line, tune_line, give_line, mcast_line, ask_line, drop_line, line_of, line_at, ranged, line_words, channel_words, line_in_range, line_has_form, is_version, Reached, version_of, version_spelled, kind_named, kind_may_come, named_may_come, may_come, expected, line_is_served, with_line, accepted, with_reached, judged_line, judged}
+use Rattle.rams_model.specs.Service.{Settings, settings, channel_in_range, checked}
+use Rattle.rams_model.specs.Texts.{Head, joined, with_channel, front, TraceLine, head_line, channel_line, live_line, feedback_line, tick_line, end_line, tune_line, give_line, mcast_line, ask_line, drop_line, line_of, line_words, channel_words, line_in_range, line_has_form, is_version, Reached, version_of, version_spelled, kind_named, kind_may_come, named_may_come, may_come, expected, line_is_served, with_line, accepted, with_reached, judged_line, judged}
+use Rattle.trace_text.specs.declared.line.Judged.{Judged}
+use Rattle.trace_text.specs.declared.line.Line.{Line}
+use Rattle.trace_text.specs.declared.line.Line.TheVariants as line
+use Rattle.trace_text.specs.{shown, is_ranged, Unread, HasDigits, told, judged_as, IsSettled, by_rules, with_settled, with_ranged}
 use Rattle.trace_text.proofs.Spelling.{is_text}
 use Rattle.trace_text.proofs.Steps.{two_versions}
 
@@ -39,24 +47,52 @@ expected_is r bytes l h =
     let is = is_text bytes l h in
     ap (λ ws. named_may_come r (kind_named (front ws)) ws) is.words ∙ words_tell r l is.has_form
 
+-- what is accepted is told as it was read
+told_as : (tick : ℕ) (l : Line) → told (judged_as tick l) ≡ shown l
+told_as tick (line.Head version t link) = refl
+told_as tick (line.Channel version c) = refl
+told_as tick (line.Live id hex) = refl
+told_as tick (line.Feedback id client hex) = refl
+told_as tick line.Tick = refl
+told_as tick line.End = refl
+told_as tick (line.Tune id client ssrc) = refl
+told_as tick (line.Give number) = refl
+told_as tick (line.Mcast id client n) = refl
+told_as tick (line.Ask id client) = refl
+told_as tick (line.Drop id client) = refl
+
+settled_as : (tick : ℕ) (l : Line) → HasDigits l → IsSettled tick (judged_as tick l)
+settled_as tick (line.Head version t link) h = (tt, h)
+settled_as tick (line.Channel version c) h = refl
+settled_as tick (line.Live id hex) h = (tt, h)
+settled_as tick (line.Feedback id client hex) h = (tt, h)
+settled_as tick line.Tick h = (tt, h)
+settled_as tick line.End h = (tt, h)
+settled_as tick (line.Tune id client ssrc) h = (tt, h)
+settled_as tick (line.Give number) h = (tt, h)
+settled_as tick (line.Mcast id client n) h = (tt, h)
+settled_as tick (line.Ask id client) h = (tt, h)
+settled_as tick (line.Drop id client) h = (tt, h)
+
+pub is_settled : (tick : ℕ) (l : Line) (j : Judged) → HasDigits l → j ≡ judged_as tick l → IsSettled tick j
+is_settled tick l j h is = subst (IsSettled tick) (sym is) (settled_as tick l h)
+
 -- a line that is read is judged as it is accepted
-read_judged : (r : Reached) (o : Option TraceLine) (l : TraceLine) → ranged o ≡ Ok l → judged_line r o ≡ with_reached l (accepted r l)
-read_judged r None l h = absurd cc
-read_judged r (Some line) l h = by (line_in_range line) h
-  where
-    by : (t : Bool) → (let x : Result TraceLine LineFault = if t then Ok line else Err Range in x ≡ Ok l) → with_reached line (accepted r line) ≡ with_reached l (accepted r l)
-    by true h = let is : line ≡ l = cc in ap (λ x. with_reached x (accepted r x)) is
-    by false h = absurd cc
+judged_read : (r : Reached) (bytes : List ℕ) (l : TraceLine) → line_of bytes ≡ Some l → judged r bytes ≡ with_reached l (accepted r l)
+unfolding judged
+judged_read r bytes l h = ap (judged_line r) h
 
-pub judged_read : (r : Reached) (bytes : List ℕ) (l : TraceLine) → line_at bytes ≡ Ok l → judged r bytes ≡ with_reached l (accepted r l)
-unfolding judged line_at
-judged_read r bytes l h = read_judged r (line_of bytes) l h
+pub judged_ok : (r now : Reached) (bytes : List ℕ) (tick : ℕ) (l : Line) (j : Judged) → line_of bytes ≡ Some (shown l) → accepted r (shown l) ≡ Ok now → j ≡ judged_as tick l → judged r bytes ≡ Ok (told j, now)
+judged_ok r now bytes tick l j h k is =
+    judged_read r bytes (shown l) h ∙ ap (with_reached (shown l)) k ∙ ap (λ (t : TraceLine). Ok (t, now)) (sym (ap told is ∙ told_as tick l))
 
-pub judged_ok : (r now : Reached) (bytes : List ℕ) (l : TraceLine) → line_at bytes ≡ Ok l → accepted r l ≡ Ok now → judged r bytes ≡ Ok (l, now)
-judged_ok r now bytes l h k = judged_read r bytes l h ∙ ap (with_reached l) k
-
-pub judged_refused : (r : Reached) (bytes : List ℕ) (l : TraceLine) (fault : LineFault) → line_at bytes ≡ Ok l → accepted r l ≡ Err fault → judged r bytes ≡ Err fault
+pub judged_refused : (r : Reached) (bytes : List ℕ) (l : TraceLine) (fault : LineFault) → line_of bytes ≡ Some l → accepted r l ≡ Err fault → judged r bytes ≡ Err fault
 judged_refused r bytes l fault h k = judged_read r bytes l h ∙ ap (with_reached l) k
+
+pub refusals : (r : Reached) (bytes : List ℕ) (l : TraceLine) (result : Result Judged LineFault) → line_of bytes ≡ Some l → IfErr result (λ fault. accepted r l ≡ Err fault)
+    → IfErr result (λ fault. judged r bytes ≡ Err fault)
+refusals r bytes l (Ok j) h refused = tt
+refusals r bytes l (Err fault) h refused = judged_refused r bytes l fault h refused
 
 -- a line out of range
 out_of_range : (r : Reached) (l : TraceLine) → line_in_range l ≡ false → accepted r l ≡ (if may_come r l then Err Range else Err Order)
@@ -69,43 +105,53 @@ out_of_range r l h = by (may_come r l) (line_in_range l) h
     by true false h = refl
     by false t h = refl
 
--- a line out of range that may come, and one that may not
-range_judged : (r : Reached) (l : TraceLine) → line_in_range l ≡ false → may_come r l ≡ true → judged_line r (Some l) ≡ Err Range
-range_judged r l h m = ap (with_reached l) (out_of_range r l h ∙ ap (λ t. if t then Err Range else Err Order) m)
-
-order_judged : (r : Reached) (l : TraceLine) → line_in_range l ≡ false → may_come r l ≡ false → judged_line r (Some l) ≡ Err Order
-order_judged r l h m = ap (with_reached l) (out_of_range r l h ∙ ap (λ t. if t then Err Range else Err Order) m)
-
--- what a fault of reading says
-ranged_range : (l : TraceLine) (fault : LineFault) → ranged (Some l) ≡ Err fault → (line_in_range l ≡ false) × (fault ≡ Range)
-ranged_range l fault h = by (line_in_range l) refl h
+-- it is in order where its words say so
+range_judged : (r : Reached) (o : Option TraceLine) (m : Bool) → ((l : TraceLine) → o ≡ Some l → m ≡ may_come r l) → is_ranged o ≡ false → judged_line r o ≡ (if m then Err Range else Err Order)
+range_judged r None m may h = absurd cc
+range_judged r (Some l) m may h =
+    ap (with_reached l) (out_of_range r l h ∙ ap (λ t. if t then Err Range else Err Order) (sym (may l refl))) ∙ refused m
   where
-    by : (t : Bool) → line_in_range l ≡ t → (let x : Result TraceLine LineFault = if t then Ok l else Err Range in x ≡ Err fault) → (line_in_range l ≡ false) × (fault ≡ Range)
-    by true e h = absurd (ok_or_err l fault h)
-      where
-        ok_or_err : (l : TraceLine) (fault : LineFault) → (let x : Result TraceLine LineFault = Ok l in x ≡ Err fault) → ⊥
-        ok_or_err l fault h = cc h
-    by false e h = (e, cc)
+    refused : (t : Bool) → (let x : Result Reached LineFault = if t then Err Range else Err Order in with_reached l x) ≡ (if t then Err Range else Err Order)
+    refused true = refl
+    refused false = refl
 
-fault_judged : (r : Reached) (o : Option TraceLine) (fault : LineFault) → (fault ≡ Range → (l : TraceLine) → o ≡ Some l → may_come r l ≡ true) → ranged o ≡ Err fault → judged_line r o ≡ Err fault
-fault_judged r None fault may h = let is : Form ≡ fault = cc in ap (λ f. Err f) is
-fault_judged r (Some l) fault may h =
-    let is = ranged_range l fault h in
-    range_judged r l is.0 (may is.1 l refl) ∙ ap (λ f. Err f) (sym is.1)
-
-order_first : (r : Reached) (o : Option TraceLine) → ((l : TraceLine) → o ≡ Some l → may_come r l ≡ false) → ranged o ≡ Err Range → judged_line r o ≡ Err Order
-order_first r None may h = absurd (form_or_range h)
-  where
-    form_or_range : (let x : Result TraceLine LineFault = Err Form in x ≡ Err Range) → ⊥
-    form_or_range h = cc h
-order_first r (Some l) may h = let is = ranged_range l Range h in order_judged r l is.0 (may l refl)
+of_range : (r : Reached) (bytes : List ℕ) → is_ranged (line_of bytes) ≡ false → judged r bytes ≡ (if expected r bytes then Err Range else Err Order)
+unfolding judged
+of_range r bytes h = range_judged r (line_of bytes) (expected r bytes) (expected_is r bytes) h
 
 -- a line that isn't read, and may come where its range is wrong
-pub judged_fault : (r : Reached) (bytes : List ℕ) (fault : LineFault) → line_at bytes ≡ Err fault → (fault ≡ Range → expected r bytes ≡ true) → judged r bytes ≡ Err fault
-unfolding judged line_at
-judged_fault r bytes fault h may = fault_judged r (line_of bytes) fault (λ e l is. sym (expected_is r bytes l is) ∙ may e) h
+pub judged_fault : (r : Reached) (bytes : List ℕ) (fault : LineFault) → Unread fault (line_of bytes) → (fault ≡ Range → expected r bytes ≡ true) → judged r bytes ≡ Err fault
+unfolding judged
+judged_fault r bytes Form h may = ap (judged_line r) h
+judged_fault r bytes Range h may = of_range r bytes h ∙ ap (λ t. if t then Err Range else Err Order) (may refl)
+judged_fault r bytes Order h may = absurd h
+judged_fault r bytes Twice h may = absurd h
+judged_fault r bytes (Rule k) h may = absurd h
 
 -- a line out of its range that may not come
-pub judged_order : (r : Reached) (bytes : List ℕ) → line_at bytes ≡ Err Range → expected r bytes ≡ false → judged r bytes ≡ Err Order
-unfolding judged line_at
-judged_order r bytes h may = order_first r (line_of bytes) (λ l is. sym (expected_is r bytes l is) ∙ may) h
+pub judged_order : (r : Reached) (bytes : List ℕ) → Unread Range (line_of bytes) → expected r bytes ≡ false → judged r bytes ≡ Err Order
+judged_order r bytes h may = of_range r bytes h ∙ ap (λ t. if t then Err Range else Err Order) may
+
+-- a channel line that may come behind a head
+pub channel_accepted : (r : Reached) (version : ℕ) (c : Channel) → may_come r (channel_line version c) ≡ true → accepted r (channel_line version c) ≡ with_ranged r r.head c
+unfolding accepted
+channel_accepted r version c may =
+    tests (may_come r (channel_line version c)) (channel_in_range c) (with_channel r r.head c) may
+    ∙ by r.head (and_parts _ _ (and_parts _ _ (and_parts _ _ (and_parts _ _ may).0).1).0).0
+  where
+    tests : (m g : Bool) (w : Result Reached LineFault) → m ≡ true
+        → (let x : Result Reached LineFault = if not m then Err Order else if not (g && true) then Err Range else w in x) ≡ (if not g then Err Range else w)
+    tests true true w h = refl
+    tests true false w h = refl
+    tests false g w h = absurd cc
+
+    settles : (head : Head) (g twice : Bool) (o : Result Settings ConfigFault)
+        → (if not g then Err Range else if twice then Err Twice else joined r head c o) ≡ with_settled r head c (if not g then Err Range else if twice then Err Twice else by_rules o)
+    settles head false twice o = refl
+    settles head true true o = refl
+    settles head true false (Ok s) = refl
+    settles head true false (Err fault) = refl
+
+    by : (o : Option Head) → is_some o ≡ true → (if not (channel_in_range c) then Err Range else with_channel r o c) ≡ with_ranged r o c
+    by None h = absurd cc
+    by (Some head) h = settles head (channel_in_range c) (list_any (λ k. k.id == c.id) r.channels) (checked (settings c head.tick))

@@ -13,4 +13,5 @@ pub mod Judging
 pub mod AsRead
 pub mod Spelled
 pub mod Spelling
+pub mod TooWide
 pub mod Word32

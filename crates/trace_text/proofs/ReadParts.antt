@@ -1,6 +1,7 @@
 -- A channel line read in parts is read as it is as a whole.
 use Rattle.std.proofs.Common.{◌≡◌, ℕ, List, [], ◌∷◌, Option, Some, None, option_map, option_and_then, refl, ◌∙◌, codes}
-use Rattle.rams_model.specs.Texts.{TraceLine, Words, field, whole, access_in, channel_line, rest_in, kept_in, channel_in, ◌>>=◌, number_in, word32_in}
+use Rattle.rams_model.specs.Texts.{TraceLine, field, whole, access_in, channel_line, rest_in, kept_in, channel_in, ◌>>=◌, number_in, word32_in}
+use Rattle.rams_model.specs.Texts.TraceLines.{Words}
 use Rattle.rams_model.specs.declared.channel.Channel.{Channel}
 use Rattle.trace_text.specs.declared.channel_line.Names.{Names}
 use Rattle.trace_text.specs.declared.channel_line.Places.{Places}

@@ -4,7 +4,8 @@ use Rattle.std.proofs.lemmas.Bool.{eqb-true}
 use Rattle.std.proofs.lemmas.Fmt.{decimal_digit}
 use Rattle.rams_model.specs.declared.channel.Access.{Access}
 use Rattle.rams_model.specs.declared.channel.Access.TheVariants.{Marker, Ts}
-use Rattle.rams_model.specs.Texts.{is_hex, Words, field, one, whole, hex_in, access_in, access_word, version_in, is_version}
+use Rattle.rams_model.specs.Texts.{is_hex, field, one, whole, hex_in, access_in, access_word, version_in, is_version}
+use Rattle.rams_model.specs.Texts.TraceLines.{Words}
 use Rattle.trace_text.proofs.Spelled.{some_if, if_some, is_word, same_word}
 
 -- what is read from a word is spelled so

@@ -1,7 +1,8 @@
 -- The words of a line that are left to read, and what was read of them.
 use Rattle.std.specs.Prelude.{◌≡◌, ℕ, Bool, true, false, List, [], ◌∷◌, Option, Some, None, bytes_eq}
 use Rattle.std.specs.Borrow.{Bor}
-use Rattle.rams_model.specs.Texts.{Words, one, whole, ◌>>=◌, words_of, number_in}
+use Rattle.rams_model.specs.Texts.{one, whole, ◌>>=◌, words_of, number_in}
+use Rattle.rams_model.specs.Texts.TraceLines.{Words}
 
 -- the words of the bytes that are left, of which there may be none
 abbrev pub words_left : Option (Bor (List ℕ)) → Words

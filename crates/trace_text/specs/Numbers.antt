@@ -1,7 +1,8 @@
 -- The numbers of a channel line, before their ranges are known, in the parts that they are read in.
 use Rattle.std.specs.Prelude.{[], ◌∷◌, Option, Some, codes}
 use Rattle.rams_model.specs.declared.channel.Channel.{Channel}
-use Rattle.rams_model.specs.Texts.{TraceLine, Words, channel_line, field, whole, access_in, ◌>>=◌, number_in, word32_in}
+use Rattle.rams_model.specs.Texts.{TraceLine, channel_line, field, whole, access_in, ◌>>=◌, number_in, word32_in}
+use Rattle.rams_model.specs.Texts.TraceLines.{Words}
 use Rattle.trace_text.specs.declared.channel_line.Numbers.{Numbers}
 use Rattle.trace_text.specs.declared.channel_line.Names.{Names}
 use Rattle.trace_text.specs.declared.channel_line.Places.{Places}

@@ -1,7 +1,8 @@
 -- The words of a channel line, in the parts that they are written in.
 use Rattle.std.specs.Prelude.{◌∷◌, [], codes, decimal}
 use Rattle.rams_model.specs.declared.channel.Channel.{Channel}
-use Rattle.rams_model.specs.Texts.{Words, access_word, word32}
+use Rattle.rams_model.specs.Texts.{access_word, word32}
+use Rattle.rams_model.specs.Texts.TraceLines.{Words}
 
 -- what names things
 abbrev pub names_words : Channel → Words

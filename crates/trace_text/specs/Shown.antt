@@ -1,7 +1,8 @@
 -- What a line means, and what its reader answers.
-use Rattle.std.specs.Prelude.{◌≡◌, true, Result, Ok, Err}
+use Rattle.std.specs.Prelude.{◌≡◌, Bool, true, false, Option, None, Some, Result, Ok, Err}
 use Rattle.rams_model.specs.declared.fault.LineFault.{LineFault}
-use Rattle.rams_model.specs.Texts.{TraceLine, head_line, channel_line, live_line, feedback_line, tick_line, end_line, tune_line, give_line, mcast_line, ask_line, drop_line, is_hex}
+use Rattle.rams_model.specs.Texts.{TraceLine, head_line, channel_line, live_line, feedback_line, tick_line, end_line, tune_line, give_line, mcast_line, ask_line, drop_line, line_in_range, is_hex}
+use Rattle.rams_model.specs.declared.fault.LineFault.TheVariants.{Form, Range}
 use Rattle.trace_text.specs.declared.line.Line.{Line}
 use Rattle.trace_text.specs.declared.line.Line.TheVariants.{Head, Channel, Live, Feedback, Tick, End, Tune, Give, Mcast, Ask, Drop}
 
@@ -23,6 +24,22 @@ shown (Drop id client) = drop_line id client
 abbrev pub Gives : Result Line LineFault → Result TraceLine LineFault → Type 0
 Gives (Ok line) read = read ≡ Ok (shown line)
 Gives (Err fault) read = read ≡ Err fault
+
+-- whether each number is in its range, of a line that there may not be
+abbrev pub is_ranged : Option TraceLine → Bool
+is_ranged None = true
+is_ranged (Some line) = line_in_range line
+
+-- The line isn't read for this fault: there is none, or a number is out of its range.
+abbrev pub Unread : LineFault → Option TraceLine → Type 0
+Unread Form read = read ≡ None
+Unread Range read = is_ranged read ≡ false
+Unread _ read = ⊥
+
+-- The answer is the line that a definition reads. `Range` is answered only where a number is out of its range.
+abbrev pub Narrows : Result Line LineFault → Option TraceLine → Type 0
+Narrows (Ok line) read = read ≡ Some (shown line)
+Narrows (Err fault) read = Unread fault read
 
 -- the bytes that it carries are hexadecimal digits
 abbrev pub HasDigits : Line → Type 0

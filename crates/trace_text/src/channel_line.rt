@@ -1,16 +1,17 @@
 //! The line of a channel, behind its first word.
-ghost use Rattle.std.specs.Prelude.{◌≡◌, ◌∷◌, true, IfOk, codes};
-ghost use Rattle.rams_model.specs.Service.{channel_in_range, names_in_range, bytes_in_range, bounds_in_range};
-ghost use Rattle.rams_model.specs.Texts.{channel_in, ranged};
-ghost use Rattle.trace_text.specs.{Reads, Gives, HasDigits, channel_of, names_in, places_in, amounts_in, bounds_in, keeping_in, numbers_in};
+ghost use Rattle.std.specs.Prelude.{◌≡◌, ◌∷◌, false, IfOk, MatchOption, codes};
+ghost use Rattle.rams_model.specs.Service.{channel_in_range};
+ghost use Rattle.rams_model.specs.Texts.{channel_in};
+ghost use Rattle.trace_text.specs.{Reads, Narrows, HasDigits, channel_of, names_in, places_in, amounts_in, bounds_in, keeping_in, numbers_in};
 
 use crate::fields::{access_field, ends, next_number, number_field, word32_field};
 use crate::line::Line;
-use crate::ranges::{MOST_BYTES, is_amount};
+use crate::values::{narrow8, narrow16, narrow32};
 use crate::words::Words;
 use rams_model::{Access, Channel, LineFault};
 
-/// The numbers of a channel line, in or out of range, in the order of the line.
+/// The numbers of a channel line, in the order of the line. A line that isn't of the form is told
+/// before a number that doesn't fit its type, so each is read to the end as it is spelled.
 #[derive(Drop)]
 struct Numbers {
     names: Names,
@@ -68,16 +69,14 @@ struct Keeping {
 /// A channel line.
 #[tactic(auto, using(crate::proofs::ReadParts::channel_is_numbers))]
 pub fn channel<'a>(words: &mut Words<'a>) -> Result<Line<'a>, LineFault>
-    ensures line { Gives result (ranged (channel_in (codes "channel" ∷ words.old))) }
+    ensures line { Narrows result (channel_in (codes "channel" ∷ words.old)) }
     ensures digits { IfOk result HasDigits }
 {
     let numbers = read_numbers(words).ok_or(LineFault::Form)?;
-    if !are_in_range(&numbers) {
-        return Err(LineFault::Range);
-    }
+    let channel = narrowed(&numbers).ok_or(LineFault::Range)?;
     Ok(Line::Channel {
         version: numbers.keeping.version,
-        channel: narrowed(&numbers),
+        channel,
     })
 }
 
@@ -167,69 +166,30 @@ fn next_keeping(words: &mut Words<'_>) -> Option<Keeping>
     })
 }
 
-fn are_in_range(n: &Numbers) -> bool
-    ensures { result ≡ channel_in_range (channel_of n.now) }
+// The channel that the numbers describe, where each fits its type.
+#[tactic(auto, using(crate::proofs::TooWide::wide_id, crate::proofs::TooWide::wide_pt, crate::proofs::TooWide::wide_rtx, crate::proofs::TooWide::wide_seq0, crate::proofs::TooWide::wide_ring, crate::proofs::TooWide::wide_window, crate::proofs::TooWide::wide_limit, crate::proofs::TooWide::wide_idle, crate::proofs::TooWide::wide_clients))]
+fn narrowed(n: &Numbers) -> Option<Channel>
+    ensures { MatchOption result (channel_in_range (channel_of n.now) ≡ false) (λ c. c ≡ channel_of n.now) }
 {
-    are_names_in_range(n) && are_bytes_in_range(n) && are_bounds_in_range(n)
-}
-
-// The numbers that name things.
-fn are_names_in_range(n: &Numbers) -> bool
-    ensures { result ≡ names_in_range (channel_of n.now) }
-{
-    let names = &n.names;
-    (1..=65535).contains(&names.id) && names.pt <= 127 && names.rtx <= 127 && names.seq0 <= 65535
-}
-
-// The amounts of bytes.
-fn are_bytes_in_range(n: &Numbers) -> bool
-    ensures { result ≡ bytes_in_range (channel_of n.now) }
-{
-    let amounts = &n.amounts;
-    is_amount(amounts.share)
-        && is_amount(amounts.reserve)
-        && is_amount(amounts.burst)
-        && amounts.declared <= MOST_BYTES
-        && (42..=1500).contains(&amounts.minwire)
-        && n.keeping.depth <= MOST_BYTES
-        && n.keeping.swell <= MOST_BYTES
-}
-
-// How much is held, and how long.
-fn are_bounds_in_range(n: &Numbers) -> bool
-    ensures { result ≡ bounds_in_range (channel_of n.now) }
-{
-    (1..=32768).contains(&n.places.ring)
-        && n.places.window <= 64
-        && (1..=1_000_000).contains(&n.bounds.limit)
-        && (1..=1_000_000).contains(&n.bounds.idle)
-        && (1..=1024).contains(&n.bounds.clients)
-}
-
-// The channel that numbers in their ranges describe.
-fn narrowed(n: &Numbers) -> Channel
-    requires { channel_in_range (channel_of n.now) ≡ true }
-    ensures { result ≡ channel_of n.now }
-{
-    Channel {
-        id: n.names.id as u16,
+    Some(Channel {
+        id: narrow16(n.names.id)?,
         ssrc: n.names.ssrc,
-        pt: n.names.pt as u8,
-        rtx: n.names.rtx as u8,
+        pt: narrow8(n.names.pt)?,
+        rtx: narrow8(n.names.rtx)?,
         server: n.names.server,
-        seq0: n.names.seq0 as u16,
-        ring: n.places.ring as u32,
-        window: n.places.window as u32,
+        seq0: narrow16(n.names.seq0)?,
+        ring: narrow32(n.places.ring)?,
+        window: narrow32(n.places.window)?,
         access: n.places.access,
         share: n.amounts.share,
         reserve: n.amounts.reserve,
         burst: n.amounts.burst,
         declared: n.amounts.declared,
         minwire: n.amounts.minwire,
-        limit: n.bounds.limit as u32,
-        idle: n.bounds.idle as u32,
-        clients: n.bounds.clients as u32,
+        limit: narrow32(n.bounds.limit)?,
+        idle: narrow32(n.bounds.idle)?,
+        clients: narrow32(n.bounds.clients)?,
         depth: n.keeping.depth,
         swell: n.keeping.swell,
-    }
+    })
 }

@@ -1,22 +1,22 @@
 //! The head and the events of channels, behind their first word: the words must have the form of
-//! the kind, and then each number must be in its range.
+//! the kind, and then each number must fit its type.
 ghost use Rattle.std.specs.Prelude.{◌≡◌, ◌∷◌, true, codes, IfOk, IfSome, option_map};
-ghost use Rattle.rams_model.specs.Texts.{head_line, live_line, feedback_line, head_in, live_in, feedback_in, ranged, is_hex};
-ghost use Rattle.trace_text.specs.{Gives, HasDigits};
+ghost use Rattle.rams_model.specs.Texts.{head_line, live_line, feedback_line, head_in, live_in, feedback_in, is_hex};
+ghost use Rattle.trace_text.specs.{Narrows, HasDigits};
 
 use crate::fields::{ends, next_hex, next_number, next_version, number_field};
 use crate::line::Line;
-use crate::ranges::{channel_id, client_channel, is_amount, tick_ms};
+use crate::ranges::{channel_id, tick_ms};
 use crate::words::Words;
 use rams_model::LineFault;
 
 /// A live line.
 pub fn live<'a>(words: &mut Words<'a>) -> Result<Line<'a>, LineFault>
-    ensures line { Gives result (ranged (live_in (codes "live" ∷ words.old))) }
+    ensures line { Narrows result (live_in (codes "live" ∷ words.old)) }
     ensures digits { IfOk result HasDigits }
 {
     let (id, hex) = live_words(words).ok_or(LineFault::Form)?;
-    let id = channel_id(id).ok_or(LineFault::Range)?;
+    let id = channel_id(id)?;
     Ok(Line::Live { id, hex })
 }
 
@@ -32,11 +32,11 @@ fn live_words<'a>(words: &mut Words<'a>) -> Option<(u64, &'a [u8])>
 
 /// A feedback line.
 pub fn feedback<'a>(words: &mut Words<'a>) -> Result<Line<'a>, LineFault>
-    ensures line { Gives result (ranged (feedback_in (codes "fb" ∷ words.old))) }
+    ensures line { Narrows result (feedback_in (codes "fb" ∷ words.old)) }
     ensures digits { IfOk result HasDigits }
 {
     let (id, client, hex) = feedback_words(words).ok_or(LineFault::Form)?;
-    let id = client_channel(id, client).ok_or(LineFault::Range)?;
+    let id = channel_id(id)?;
     Ok(Line::Feedback { id, client, hex })
 }
 
@@ -53,14 +53,11 @@ fn feedback_words<'a>(words: &mut Words<'a>) -> Option<(u64, u64, &'a [u8])>
 
 /// The head line.
 pub fn head<'a>(words: &mut Words<'a>) -> Result<Line<'a>, LineFault>
-    ensures line { Gives result (ranged (head_in (codes "rams-trace" ∷ words.old))) }
+    ensures line { Narrows result (head_in (codes "rams-trace" ∷ words.old)) }
     ensures digits { IfOk result HasDigits }
 {
     let (version, tick, link) = head_words(words).ok_or(LineFault::Form)?;
-    let tick_ms = tick_ms(tick).ok_or(LineFault::Range)?;
-    if !is_amount(link) {
-        return Err(LineFault::Range);
-    }
+    let tick_ms = tick_ms(tick)?;
     Ok(Line::Head {
         version,
         tick_ms,

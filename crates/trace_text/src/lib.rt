@@ -1,4 +1,7 @@
 //! The lines of a trace.
+//!
+//! The modes `Meet`, `Threads` and `Serve` and the events of receivers wait for commands that are
+//! still to come: `run` has neither.
 #![tactic(auto)]
 
 mod bytes;
@@ -12,15 +15,13 @@ mod ranges;
 mod read;
 mod receivers;
 mod state;
-#[cfg(test)]
-mod tests;
 mod text;
 mod values;
 mod words;
 
 pub use bytes::{decode, decode_to};
 pub use laws::{lines_are_spelled_as_read, spelled_lines_are_read, the_words_tell};
-pub use line::Line;
+pub use line::{Judged, Line};
 pub use order::kind_of_first_word;
 pub use rams_model::{LineFault, Mode};
 pub use read::read_line;

@@ -1,4 +1,5 @@
 //! What a line of a trace says.
+use channel_config::Config;
 use rams_model::Channel;
 
 /// One line of a trace.
@@ -56,4 +57,13 @@ pub enum Line<'a> {
         id: u16,
         client: u64,
     },
+}
+
+/// One line that may come where it stands.
+#[derive(Clone, Copy, Debug, PartialEq, Eq)]
+pub enum Judged<'a> {
+    /// A channel line, with its settings checked for the tick of the trace.
+    Channel { version: u8, config: Config },
+    /// Any other line.
+    Other(Line<'a>),
 }

@@ -1,18 +1,19 @@
 //! Reads a line of a trace.
-ghost use Rattle.std.specs.Prelude.{◌≡◌, ◌∷◌, true, IfOk};
-ghost use Rattle.rams_model.specs.Texts.{line_at, line_in, receiver_in, line_in_range, ranged, whole};
-ghost use Rattle.trace_text.specs.{Gives, HasDigits, shown};
+ghost use Rattle.std.specs.Prelude.{◌∷◌, IfOk};
+ghost use Rattle.rams_model.specs.Texts.{line_at, line_of, line_in, receiver_in, whole};
+ghost use Rattle.trace_text.specs.{Gives, Narrows, HasDigits, shown};
 
 use crate::channel_line::channel;
 use crate::fields::ends;
 use crate::kinds::{feedback, head, live};
 use crate::line::Line;
+use crate::ranges::is_in_range;
 use crate::receivers::{ask, drop, give, mcast, tune};
 use crate::words::Words;
 use rams_model::LineFault;
 
 /// Most bytes of a line.
-const MOST_BYTES: usize = 4096;
+const LONGEST_LINE: usize = 4096;
 
 /// The line that the bytes are, without their line feed. `Form` where they are no line of a trace,
 /// else `Range` where a number is out of its range.
@@ -21,14 +22,27 @@ pub fn read_line(line: &[u8]) -> Result<Line<'_>, LineFault>
     ensures line { Gives result (line_at line.now) }
     ensures digits { IfOk result HasDigits }
 {
-    if line.len() > MOST_BYTES {
+    let read = read_unranged(line)?;
+    if is_in_range(&read) {
+        Ok(read)
+    } else {
+        Err(LineFault::Range)
+    }
+}
+
+/// The same, but that only a number that doesn't fit its type is out of range.
+pub fn read_unranged(line: &[u8]) -> Result<Line<'_>, LineFault>
+    ensures line { Narrows result (line_of line.now) }
+    ensures digits { IfOk result HasDigits }
+{
+    if line.len() > LONGEST_LINE {
         return Err(LineFault::Form);
     }
     read_words(Words::of(line))
 }
 
 fn read_words<'a>(mut words: Words<'a>) -> Result<Line<'a>, LineFault>
-    ensures line { Gives result (ranged (line_in words.entry)) }
+    ensures line { Narrows result (line_in words.entry) }
     ensures digits { IfOk result HasDigits }
 {
     let Some(kind) = words.next() else {
@@ -39,7 +53,7 @@ fn read_words<'a>(mut words: Words<'a>) -> Result<Line<'a>, LineFault>
 
 // The kinds that come most often are tried first.
 fn read_kind<'a>(kind: &[u8], words: &mut Words<'a>) -> Result<Line<'a>, LineFault>
-    ensures line { Gives result (ranged (line_in (kind.now ∷ words.old))) }
+    ensures line { Narrows result (line_in (kind.now ∷ words.old)) }
     ensures digits { IfOk result HasDigits }
 {
     if kind == b"live".as_slice() {
@@ -65,7 +79,7 @@ fn read_kind<'a>(kind: &[u8], words: &mut Words<'a>) -> Result<Line<'a>, LineFau
 
 // The events of receivers.
 fn read_receiver<'a>(kind: &[u8], words: &mut Words<'a>) -> Result<Line<'a>, LineFault>
-    ensures line { Gives result (ranged (receiver_in (kind.now ∷ words.old))) }
+    ensures line { Narrows result (receiver_in (kind.now ∷ words.old)) }
     ensures digits { IfOk result HasDigits }
 {
     if kind == b"tune".as_slice() {
@@ -88,9 +102,8 @@ fn read_receiver<'a>(kind: &[u8], words: &mut Words<'a>) -> Result<Line<'a>, Lin
 
 // A line of one word.
 fn alone<'a>(line: Line<'a>, words: &mut Words<'a>) -> Result<Line<'a>, LineFault>
-    requires range { line_in_range (shown line) ≡ true }
-    requires digits { HasDigits line }
-    ensures line { Gives result (ranged (whole (shown line.entry) words.old)) }
+    requires { HasDigits line }
+    ensures line { Narrows result (whole (shown line.entry) words.old) }
     ensures digits { IfOk result HasDigits }
 {
     if ends(words) {

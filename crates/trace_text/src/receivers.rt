@@ -1,22 +1,22 @@
 //! The events of receivers, behind their first word: the words must have the form of the kind, and
-//! then each number must be in its range.
+//! then each number must fit its type.
 ghost use Rattle.std.specs.Prelude.{◌≡◌, ◌∷◌, codes, IfOk, option_map};
-ghost use Rattle.rams_model.specs.Texts.{tune_line, mcast_line, give_line, ask_line, drop_line, tune_in, give_in, mcast_in, ask_in, drop_in, ranged};
-ghost use Rattle.trace_text.specs.{pair_in, Gives, HasDigits};
+ghost use Rattle.rams_model.specs.Texts.{tune_line, mcast_line, give_line, ask_line, drop_line, tune_in, give_in, mcast_in, ask_in, drop_in};
+ghost use Rattle.trace_text.specs.{pair_in, Narrows, HasDigits};
 
 use crate::fields::{ends, next_number, next_word32};
 use crate::line::Line;
-use crate::ranges::client_channel;
+use crate::ranges::channel_id;
 use crate::words::Words;
 use rams_model::LineFault;
 
 /// A line that gives a client a receiver.
 pub fn tune<'a>(words: &mut Words<'a>) -> Result<Line<'a>, LineFault>
-    ensures line { Gives result (ranged (tune_in (codes "tune" ∷ words.old))) }
+    ensures line { Narrows result (tune_in (codes "tune" ∷ words.old)) }
     ensures digits { IfOk result HasDigits }
 {
     let (id, client, ssrc) = tune_words(words).ok_or(LineFault::Form)?;
-    let id = client_channel(id, client).ok_or(LineFault::Range)?;
+    let id = channel_id(id)?;
     Ok(Line::Tune { id, client, ssrc })
 }
 
@@ -33,7 +33,7 @@ fn tune_words(words: &mut Words<'_>) -> Option<(u64, u64, u32)>
 /// A line that delivers a datagram.
 #[tactic(auto, unfolding(rams_model::specs::Texts::TraceLines::give_in))]
 pub fn give<'a>(words: &mut Words<'a>) -> Result<Line<'a>, LineFault>
-    ensures line { Gives result (ranged (give_in (codes "give" ∷ words.old))) }
+    ensures line { Narrows result (give_in (codes "give" ∷ words.old)) }
     ensures digits { IfOk result HasDigits }
 {
     let number = next_number(words).ok_or(LineFault::Form)?;
@@ -45,11 +45,11 @@ pub fn give<'a>(words: &mut Words<'a>) -> Result<Line<'a>, LineFault>
 
 /// A line that delivers a packet of the multicast.
 pub fn mcast<'a>(words: &mut Words<'a>) -> Result<Line<'a>, LineFault>
-    ensures line { Gives result (ranged (mcast_in (codes "mcast" ∷ words.old))) }
+    ensures line { Narrows result (mcast_in (codes "mcast" ∷ words.old)) }
     ensures digits { IfOk result HasDigits }
 {
     let (id, client, n) = mcast_words(words).ok_or(LineFault::Form)?;
-    let id = client_channel(id, client).ok_or(LineFault::Range)?;
+    let id = channel_id(id)?;
     Ok(Line::Mcast { id, client, n })
 }
 
@@ -66,22 +66,22 @@ fn mcast_words(words: &mut Words<'_>) -> Option<(u64, u64, u64)>
 /// A line that lets a receiver ask for what it misses.
 #[tactic(auto, unfolding(rams_model::specs::Texts::TraceLines::ask_in))]
 pub fn ask<'a>(words: &mut Words<'a>) -> Result<Line<'a>, LineFault>
-    ensures line { Gives result (ranged (ask_in (codes "ask" ∷ words.old))) }
+    ensures line { Narrows result (ask_in (codes "ask" ∷ words.old)) }
     ensures digits { IfOk result HasDigits }
 {
     let (id, client) = pair(words).ok_or(LineFault::Form)?;
-    let id = client_channel(id, client).ok_or(LineFault::Range)?;
+    let id = channel_id(id)?;
     Ok(Line::Ask { id, client })
 }
 
 /// A line that lets a receiver leave.
 #[tactic(auto, unfolding(rams_model::specs::Texts::TraceLines::drop_in))]
 pub fn drop<'a>(words: &mut Words<'a>) -> Result<Line<'a>, LineFault>
-    ensures line { Gives result (ranged (drop_in (codes "drop" ∷ words.old))) }
+    ensures line { Narrows result (drop_in (codes "drop" ∷ words.old)) }
     ensures digits { IfOk result HasDigits }
 {
     let (id, client) = pair(words).ok_or(LineFault::Form)?;
-    let id = client_channel(id, client).ok_or(LineFault::Range)?;
+    let id = channel_id(id)?;
     Ok(Line::Drop { id, client })
 }
 

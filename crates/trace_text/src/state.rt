@@ -1,23 +1,21 @@
 //! Which line may come where in a trace.
-ghost use Rattle.std.specs.Prelude.{◌≡◌, ◌≤◌, Ok, Err, Some, ◌==◌, IfErr, IfOk, OnErr, OnOk, MatchResult};
-ghost use Rattle.rams_model.specs.Service.{settings, checked};
-ghost use Rattle.rams_model.specs.Texts.{line_at, nothing_reached, tick_of, version_of, has_channel, kind_may_come, may_come_next, may_come, has_version, spells_version, line_is_served, with_channel, expected, accepted, judged, line_fault, words_of};
-ghost use Rattle.trace_text.specs.{shown, HasDigits};
+ghost use Rattle.std.specs.Prelude.{◌≡◌, ◌≤◌, Ok, Err, Some, true, ◌==◌, if◌then◌else◌, is_some, IfErr, IfOk, OnErr, OnOk};
+ghost use Rattle.rams_model.specs.declared.fault.LineFault.TheVariants.{Rule, Twice};
+ghost use Rattle.rams_model.specs.Service.{settings, tick_in_range};
+ghost use Rattle.rams_model.specs.Texts.{line_of, nothing_reached, tick_of, version_of, has_channel, kind_may_come, may_come_next, may_come, has_version, spells_version, line_is_served, line_in_range, with_line, expected, accepted, judged, words_of};
+ghost use Rattle.trace_text.specs.{shown, told, judged_as, settled, with_ranged, IsOther, IsSettled, Unread};
 ghost use Rattle.std.specs.List.{list_any};
 
-use crate::line::Line;
+use crate::line::{Judged, Line};
 use crate::order::{
     has_events, has_receivers, is_threads, kind_of, kind_of_first_word, version_spelled,
 };
 use crate::ranges::is_in_range;
-use crate::read::read_line;
+use crate::read::read_unranged;
 use arrayvec::ArrayVec;
-use channel_config::Config;
+use channel_config::{Config, MOST_CHANNELS};
 use rams_model::{Channel, ConfigFault, LineFault, LineKind, Mode};
 use std::marker::Model;
-
-/// Most channels of a trace.
-const MOST_CHANNELS: usize = 64;
 
 /// What the head line said.
 #[derive(Clone, Copy)]
@@ -28,11 +26,15 @@ struct Head {
 }
 
 impl Model for Head {
-    ghost use Rattle.rams_model.specs.Texts.{Head, Claim, Reached};
+    ghost use Rattle.std.specs.Prelude.{◌≡◌, true};
+    ghost use Rattle.rams_model.specs.Service.{tick_in_range};
+    ghost use Rattle.rams_model.specs.Texts.{Head};
 
     ghost Value = { Head };
 
     ghost view = { λ h. record { version = h.version; tick = h.tick_ms; link = h.link } };
+
+    ghost invariant = { λ h. tick_in_range h.tick_ms ≡ true };
 
     ghost inverse = { λ h. record { version = h.version; tick_ms = h.tick; link = h.link } };
 }
@@ -45,6 +47,7 @@ struct Claim {
 }
 
 impl Model for Claim {
+    ghost use Rattle.rams_model.specs.Texts.{Claim};
 
     ghost Value = { Claim };
 
@@ -67,6 +70,7 @@ pub struct State {
 
 impl Model for State {
     ghost use Rattle.std.specs.Prelude.{◌≡◌, ◌*◌, ◌≤◌, sum_by, length};
+    ghost use Rattle.rams_model.specs.Texts.{Reached};
 
     ghost Value = { Reached };
 
@@ -94,19 +98,17 @@ impl State {
     /// this order: `Form` where it is no line of a trace, `Order` where a line of its kind may not
     /// come here or a channel line is of another version than the head, `Range` where a number is out of its range, and what is wrong with a channel line.
     /// A refusal changes nothing.
-    #[tactic(auto, using(crate::proofs::Judging::judged_ok, crate::proofs::Judging::judged_refused))]
-    pub fn judge<'a>(&mut self, line: &'a [u8]) -> Result<Line<'a>, LineFault>
-        ensures ok { IfOk result (λ read. judged self.old line.now ≡ Ok (shown read, self.new)) }
+    #[tactic(auto, using(crate::proofs::Judging::judged_ok, crate::proofs::Judging::is_settled))]
+    pub fn judge<'a>(&mut self, line: &'a [u8]) -> Result<Judged<'a>, LineFault>
+        ensures ok { IfOk result (λ read. judged self.old line.now ≡ Ok (told read, self.new)) }
         ensures err { IfErr result (λ fault. judged self.old line.now ≡ Err fault) }
         ensures same { OnErr result (self.new ≡ self.old) }
-        ensures digits { IfOk result HasDigits }
+        ensures settled { IfOk result (IsSettled (tick_of self.new.head)) }
     {
-        let read = match read_line(line) {
-            Ok(read) => read,
-            Err(fault) => return Err(self.first_fault(line, fault)),
-        };
-        self.accept(&read)?;
-        Ok(read)
+        match read_unranged(line) {
+            Ok(read) => self.follow(&read),
+            Err(fault) => Err(self.first_fault(line, fault)),
+        }
     }
 
     /// Whether a line with the first word of this one, and for a channel line with as many words, may
@@ -126,29 +128,15 @@ impl State {
     /// with a channel line: `Twice` where a channel before has its number, the first of rules 1 to 3
     /// that its settings break, `Rule(4)` where the shares are more than the link, `Rule(5)` where
     /// there are 64 channels already. A refusal changes nothing.
-    #[tactic(auto, unfolding(rams_model::specs::Texts::TraceOrder::accepted))]
     pub fn accept(&mut self, line: &Line<'_>) -> Result<(), LineFault>
         ensures ok { OnOk result (accepted self.old (shown line.now) ≡ Ok self.new) }
         ensures err { IfErr result (λ fault. accepted self.old (shown line.now) ≡ Err fault) }
         ensures same { OnErr result (self.new ≡ self.old) }
     {
-        if !self.may_come(line) {
-            return Err(LineFault::Order);
+        match self.follow(line) {
+            Ok(_) => Ok(()),
+            Err(fault) => Err(fault),
         }
-        if !is_in_range(line) || !self.serves(line) {
-            return Err(LineFault::Range);
-        }
-        match line {
-            Line::Head {
-                version,
-                tick_ms,
-                link,
-            } => self.set_head(*version, *tick_ms, *link),
-            Line::Channel { channel, .. } => return self.add(channel),
-            Line::End => self.ended = true,
-            _ => self.begun = true,
-        }
-        Ok(())
     }
 
     /// Whether a channel line has come.
@@ -181,13 +169,53 @@ impl State {
     // The first fault of a line that isn't read for this one.
     #[tactic(auto, using(crate::proofs::Judging::judged_fault, crate::proofs::Judging::judged_order))]
     fn first_fault(&self, line: &[u8], fault: LineFault) -> LineFault
-        requires { line_at line.now ≡ Err fault }
+        requires { Unread fault (line_of line.now) }
         ensures { judged self.now line.now ≡ Err result }
     {
         match fault {
             LineFault::Range if self.expects(line) => LineFault::Range,
             LineFault::Range => LineFault::Order,
             other => other,
+        }
+    }
+
+    // Goes on behind this line, as `accept` says it.
+    #[tactic(auto, unfolding(rams_model::specs::Texts::TraceOrder::accepted), using(crate::proofs::Judging::channel_accepted))]
+    fn follow<'a>(&mut self, line: &Line<'a>) -> Result<Judged<'a>, LineFault>
+        ensures ok { OnOk result (accepted self.old (shown line.now) ≡ Ok self.new) }
+        ensures err { IfErr result (λ fault. accepted self.old (shown line.now) ≡ Err fault) }
+        ensures same { OnErr result (self.new ≡ self.old) }
+        ensures judged { IfOk result (λ read. read ≡ judged_as (tick_of self.new.head) line.now) }
+    {
+        if !self.may_come(line) {
+            return Err(LineFault::Order);
+        }
+        if let Line::Channel { version, channel } = line {
+            let version = *version;
+            let config = self.add(channel)?;
+            return Ok(Judged::Channel { version, config });
+        }
+        if !is_in_range(line) || !self.serves(line) {
+            return Err(LineFault::Range);
+        }
+        self.step(line);
+        Ok(Judged::Other(*line))
+    }
+
+    // Goes on behind a line that may come and opens no channel.
+    fn step(&mut self, line: &Line<'_>)
+        requires other { IsOther line.now }
+        requires range { line_in_range (shown line.now) ≡ true }
+        ensures { with_line self.old (shown line.now) ≡ Ok self.new }
+    {
+        match line {
+            Line::Head {
+                version,
+                tick_ms,
+                link,
+            } => self.set_head(*version, *tick_ms, *link),
+            Line::End => self.ended = true,
+            _ => self.begun = true,
         }
     }
 
@@ -250,6 +278,7 @@ impl State {
     }
 
     fn set_head(&mut self, version: u8, tick_ms: u32, link: u64)
+        requires { tick_in_range tick_ms ≡ true }
         ensures { self.new ≡ record self.old { head = Some (record { version = version; tick = tick_ms; link = link }) } }
     {
         self.head = Some(Head {
@@ -259,18 +288,17 @@ impl State {
         });
     }
 
-    fn add(&mut self, channel: &Channel) -> Result<(), LineFault>
-        ensures ok { OnOk result (with_channel self.old self.old.head channel.now ≡ Ok self.new) }
-        ensures err { IfErr result (λ fault. with_channel self.old self.old.head channel.now ≡ Err fault) }
+    // Adds a channel with these settings.
+    fn add(&mut self, channel: &Channel) -> Result<Config, LineFault>
+        ensures ok { OnOk result (with_ranged self.old self.old.head channel.now ≡ Ok self.new) }
+        ensures err { IfErr result (λ fault. with_ranged self.old self.old.head channel.now ≡ Err fault) }
         ensures same { OnErr result (self.new ≡ self.old) }
+        ensures config { IfOk result (λ config. config ≡ settings channel.now (tick_of self.new.head)) }
     {
         let Some(head) = self.head else {
             return Err(LineFault::Order);
         };
-        if self.has(channel.id) {
-            return Err(LineFault::Twice);
-        }
-        check(channel, head.tick_ms)?;
+        let config = self.check(channel, head.tick_ms)?;
         if self.claimed + channel.share > head.link {
             return Err(LineFault::Rule(4));
         }
@@ -282,7 +310,28 @@ impl State {
             share: channel.share,
         });
         self.claimed += channel.share;
-        Ok(())
+        Ok(config)
+    }
+
+    // The settings of a channel, or what is wrong with them before the other shares are looked at: the
+    // ranges, a number that a channel before has, the rules.
+    #[tactic(auto, using(crate::proofs::Checks::checked_share))]
+    fn check(&self, channel: &Channel, tick_ms: u32) -> Result<Config, LineFault>
+        requires { tick_in_range tick_ms ≡ true }
+        ensures settled { result ≡ settled self.now (settings channel.now tick_ms) }
+        ensures share { OnOk result (channel.now.share ≤ 1000000000) }
+    {
+        let twice = self.has(channel.id);
+        match Config::check(*channel, tick_ms) {
+            Err(ConfigFault::Range) => Err(LineFault::Range),
+            Err(ConfigFault::Rule(rule)) => Err(first_of(twice, rule)),
+            Ok(config) => {
+                if twice {
+                    return Err(LineFault::Twice);
+                }
+                Ok(config)
+            }
+        }
     }
 
     // Whether a channel has this number.
@@ -293,16 +342,13 @@ impl State {
     }
 }
 
-// What is wrong with the settings of a channel by themselves.
-#[tactic(auto, using(crate::proofs::Checks::checked_same, crate::proofs::Checks::checked_share))]
-fn check(channel: &Channel, tick_ms: u32) -> Result<(), LineFault>
-    ensures ok { OnOk result (checked (settings channel.now tick_ms) ≡ Ok (settings channel.now tick_ms)) }
-    ensures share { OnOk result (channel.now.share ≤ 1000000000) }
-    ensures err { IfErr result (λ fault. (f : ConfigFault) × (checked (settings channel.now tick_ms) ≡ Err f) × (fault ≡ line_fault f)) }
+// A number that a channel before has is told before the rules that are broken.
+fn first_of(twice: bool, rule: u8) -> LineFault
+    ensures { result ≡ (if twice then Twice else Rule rule) }
 {
-    match Config::check(*channel, tick_ms) {
-        Ok(_) => Ok(()),
-        Err(ConfigFault::Range) => Err(LineFault::Range),
-        Err(ConfigFault::Rule(rule)) => Err(LineFault::Rule(rule)),
+    if twice {
+        LineFault::Twice
+    } else {
+        LineFault::Rule(rule)
     }
 }

@@ -1,5 +1,5 @@
 //! What a word of a line may be.
-ghost use Rattle.std.specs.Prelude.{◌≡◌, ◌≤◌, true, IfSome, length, codes, bytes_eq};
+ghost use Rattle.std.specs.Prelude.{◌≡◌, ◌<◌, ◌≤◌, true, IfSome, MatchOption, length, codes, bytes_eq};
 ghost use Rattle.std.specs.List.{list_all};
 ghost use Rattle.std.specs.Str.Parse.{digits_value};
 ghost use Rattle.rams_model.specs.Texts.{is_digit, is_hex_digit, is_hex, is_number, number_in, word32_in, access_in, hex_in, version_in};
@@ -42,6 +42,27 @@ fn decimal_value(word: &[u8]) -> u64
         value = value * 10 + u64::from(digit - b'0');
     }
     value
+}
+
+/// The number in 8 bits, where it fits.
+pub fn narrow8(n: u64) -> Option<u8>
+    ensures { MatchOption result (255 < n) (λ x. x ≡ n) }
+{
+    u8::try_from(n).ok()
+}
+
+/// The number in 16 bits, where it fits.
+pub fn narrow16(n: u64) -> Option<u16>
+    ensures { MatchOption result (65535 < n) (λ x. x ≡ n) }
+{
+    u16::try_from(n).ok()
+}
+
+/// The number in 32 bits, where it fits.
+pub fn narrow32(n: u64) -> Option<u32>
+    ensures { MatchOption result (4294967295 < n) (λ x. x ≡ n) }
+{
+    u32::try_from(n).ok()
 }
 
 /// A number in eight hexadecimal digits.

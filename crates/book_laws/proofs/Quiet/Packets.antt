@@ -6,7 +6,7 @@ use Rattle.std.proofs.lemmas.List.Sums.{sum_by-cons}
 use Rattle.std.proofs.lemmas.Bool.{cond_both, cond-true, cond-false, leb-true, leb-false, le-leb, eq-eqb, and_from}
 use Rattle.rams_model.specs.declared.held.Held.{Held}
 use Rattle.rams_model.specs.Service.{Settings, History, arrivals, hold}
-use Rattle.rams_model.specs.Packets.{hi, wires, from_number, has_number, Follows, is_consecutive, consecutive_end}
+use Rattle.rams_model.specs.Packets.{hi, wires, from_number, Follows, is_consecutive, consecutive_end}
 use Rattle.rams_model.specs.Packets.Source as sources
 use Rattle.rams_model.specs.Laws.{source, AreAtLeast, Rises, IsAmong}
 use Rattle.rams_model.proofs.Rising.{hi_of_end}

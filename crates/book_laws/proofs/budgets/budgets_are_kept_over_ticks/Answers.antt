@@ -1,5 +1,5 @@
 use Rattle.std.proofs.Common.{◌++◌, arith}
-use Rattle.book_laws.proofs.Legality.{legal_moment}
+use Rattle.book_laws.proofs.Moments.{legal_moment}
 use Rattle.book_laws.proofs.Windows.{client_over_ticks, channel_over_ticks}
 use Rattle.book_laws.proofs.MostRates.{gains_within}
 use Rattle.book_laws.proofs.InTicks.{gains_at_rate}

@@ -1,6 +1,6 @@
 use Rattle.std.proofs.Common.{◌∷◌, ◌++◌, arith}
 use Rattle.rams_model.specs.Service.{tick, began}
-use Rattle.book_laws.proofs.Legality.{legal_moment}
+use Rattle.book_laws.proofs.Moments.{legal_moment}
 use Rattle.book_laws.proofs.Windows.{channel_in_tick}
 use Rattle.book_laws.proofs.InTicks.{only_ticks}
 use Rattle.book_laws.proofs.budgets.channels_stay_within_their_budgets.Goals as goal

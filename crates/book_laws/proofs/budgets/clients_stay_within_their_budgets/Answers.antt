@@ -1,7 +1,7 @@
 use Rattle.std.proofs.Common.{◌∷◌, ◌++◌, ap, arith}
 use Rattle.rams_model.specs.Service.{tick, began}
 use Rattle.book_laws.specs.{may_be_sent}
-use Rattle.book_laws.proofs.Legality.{legal_moment}
+use Rattle.book_laws.proofs.Moments.{legal_moment}
 use Rattle.book_laws.proofs.Windows.{client_in_tick}
 use Rattle.book_laws.proofs.budgets.clients_stay_within_their_budgets.Goals as goal
 

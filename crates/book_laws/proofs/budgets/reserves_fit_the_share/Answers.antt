@@ -1,5 +1,5 @@
 use Rattle.std.proofs.Common.{◌∙◌, arith}
-use Rattle.book_laws.proofs.Legality.{legal_moment}
+use Rattle.book_laws.proofs.Moments.{legal_moment}
 use Rattle.book_laws.proofs.BurstAmounts.{opened_open}
 use Rattle.book_laws.proofs.Reserved.{fits, within_share, counts_once}
 use Rattle.book_laws.proofs.budgets.reserves_fit_the_share.Goals as goal

@@ -1,7 +1,7 @@
 use Rattle.std.proofs.Common.{◌∷◌, ◌++◌, arith}
 use Rattle.rams_model.specs.declared.note.Note.TheVariants.{Burst}
 use Rattle.rams_model.specs.Service.{tick, began, noted}
-use Rattle.book_laws.proofs.Legality.{legal_moment}
+use Rattle.book_laws.proofs.Moments.{legal_moment}
 use Rattle.book_laws.proofs.InTicks.{runs_covered, run_covered, runs_first}
 use Rattle.book_laws.proofs.budgets.runs_are_covered.Goals as goal
 

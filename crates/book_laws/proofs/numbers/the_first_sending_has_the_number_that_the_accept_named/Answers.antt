@@ -1,8 +1,8 @@
 use Rattle.std.proofs.Common.{refl, subst}
 use Rattle.rams_model.specs.Formats.{rams_info}
 use Rattle.rams_model.specs.Service.{sequence, accept_info, order_of, datagram}
-use Rattle.book_laws.proofs.Legal.{IsLegal}
-use Rattle.book_laws.proofs.Legality.{legal_moment}
+use Rattle.rams_model.proofs.Legal.{IsLegal}
+use Rattle.book_laws.proofs.Moments.{legal_moment}
 use Rattle.book_laws.proofs.FreshBursts.{Numbered, numbered_moment}
 use Rattle.book_laws.proofs.Sequences.{first_sending, counts}
 use Rattle.book_laws.proofs.numbers.the_first_sending_has_the_number_that_the_accept_named.Goals as goal

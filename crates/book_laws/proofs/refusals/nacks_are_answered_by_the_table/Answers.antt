@@ -1,4 +1,4 @@
-use Rattle.book_laws.proofs.Legality.{legal_moment}
+use Rattle.book_laws.proofs.Moments.{legal_moment}
 use Rattle.book_laws.proofs.NackTable.{nack_answer_true, foreign_true, nack_answered}
 use Rattle.book_laws.proofs.refusals.nacks_are_answered_by_the_table.Goals as goal
 

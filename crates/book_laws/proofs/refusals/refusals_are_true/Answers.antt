@@ -1,4 +1,4 @@
-use Rattle.book_laws.proofs.Legality.{legal_moment}
+use Rattle.book_laws.proofs.Moments.{legal_moment}
 use Rattle.book_laws.proofs.RequestAnswers.{refused_truly}
 use Rattle.book_laws.proofs.refusals.refusals_are_true.Goals as goal
 

@@ -1,6 +1,6 @@
 use Rattle.rams_model.specs.declared.note.Note.TheVariants.{Accept, Update, Again}
 use Rattle.book_laws.specs.Refusals.{table, Applies}
-use Rattle.book_laws.proofs.Legality.{legal_moment}
+use Rattle.book_laws.proofs.Moments.{legal_moment}
 use Rattle.book_laws.proofs.FirstLines.{one_first}
 use Rattle.book_laws.proofs.RequestAnswers.{by_table, answered_exactly}
 use Rattle.book_laws.proofs.refusals.requests_are_answered_by_the_table.Goals as goal

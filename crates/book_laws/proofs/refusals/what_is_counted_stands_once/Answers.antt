@@ -1,4 +1,4 @@
-use Rattle.book_laws.proofs.Legality.{legal_moment}
+use Rattle.book_laws.proofs.Moments.{legal_moment}
 use Rattle.book_laws.proofs.Counting.{counted}
 use Rattle.book_laws.proofs.refusals.what_is_counted_stands_once.Goals as goal
 

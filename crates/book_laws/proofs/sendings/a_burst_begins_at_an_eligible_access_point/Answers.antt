@@ -1,6 +1,6 @@
 use Rattle.std.proofs.Common.{subst}
-use Rattle.book_laws.proofs.Legal.{IsLegal, legal_part}
-use Rattle.book_laws.proofs.Legality.{legal_moment}
+use Rattle.rams_model.proofs.Legal.{IsLegal, legal_part}
+use Rattle.book_laws.proofs.Moments.{legal_moment}
 use Rattle.book_laws.proofs.Beginning.{begins_as_asked}
 use Rattle.book_laws.proofs.sendings.a_burst_begins_at_an_eligible_access_point.Goals as goal
 

@@ -6,8 +6,8 @@ use Rattle.rams_model.specs.Service.{noted, History}
 use Rattle.rams_model.proofs.Since.{stands_from, stands_to}
 use Rattle.rams_model.proofs.LastAccept.{open_stands}
 use Rattle.book_laws.specs.{first_sendings, IsPacketOf}
-use Rattle.book_laws.proofs.Legal.{IsLegal, legal_part}
-use Rattle.book_laws.proofs.Legality.{legal_moment}
+use Rattle.rams_model.proofs.Legal.{IsLegal, legal_part}
+use Rattle.book_laws.proofs.Moments.{legal_moment}
 use Rattle.book_laws.proofs.SinceAccept.{fair_since}
 use Rattle.book_laws.proofs.SentSources.{sent_is_held, sent_is_of_source, all_of_source}
 use Rattle.book_laws.proofs.Stopping.{last_accept_of}

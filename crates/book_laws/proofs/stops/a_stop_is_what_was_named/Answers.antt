@@ -1,4 +1,4 @@
-use Rattle.book_laws.proofs.Legality.{legal_moment}
+use Rattle.book_laws.proofs.Moments.{legal_moment}
 use Rattle.book_laws.proofs.Stopping.{stops_as_named}
 use Rattle.book_laws.proofs.stops.a_stop_is_what_was_named.Goals as goal
 

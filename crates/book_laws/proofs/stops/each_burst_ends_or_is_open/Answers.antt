@@ -3,9 +3,9 @@ use Rattle.std.specs.Prelude.{is_some}
 use Rattle.std.proofs.lemmas.Bool.{true≢false}
 use Rattle.rams_model.specs.Service.{History, has_open}
 use Rattle.book_laws.specs.Stops.{HasEnded}
-use Rattle.book_laws.proofs.Legal.{IsLegal}
-use Rattle.book_laws.proofs.Legality.{legal_moment}
-use Rattle.book_laws.proofs.Beginning.{none_is_open}
+use Rattle.rams_model.proofs.Legal.{IsLegal}
+use Rattle.book_laws.proofs.Moments.{legal_moment}
+use Rattle.rams_model.proofs.Granting.{accept_grants}
 use Rattle.book_laws.proofs.Stopping.{over, ended_or_open}
 use Rattle.book_laws.proofs.Causes.{cause_is_true}
 use Rattle.book_laws.proofs.stops.each_burst_ends_or_is_open.Goals as goal
@@ -20,7 +20,7 @@ returns-clause-causes c s client cause packet before m = let l = legal_moment s 
 
 pub returns-clause-apart : goal.returns-clause-apart
 returns-clause-apart c s client first rate join packet before m e =
-    let none = none_is_open s client first rate join before (legal_moment s _ m).0 in
+    let none = (accept_grants s before client first rate join (legal_moment s _ m).0).2.none in
     true≢false (sym e ∙ ap (λ o. is_some o) none)
 
 pub returns-clause-over : goal.returns-clause-over

@@ -1,8 +1,8 @@
 use Rattle.std.proofs.Common.{subst}
 use Rattle.rams_model.specs.declared.note.Cause.TheVariants.{Stopped}
 use Rattle.book_laws.specs.{first_sendings}
-use Rattle.book_laws.proofs.Legal.{IsLegal}
-use Rattle.book_laws.proofs.Legality.{legal_moment}
+use Rattle.rams_model.proofs.Legal.{IsLegal}
+use Rattle.book_laws.proofs.Moments.{legal_moment}
 use Rattle.book_laws.proofs.SinceAccept.{stop_since, end_since, fair_since}
 use Rattle.book_laws.proofs.Stopping.{stop_is_one, end_is, respected, whole_sent}
 use Rattle.book_laws.proofs.stops.the_stop_is_respected.Goals as goal

@@ -3,11 +3,8 @@ use Rattle.trace_book.specs.{KeepsPromises, served_by}
 use Rattle.rams_replay.proofs.Booking.{none_of, told_all}
 use Rattle.rams_replay.proofs.commands.run.Goals as goal
 
-pub returns-else-is_run-clause-front : goal.returns-else-is_run-clause-front
-returns-else-is_run-clause-front g c = none_of (g.K.Sink.held c.args.sink.now) (g.S.Source.left c.args.source.now)
+pub returns-clause-front : goal.returns-clause-front
+returns-clause-front g c = none_of (g.K.Sink.held c.args.sink.now) (g.S.Source.left c.args.source.now)
 
-pub returns-then-is_run-clause-lawful : goal.returns-then-is_run-clause-lawful
-returns-then-is_run-clause-lawful g c = told_all (g.S.Source.left c.args.source.now) (λ xs. All KeepsPromises (served_by xs)) c.traces_are_served_lawfully.ensures
-
-pub returns-else-is_run-clause-lawful : goal.returns-else-is_run-clause-lawful
-returns-else-is_run-clause-lawful g c = told_all (g.S.Source.left c.args.source.now) (λ xs. All KeepsPromises (served_by xs)) c.traces_are_served_lawfully.ensures
+pub returns-clause-lawful : goal.returns-clause-lawful
+returns-clause-lawful g c = told_all (g.S.Source.left c.args.source.now) (λ xs. All KeepsPromises (served_by xs)) c.traces_are_served_lawfully.ensures

@@ -1,121 +1,42 @@
-use Rattle.std.proofs.Common.{ℕ, Some, List, sym, ◌∙◌, refl, subst}
+use Rattle.std.proofs.Common.{◌≡◌, sym, subst}
 use Rattle.std.proofs.lemmas.Result.{IfOk-weaker}
-use Rattle.server_hub.specs.declared.event.HubEvent.TheVariants as events
-use Rattle.server_hub.specs.Seen.{Seen}
-use Rattle.rams_model.specs.Texts.{head_line, channel_line, live_line, feedback_line, tick_line}
-use Rattle.trace_book.specs.{after_line, counted, eventless, event_of as brought}
-use Rattle.trace_text.specs.declared.line.Line.{Line}
-use Rattle.trace_text.specs.{shown}
+use Rattle.rams_model.specs.Texts.{Reached, tick_of}
+use Rattle.trace_book.specs.{after_line, event_of as brought}
+use Rattle.trace_text.specs.declared.line.Judged.{Judged}
+use Rattle.trace_text.specs.{told, IsSettled}
 use Rattle.rams_replay.specs.declared.replay.Turn.TheVariants.{GoesOn}
 use Rattle.rams_replay.specs.{Comes, Took}
-use Rattle.rams_replay.proofs.Opening.{head_bounds, head_turn, opens_next, opened_turn}
-use Rattle.rams_replay.proofs.Turning.{event_stage, event_has_hub, receiver_turn}
+use Rattle.rams_replay.proofs.Opening.{opens_next, opened_turn}
 use Rattle.rams_replay.proofs.replay.after_line.Goals as goal
 
-pub new-requires-clause-tick_least : goal.new-requires-clause-tick_least
-new-requires-clause-tick_least c =
-    let r = c.args.replay.now in
-    (head_bounds r.hub r.events c.in-Head.version c.in-Head.tick_ms c.in-Head.link r.state c.requires.comes.0
-    (subst (λ (l : Line). Comes r.hub r.events r.state (shown l) c.requires.comes.0) c.in-Head.is c.requires.comes.1)).tick_least
-
-pub new-requires-clause-tick_most : goal.new-requires-clause-tick_most
-new-requires-clause-tick_most c =
-    let r = c.args.replay.now in
-    (head_bounds r.hub r.events c.in-Head.version c.in-Head.tick_ms c.in-Head.link r.state c.requires.comes.0
-    (subst (λ (l : Line). Comes r.hub r.events r.state (shown l) c.requires.comes.0) c.in-Head.is c.requires.comes.1)).tick_most
-
-pub new-requires-clause-link_least : goal.new-requires-clause-link_least
-new-requires-clause-link_least c =
-    let r = c.args.replay.now in
-    (head_bounds r.hub r.events c.in-Head.version c.in-Head.tick_ms c.in-Head.link r.state c.requires.comes.0
-    (subst (λ (l : Line). Comes r.hub r.events r.state (shown l) c.requires.comes.0) c.in-Head.is c.requires.comes.1)).link_least
-
-pub new-requires-clause-link_most : goal.new-requires-clause-link_most
-new-requires-clause-link_most c =
-    let r = c.args.replay.now in
-    (head_bounds r.hub r.events c.in-Head.version c.in-Head.tick_ms c.in-Head.link r.state c.requires.comes.0
-    (subst (λ (l : Line). Comes r.hub r.events r.state (shown l) c.requires.comes.0) c.in-Head.is c.requires.comes.1)).link_most
+settled : (r : Reached) (j k : Judged) → j ≡ k → IsSettled (tick_of r.head) j → IsSettled (tick_of r.head) k
+settled r j k is = subst (IsSettled (tick_of r.head)) is
 
 pub open-requires : goal.open-requires
 open-requires c =
     let r = c.args.replay.now in
-    opens_next r.hub r.events c.in-Channel.version r.state c.in-Channel.channel c.requires.comes.0
-    (subst (λ (l : Line). Comes r.hub r.events r.state (shown l) c.requires.comes.0) c.in-Channel.is c.requires.comes.1)
+    opens_next r.hub r.events c.in-Channel.version r.state c.in-Channel.config c.requires.comes.0 (settled r.state _ _ c.in-Channel.is c.requires.settled)
+    (subst (λ (j : Judged). Comes r.hub r.events r.state (told j) c.requires.comes.0) c.in-Channel.is c.requires.comes.1)
 
-pub serve-requires-clause-there : goal.serve-requires-clause-there
-serve-requires-clause-there c =
-    let r = c.args.replay.now in
-    event_has_hub r.hub r.events r.state (live_line c.in-Live.id c.in-Live.hex.now) c.requires.comes.0
-    (subst (λ (l : Line). Comes r.hub r.events r.state (shown l) c.requires.comes.0) c.in-Live.is c.requires.comes.1) refl
+pub after_other-requires-clause-other : goal.after_other-requires-clause-other
+after_other-requires-clause-other c = (settled c.args.replay.now.state _ _ c.in-Other.is c.requires.settled).0
 
-pub serve-requires-in-Feedback-clause-there : goal.serve-requires-in-Feedback-clause-there
-serve-requires-in-Feedback-clause-there c =
-    let r = c.args.replay.now in
-    event_has_hub r.hub r.events r.state (feedback_line c.in-Feedback.id c.in-Feedback.client c.in-Feedback.hex.now) c.requires.comes.0
-    (subst (λ (l : Line). Comes r.hub r.events r.state (shown l) c.requires.comes.0) c.in-Feedback.is c.requires.comes.1) refl
-
-pub serve-requires-in-Tick-clause-there : goal.serve-requires-in-Tick-clause-there
-serve-requires-in-Tick-clause-there c =
-    let r = c.args.replay.now in
-    event_has_hub r.hub r.events r.state tick_line c.requires.comes.0
-    (subst (λ (l : Line). Comes r.hub r.events r.state (shown l) c.requires.comes.0) c.in-Tick.is c.requires.comes.1) refl
-
-pub returns-in_ok-new-in-Head-clause-turn : goal.returns-in_ok-new-in-Head-clause-turn
-returns-in_ok-new-in-Head-clause-turn c = λ stage number comes.
-    let r = c.args.replay.now in
-    let head = head_line c.in-Head.version c.in-Head.tick_ms c.in-Head.link in
-    let come = subst (λ (l : Line). Comes r.hub r.events r.state (shown l) stage) c.in-Head.is comes in
-    subst (λ (l : Line). Took (after_line stage r.state (shown l) (brought (shown l))) (Some c.in_ok-new-in-Head.field-0) r.events r.state number GoesOn) (sym c.in-Head.is)
-    (subst (λ (v : Seen). Took (eventless stage r.state head) (Some v) r.events r.state number GoesOn) (sym c.in_ok-new-in-Head.ensures.value)
-    (head_turn r.hub r.events c.in-Head.version c.in-Head.tick_ms c.in-Head.link number r.state stage come))
+pub after_other-requires-clause-digits : goal.after_other-requires-clause-digits
+after_other-requires-clause-digits c = (settled c.args.replay.now.state _ _ c.in-Other.is c.requires.settled).1
 
 pub returns-in_ok-open-in-Channel-clause-turn : goal.returns-in_ok-open-in-Channel-clause-turn
 returns-in_ok-open-in-Channel-clause-turn c = λ stage number comes.
     let r = c.args.replay.now in
-    let come = subst (λ (l : Line). Comes r.hub r.events r.state (shown l) stage) c.in-Channel.is comes in
-    subst (λ (l : Line). Took (after_line stage r.state (shown l) (brought (shown l))) c.open.new.hub r.events r.state number GoesOn) (sym c.in-Channel.is)
-    (opened_turn r.hub c.open.new.hub r.events c.in-Channel.version number r.state c.in-Channel.channel stage c.in_ok-open-in-Channel.ensures come)
+    let come = subst (λ (j : Judged). Comes r.hub r.events r.state (told j) stage) c.in-Channel.is comes in
+    subst (λ (j : Judged). Took (after_line stage r.state (told j) (brought (told j))) c.open.new.hub r.events r.state number GoesOn) (sym c.in-Channel.is)
+    (opened_turn r.hub c.open.new.hub r.events c.in-Channel.version number r.state c.in-Channel.config stage (settled r.state _ _ c.in-Channel.is c.requires.settled) c.in_ok-open-in-Channel.ensures come)
 
-pub returns-in_ok-decode_to-in-Live-clause-turn : goal.returns-in_ok-decode_to-in-Live-clause-turn
-returns-in_ok-decode_to-in-Live-clause-turn c =
-    let call = c.serve in
-    let r = c.args.replay.now in
-    let line = live_line c.in-Live.id c.in-Live.hex.now in
-    IfOk-weaker call.result _ _
-    (λ t took stage number comes.
-    let come = subst (λ (l : Line). Comes r.hub r.events r.state (shown l) stage) c.in-Live.is comes in
-    subst (λ (l : Line). Took (after_line stage r.state (shown l) (brought (shown l))) call.new.hub call.new.events r.state number t) (sym c.in-Live.is)
-    (subst (λ (b : List ℕ). Took (counted stage r.state (events.Live c.in-Live.id b)) call.new.hub call.new.events r.state number t)
-    (c.deref.ensures.value ∙ c.in_ok-decode_to-in-Live.ensures)
-    (took (record stage { reached = r.state }) number (event_stage r.hub r.events r.state line stage come refl))))
-    call.ensures.turn
-
-pub returns-in_ok-decode_to-in-Feedback-clause-turn : goal.returns-in_ok-decode_to-in-Feedback-clause-turn
-returns-in_ok-decode_to-in-Feedback-clause-turn c =
-    let call = c.serve-in-Feedback in
-    let r = c.args.replay.now in
-    let line = feedback_line c.in-Feedback.id c.in-Feedback.client c.in-Feedback.hex.now in
-    IfOk-weaker call.result _ _
-    (λ t took stage number comes.
-    let come = subst (λ (l : Line). Comes r.hub r.events r.state (shown l) stage) c.in-Feedback.is comes in
-    subst (λ (l : Line). Took (after_line stage r.state (shown l) (brought (shown l))) call.new.hub call.new.events r.state number t) (sym c.in-Feedback.is)
-    (subst (λ (b : List ℕ). Took (counted stage r.state (events.Feedback c.in-Feedback.id c.in-Feedback.client b)) call.new.hub call.new.events r.state number t)
-    (c.deref-in-Feedback.ensures.value ∙ c.in_ok-decode_to-in-Feedback.ensures)
-    (took (record stage { reached = r.state }) number (event_stage r.hub r.events r.state line stage come refl))))
-    call.ensures.turn
-
-pub returns-in-Tick-clause-turn : goal.returns-in-Tick-clause-turn
-returns-in-Tick-clause-turn c =
-    let call = c.serve-in-Tick in
+pub returns-in-Other-clause-turn : goal.returns-in-Other-clause-turn
+returns-in-Other-clause-turn c =
+    let call = c.after_other in
     let r = c.args.replay.now in
     IfOk-weaker call.result _ _
     (λ t took stage number comes.
-    let come = subst (λ (l : Line). Comes r.hub r.events r.state (shown l) stage) c.in-Tick.is comes in
-    subst (λ (l : Line). Took (after_line stage r.state (shown l) (brought (shown l))) call.new.hub call.new.events r.state number t) (sym c.in-Tick.is)
-    (took (record stage { reached = r.state }) number (event_stage r.hub r.events r.state tick_line stage come refl)))
+    subst (λ (j : Judged). Took (after_line stage r.state (told j) (brought (told j))) call.new.replay.hub call.new.replay.events call.new.replay.state number t) (sym c.in-Other.is)
+    (took stage number (subst (λ (j : Judged). Comes r.hub r.events r.state (told j) stage) c.in-Other.is comes)))
     call.ensures.turn
-
-pub returns-in-Tune-clause-turn : goal.returns-in-Tune-clause-turn
-returns-in-Tune-clause-turn c = λ stage number comes.
-    let r = c.args.replay.now in
-    receiver_turn r.hub r.events number r.state stage c.args.line comes c.in-Tune.is

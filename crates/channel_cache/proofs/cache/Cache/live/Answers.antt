@@ -13,13 +13,13 @@ returns-clause-stands c =
     let bytes = c.args.bytes.now in
     elim c.match-read_live.branch [
       | in-Ok+in_ok-incoming-in-Ok w ↦ (
-          let new = record old { numbering = w.take-note.new.numbering; intake = w.take-note.new.intake } in
+          let new = record old { numbering = w.receive-note.new.numbering; intake = w.receive-note.new.intake } in
           let a = arrival_of w.in_ok-incoming-in-Ok.incoming in
           let heard = subst (λ (ch : Channel). heard_live ch bytes ≡ live a) c.channel-channel.ensures.value (w.in-Ok.ensures.heard ∙ ap live (sym w.in_ok-incoming-in-Ok.ensures.value)) in
-          does c.args.self.now old mid new bytes c.match-read_live.note w.take-note.result c.self.view_is w.self-inside-is w.note-is
-          (took old.config old.calls (old.calls + 1) old.numbering new.numbering old.intake new.intake bytes a w.take-note.result
+          does c.args.self.now old mid new bytes c.match-read_live.note w.receive-note.result c.self.view_is w.self-inside-is w.note-is
+          (took old.config old.calls (old.calls + 1) old.numbering new.numbering old.intake new.intake bytes a w.receive-note.result
           (record { width = c.self.invariant.width; ring = c.self.invariant.ring })
-          (record { width = w.take-note.ensures.width ∙ c.self.invariant.width; ring = w.take-note.ensures.capacity ∙ c.self.invariant.ring }) heard w.take-note.ensures.stands))
+          (record { width = w.receive-note.ensures.grows.width ∙ c.self.invariant.width; ring = w.receive-note.ensures.grows.capacity ∙ c.self.invariant.ring }) heard w.receive-note.ensures.stands))
       | in-Err w ↦ (
           let heard = subst (λ (ch : Channel). heard_live ch bytes ≡ dropped w.in-Err.note) c.channel-channel.ensures.value w.in-Err.ensures.heard in
           does c.args.self.now old mid old bytes c.match-read_live.note w.in-Err.note c.self.view_is w.self-inside-is w.note-is

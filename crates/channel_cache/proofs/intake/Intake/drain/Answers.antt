@@ -15,20 +15,31 @@ push-requires-clause-small c =
     let out = goes_out v.window c.release.new.self (c.in-Some.field-0-0, c.in-Some.held) (sym c.release.ensures.item ∙ c.in-Some.is) c.release.ensures.step in
     (is_next v c.release.new.self (c.in-Some.field-0-0, c.in-Some.held) c.loop-held.invariant.intake out).small
 
+pub push-requires-clause-few : goal.push-requires-clause-few
+push-requires-clause-few c =
+    let v = c.loop-held.self in
+    let out = goes_out v.window c.release.new.self (c.in-Some.field-0-0, c.in-Some.held) (sym c.release.ensures.item ∙ c.in-Some.is) c.release.ensures.step in
+    omega (arith, c.requires.few, c.loop-held.invariant.grows.counted, (is_next v c.release.new.self (c.in-Some.field-0-0, c.in-Some.held) c.loop-held.invariant.intake out).more)
+
 pub loop-held-preserved : goal.loop-held-preserved
 loop-held-preserved c =
     let v = c.loop-held.self in
     let w = c.release.new.self in
     let e : ℕ × Held = (c.in-Some.field-0-0, c.in-Some.held) in
     let out = goes_out v.window w e (sym c.release.ensures.item ∙ c.in-Some.is) c.release.ensures.step in
+    let next = is_next v w e c.loop-held.invariant.intake out in
+    let grew = c.loop-held.invariant.grows in
     let capacity = ap (λ (s : stocks.Seen). s.ring.capacity) c.push.ensures.step in
     let some : 1 ≤ v.stock.ring.capacity = omega (arith, c.push.ensures.ring.room, capacity) in
     record {
       intake = one_out v w c.push.new.self.ring c.push.new.self.pushes e c.loop-held.invariant.intake some out (ap (λ (s : stocks.Seen). s.ring) c.push.ensures.step);
       window = out.rest ∙ ap (λ (x : windows.Seen Held). record x { kept = w.kept }) c.loop-held.invariant.window;
-      capacity = capacity ∙ c.loop-held.invariant.capacity;
-      grows = omega (arith, c.loop-held.invariant.grows, (is_next v w e c.loop-held.invariant.intake out).above, ap (λ (s : stocks.Seen). hi s.ring.held) c.push.ensures.step, pushed_end v.stock.ring e.1 some);
-      few = omega (arith, c.loop-held.invariant.few, (is_next v w e c.loop-held.invariant.intake out).more, ap (λ (s : stocks.Seen). s.pushes) c.push.ensures.step);
+      grows = record {
+        width = ap (λ (x : windows.Seen Held). x.width) out.rest ∙ grew.width;
+        capacity = capacity ∙ grew.capacity;
+        end = omega (arith, grew.end, next.above, ap (λ (s : stocks.Seen). hi s.ring.held) c.push.ensures.step, pushed_end v.stock.ring e.1 some);
+        counted = omega (arith, grew.counted, next.more, ap (λ (s : stocks.Seen). s.pushes) c.push.ensures.step);
+      };
       stands = λ before s out waits holds.
           let h = c.loop-held.invariant.stands before s out waits holds in
           one_held w v.stock.ring c.push.new.self.ring before s h.out e (c.in-Some.ensures.stands s h.out h.waits) (c.push.ensures.stands (before ++ packets_of h.out) h.holds);

@@ -1,10 +1,9 @@
-use Rattle.std.proofs.Common.{◌≡◌, ℕ, ◌+◌, ◌≤◌, List, ◌++◌, length}
+use Rattle.std.proofs.Common.{◌≡◌, ℕ, List, ◌++◌, length}
 use Rattle.rams_model.specs.declared.held.Held.{Held}
-use Rattle.rams_model.specs.Packets.{hi}
 use Rattle.packet_ring.specs.Seen as rings
 use Rattle.reorder_window.specs.{Start}
 use Rattle.reorder_window.specs.Seen as windows
-use Rattle.channel_cache.specs.{packets_of, IsIntake}
+use Rattle.channel_cache.specs.{packets_of, IsIntake, Grows}
 use Rattle.channel_cache.proofs.Draining.{IsHolding}
 use Rattle.channel_cache.proofs.intake.Intake.drain.Given as goal
 
@@ -12,9 +11,7 @@ abbrev pub invariant-loop-held : goal.invariant-loop-held
 invariant-loop-held l = record {
   intake : IsIntake l.self;
   window : l.self.window ≡ record l.fn.self.window { kept = l.self.window.kept };
-  capacity : l.self.stock.ring.capacity ≡ l.fn.self.stock.ring.capacity;
-  grows : hi l.fn.self.stock.ring.held ≤ hi l.self.stock.ring.held;
-  few : l.self.stock.pushes + length l.self.window.kept ≡ l.fn.self.stock.pushes + length l.fn.self.window.kept;
+  grows : Grows l.fn.self l.self 0;
   stands : (before : List Held) (s : Start Held) (out : List (ℕ × Held)) → windows.StandsFor l.fn.self.window s out → rings.StandsFor l.fn.self.stock.ring (before ++ packets_of out) → IsHolding l.self.window l.self.stock.ring before s;
 }
 

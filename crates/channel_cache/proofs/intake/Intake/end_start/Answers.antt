@@ -1,7 +1,8 @@
-use Rattle.std.proofs.Common.{◌∙◌, ap}
+use Rattle.std.proofs.Common.{length, ◌∙◌, ap, arith}
 use Rattle.rams_model.specs.declared.held.Held.{Held}
 use Rattle.reorder_window.specs.{released}
 use Rattle.reorder_window.specs.Seen as windows
+use Rattle.channel_cache.proofs.Settling.{grows_then, window_grows}
 use Rattle.channel_cache.proofs.Placing.{ended_holds}
 use Rattle.channel_cache.proofs.intake.Intake.end_start.Goals as goal
 
@@ -12,3 +13,11 @@ returns-clause-stands c = λ before s held.
     let out = released v.width v.ended s in
     let ended = ap (λ (x : windows.Seen Held). x.ended) c.drain.ensures.window ∙ ap (λ (x : windows.Seen Held). x.ended) c.end_start.ensures.step in
     ended_holds w c.drain.new.self.stock.ring before s ended (c.drain.ensures.stands before s out (c.end_start.ensures.stands s out held.waits) held.holds).holds
+
+pub returns-clause-grows : goal.returns-clause-grows
+returns-clause-grows c =
+    let v = c.args.self.now in
+    let w = c.end_start.new.self in
+    let step = c.end_start.ensures.step in
+    let ended = window_grows v w 0 (ap (λ (x : windows.Seen Held). x.width) step) (omega (arith, ap (λ (x : windows.Seen Held). length x.kept) step)) in
+    grows_then v (record v { window = w }) c.drain.new.self 0 0 ended c.drain.ensures.grows

@@ -8,4 +8,4 @@ pub returns-clause-stands : goal.returns-clause-stands
 returns-clause-stands c = λ window arrivals a is stood.
     let v = c.args.self.now in
     let after = subst (λ (s : ℕ). StandsFor (moved v s (noted (numbered v.greatest v.kept s))) window (a ∷ arrivals)) is (stands_after v window arrivals a stood) in
-    subst (λ (w : Seen). StandsFor w window (a ∷ arrivals)) (sym (c.take.ensures.step ∙ ap (λ x. moved v c.args.seq x) c.take.ensures.number)) after
+    subst (λ (w : Seen). StandsFor w window (a ∷ arrivals)) (sym (c.advance.ensures.step ∙ ap (λ x. moved v c.args.seq x) c.advance.ensures.number)) after

@@ -8,8 +8,8 @@ use Rattle.reorder_window.proofs.window.Window.arrive.Goals as goal
 pub returns-clause-stands : goal.returns-clause-stands
 returns-clause-stands g c = λ s out stood.
     let v = c.args.self.now in (
-      c.take.ensures.came ∙ came_same v s out c.args.n c.requires.going stood,
-      subst (λ (w : Seen g.row.T.Denot). StandsFor w (start_after s c.args.n c.args.item c.take.result) out) (sym c.take.ensures.step)
-          (subst (λ (r : Came). StandsFor (arrived v c.args.n c.args.item r) (start_after s c.args.n c.args.item r) out) (sym c.take.ensures.came)
-          (arrived_stands v s out c.args.n c.args.item c.take.ensures.was c.requires.going c.requires.settled stood)),
+      c.keep_in_time.ensures.came ∙ came_same v s out c.args.n c.requires.going stood,
+      subst (λ (w : Seen g.row.T.Denot). StandsFor w (start_after s c.args.n c.args.item c.keep_in_time.result) out) (sym c.keep_in_time.ensures.step)
+          (subst (λ (r : Came). StandsFor (arrived v c.args.n c.args.item r) (start_after s c.args.n c.args.item r) out) (sym c.keep_in_time.ensures.came)
+          (arrived_stands v s out c.args.n c.args.item c.keep_in_time.ensures.was c.requires.going c.requires.settled stood)),
     )

@@ -8,6 +8,6 @@ use Rattle.reorder_window.proofs.window.Window.release.Goals as goal
 pub returns-clause-stands : goal.returns-clause-stands
 returns-clause-stands g c = λ s out stood.
     let v = c.args.self.now in
-    subst (λ (w : Seen g.row.T.Denot). MatchOption c.take_first.result (out ≡ released v.width v.ended s) (λ e. StandsFor w s (out ++ e ∷ []))) (sym c.take_first.ensures.step)
-    (subst (λ (r : Option (ℕ × g.row.T.Denot)). MatchOption r (out ≡ released v.width v.ended s) (λ e. StandsFor (after_release v) s (out ++ e ∷ []))) (sym c.take_first.ensures.item)
-    (release_stands v s out c.take_first.ensures.was stood))
+    subst (λ (w : Seen g.row.T.Denot). MatchOption c.pop_free.result (out ≡ released v.width v.ended s) (λ e. StandsFor w s (out ++ e ∷ []))) (sym c.pop_free.ensures.step)
+    (subst (λ (r : Option (ℕ × g.row.T.Denot)). MatchOption r (out ≡ released v.width v.ended s) (λ e. StandsFor (after_release v) s (out ++ e ∷ []))) (sym c.pop_free.ensures.item)
+    (release_stands v s out c.pop_free.ensures.was stood))

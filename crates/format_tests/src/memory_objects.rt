@@ -1,0 +1,226 @@
+//! The objects in memory, and those over std, called through their traits.
+ghost use Rattle.std.specs.Prelude.{All, IfOk};
+ghost use Rattle.ram_io.specs.{IsFromClient};
+
+use ram_io::{
+    Arrival, Clock, Failed, Gate, Incoming, MemClock, MemSink, MemSource, MemWire, Octets, Open,
+    Sink, Source, StdSink, StdSource, Wire,
+};
+use std::alloc::{AllocError, Global};
+use std::fmt::Write as _;
+use std::io;
+use std::io::{ErrorKind, Read, Write};
+use std::test::Fail;
+
+/// The answers of six calls with a buffer of `size` bytes, at most 8.
+fn six_takes<S: Source>(alloc: Global, source: &mut S, size: usize) -> Result<String, AllocError> {
+    let mut text = String::new(alloc);
+    let mut buf = [0u8; 8];
+    if size == 0 || 8 < size {
+        return Ok(text);
+    }
+    for _ in 0..6 {
+        match source.take(&mut buf[..size]) {
+            Ok(count) => write!(text, "{:?}", &buf[..count])?,
+            Err(Failed) => write!(text, "Failed")?,
+        }
+    }
+    Ok(text)
+}
+
+/// A reader and writer whose calls are interrupted.
+#[derive(Drop)]
+struct Broken;
+
+impl Read for Broken {
+    fn read(&mut self, _buf: &mut [u8]) -> io::Result<usize> {
+        Err(io::Error::from(ErrorKind::Interrupted))
+    }
+}
+
+impl Write for Broken {
+    fn write(&mut self, _buf: &[u8]) -> io::Result<usize> {
+        Err(io::Error::from(ErrorKind::Interrupted))
+    }
+
+    fn flush(&mut self) -> io::Result<()> {
+        Ok(())
+    }
+}
+
+/// The most that a call gives of 1, 2, 3, 4, 5, the size of the buffer, the two calls that fail, and
+/// the answers.
+const SOURCES: [(usize, usize, [u64; 2], &str); 4] = [
+    (9, 8, [7, 7], "[1, 2, 3, 4, 5][][][][][]"),
+    (9, 2, [7, 7], "[1, 2][3, 4][5][][][]"),
+    (2, 8, [7, 7], "[1, 2][3, 4][5][][][]"),
+    (3, 8, [1, 4], "[1, 2, 3]Failed[4, 5][]Failed[]"),
+];
+
+#[test]
+fn sources_give_their_bytes(rt: HostRuntime) -> Result<(), Fail> {
+    let alloc = rt.alloc();
+    for (most, size, fails, want) in SOURCES {
+        if most == 0 {
+            continue;
+        }
+        let bytes = [1u8, 2, 3, 4, 5].to_vec(alloc)?;
+        let mut source = MemSource::new(bytes, most, fails.to_vec(alloc)?);
+        assert_eq!(rt; six_takes(alloc, &mut source, size)?.as_str(), want);
+    }
+    let mut source = StdSource::new([1u8, 2, 3].as_slice());
+    let got = six_takes(alloc, &mut source, 2)?;
+    assert_eq!(rt; got.as_str(), "[1, 2][3][][][][]");
+    let mut source = StdSource::new(Broken);
+    let got = six_takes(alloc, &mut source, 2)?;
+    assert_eq!(rt; got.as_str(), "FailedFailedFailedFailedFailedFailed");
+    Ok(())
+}
+
+/// The answers of calls with what is left of "abcdefg", at most six of them.
+fn six_puts<K: Sink>(alloc: Global, sink: &mut K) -> Result<String, AllocError> {
+    let mut text = String::new(alloc);
+    let mut rest = b"abcdefg".as_slice();
+    for _ in 0..6 {
+        if rest.is_empty() {
+            break;
+        }
+        match sink.put(rest) {
+            Ok(count) => {
+                write!(text, "{count} ")?;
+                rest = &rest[count..];
+            }
+            Err(Failed) => write!(text, "Failed ")?,
+        }
+    }
+    Ok(text)
+}
+
+/// The room, the most that a call takes, the two calls that fail, the answers, and what went out.
+const SINKS: [(usize, usize, [u64; 2], &str, &[u8]); 4] = [
+    (7, 9, [9, 9], "7 ", b"abcdefg"),
+    (7, 3, [9, 9], "3 3 1 ", b"abcdefg"),
+    (5, 3, [9, 9], "3 2 Failed Failed Failed Failed ", b"abcde"),
+    (9, 4, [1, 2], "4 Failed Failed 3 ", b"abcdefg"),
+];
+
+#[test]
+fn sinks_take_bytes(rt: HostRuntime) -> Result<(), Fail> {
+    let alloc = rt.alloc();
+    for (room, most, fails, want, held) in SINKS {
+        if most == 0 {
+            continue;
+        }
+        let mut sink = MemSink::new(alloc, room, most, fails.to_vec(alloc)?)?;
+        assert_eq!(rt; six_puts(alloc, &mut sink)?.as_str(), want);
+        assert_eq!(rt; sink.held(), held);
+    }
+    let mut room = [0u8; 4];
+    let mut sink = StdSink::new(room.as_mut_slice());
+    let got = six_puts(alloc, &mut sink)?;
+    assert_eq!(rt; got.as_str(), "4 Failed Failed Failed Failed Failed ");
+    assert_eq!(rt; room.as_slice(), b"abcd".as_slice());
+    let mut sink = StdSink::new(Broken);
+    let got = six_puts(alloc, &mut sink)?;
+    assert_eq!(rt; got.as_str(), "Failed Failed Failed Failed Failed Failed ");
+    Ok(())
+}
+
+/// "abc" to port 9, nothing, and 2,003 bytes to port 7, of which the last four are 1, 2, 2 and 2.
+fn arrivals(alloc: Global) -> Result<Vec<Incoming>, AllocError>
+    ensures { IfOk result (λ v. All IsFromClient v.items) }
+{
+    let mut long = vec![in alloc; 1u8; 2_000]?;
+    long.extend_from_slice(&[2, 2, 2])?;
+    let arrivals = vec![in alloc;
+        Incoming::Datagram {
+            from: 5,
+            port: 9,
+            bytes: Octets::of(b"abc".to_vec(alloc)?),
+        },
+        Incoming::Nothing,
+        Incoming::Datagram {
+            from: 0xffff_ffff_ffff,
+            port: 7,
+            bytes: Octets::of(long),
+        },
+    ]?;
+    Ok(arrivals)
+}
+
+/// The answers of six calls of `receive`, each with the first and the last byte of its datagram.
+fn six_receives<W: Wire>(alloc: Global, wire: &mut W) -> Result<String, AllocError> {
+    let mut text = String::new(alloc);
+    let mut buf = [0u8; 2_000];
+    for _ in 0..6 {
+        match wire.receive(&mut buf) {
+            Ok(None) => write!(text, "None ")?,
+            Ok(Some(Arrival { from, port, len })) => {
+                let ends = (buf[..len].first(), buf[..len].last());
+                write!(text, "{from} to {port}: {len} {ends:?} ")?;
+            }
+            Err(Failed) => write!(text, "Failed ")?,
+        }
+    }
+    Ok(text)
+}
+
+#[test]
+fn a_wire_receives(rt: HostRuntime) -> Result<(), Fail> {
+    let alloc = rt.alloc();
+    let mut wire = MemWire::new(alloc, arrivals(alloc)?, 0, 0, [1, 2].to_vec(alloc)?)?;
+    let got = six_receives(alloc, &mut wire)?;
+    let want = "5 to 9: 3 (Some(97), Some(99)) Failed Failed None \
+        281474976710655 to 7: 2000 (Some(1), Some(1)) None ";
+    assert_eq!(rt; got.as_str(), want);
+    Ok(())
+}
+
+const PIECES: [&[u8]; 4] = [b"ab", b"cdef", b"cde", b""];
+
+/// Room for bytes and for datagrams, the call that fails, which of the pieces go out, and their
+/// bytes.
+const SENDS: [(usize, usize, u64, [bool; 4], &[u8]); 4] = [
+    (9, 4, 9, [true, true, true, true], b"abcdefcde"),
+    (5, 2, 9, [true, false, true, false], b"abcde"),
+    (4, 4, 9, [true, false, false, true], b"ab"),
+    (9, 4, 0, [false, true, true, true], b"cdefcde"),
+];
+
+#[test]
+fn a_wire_sends(rt: HostRuntime) -> Result<(), Fail> {
+    let alloc = rt.alloc();
+    for (room, datagrams, fails, want, bytes) in SENDS {
+        let fails = [fails].to_vec(alloc)?;
+        let mut wire = MemWire::new(alloc, Vec::new(alloc), room, datagrams, fails)?;
+        for i in 0..4 {
+            assert_eq!(rt; wire.send(5, 9, PIECES[i]).is_ok(), want[i], "{i}");
+        }
+        for sent in wire.sent() {
+            assert_eq!(rt; (sent.to, sent.port), (5, 9));
+        }
+        assert_eq!(rt; wire.sent_bytes(), bytes);
+    }
+    Ok(())
+}
+
+/// The answers of five calls.
+fn five_moments<C: Clock>(alloc: Global, clock: &mut C) -> Result<String, AllocError> {
+    let mut text = String::new(alloc);
+    for _ in 0..5 {
+        write!(text, "{} ", clock.now_ms())?;
+    }
+    Ok(text)
+}
+
+#[test]
+fn a_clock_repeats_its_last_moment(rt: HostRuntime) -> Result<(), Fail> {
+    let alloc = rt.alloc();
+    let mut clock = MemClock::new([3, 5, 9].to_vec(alloc)?);
+    assert_eq!(rt; five_moments(alloc, &mut clock)?.as_str(), "3 5 9 9 9 ");
+    let mut clock = MemClock::new(Vec::new(alloc));
+    assert_eq!(rt; five_moments(alloc, &mut clock)?.as_str(), "0 0 0 0 0 ");
+    Open.enter(0, 0);
+    Open.drawing(0, u64::MAX);
+    Ok(())
+}

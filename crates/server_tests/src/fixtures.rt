@@ -1,0 +1,69 @@
+//! A channel's settings, and the bytes of what comes to it.
+use channel_config::{Access, Channel};
+use std::alloc::{AllocError, Global};
+
+/// The media source of the channel.
+pub const SOURCE: u32 = 0x1122_3344;
+
+/// The SSRC of a client.
+pub const SENDER: u32 = 0x0000_c001;
+
+/// A RAMS-R without TLVs (RFC 6285, 7.2).
+pub const REQUEST: [u32; 4] = [
+    0x86cd_0003, // v=2, p=0, FMT=6 (RAMS), RTPFB, length 3
+    SENDER, // sender
+    SOURCE, // media source
+    0x0100_0000, // SFMT=1 (RAMS-R)
+];
+
+/// A RAMS-T that names number 1 after nine wraps (RFC 6285, 7.4).
+pub const STOP: [u32; 6] = [
+    0x86cd_0005, // v=2, p=0, FMT=6 (RAMS), RTPFB, length 5
+    SENDER, // sender
+    SOURCE, // media source
+    0x0300_0000, // SFMT=3 (RAMS-T)
+    0x3d00_0004, // TLV 61 (first multicast packet), length 4
+    0x0009_0001, // nine wraps, number 1
+];
+
+/// A BYE (RFC 3550, 6.6).
+pub const BYE: [u32; 2] = [
+    0x81cb_0001, // v=2, p=0, count=1, BYE, length 1
+    SENDER, // its SSRC
+];
+
+/// The first word of a generic NACK of one entry (RFC 4585, 6.2.1): v=2, p=0, FMT=1, RTPFB, length 3.
+pub const NACK: u32 = 0x81cd_0003;
+
+/// Settings of a channel.
+pub const CHANNEL: Channel = Channel {
+    id: 7,
+    ssrc: SOURCE,
+    pt: 33,
+    rtx: 99,
+    server: 0xaabb_ccdd,
+    seq0: 500,
+    ring: 64,
+    window: 0,
+    access: Access::Marker,
+    share: 10000,
+    reserve: 1500,
+    burst: 4000,
+    declared: 100,
+    minwire: 42,
+    limit: 100,
+    idle: 100,
+    clients: 4,
+    depth: 0,
+    swell: 0,
+};
+
+/// Words in network byte order, with so many zeros behind them.
+pub fn bytes_of(alloc: Global, words: &[u32], zeros: usize) -> Result<Vec<u8>, AllocError> {
+    let mut bytes = Vec::new(alloc);
+    for word in words {
+        bytes.extend_from_slice(&word.to_be_bytes())?;
+    }
+    bytes.extend_from_slice(&vec![in alloc; 0u8; zeros]?)?;
+    Ok(bytes)
+}

@@ -1,0 +1,122 @@
+//! Two channels, worked out by hand.
+ghost use Rattle.std.specs.Prelude.{◌≡◌, ◌+◌, ◌<◌, OnOk, length};
+
+use crate::fixtures::CHANNEL;
+use crate::row::Given::{Asks, Start, Tick};
+use crate::row::{Given, event_of, text_of};
+use channel_config::{Channel, Config};
+use rams_model::Event;
+use server_hub::{AddFault, At, Hub, HubAnswer, HubEvent};
+use std::alloc::Global;
+use std::fmt::Write;
+use std::process::Abort;
+use std::test::Fail;
+
+/// The channel that an event names, the event, and the notes of each channel that answers it.
+type Step = (u16, Given, &'static str);
+
+const STEPS: [Step; 6] = [
+    (7, Start(10, 0, 4), "7 [Live(Took(65546))]\n"),
+    (8, Start(20, 0, 4), "8 [Live(Took(65556))]\n"),
+    (9, Start(10, 0, 4), "no channel 9"),
+    (
+        7,
+        Asks(5, &[]),
+        "7 [Accept { client: 5, first: 65546, rate: 4000, join: 1 }]\n",
+    ),
+    (9, Asks(5, &[]), "no channel 9"),
+    (
+        0,
+        Tick,
+        "7 [Burst { client: 5, n: 65546, seq: 500 }]\n8 []\n",
+    ),
+];
+
+/// A channel of this number and share is added to the hub.
+fn add(rt: &impl Abort, alloc: Global, hub: &mut Hub, id: u16, share: u64) -> Result<(), AddFault>
+    ensures { hub.new.calls ≡ hub.old.calls }
+{
+    let settings = Channel {
+        id,
+        share,
+        ..CHANNEL
+    };
+    let config = Config::check(settings, hub.tick_ms()).expect(rt, "lawful settings");
+    assert_eq!(rt; config.tick_ms(), hub.tick_ms());
+    hub.add(alloc, config)
+}
+
+fn event_at(alloc: Global, id: u16, given: Given) -> Result<HubEvent, Fail> {
+    Ok(match event_of(alloc, given)? {
+        Event::Live(bytes) => HubEvent::Live { id, bytes },
+        Event::Feedback { client, bytes } => HubEvent::Feedback { id, client, bytes },
+        Event::Tick => HubEvent::Tick,
+    })
+}
+
+/// What is answered, as text.
+fn text(alloc: Global, answer: &HubAnswer) -> Result<String, Fail> {
+    let mut text = String::new(alloc);
+    match answer {
+        HubAnswer::NoChannel(id) => write!(text, "no channel {id}")?,
+        HubAnswer::Answers(answers) => write_all(alloc, &mut text, answers)?,
+    }
+    Ok(text)
+}
+
+fn write_all(alloc: Global, text: &mut String, answers: &[At]) -> Result<(), Fail> {
+    for at in answers {
+        writeln!(text, "{} {}", at.id, text_of(alloc, &at.answer)?)?;
+    }
+    Ok(())
+}
+
+fn expect_steps(rt: &impl Abort, alloc: Global, hub: &mut Hub, steps: &[Step]) -> Result<(), Fail>
+    requires { hub.old.calls + length steps.now < 100 }
+{
+    for (id, given, expected) in steps {
+        let event = event_at(alloc, *id, *given)?;
+        let answer = hub.step(alloc, &event)?;
+        assert_eq!(rt; text(alloc, &answer)?.as_str(), *expected);
+    }
+    Ok(())
+}
+
+// Each event goes to its channel alone, and a tick to both.
+#[test]
+fn events_go_to_their_channels(rt: HostRuntime) -> Result<(), Fail> {
+    let alloc = rt.alloc();
+    let mut hub = Hub::new(alloc, 10, 100_000)?;
+    assert_eq!(rt; (hub.tick_ms(), hub.link()), (10, 100_000));
+    assert_eq!(rt; add(&rt, alloc, &mut hub, 7, 10_000), Ok(()));
+    assert_eq!(rt; add(&rt, alloc, &mut hub, 8, 10_000), Ok(()));
+    expect_steps(&rt, alloc, &mut hub, &STEPS)?;
+    assert_eq!(rt; hub.hi(7), Some(65547));
+    assert_eq!(rt; hub.hi(9), None);
+    Ok(())
+}
+
+// The first of the faults is the one that is answered: 64 channels, then a number that is known, then
+// the link.
+#[test]
+fn refused_channels(rt: HostRuntime) -> Result<(), Fail> {
+    let alloc = rt.alloc();
+    let mut hub = Hub::new(alloc, 10, 64 * 6_000)?;
+    for id in 1..=63 {
+        assert_eq!(rt; add(&rt, alloc, &mut hub, id, 6_000), Ok(()));
+    }
+    let cases: [(u16, u64, Result<(), AddFault>); 5] = [
+        (63, 6_001, Err(AddFault::Twice)),
+        (64, 6_001, Err(AddFault::Link)),
+        (64, 6_000, Ok(())),
+        (65, 6_000, Err(AddFault::Full)),
+        (1, 6_000, Err(AddFault::Full)),
+    ];
+    for (id, share, expected) in cases {
+        assert_eq!(rt; add(&rt, alloc, &mut hub, id, share), expected);
+    }
+    let last = hub.config(64).map(|config| config.channel().id);
+    assert_eq!(rt; last, Some(64));
+    assert_eq!(rt; hub.config(65).is_none(), true);
+    Ok(())
+}

@@ -1,0 +1,143 @@
+//! What a row of a table is, and how it is run.
+ghost use Rattle.std.specs.Prelude.{◌≡◌, ◌+◌, ◌<◌, ◌≤◌, ◌^◌, IfOk, OnOk, length};
+
+use crate::fixtures::{REQUEST, SOURCE, bytes_of};
+use channel_config::{Channel, Config};
+use rams_model::{Answer, Event, Info, Octets, Order};
+use session_core::{Core, Stepped};
+use std::alloc::{AllocError, Global};
+use std::process::Abort;
+use std::test::Fail;
+
+/// What comes to a channel.
+#[derive(Clone, Copy, Debug)]
+pub enum Given {
+    /// A packet of its source with the marker (RFC 3550, 5.1): its sequence number, its timestamp, and
+    /// the zeros behind its header. Its retransmission takes 42 bytes more than the zeros.
+    Start(u16, u32, usize),
+    /// One without the marker.
+    Next(u16, u32, usize),
+    /// A client's RTCP packets, in words, as one datagram.
+    Heard(u64, &'static [&'static [u32]]),
+    /// A client's RAMS-R with these TLVs (RFC 6285, 7.2), in words.
+    Asks(u64, &'static [u32]),
+    Tick,
+}
+
+/// What comes, what is noted of it, how many datagrams are sent, and what a client is told.
+pub type Row = (Given, &'static str, usize, Option<Info>);
+
+/// A packet's first word is the one given, but for its number.
+fn packet(
+    alloc: Global,
+    first: u32,
+    number: u16,
+    timestamp: u32,
+    zeros: usize,
+) -> Result<Octets, AllocError> {
+    let words = [first | u32::from(number), timestamp, SOURCE];
+    Ok(Octets::of(bytes_of(alloc, &words, zeros)?))
+}
+
+/// Packets of a client as one datagram.
+fn joined(alloc: Global, packets: &[&[u32]]) -> Result<Vec<u8>, AllocError> {
+    let mut bytes = Vec::new(alloc);
+    for words in packets {
+        bytes.extend_from_slice(&bytes_of(alloc, words, 0)?)?;
+    }
+    Ok(bytes)
+}
+
+/// A RAMS-R with these TLVs.
+fn request(alloc: Global, tlvs: &[u32]) -> Result<Vec<u8>, Fail> {
+    let [first, sender, source, kind] = REQUEST;
+    let length = u32::try_from(tlvs.len())?;
+    let head = [first.saturating_add(length), sender, source, kind];
+    let mut bytes = bytes_of(alloc, &head, 0)?;
+    bytes.extend_from_slice(&bytes_of(alloc, tlvs, 0)?)?;
+    Ok(bytes)
+}
+
+/// The event of a channel to which this comes.
+pub fn event_of(alloc: Global, given: Given) -> Result<Event, Fail> {
+    Ok(match given {
+        // v=2, p=0, x=0, cc=0, marker or none, payload type 33.
+        Given::Start(number, timestamp, zeros) => {
+            Event::Live(packet(alloc, 0x80a1_0000, number, timestamp, zeros)?)
+        }
+        Given::Next(number, timestamp, zeros) => {
+            Event::Live(packet(alloc, 0x8021_0000, number, timestamp, zeros)?)
+        }
+        Given::Heard(client, packets) => Event::Feedback {
+            client,
+            bytes: Octets::of(joined(alloc, packets)?),
+        },
+        Given::Asks(client, tlvs) => Event::Feedback {
+            client,
+            bytes: Octets::of(request(alloc, tlvs)?),
+        },
+        Given::Tick => Event::Tick,
+    })
+}
+
+/// What a client is told, in the first order that tells something.
+pub fn told(answer: &Answer) -> Option<Info> {
+    answer.orders.iter().find_map(|order| match order {
+        Order::Info { info, .. } => Some(*info),
+        Order::Rtx { .. } => None,
+    })
+}
+
+/// What is noted, as text.
+pub fn text_of(alloc: Global, answer: &Answer) -> Result<String, Fail> {
+    Ok(format!(in alloc; "{:?}", answer.notes)?)
+}
+
+/// A channel to which nothing came.
+pub fn core(alloc: Global, channel: Channel) -> Result<Core, Fail>
+    ensures { IfOk result (λ core. core.calls ≡ 0) }
+{
+    let config = Config::check(channel, 10)?;
+    Ok(Core::new(alloc, &config)?)
+}
+
+/// What comes is answered by this.
+pub fn answer_to<S: Stepped>(alloc: Global, stepped: &mut S, given: Given) -> Result<Answer, Fail>
+    requires { S.calls stepped.old < 2 ^ 40 }
+    ensures { OnOk result (S.calls stepped.new ≡ S.calls stepped.old + 1) }
+{
+    let event = event_of(alloc, given)?;
+    Ok(stepped.step(alloc, &event)?)
+}
+
+/// Each row's event is answered as it says.
+pub fn expect<S: Stepped>(
+    rt: &impl Abort,
+    alloc: Global,
+    stepped: &mut S,
+    rows: &[Row],
+) -> Result<(), Fail>
+    requires { S.calls stepped.old + length rows.now < 2 ^ 40 }
+    ensures { OnOk result (S.calls stepped.new ≤ S.calls stepped.old + length rows.now) }
+{
+    for (given, notes, orders, info) in rows {
+        let answer = answer_to(alloc, stepped, *given)?;
+        let noted = text_of(alloc, &answer)?;
+        assert_eq!(rt; (noted.as_str(), answer.orders.len()), (*notes, *orders));
+        assert_eq!(rt; told(&answer), *info, "{notes}");
+    }
+    Ok(())
+}
+
+/// The same, from a channel's first event on.
+pub fn expect_all(
+    rt: &impl Abort,
+    alloc: Global,
+    channel: Channel,
+    rows: &[Row],
+) -> Result<(), Fail>
+    requires { length rows.now < 2 ^ 40 }
+{
+    let mut core = core(alloc, channel)?;
+    expect(rt, alloc, &mut core, rows)
+}

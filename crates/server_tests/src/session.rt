@@ -1,0 +1,58 @@
+//! A channel's events, worked out by hand.
+use crate::fixtures::{BYE, CHANNEL, NACK, SENDER, SOURCE, STOP};
+use crate::row::Given::{Asks, Heard, Next, Start, Tick};
+use crate::row::{Row, core, expect};
+use rams_model::Info;
+use std::test::Fail;
+
+/// A repair is sent behind the burst; what the burst will send isn't repaired.
+const EVENTS: [Row; 7] = [
+    (Start(65534, 0, 4), "[Live(Took(131070))]", 0, None),
+    (Next(65535, 900, 4), "[Live(Took(131071))]", 0, None),
+    (
+        Heard(5, &[&[NACK, SENDER, SOURCE, 0xffff_0000]]), // 65535
+        "[Queued { client: 5, n: 131071 }]",
+        0,
+        None,
+    ),
+    (
+        Asks(5, &[]),
+        "[Accept { client: 5, first: 131070, rate: 4000, join: 1 }]",
+        1,
+        Some(Info {
+            msn: 0,
+            code: 200,
+            first: Some(500),
+            join_ms: Some(10),
+            length_ms: Some(1000),
+            bps: Some(3_200_000),
+        }),
+    ),
+    (
+        Heard(5, &[&[NACK, SENDER, SOURCE, 0xfffe_0000]]), // 65534
+        "[Early { client: 5, n: 131070 }]",
+        0,
+        None,
+    ),
+    (
+        Tick,
+        "[Burst { client: 5, n: 131070, seq: 500 }, Burst { client: 5, n: 131071, seq: 501 }, Repair { client: 5, n: 131071, seq: 502 }]",
+        3,
+        None,
+    ),
+    (
+        Heard(5, &[&STOP, &BYE]),
+        "[StopAt { client: 5, n: 131073 }, Bye { client: 5 }, End { client: 5, cause: Bye }]",
+        0,
+        None,
+    ),
+];
+
+#[test]
+fn a_channel_answers(rt: HostRuntime) -> Result<(), Fail> {
+    let mut core = core(rt.alloc(), CHANNEL)?;
+    expect(&rt, rt.alloc(), &mut core, &EVENTS)?;
+    assert_eq!(rt; *core.config().channel(), CHANNEL);
+    assert_eq!(rt; (core.lo(), core.hi()), (131070, 131072));
+    Ok(())
+}

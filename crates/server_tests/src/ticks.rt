@@ -1,0 +1,223 @@
+//! Ticks of a channel, worked out by hand.
+use crate::fixtures::{CHANNEL, NACK, SENDER, SOURCE, STOP};
+use crate::row::Given::{Asks, Heard, Next, Start, Tick};
+use crate::row::{Row, expect_all};
+use channel_config::{Channel, Config};
+use rams_model::Info;
+use std::test::Fail;
+use tick_core::{Parts, commit_tick, plan_tick};
+
+/// What a client is told of a burst of 4,000 bytes a tick, which lasts 1,000 ms at most.
+const ACCEPTED: Info = Info {
+    msn: 0,
+    code: 200,
+    first: Some(500),
+    join_ms: Some(10),
+    length_ms: Some(1000),
+    bps: Some(3_200_000),
+};
+
+/// What it is told of the end.
+const COMPLETED: Info = Info {
+    msn: 1,
+    code: 201,
+    first: None,
+    join_ms: None,
+    length_ms: None,
+    bps: None,
+};
+
+/// A burst sends what fits, and ends at its stop.
+const STOPPED: [Row; 7] = [
+    (Start(65534, 0, 4), "[Live(Took(131070))]", 0, None),
+    (Next(65535, 900, 4), "[Live(Took(131071))]", 0, None),
+    (Next(0, 1800, 4), "[Live(Took(131072))]", 0, None),
+    (Next(1, 2700, 4), "[Live(Took(131073))]", 0, None),
+    (
+        Asks(5, &[]),
+        "[Accept { client: 5, first: 131070, rate: 4000, join: 1 }]",
+        1,
+        Some(ACCEPTED),
+    ),
+    (
+        Heard(5, &[&STOP]),
+        "[StopAt { client: 5, n: 131073 }]",
+        0,
+        None,
+    ),
+    (
+        Tick,
+        "[Burst { client: 5, n: 131070, seq: 500 }, Burst { client: 5, n: 131071, seq: 501 }, Burst { client: 5, n: 131072, seq: 502 }, End { client: 5, cause: Stopped }]",
+        4,
+        Some(COMPLETED),
+    ),
+];
+
+/// Packets of 1,500 bytes. Each tick gives the burst 2,999 bytes beside what it kept: it has 2,999, 4,498
+/// and 4,497. Then it has caught up.
+const KEPT: [Row; 10] = [
+    (Start(10, 0, 1458), "[Live(Took(65546))]", 0, None),
+    (Next(11, 900, 1458), "[Live(Took(65547))]", 0, None),
+    (Next(12, 1800, 1458), "[Live(Took(65548))]", 0, None),
+    (Next(13, 2700, 1458), "[Live(Took(65549))]", 0, None),
+    (Next(14, 3600, 1458), "[Live(Took(65550))]", 0, None),
+    (
+        Asks(5, &[]),
+        "[Accept { client: 5, first: 65546, rate: 2999, join: 3 }]",
+        1,
+        Some(Info {
+            join_ms: Some(30),
+            bps: Some(2_399_200),
+            ..ACCEPTED
+        }),
+    ),
+    (Tick, "[Burst { client: 5, n: 65546, seq: 500 }]", 1, None),
+    (
+        Tick,
+        "[Burst { client: 5, n: 65547, seq: 501 }, Burst { client: 5, n: 65548, seq: 502 }]",
+        2,
+        None,
+    ),
+    (
+        Tick,
+        "[Burst { client: 5, n: 65549, seq: 503 }, Burst { client: 5, n: 65550, seq: 504 }]",
+        2,
+        None,
+    ),
+    (Tick, "[]", 0, None),
+];
+
+/// A ring of four packets: of six the first two are gone.
+const LOST: [Row; 9] = [
+    (Start(10, 0, 4), "[Live(Took(65546))]", 0, None),
+    (Next(11, 900, 4), "[Live(Took(65547))]", 0, None),
+    (
+        Asks(5, &[]),
+        "[Accept { client: 5, first: 65546, rate: 4000, join: 1 }]",
+        1,
+        Some(ACCEPTED),
+    ),
+    (
+        Heard(6, &[&[NACK, SENDER, SOURCE, 0x000a_0000]]), // number 10
+        "[Queued { client: 6, n: 65546 }]",
+        0,
+        None,
+    ),
+    (Next(12, 1800, 4), "[Live(Took(65548))]", 0, None),
+    (Next(13, 2700, 4), "[Live(Took(65549))]", 0, None),
+    (Next(14, 3600, 4), "[Live(Took(65550))]", 0, None),
+    (Next(15, 4500, 4), "[Live(Took(65551))]", 0, None),
+    (
+        Tick,
+        "[End { client: 5, cause: Lost }, Gone { client: 6, n: 65546 }]",
+        1,
+        Some(Info {
+            code: 502,
+            ..COMPLETED
+        }),
+    ),
+];
+
+/// Bursts of one tick, which are served by rising client.
+const LAST_TICK: [Row; 4] = [
+    (Start(10, 0, 4), "[Live(Took(65546))]", 0, None),
+    (
+        Asks(6, &[]),
+        "[Accept { client: 6, first: 65546, rate: 4000, join: 1 }]",
+        1,
+        Some(Info {
+            length_ms: Some(10),
+            ..ACCEPTED
+        }),
+    ),
+    (
+        Asks(5, &[]),
+        "[Accept { client: 5, first: 65546, rate: 4000, join: 1 }]",
+        1,
+        Some(Info {
+            length_ms: Some(10),
+            ..ACCEPTED
+        }),
+    ),
+    (
+        Tick,
+        "[Burst { client: 5, n: 65546, seq: 500 }, End { client: 5, cause: Limit }, Burst { client: 6, n: 65546, seq: 500 }, End { client: 6, cause: Limit }]",
+        4,
+        Some(COMPLETED),
+    ),
+];
+
+/// Of 1,600 bytes a tick 1,500 are taken; the second packet waits, and the small one behind it doesn't.
+/// A client is forgotten in its second tick without a pending repair.
+const REPAIRED: [Row; 8] = [
+    (Start(10, 0, 1458), "[Live(Took(65546))]", 0, None),
+    (Next(11, 900, 1458), "[Live(Took(65547))]", 0, None),
+    (Next(12, 1800, 4), "[Live(Took(65548))]", 0, None),
+    (
+        Heard(5, &[&[NACK, SENDER, SOURCE, 0x000a_0003]]), // numbers 10 to 12
+        "[Queued { client: 5, n: 65546 }, Queued { client: 5, n: 65547 }, Queued { client: 5, n: 65548 }]",
+        0,
+        None,
+    ),
+    (
+        Tick,
+        "[Repair { client: 5, n: 65546, seq: 500 }, Repair { client: 5, n: 65548, seq: 501 }]",
+        2,
+        None,
+    ),
+    (Tick, "[Repair { client: 5, n: 65547, seq: 502 }]", 1, None),
+    (Tick, "[]", 0, None),
+    (Tick, "[Forgot { client: 5 }]", 0, None),
+];
+
+#[test]
+fn bursts_and_repairs_are_sent(rt: HostRuntime) -> Result<(), Fail> {
+    let kept = Channel {
+        burst: 2999,
+        declared: 0,
+        minwire: 1500,
+        depth: 1499,
+        ..CHANNEL
+    };
+    let few = Channel {
+        ring: 4,
+        minwire: 100,
+        ..CHANNEL
+    };
+    let slow = Channel {
+        burst: 1600,
+        idle: 2,
+        ..CHANNEL
+    };
+    expect_all(&rt, rt.alloc(), CHANNEL, &STOPPED)?;
+    expect_all(&rt, rt.alloc(), kept, &KEPT)?;
+    expect_all(&rt, rt.alloc(), few, &LOST)?;
+    expect_all(
+        &rt,
+        rt.alloc(),
+        Channel {
+            limit: 1,
+            ..CHANNEL
+        },
+        &LAST_TICK,
+    )?;
+    expect_all(&rt, rt.alloc(), slow, &REPAIRED)
+}
+
+// Ticks of a channel to which nothing came: its budget keeps up to the swell.
+#[test]
+fn quiet_ticks(rt: HostRuntime) -> Result<(), Fail> {
+    let settings = Channel {
+        swell: 1400,
+        ..CHANNEL
+    };
+    let mut parts = Parts::new(rt.alloc(), &Config::check(settings, 10)?)?;
+    let first = plan_tick(rt.alloc(), &parts)?;
+    assert_eq!(rt; (first.answer.notes.len(), first.done.len()), (0, 0));
+    commit_tick(&mut parts, &first);
+    assert_eq!(rt; parts.budget.left(), 10000);
+    let second = plan_tick(rt.alloc(), &parts)?;
+    commit_tick(&mut parts, &second);
+    assert_eq!(rt; parts.budget.left(), 11400);
+    Ok(())
+}

@@ -1,0 +1,59 @@
+//! Payloads of TS packets, written by hand (ISO/IEC 13818-1, 2.4.3).
+use std::alloc::{AllocError, Global};
+use std::test::Fail;
+use ts_access::has_access;
+
+// The first six bytes of a TS packet: sync byte, packet identifier 0, control byte, length of the
+// adaptation field, its flags.
+const FLAGGED: [u8; 6] = [0x47, 0x40, 0x00, 0x20, 0x01, 0x40];
+
+// Payloads, each as the first bytes of its pieces and how long they are with the zeros behind, and
+// whether one of their packets has the flag.
+const PAYLOADS: [(&[(&[u8], usize)], bool); 17] = [
+    (&[(&FLAGGED, 188)], true),
+    // no adaptation field
+    (&[(&[0x47, 0x40, 0x00, 0x10, 0x01, 0x40], 188)], false),
+    // one without bytes
+    (&[(&[0x47, 0x40, 0x00, 0x20, 0x00, 0x40], 188)], false),
+    // all flags but this one, and all
+    (&[(&[0x47, 0x40, 0x00, 0x20, 0x01, 0xbf], 188)], false),
+    (&[(&[0x47, 0x40, 0x00, 0x20, 0x01, 0xff], 188)], true),
+    // an adaptation field and a payload
+    (&[(&[0x47, 0x40, 0x00, 0x30, 0x01, 0x40], 188)], true),
+    (&[(&[0x47, 0x40, 0x00, 0xff, 0xff, 0x40], 188)], true),
+    (&[(&[0x47, 0x40, 0x00, 0xdf, 0x01, 0x40], 188)], false),
+    // another byte in place of the sync byte
+    (&[(&[0x46, 0x40, 0x00, 0x20, 0x01, 0x40], 188)], false),
+    (&[], false),
+    // a shorter rest isn't looked at
+    (&[(&FLAGGED, 187)], false),
+    (&[(&[], 188), (&FLAGGED, 187)], false),
+    (&[(&FLAGGED, 6)], false),
+    // the second and the seventh packet
+    (&[(&[], 188), (&FLAGGED, 188)], true),
+    (&[(&[], 1128), (&FLAGGED, 188)], true),
+    (&[(&FLAGGED, 188), (&[], 100)], true),
+    // not where a packet begins
+    (&[(&[], 1), (&FLAGGED, 376)], false),
+];
+
+// The bytes of a payload.
+fn payload(alloc: Global, pieces: &[(&[u8], usize)]) -> Result<Vec<u8>, AllocError> {
+    let mut bytes = Vec::new(alloc);
+    for (head, len) in pieces {
+        bytes.extend_from_slice(head)?;
+        for _ in head.len()..*len {
+            bytes.push(0)?;
+        }
+    }
+    Ok(bytes)
+}
+
+#[test]
+fn a_flag_in_a_whole_packet_is_found(rt: HostRuntime) -> Result<(), Fail> {
+    for (i, (pieces, want)) in PAYLOADS.iter().enumerate() {
+        let bytes = payload(rt.alloc(), pieces)?;
+        assert_eq!(rt; has_access(&bytes), *want, "payload {i}");
+    }
+    Ok(())
+}

@@ -1,0 +1,61 @@
+//! Packets under rising numbers, and those of them that are held.
+use bytes::Bytes;
+use packet_ring::{Held, Ring};
+use std::alloc::{AllocError, Global};
+use std::process::Abort;
+use std::test::Fail;
+
+// So many packets at most, the numbers that are put in, and the interval that is held then.
+const ROWS: [(u32, &[u64], u64, u64); 10] = [
+    (4, &[], 0, 0),
+    (1, &[65546, 65547, 65548], 65548, 65549),
+    (1, &[65546, 65547, 65550], 65550, 65551),
+    (4, &[65546, 65547], 65546, 65548),
+    (4, &[65546, 65547, 65548, 65549], 65546, 65550),
+    // the oldest go
+    (4, &[65546, 65547, 65548, 65549, 65550, 65551], 65548, 65552),
+    // all others go at a gap, before the ring is full and after
+    (4, &[65546, 65547, 65549], 65549, 65550),
+    (4, &[65546, 65547, 65548, 65549, 65550, 85551], 85551, 85552),
+    (4, &[65546, 65548, 65549, 65550, 65551, 65552], 65549, 65553),
+    // around the wrap of the sequence number
+    (2, &[131070, 131071, 131072], 131071, 131073),
+];
+
+// The packet of a number; its bytes are the number's.
+fn packet(alloc: Global, n: u64) -> Result<Held, AllocError> {
+    Ok(Held {
+        n,
+        ts: (n % 65536) as u32,
+        wire: 38,
+        access: n % 4 == 0,
+        packet: Bytes::copy_from_slice(alloc, &n.to_be_bytes())?,
+    })
+}
+
+// The numbers from `lo` up to `hi` are held, each with its own packet, and none around them is.
+fn expect_held(rt: &impl Abort, ring: &Ring, lo: u64, hi: u64) {
+    assert_eq!(rt; (ring.lo(), ring.hi()), (lo, hi));
+    for n in lo..hi {
+        let held = ring.get(n).expect(rt, "a packet within");
+        assert_eq!(rt; held.packet.as_slice(), n.to_be_bytes().as_slice(), "{n}");
+    }
+    for n in [0, lo.wrapping_sub(1), hi, hi.wrapping_add(1), u64::MAX] {
+        assert!(rt; ring.get(n).is_none(), "{n} of {lo} to {hi}");
+    }
+}
+
+#[test]
+fn the_last_packets_are_held(rt: HostRuntime) -> Result<(), Fail> {
+    for (capacity, numbers, lo, hi) in ROWS {
+        assert!(rt; capacity >= 1);
+        let mut ring = Ring::new(rt.alloc(), capacity)?;
+        for n in numbers {
+            let held = packet(rt.alloc(), *n)?;
+            assert!(rt; ring.hi() <= held.n && held.n < 1 << 62, "{n}");
+            ring.push(held);
+        }
+        expect_held(&rt, &ring, lo, hi);
+    }
+    Ok(())
+}

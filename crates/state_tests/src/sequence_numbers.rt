@@ -1,0 +1,96 @@
+//! Sequence numbers as the channel meets them (RFC 3550, A.1), and numbers named by 16 bits.
+use ext_seq::{Noted, Numbering, age_ms, least_from, resolve_in};
+
+// Lists of sequence numbers, each with what it becomes. A list goes to a numbering of its own.
+const LISTS: [&[(u16, Noted)]; 5] = [
+    // around the wrap, then a restart
+    &[
+        (65535, Noted::First(131071)),
+        (0, Noted::Forward(131072)),
+        (65534, Noted::Behind(131070)),
+        (20000, Noted::Jump),
+        (20001, Noted::Restart(151073)),
+        (20001, Noted::Forward(151073)),
+        // the restart's own number is not kept
+        (30002, Noted::Jump),
+        (20002, Noted::Forward(151074)),
+    ],
+    // the farthest forward and the nearest jump, on either side
+    &[(0, Noted::First(65536)), (2999, Noted::Forward(68535))],
+    &[
+        (0, Noted::First(65536)),
+        (3000, Noted::Jump),
+        (3001, Noted::Restart(68537)),
+    ],
+    &[
+        (0, Noted::First(65536)),
+        (65436, Noted::Jump),
+        (65437, Noted::Behind(65437)),
+    ],
+    // packets within reach don't change what is kept; a restart forgets it
+    &[
+        (10, Noted::First(65546)),
+        (20010, Noted::Jump),
+        (11, Noted::Forward(65547)),
+        (20011, Noted::Restart(85547)),
+        (23010, Noted::Forward(88546)),
+        (20011, Noted::Jump),
+        (40000, Noted::Jump),
+        (20012, Noted::Jump),
+    ],
+];
+
+// An interval of numbers, 16 bits, and the number in it that they name.
+const RESOLVED: [(u64, u64, u16, Option<u64>); 8] = [
+    (65546, 65546, 10, None),
+    (65546, 65547, 10, Some(65546)),
+    (65546, 65547, 11, None),
+    // across the wrap
+    (131070, 131074, 1, Some(131073)),
+    (131070, 131074, 2, None),
+    (131070, 131074, 65533, None),
+    // an interval with each of the 65,536
+    (65546, 131082, 9, Some(131081)),
+    (65546, 131082, 10, Some(65546)),
+];
+
+// A number, 16 bits, and the least number from there on that they name.
+const LEAST: [(u64, u16, u64); 4] = [
+    (65546, 10, 65546),
+    (65546, 9, 131081),
+    (131071, 0, 131072),
+    (9223372036854775807, 65534, 9223372036854841342),
+];
+
+// Two timestamps, and by how many ms the second is older.
+const AGES: [(u32, u32, u32); 5] = [
+    (18000, 0, 200),
+    (18089, 0, 200),
+    (90, 90, 0),
+    (89, 4294967295, 1),
+    (0, 90, 47721857),
+];
+
+#[test]
+fn sequence_numbers_are_extended(rt: HostRuntime) {
+    for list in LISTS {
+        assert!(rt; list.len() < 100);
+        let mut numbering = Numbering::new();
+        for (seq, want) in list {
+            assert_eq!(rt; numbering.note(*seq), *want, "{seq}");
+        }
+    }
+}
+
+#[test]
+fn numbers_are_found_and_ages_go_around(rt: HostRuntime) {
+    for (lo, hi, low, want) in RESOLVED {
+        assert_eq!(rt; resolve_in(lo, hi, low), want, "{low} in {lo} to {hi}");
+    }
+    for (first, low, want) in LEAST {
+        assert_eq!(rt; least_from(first, low), want, "{low} from {first}");
+    }
+    for (newer, older, want) in AGES {
+        assert_eq!(rt; age_ms(newer, older), want, "{older} before {newer}");
+    }
+}
