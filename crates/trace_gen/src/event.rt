@@ -1,0 +1,54 @@
+//! The events of a seed, one after another.
+ghost use Rattle.std.specs.Prelude.{◌≡◌, [], IfNone, IfOk, OnErr, option_map};
+ghost use Rattle.trace_gen.specs.{left, with_first, event_on};
+
+use crate::made::Made;
+use crate::page::Kind;
+use ram_io::NoMemory;
+use rams_model::Event;
+use std::alloc::Global;
+
+/// The next event of `blocks` blocks of a seed, and `None` exactly after the last. After want of
+/// memory, and after the last, `at` is as before.
+pub fn event_of(
+    alloc: Global,
+    seed: u32,
+    blocks: u32,
+    at: &mut Made,
+) -> Result<Option<Event>, NoMemory>
+    requires { at.old.seed ≡ seed }
+    ensures next { IfOk result (λ event. left at.old blocks ≡ with_first event (left at.new blocks)) }
+    ensures last { IfOk result (λ event. IfNone event ((left at.old blocks ≡ []) × (at.new ≡ at.old))) }
+    ensures seed { at.new.seed ≡ seed }
+    ensures same { OnErr result (at.new ≡ at.old) }
+{
+    let mut page = Vec::new(alloc);
+    let kind = event_into(blocks, at, &mut page)?;
+    Ok(kind.map(|kind| kind.with_bytes(page)))
+}
+
+/// `event_of`, its bytes on a page, of which nothing stays.
+#[tactic(auto, using(crate::proofs::Coming::none_comes, crate::proofs::Coming::packet_comes, crate::proofs::Coming::request_comes, crate::proofs::Coming::nack_comes, crate::proofs::Coming::stop_comes, crate::proofs::Coming::tick_comes))]
+pub fn event_into(blocks: u32, at: &mut Made, page: &mut Vec<u8>) -> Result<Option<Kind>, NoMemory>
+    ensures next { IfOk result (λ kind. left at.old blocks ≡ with_first (option_map (λ k. event_on k page.new.items) kind) (left at.new blocks)) }
+    ensures last { IfOk result (λ kind. IfNone kind ((left at.old blocks ≡ []) × (at.new ≡ at.old))) }
+    ensures seed { at.new.seed ≡ at.old.seed }
+    ensures same { OnErr result (at.new ≡ at.old) }
+{
+    page.clear();
+    if at.block() >= blocks {
+        return Ok(None);
+    }
+    if at.has_packets() {
+        return Ok(Some(at.packet(page)?));
+    }
+    if at.has_feedback() {
+        match at.block() % 4 {
+            1 => return Ok(Some(at.request(page)?)),
+            2 => return Ok(Some(at.nack(page)?)),
+            3 => return Ok(Some(at.stop(page)?)),
+            _ => (),
+        }
+    }
+    Ok(Some(at.tick()))
+}

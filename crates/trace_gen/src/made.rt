@@ -1,0 +1,187 @@
+//! How far the events of a seed have come, and the next of each kind.
+ghost use Rattle.std.specs.Prelude.{◌≡◌, ◌≢◌, ◌+◌, ◌%◌, ◌^◌, ◌<◌, ◌≤◌, ◌==◌, nat_lt, [], OnOk, OnErr, IfOk};
+ghost use Rattle.trace_gen.specs.{event_on};
+ghost use Rattle.trace_gen.specs.declared.page.Kind.TheVariants as kind;
+
+use crate::channel::MEDIA;
+use crate::draw::{drawn, stepped};
+use crate::packet::append_packet;
+use crate::page::Kind;
+use ram_io::NoMemory;
+use rams_model::Stop;
+use rams_tlv::{Request, append_request, append_stop};
+use rtcp_feedback::append_nack;
+use std::marker::Model;
+
+/// Packets of a block.
+const PACKETS: u8 = 10;
+
+/// A RAMS-R without TLVs.
+const PLAIN: Request<'static> = Request {
+    ssrcs: None,
+    min_ms: None,
+    max_ms: None,
+    bps: None,
+    preamble: false,
+};
+
+/// How many of the events of a seed have come.
+pub struct Made {
+    seed: u32,
+    /// The state of the draws.
+    state: u64,
+    /// Whole blocks that have come.
+    block: u32,
+    /// Events of the next block that have come.
+    events: u8,
+    /// The client that is drawn in every fourth block.
+    client: u32,
+}
+
+impl Model for Made {
+    ghost use Rattle.trace_gen.specs.{Place, place, IsPlace};
+
+    ghost Value = { Place };
+
+    ghost view = { λ m. place m.seed m.block m.events };
+
+    ghost invariant = { λ m. IsPlace (place m.seed m.block m.events) m.state m.client };
+}
+
+impl Made {
+    ghost use Rattle.std.specs.Prelude.{ℕ};
+    ghost use Rattle.trace_gen.specs.{Place, place, left, made, packet, request, nack, stop};
+
+    /// None of the events of this seed.
+    #[tactic(auto, unfolding(crate::specs::Draws::state))]
+    pub fn new(seed: u32) -> Made
+        ensures value { result ≡ place seed 0 0 }
+        ensures all { (blocks : ℕ) → left result blocks ≡ made seed blocks }
+    {
+        Made {
+            seed,
+            state: u64::from(seed),
+            block: 0,
+            events: 0,
+            client: 0,
+        }
+    }
+
+    /// The number of the block that has begun, from 0.
+    pub(crate) fn block(&self) -> u32
+        ensures { result ≡ self.now.block }
+    {
+        self.block
+    }
+
+    /// Whether packets of the block are still to come.
+    pub(crate) fn has_packets(&self) -> bool
+        ensures { result ≡ nat_lt self.now.events 10 }
+    {
+        self.events < PACKETS
+    }
+
+    /// Whether all of the block but its feedback and its tick has come.
+    pub(crate) fn has_feedback(&self) -> bool
+        ensures value { result ≡ (self.now.events == 10) }
+        ensures within { self.now.events ≤ 11 }
+        ensures behind { self.now.events ≡ 11 → self.now.block % 4 ≢ 0 }
+    {
+        self.events == PACKETS
+    }
+
+    /// The next packet.
+    #[tactic(auto, using(crate::proofs::Drawing::state_more, crate::proofs::Drawing::draws_in), unfolding(crate::specs::Generated::packet))]
+    pub(crate) fn packet(&mut self, page: &mut Vec<u8>) -> Result<Kind, NoMemory>
+        requires page { page.old.items ≡ [] }
+        requires next { self.old.events < 10 }
+        ensures event { IfOk result (λ kind. event_on kind page.new.items ≡ packet self.old.seed self.old.block self.old.events) }
+        ensures place { OnOk result (self.new ≡ place self.old.seed self.old.block (self.old.events + 1)) }
+        ensures same { OnErr result (self.new ≡ self.old) }
+    {
+        let state = stepped(self.state);
+        let i = 10 * u64::from(self.block) + u64::from(self.events);
+        append_packet(page, i, 100 + (drawn(state) % 1300) as usize)?;
+        self.state = state;
+        self.events += 1;
+        Ok(Kind::Live)
+    }
+
+    /// The request of the block, of a client that is drawn.
+    #[tactic(auto, using(crate::proofs::Drawing::state_more, crate::proofs::Drawing::draws_in, crate::proofs::Drawing::draws_behind, crate::proofs::Drawing::client_drawn), unfolding(crate::specs::Generated::request))]
+    pub(crate) fn request(&mut self, page: &mut Vec<u8>) -> Result<Kind, NoMemory>
+        requires page { page.old.items ≡ [] }
+        requires next { self.old.events ≡ 10 }
+        requires block { self.old.block % 4 ≡ 1 }
+        ensures event { IfOk result (λ kind. event_on kind page.new.items ≡ request self.old.seed self.old.block) }
+        ensures place { OnOk result (self.new ≡ place self.old.seed self.old.block 11) }
+        ensures same { OnErr result (self.new ≡ self.old) }
+    {
+        let state = stepped(self.state);
+        let client = 1 + (drawn(state) % 64) as u32;
+        append_request(page, client, MEDIA, &PLAIN)?;
+        self.state = state;
+        self.client = client;
+        self.events = PACKETS + 1;
+        Ok(of_client(client))
+    }
+
+    /// The NACK of the block, of a number that is drawn.
+    #[tactic(auto, using(crate::proofs::Drawing::state_more, crate::proofs::Drawing::draws_in, crate::proofs::Drawing::draws_behind), unfolding(crate::specs::Generated::nack))]
+    pub(crate) fn nack(&mut self, page: &mut Vec<u8>) -> Result<Kind, NoMemory>
+        requires page { page.old.items ≡ [] }
+        requires next { self.old.events ≡ 10 }
+        requires block { self.old.block % 4 ≡ 2 }
+        ensures event { IfOk result (λ kind. event_on kind page.new.items ≡ nack self.old.seed self.old.block) }
+        ensures place { OnOk result (self.new ≡ place self.old.seed self.old.block 11) }
+        ensures same { OnErr result (self.new ≡ self.old) }
+    {
+        let state = stepped(self.state);
+        let newest = 10 * u64::from(self.block) + 9;
+        let lost = (newest + 65536 - drawn(state) % 200) % 65536;
+        append_nack(page, self.client, MEDIA, &[lost as u16])?;
+        self.state = state;
+        self.events = PACKETS + 1;
+        Ok(of_client(self.client))
+    }
+
+    /// The RAMS-T of the block.
+    #[tactic(auto, using(crate::proofs::Drawing::draws_in, crate::proofs::Drawing::draws_behind_stop), unfolding(crate::specs::Generated::stop))]
+    pub(crate) fn stop(&mut self, page: &mut Vec<u8>) -> Result<Kind, NoMemory>
+        requires page { page.old.items ≡ [] }
+        requires next { self.old.events ≡ 10 }
+        requires block { self.old.block % 4 ≡ 3 }
+        ensures event { IfOk result (λ kind. event_on kind page.new.items ≡ stop self.old.seed self.old.block) }
+        ensures place { OnOk result (self.new ≡ place self.old.seed self.old.block 11) }
+        ensures same { OnErr result (self.new ≡ self.old) }
+    {
+        let stop = Stop {
+            first_multicast: None,
+        };
+        append_stop(page, self.client, MEDIA, &stop)?;
+        self.events = PACKETS + 1;
+        Ok(of_client(self.client))
+    }
+
+    /// The tick that ends the block.
+    pub(crate) fn tick(&mut self) -> Kind
+        requires block { self.old.block + 1 < 2 ^ 32 }
+        requires last { 10 ≤ self.old.events }
+        requires whole { self.old.events ≡ 10 → self.old.block % 4 ≡ 0 }
+        ensures kind { result ≡ kind.Tick }
+        ensures place { self.new ≡ place self.old.seed (self.old.block + 1) 0 }
+    {
+        self.block += 1;
+        self.events = 0;
+        Kind::Tick
+    }
+}
+
+/// A datagram of this client.
+fn of_client(client: u32) -> Kind
+    ensures { result ≡ kind.Feedback client }
+{
+    Kind::Feedback {
+        client: u64::from(client),
+    }
+}

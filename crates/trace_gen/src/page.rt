@@ -1,0 +1,32 @@
+//! Events whose bytes stand on a page that is used again.
+ghost use Rattle.std.specs.Prelude.{◌≡◌};
+ghost use Rattle.trace_gen.specs.{event_on};
+
+use rams_model::{Event, Octets};
+
+/// What an event is, beside its bytes.
+#[derive(Clone, Copy, Debug, PartialEq, Eq)]
+pub enum Kind {
+    /// A packet of the multicast.
+    Live,
+    /// A datagram to the feedback target from this client.
+    Feedback { client: u64 },
+    /// A tick, which has no bytes.
+    Tick,
+}
+
+impl Kind {
+    /// The event of this kind with these bytes. Takes no memory.
+    pub fn with_bytes(self, bytes: Vec<u8>) -> Event
+        ensures { result ≡ event_on self bytes.items }
+    {
+        match self {
+            Kind::Live => Event::Live(Octets::of(bytes)),
+            Kind::Feedback { client } => Event::Feedback {
+                client,
+                bytes: Octets::of(bytes),
+            },
+            Kind::Tick => Event::Tick,
+        }
+    }
+}
