@@ -1,5 +1,5 @@
 //! The cache of one channel.
-ghost use Rattle.std.specs.Prelude.{◌≡◌, ◌+◌, ◌^◌, ◌<◌, ◌≤◌, ◌↔◌, List, [], Some, ◌∷◌, option_copied, length, IfOk, IfSome, IsSome, OnOk, OnErr};
+ghost use Rattle.std.specs.Prelude.{◌≡◌, ◌+◌, ◌^◌, ◌<◌, ◌≤◌, ◌↔◌, List, [], Some, ◌∷◌, option_copied, IfOk, IfSome, IsSome, OnOk, OnErr};
 ghost use Rattle.rams_model.specs.Packets.{chosen, lo, hi, Arrival, live_note, stream_of};
 ghost use Rattle.packet_ring.specs.{packet_of, IsRing};
 ghost use Rattle.access_index.specs.{choice_of};

@@ -1,5 +1,5 @@
 //! Packets that come in time, on their way into the stock.
-ghost use Rattle.std.specs.Prelude.{◌≡◌, ℕ, ◌+◌, ◌^◌, ◌<◌, ◌≤◌, List, [], ◌∷◌, ◌++◌, None, true, false, length, IfOk};
+ghost use Rattle.std.specs.Prelude.{◌≡◌, ℕ, ◌+◌, ◌^◌, ◌<◌, ◌≤◌, List, [], ◌∷◌, ◌++◌, None, true, IfOk};
 ghost use Rattle.rams_model.specs.declared.held.Held.{Held};
 ghost use Rattle.rams_model.specs.Packets.{hi};
 ghost use Rattle.packet_ring.specs.Seen as rings;
