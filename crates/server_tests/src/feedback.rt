@@ -1,14 +1,9 @@
 //! Worked answers to datagrams.
-ghost use Rattle.std.specs.Prelude.{◌+◌, ◌<◌, ◌≤◌, ◌^◌, OnOk, length};
-
 use crate::fixtures::{BYE, CHANNEL, NACK, REQUEST, SENDER, SOURCE, STOP};
 use crate::row::Given::{Asks, Heard, Next, Start};
-use crate::row::{Row, answer_to, core, expect, expect_all, text_of, told};
+use crate::row::{Row, expect_all};
 use channel_config::Channel;
-use rams_model::{Info, Note};
-use session_core::Core;
-use std::alloc::Global;
-use std::process::Abort;
+use rams_model::Info;
 use std::test::Fail;
 
 const RECEIVER_REPORT: [u32; 2] = [
@@ -32,8 +27,8 @@ const PLAIN_STOP: [u32; 4] = [
 
 const UNREADABLE_STOP: [u32; 6] = [
     0x86cd_0005, // v=2, p=0, FMT=6 (RAMS), RTPFB, length 5
-    SENDER,      // sender
-    SOURCE,      // media source
+    SENDER, // sender
+    SOURCE, // media source
     0x0300_0000, // SFMT=3 (RAMS-T)
     0x3d00_0002, // TLV 61 (first multicast packet), length 2 in place of 4
     0x0001_0000, // number 1, padding
@@ -49,10 +44,10 @@ const ACCEPTED: Info = Info {
     bps: Some(3_200_000),
 };
 
-/// A code alone.
-const COMPLETED: Info = Info {
+/// A code alone: 400 in a message of its own.
+const REFUSED: Info = Info {
     msn: 0,
-    code: 201,
+    code: 400,
     first: None,
     join_ms: None,
     length_ms: None,
@@ -175,6 +170,12 @@ const TOO_SLOW: [u32; 3] = [0x0400_0008, 0, 1_279_999];
 /// 3,200 bytes a tick.
 const FAST: [u32; 3] = [0x0400_0008, 0, 2_560_000];
 
+const ACCEPTED_SLOW: Info = Info {
+    join_ms: Some(460),
+    bps: Some(1_280_000),
+    ..ACCEPTED
+};
+
 const UPDATED: Info = Info {
     msn: 1,
     code: 100,
@@ -191,20 +192,15 @@ const UPDATES: [Row; 7] = [
         "[Refuse { client: 5, code: 404 }]",
         1,
         Some(Info {
-            msn: 0,
             code: 404,
-            ..COMPLETED
+            ..REFUSED
         }),
     ),
     (
         Asks(5, &SLOW),
         "[Accept { client: 5, first: 65546, rate: 1600, join: 46 }]",
         1,
-        Some(Info {
-            join_ms: Some(460),
-            bps: Some(1_280_000),
-            ..ACCEPTED
-        }),
+        Some(ACCEPTED_SLOW),
     ),
     (
         Asks(5, &FAST),
@@ -218,9 +214,8 @@ const UPDATES: [Row; 7] = [
         "[Refuse { client: 5, code: 403 }]",
         1,
         Some(Info {
-            msn: 0,
             code: 403,
-            ..COMPLETED
+            ..REFUSED
         }),
     ),
     (
@@ -229,65 +224,15 @@ const UPDATES: [Row; 7] = [
         1,
         Some(Info {
             msn: 2,
-            ..COMPLETED
+            code: 201,
+            ..REFUSED
         }),
     ),
 ];
 
-/// TLVs of a RAMS-R, and the code with which it is refused: of several causes the first counts.
-const REFUSED: [(u16, &[u32]); 7] = [
-    (
-        400,
-        &[
-            0x0100_0004, // TLV 1 (media senders), length 4
-            0x9999_9999, // another source
-            0x0500_0000, // TLV 5 (preamble only), length 0
-            0x0200_0003, // TLV 2 (min buffer fill), length 3 in place of 4
-            0,
-        ],
-    ),
-    (
-        512,
-        &[
-            0x0100_0004, // TLV 1 (media senders), length 4
-            0x9999_9999, // another source
-            0x0500_0000, // TLV 5 (preamble only), length 0
-        ],
-    ),
-    (
-        509,
-        &[
-            0x0100_0004, // TLV 1 (media senders), length 4
-            0x9999_9999, // another source
-            0x0200_0004, // TLV 2 (min buffer fill), length 4
-            201, // ms
-        ],
-    ),
-    (
-        401,
-        &[
-            0x0200_0004, // TLV 2 (min buffer fill), length 4
-            201, // ms
-            0x0300_0004, // TLV 3 (max buffer fill), length 4
-            99, // ms
-        ],
-    ),
-    (
-        402,
-        &[
-            0x0200_0004, // TLV 2 (min buffer fill), length 4
-            150, // ms
-            0x0300_0004, // TLV 3 (max buffer fill), length 4
-            199, // ms
-        ],
-    ),
-    (403, &TOO_SLOW),
-    (501, &SLOW),
-];
-
 /// Access points that are 200 and 100 ms old, and a burst of another client that leaves no room for a
-/// second.
-const ONE_BURST: [Row; 4] = [
+/// second. Of several causes of a refusal the first counts.
+const BUSY: [Row; 11] = [
     (Start(10, 0, 4), "[Live(Took(65546))]", 0, None),
     (Start(11, 9000, 4), "[Live(Took(65547))]", 0, None),
     (Next(12, 18000, 4), "[Live(Took(65548))]", 0, None),
@@ -297,38 +242,127 @@ const ONE_BURST: [Row; 4] = [
         1,
         Some(ACCEPTED),
     ),
+    (
+        Asks(
+            5,
+            &[
+                0x0100_0004, // TLV 1 (media senders), length 4
+                0x9999_9999, // another source
+                0x0500_0000, // TLV 5 (preamble only), length 0
+                0x0200_0003, // TLV 2 (min buffer fill), length 3 in place of 4
+                0,
+            ],
+        ),
+        "[Refuse { client: 5, code: 400 }]",
+        1,
+        Some(REFUSED),
+    ),
+    (
+        Asks(
+            5,
+            &[
+                0x0100_0004, // TLV 1 (media senders), length 4
+                0x9999_9999, // another source
+                0x0500_0000, // TLV 5 (preamble only), length 0
+            ],
+        ),
+        "[Refuse { client: 5, code: 512 }]",
+        1,
+        Some(Info {
+            code: 512,
+            ..REFUSED
+        }),
+    ),
+    (
+        Asks(
+            5,
+            &[
+                0x0100_0004, // TLV 1 (media senders), length 4
+                0x9999_9999, // another source
+                0x0200_0004, // TLV 2 (min buffer fill), length 4
+                201, // ms
+            ],
+        ),
+        "[Refuse { client: 5, code: 509 }]",
+        1,
+        Some(Info {
+            code: 509,
+            ..REFUSED
+        }),
+    ),
+    (
+        Asks(
+            5,
+            &[
+                0x0200_0004, // TLV 2 (min buffer fill), length 4
+                201, // ms
+                0x0300_0004, // TLV 3 (max buffer fill), length 4
+                99, // ms
+            ],
+        ),
+        "[Refuse { client: 5, code: 401 }]",
+        1,
+        Some(Info {
+            code: 401,
+            ..REFUSED
+        }),
+    ),
+    (
+        Asks(
+            5,
+            &[
+                0x0200_0004, // TLV 2 (min buffer fill), length 4
+                150, // ms
+                0x0300_0004, // TLV 3 (max buffer fill), length 4
+                199, // ms
+            ],
+        ),
+        "[Refuse { client: 5, code: 402 }]",
+        1,
+        Some(Info {
+            code: 402,
+            ..REFUSED
+        }),
+    ),
+    (
+        Asks(5, &TOO_SLOW),
+        "[Refuse { client: 5, code: 403 }]",
+        1,
+        Some(Info {
+            code: 403,
+            ..REFUSED
+        }),
+    ),
+    (
+        Asks(5, &SLOW),
+        "[Refuse { client: 5, code: 501 }]",
+        1,
+        Some(Info {
+            code: 501,
+            ..REFUSED
+        }),
+    ),
 ];
-
-/// Each of these requests of client 5 is refused with its code.
-fn expect_refused(
-    rt: &impl Abort,
-    alloc: Global,
-    core: &mut Core,
-    refused: &[(u16, &'static [u32])],
-) -> Result<(), Fail>
-    requires { core.old.calls + length refused.now < 2 ^ 40 }
-    ensures { OnOk result (core.new.calls ≤ core.old.calls + length refused.now) }
-{
-    for (code, tlvs) in refused {
-        let answer = answer_to(alloc, core, Asks(5, tlvs))?;
-        let (client, code) = (5, *code);
-        assert_eq!(rt;
-            answer.notes.as_slice(),
-            [Note::Refuse { client, code }].as_slice()
-        );
-        let info = Info {
-            msn: 0,
-            code,
-            ..COMPLETED
-        };
-        assert_eq!(rt; told(&answer), Some(info), "{code}");
-    }
-    Ok(())
-}
 
 /// The only packet isn't eligible: the 46 bytes behind it are more than the 45 that the ring is sure to
 /// hold. Once another client has the only place, that comes first.
-const NO_PLACE: [Row; 3] = [
+const NO_PLACE: [Row; 5] = [
+    (Start(10, 0, 4), "[Live(Took(65546))]", 0, None),
+    (
+        Asks(
+            5,
+            &[
+                0x0200_0004, // TLV 2 (min buffer fill), length 4
+                201, // ms
+            ],
+        ),
+        "[Refuse { client: 5, code: 507 }]",
+        1,
+        Some(Info {
+            code: 507,
+            ..REFUSED
+        }),
+    ),
     (
         Heard(6, &[&[NACK, 0x0000_c002, SOURCE, 0x000a_0000]]), // number 10
         "[Queued { client: 6, n: 65546 }]",
@@ -346,9 +380,35 @@ const NO_PLACE: [Row; 3] = [
         "[Refuse { client: 5, code: 503 }]",
         1,
         Some(Info {
-            msn: 0,
             code: 503,
-            ..COMPLETED
+            ..REFUSED
+        }),
+    ),
+];
+
+/// Two bursts of 7,200 bytes a tick together leave the reserve of 1,500 where the share is 8,700; here it
+/// is one byte less.
+const RESERVED: [Row; 4] = [
+    (Start(10, 0, 4), "[Live(Took(65546))]", 0, None),
+    (
+        Asks(5, &SLOW),
+        "[Accept { client: 5, first: 65546, rate: 1600, join: 46 }]",
+        1,
+        Some(ACCEPTED_SLOW),
+    ),
+    (
+        Asks(6, &[]),
+        "[Accept { client: 6, first: 65546, rate: 4000, join: 1 }]",
+        1,
+        Some(ACCEPTED),
+    ),
+    (
+        Asks(5, &FAST),
+        "[Refuse { client: 5, code: 501 }]",
+        1,
+        Some(Info {
+            code: 501,
+            ..REFUSED
         }),
     ),
 ];
@@ -361,50 +421,22 @@ fn messages_are_answered(rt: HostRuntime) -> Result<(), Fail> {
 
 #[test]
 fn requests_are_refused(rt: HostRuntime) -> Result<(), Fail> {
-    let alloc = rt.alloc();
-    let mut busy = core(
-        alloc,
-        Channel {
-            share: 5500,
-            ..CHANNEL
-        },
-    )?;
-    expect(&rt, alloc, &mut busy, &ONE_BURST)?;
-    expect_refused(&rt, alloc, &mut busy, &REFUSED)?;
-    let mut short = core(
-        alloc,
-        Channel {
-            ring: 1,
-            declared: 0,
-            minwire: 45,
-            clients: 1,
-            ..CHANNEL
-        },
-    )?;
-    expect(
-        &rt,
-        alloc,
-        &mut short,
-        &[(Start(10, 0, 4), "[Live(Took(65546))]", 0, None)],
-    )?;
-    expect_refused(&rt, alloc, &mut short, &[(507, &[0x0200_0004, 201])])?; // TLV 2, 201 ms
-    expect(&rt, alloc, &mut short, &NO_PLACE)
-}
-
-// Two bursts of 7,200 bytes a tick together leave the reserve of 1,500 where the share is 8,700.
-#[test]
-fn an_update_leaves_the_reserve(rt: HostRuntime) -> Result<(), Fail> {
-    let shares = [
-        (8700, "[Update { client: 5, rate: 3200, join: 1 }]"),
-        (8699, "[Refuse { client: 5, code: 501 }]"),
-    ];
-    for (share, notes) in shares {
-        let mut core = core(rt.alloc(), Channel { share, ..CHANNEL })?;
-        answer_to(rt.alloc(), &mut core, Start(10, 0, 4))?;
-        answer_to(rt.alloc(), &mut core, Asks(5, &SLOW))?;
-        answer_to(rt.alloc(), &mut core, Asks(6, &[]))?;
-        let answer = answer_to(rt.alloc(), &mut core, Asks(5, &FAST))?;
-        assert_eq!(rt; text_of(rt.alloc(), &answer)?.as_str(), notes, "{share}");
-    }
-    Ok(())
+    let busy = Channel {
+        share: 5500,
+        ..CHANNEL
+    };
+    let short = Channel {
+        ring: 1,
+        declared: 0,
+        minwire: 45,
+        clients: 1,
+        ..CHANNEL
+    };
+    let narrow = Channel {
+        share: 8699,
+        ..CHANNEL
+    };
+    expect_all(&rt, rt.alloc(), busy, &BUSY)?;
+    expect_all(&rt, rt.alloc(), short, &NO_PLACE)?;
+    expect_all(&rt, rt.alloc(), narrow, &RESERVED)
 }
