@@ -27,3 +27,11 @@ mod rtcp_packets;
 mod rtp_packets;
 #[cfg(test)]
 mod settings;
+#[cfg(test)]
+mod trace_channels;
+#[cfg(test)]
+mod trace_lines;
+#[cfg(test)]
+mod trace_orders;
+#[cfg(test)]
+mod trace_words;

@@ -1,5 +1,5 @@
 //! Feedback messages and generic NACKs, byte for byte (RFC 4585, 6.1 and 6.2.1).
-use crate::fixtures::{CLIENT, MEDIA};
+use crate::fixtures::{CLIENT, MEDIA, bytes_of};
 use rtcp_feedback::{append_nack, feedback, nack_numbers, write_nack};
 use rtcp_frame::Packet;
 use std::alloc::{AllocError, Global};
@@ -21,20 +21,20 @@ fn numbers(alloc: Global, fci: &[u8]) -> Result<String, AllocError> {
 }
 
 /// Words of a sequence number and the bits of those behind it, and what they name.
-const WORDS: [(&[u8], &str); 9] = [
+const WORDS: [(&[&str], &str); 9] = [
     (&[], "Empty"),
-    (&[0x00, 0x0c, 0x00], "Length"),
-    (&[0x00, 0x0c, 0x00, 0x00], "12 "),
-    (&[0x00, 0x0c, 0x00, 0x01], "12 13 "),
-    (&[0x00, 0x0c, 0x00, 0x02], "12 14 "),
-    (&[0x00, 0x0a, 0x80, 0x01], "10 11 26 "),
-    (&[0xff, 0xff, 0x00, 0x01], "65535 0 "),
-    (&[0xff, 0xf8, 0x80, 0x00], "65528 8 "),
+    (&["000c00"], "Length"),
+    (&["000c0000"], "12 "),
+    (&["000c0001"], "12 13 "),
+    (&["000c0002"], "12 14 "),
+    (&["000a8001"], "10 11 26 "),
+    (&["ffff0001"], "65535 0 "),
+    (&["fff88000"], "65528 8 "),
     (
         &[
-            0x00, 0x0c, 0x00, 0x02, // 12, and the second behind it
-            0x00, 0x07, 0x00, 0x00, // 7
-            0x00, 0x07, 0x00, 0x01, // 7, and the first behind it
+            "000c0002", // 12, and the second behind it
+            "00070000", // 7
+            "00070001", // 7, and the first behind it
         ],
         "12 14 7 7 8 ",
     ),
@@ -42,57 +42,59 @@ const WORDS: [(&[u8], &str); 9] = [
 
 #[test]
 fn words_name_numbers(rt: HostRuntime) -> Result<(), Fail> {
-    for (fci, want) in WORDS {
-        assert_eq!(rt; numbers(rt.alloc(), fci)?.as_str(), want);
+    for (words, want) in WORDS {
+        let fci = bytes_of(rt.alloc(), words)?;
+        assert_eq!(rt; numbers(rt.alloc(), &fci)?.as_str(), want);
     }
     Ok(())
 }
 
 /// Numbers, and the NACK of them.
-const NACKS: [(&[u16], &[u8]); 3] = [
+const NACKS: [(&[u16], &[&str]); 3] = [
     (
         &[65_535, 0, 15],
         &[
-            0x81, 0xcd, 0x00, 0x03, // v=2, p=0, format 1, RTPFB, length 3
-            0x00, 0x00, 0xc0, 0x01, // SSRC of the packet's sender
-            0x11, 0x22, 0x33, 0x44, // SSRC of the media source
-            0xff, 0xff, 0x80, 0x01, // 65,535, the first and the sixteenth behind it
+            "81cd0003", // v=2, p=0, format 1, RTPFB, length 3
+            "0000c001", // SSRC of the packet's sender
+            "11223344", // SSRC of the media source
+            "ffff8001", // 65,535, the first and the sixteenth behind it
         ],
     ),
     (
         &[12, 29],
         &[
-            0x81, 0xcd, 0x00, 0x04, // v=2, p=0, format 1, RTPFB, length 4
-            0x00, 0x00, 0xc0, 0x01, // SSRC of the packet's sender
-            0x11, 0x22, 0x33, 0x44, // SSRC of the media source
-            0x00, 0x0c, 0x00, 0x00, // 12
-            0x00, 0x1d, 0x00, 0x00, // 29, the seventeenth behind it
+            "81cd0004", // v=2, p=0, format 1, RTPFB, length 4
+            "0000c001", // SSRC of the packet's sender
+            "11223344", // SSRC of the media source
+            "000c0000", // 12
+            "001d0000", // 29, the seventeenth behind it
         ],
     ),
     (
         &[12, 14, 13, 13],
         &[
-            0x81, 0xcd, 0x00, 0x05, // v=2, p=0, format 1, RTPFB, length 5
-            0x00, 0x00, 0xc0, 0x01, // SSRC of the packet's sender
-            0x11, 0x22, 0x33, 0x44, // SSRC of the media source
-            0x00, 0x0c, 0x00, 0x02, // 12, and the second behind it
-            0x00, 0x0d, 0x00, 0x00, // 13
-            0x00, 0x0d, 0x00, 0x00, // 13
+            "81cd0005", // v=2, p=0, format 1, RTPFB, length 5
+            "0000c001", // SSRC of the packet's sender
+            "11223344", // SSRC of the media source
+            "000c0002", // 12, and the second behind it
+            "000d0000", // 13
+            "000d0000", // 13
         ],
     ),
 ];
 
 #[test]
 fn nacks_are_written(rt: HostRuntime) -> Result<(), Fail> {
-    for (asked, packet) in NACKS {
+    for (asked, words) in NACKS {
+        let packet = bytes_of(rt.alloc(), words)?;
         if asked.is_empty() || asked.len() > 8_000 {
             continue;
         }
         let mut text = write_nack(rt.alloc(), CLIENT, MEDIA, asked)?;
-        assert_eq!(rt; text.as_slice(), packet);
+        assert_eq!(rt; text, packet);
         append_nack(&mut text, CLIENT, MEDIA, asked)?;
         assert_eq!(rt; text.len(), 2 * packet.len());
-        assert!(rt; text.ends_with(packet));
+        assert!(rt; text.ends_with(&packet));
     }
     Ok(())
 }

@@ -1,7 +1,7 @@
 //! RAMS messages, byte for byte, and each fault at its edge (RFC 6285, 7).
 ghost use Rattle.rams_tlv.specs.{HasSpelling};
 
-use crate::fixtures::{CLIENT, MEDIA};
+use crate::fixtures::{CLIENT, MEDIA, bytes_of};
 use rams_tlv::{
     Info, Request, Stop, TlvFault, append_info, append_request, append_stop, names, read_info,
     read_request, read_stop, write_info, write_request, write_stop,
@@ -22,17 +22,17 @@ const ANY: Request<'static> = Request {
 };
 
 /// TLVs of a RAMS-R, and what is read of them.
-const REQUESTS: [(&str, &[u8], Result<Request<'static>, TlvFault>); 14] = [
+const REQUESTS: [(&str, &[&str], Result<Request<'static>, TlvFault>); 14] = [
     ("none", &[], Ok(ANY)),
     (
         "type 3, then type 2, then type 3 again",
         &[
-            0x03, 0x00, 0x00, 0x04, // greatest buffer fill, length 4
-            0x00, 0x00, 0x01, 0x00, // 256 ms
-            0x02, 0x00, 0x00, 0x04, // least buffer fill, length 4
-            0x00, 0x00, 0x00, 0x07, // 7 ms
-            0x03, 0x00, 0x00, 0x04, // greatest buffer fill, length 4
-            0x00, 0x00, 0x00, 0x08, // 8 ms
+            "03000004", // greatest buffer fill, length 4
+            "00000100", // 256 ms
+            "02000004", // least buffer fill, length 4
+            "00000007", // 7 ms
+            "03000004", // greatest buffer fill, length 4
+            "00000008", // 8 ms
         ],
         Ok(Request {
             min_ms: Some(7),
@@ -43,12 +43,12 @@ const REQUESTS: [(&str, &[u8], Result<Request<'static>, TlvFault>); 14] = [
     (
         "an SSRC, a rate and a preamble, reserved bits set",
         &[
-            0x01, 0xff, 0x00, 0x04, // media senders, length 4
-            0x99, 0x99, 0x99, 0x99, // SSRC
-            0x04, 0x07, 0x00, 0x08, // greatest bit rate, length 8
-            0x00, 0x00, 0x00, 0x00, // 1,280,000
-            0x00, 0x13, 0x88, 0x00, // bits per second
-            0x05, 0x00, 0x00, 0x00, // preamble only, length 0
+            "01ff0004", // media senders, length 4
+            "99999999", // SSRC
+            "04070008", // greatest bit rate, length 8
+            "00000000", // 1,280,000
+            "00138800", // bits per second
+            "05000000", // preamble only, length 0
         ],
         Ok(Request {
             ssrcs: Some(&[0x99; 4]),
@@ -60,72 +60,72 @@ const REQUESTS: [(&str, &[u8], Result<Request<'static>, TlvFault>); 14] = [
     (
         "an empty list of SSRCs, then one of one",
         &[
-            0x01, 0x00, 0x00, 0x00, // media senders, length 0
-            0x01, 0x00, 0x00, 0x04, // media senders, length 4
-            0x99, 0x99, 0x99, 0x99, // SSRC
+            "01000000", // media senders, length 0
+            "01000004", // media senders, length 4
+            "99999999", // SSRC
         ],
         Ok(ANY),
     ),
     (
         "types of other messages, of any length",
         &[
-            0x3d, 0x00, 0x00, 0x02, // first multicast packet, length 2
-            0x09, 0x09, 0x05, 0x06, // value, filled up by any bytes
-            0x20, 0x00, 0x00, 0x00, // first sequence number, length 0
+            "3d000002", // first multicast packet, length 2
+            "09090506", // value, filled up by any bytes
+            "20000000", // first sequence number, length 0
         ],
         Ok(ANY),
     ),
     (
         "SSRCs in 5 bytes",
         &[
-            0x01, 0x00, 0x00, 0x05, // media senders, length 5
-            0x99, 0x99, 0x99, 0x99, 0x99, 0x00, 0x00, 0x00,
+            "01000005", // media senders, length 5
+            "99999999", "99000000",
         ],
         Err(TlvFault::Length(1)),
     ),
     (
         "a least fill in 3 bytes",
-        &[0x02, 0x00, 0x00, 0x03, 0x00, 0x00, 0x00, 0x00],
+        &["02000003", "00000000"],
         Err(TlvFault::Length(2)),
     ),
     (
         "a rate in 4 bytes",
-        &[0x04, 0x00, 0x00, 0x04, 0x00, 0x13, 0x88, 0x00],
+        &["04000004", "00138800"],
         Err(TlvFault::Length(4)),
     ),
     (
         "a preamble in 1 byte",
-        &[0x05, 0x00, 0x00, 0x01, 0x00, 0x00, 0x00, 0x00],
+        &["05000001", "00000000"],
         Err(TlvFault::Length(5)),
     ),
-    ("three bytes", &[0x09, 0x00, 0x00], Err(TlvFault::Short)),
-    ("no value", &[0x09, 0x00, 0x00, 0x01], Err(TlvFault::Short)),
+    ("three bytes", &["090000"], Err(TlvFault::Short)),
+    ("no value", &["09000001"], Err(TlvFault::Short)),
     (
         "a value that isn't filled up",
-        &[0x09, 0x00, 0x00, 0x01, 0x05, 0x00, 0x00],
+        &["09000001", "050000"],
         Err(TlvFault::Short),
     ),
     (
         "a wrong length, then three bytes",
         &[
-            0x05, 0x00, 0x00, 0x04, // preamble only, length 4
-            0x00, 0x00, 0x00, 0x00, // value
-            0x09, 0x00, 0x00,
+            "05000004", // preamble only, length 4
+            "00000000", // value
+            "090000",
         ],
         Err(TlvFault::Length(5)),
     ),
     (
         "a wrong length and a value that isn't filled up",
-        &[0x05, 0x00, 0x00, 0x04, 0x00, 0x00, 0x00],
+        &["05000004", "000000"],
         Err(TlvFault::Short),
     ),
 ];
 
 #[test]
 fn requests_are_read(rt: HostRuntime) -> Result<(), Fail> {
-    for (name, tlvs, want) in REQUESTS {
+    for (name, words, want) in REQUESTS {
         let mut fci = [1, 0xff, 0xff, 0xff].to_vec(rt.alloc())?;
-        fci.extend_from_slice(tlvs)?;
+        fci.extend_from_slice(&bytes_of(rt.alloc(), words)?)?;
         assert_eq!(rt; read_request(&fci), want, "{name}");
     }
     for fci in [[].as_slice(), &[1, 0, 0], &[2, 0, 0, 0]] {
@@ -138,7 +138,7 @@ fn requests_are_read(rt: HostRuntime) -> Result<(), Fail> {
 const LISTS: [(Option<&[u8]>, bool); 5] = [
     (None, true),
     (Some(&[]), true),
-    (Some(&[0x99, 0x99, 0x99, 0x99]), false),
+    (Some(&[0x99; 4]), false),
     (
         Some(&[0x99, 0x99, 0x99, 0x99, 0x11, 0x22, 0x33, 0x44]),
         true,
@@ -166,7 +166,7 @@ const NO_INFO: Info = Info {
 };
 
 /// Information of `SENDER`, and its packet.
-const INFOS: [(Info, &[u8]); 2] = [
+const INFOS: [(Info, &[&str]); 2] = [
     (
         Info {
             msn: 1,
@@ -174,10 +174,10 @@ const INFOS: [(Info, &[u8]); 2] = [
             ..NO_INFO
         },
         &[
-            0x86, 0xcd, 0x00, 0x03, // v=2, p=0, format 6, RTPFB, length 3
-            0xaa, 0xbb, 0xcc, 0xdd, // SSRC of the packet's sender
-            0x11, 0x22, 0x33, 0x44, // SSRC of the media source
-            0x02, 0x01, 0x00, 0xc9, // RAMS-I, message 1, response 201
+            "86cd0003", // v=2, p=0, format 6, RTPFB, length 3
+            "aabbccdd", // SSRC of the packet's sender
+            "11223344", // SSRC of the media source
+            "020100c9", // RAMS-I, message 1, response 201
         ],
     ),
     (
@@ -189,31 +189,33 @@ const INFOS: [(Info, &[u8]); 2] = [
             ..NO_INFO
         },
         &[
-            0x86, 0xcd, 0x00, 0x0c, // v=2, p=0, format 6, RTPFB, length 12
-            0xaa, 0xbb, 0xcc, 0xdd, // SSRC of the packet's sender
-            0x11, 0x22, 0x33, 0x44, // SSRC of the media source
-            0x02, 0x00, 0x00, 0xc8, // RAMS-I, message 0, response 200
-            0x20, 0x00, 0x00, 0x02, // first sequence number, length 2
-            0x01, 0xf4, 0x00, 0x00, // 500, filled up
-            0x21, 0x00, 0x00, 0x04, // join time, length 4
-            0x00, 0x00, 0x00, 0x0a, // 10 ms
-            0x22, 0x00, 0x00, 0x04, // burst duration, length 4
-            0x00, 0x00, 0x03, 0xe8, // 1,000 ms
-            0x23, 0x00, 0x00, 0x08, // greatest bit rate, length 8
-            0x00, 0x00, 0x00, 0x00, // 3,200,000
-            0x00, 0x30, 0xd4, 0x00, // bits per second
+            "86cd000c", // v=2, p=0, format 6, RTPFB, length 12
+            "aabbccdd", // SSRC of the packet's sender
+            "11223344", // SSRC of the media source
+            "020000c8", // RAMS-I, message 0, response 200
+            "20000002", // first sequence number, length 2
+            "01f40000", // 500, filled up
+            "21000004", // join time, length 4
+            "0000000a", // 10 ms
+            "22000004", // burst duration, length 4
+            "000003e8", // 1,000 ms
+            "23000008", // greatest bit rate, length 8
+            "00000000", // 3,200,000
+            "0030d400", // bits per second
         ],
     ),
 ];
 
 #[test]
 fn information_goes_there_and_back(rt: HostRuntime) -> Result<(), Fail> {
-    for (info, packet) in INFOS {
+    for (info, words) in INFOS {
+        let packet = bytes_of(rt.alloc(), words)?;
         let mut text = write_info(rt.alloc(), SENDER, MEDIA, &info)?;
-        assert_eq!(rt; text.as_slice(), packet);
+        assert_eq!(rt; text, packet);
         append_info(&mut text, SENDER, MEDIA, &info)?;
-        assert!(rt; text.ends_with(packet));
-        assert_eq!(rt; read_info(&packet[12..]), Ok(info));
+        assert!(rt; text.ends_with(&packet));
+        let (_, fci) = packet.split_at(packet.len().min(12));
+        assert_eq!(rt; read_info(fci), Ok(info));
     }
     let wrong = [2, 0, 0, 200, 0x21, 0, 0, 8, 0, 0, 0, 0, 0, 0, 0, 10];
     assert_eq!(rt; read_info(&wrong), Err(TlvFault::Length(0x21)));
@@ -225,42 +227,43 @@ fn is_written(
     rt: &impl Abort,
     alloc: Global,
     request: &Request<'_>,
-    packet: &[u8],
+    words: &[&str],
 ) -> Result<(), Fail>
     requires { HasSpelling request.now }
 {
+    let packet = bytes_of(alloc, words)?;
     let mut text = write_request(alloc, CLIENT, MEDIA, request)?;
-    assert_eq!(rt; text.as_slice(), packet);
+    assert_eq!(rt; text, packet);
     append_request(&mut text, CLIENT, MEDIA, request)?;
-    assert!(rt; text.ends_with(packet));
+    assert!(rt; text.ends_with(&packet));
     let (_, fci) = packet.split_at(packet.len().min(12));
     assert_eq!(rt; read_request(fci), Ok(*request));
     Ok(())
 }
 
-const ANY_PACKET: &[u8] = &[
-    0x86, 0xcd, 0x00, 0x03, // v=2, p=0, format 6, RTPFB, length 3
-    0x00, 0x00, 0xc0, 0x01, // SSRC of the packet's sender
-    0x11, 0x22, 0x33, 0x44, // SSRC of the media source
-    0x01, 0x00, 0x00, 0x00, // RAMS-R
+const ANY_PACKET: &[&str] = &[
+    "86cd0003", // v=2, p=0, format 6, RTPFB, length 3
+    "0000c001", // SSRC of the packet's sender
+    "11223344", // SSRC of the media source
+    "01000000", // RAMS-R
 ];
 
-const EVERY_PACKET: &[u8] = &[
-    0x86, 0xcd, 0x00, 0x0e, // v=2, p=0, format 6, RTPFB, length 14
-    0x00, 0x00, 0xc0, 0x01, // SSRC of the packet's sender
-    0x11, 0x22, 0x33, 0x44, // SSRC of the media source
-    0x01, 0x00, 0x00, 0x00, // RAMS-R
-    0x01, 0x00, 0x00, 0x08, // media senders, length 8
-    0x11, 0x22, 0x33, 0x44, // SSRC
-    0x99, 0x99, 0x99, 0x99, // SSRC
-    0x02, 0x00, 0x00, 0x04, // least buffer fill, length 4
-    0x00, 0x00, 0x01, 0x90, // 400 ms
-    0x03, 0x00, 0x00, 0x04, // greatest buffer fill, length 4
-    0x00, 0x00, 0x07, 0xd0, // 2,000 ms
-    0x04, 0x00, 0x00, 0x08, // greatest bit rate, length 8
-    0x00, 0x00, 0x00, 0x00, // 1,280,000
-    0x00, 0x13, 0x88, 0x00, // bits per second
-    0x05, 0x00, 0x00, 0x00, // preamble only, length 0
+const EVERY_PACKET: &[&str] = &[
+    "86cd000e", // v=2, p=0, format 6, RTPFB, length 14
+    "0000c001", // SSRC of the packet's sender
+    "11223344", // SSRC of the media source
+    "01000000", // RAMS-R
+    "01000008", // media senders, length 8
+    "11223344", // SSRC
+    "99999999", // SSRC
+    "02000004", // least buffer fill, length 4
+    "00000190", // 400 ms
+    "03000004", // greatest buffer fill, length 4
+    "000007d0", // 2,000 ms
+    "04000008", // greatest bit rate, length 8
+    "00000000", // 1,280,000
+    "00138800", // bits per second
+    "05000000", // preamble only, length 0
 ];
 
 #[test]
@@ -278,16 +281,16 @@ fn requests_are_written(rt: HostRuntime) -> Result<(), Fail> {
 }
 
 /// Terminations of `CLIENT`, and their packets.
-const STOPS: [(Stop, &[u8]); 2] = [
+const STOPS: [(Stop, &[&str]); 2] = [
     (
         Stop {
             first_multicast: None,
         },
         &[
-            0x86, 0xcd, 0x00, 0x03, // v=2, p=0, format 6, RTPFB, length 3
-            0x00, 0x00, 0xc0, 0x01, // SSRC of the packet's sender
-            0x11, 0x22, 0x33, 0x44, // SSRC of the media source
-            0x03, 0x00, 0x00, 0x00, // RAMS-T
+            "86cd0003", // v=2, p=0, format 6, RTPFB, length 3
+            "0000c001", // SSRC of the packet's sender
+            "11223344", // SSRC of the media source
+            "03000000", // RAMS-T
         ],
     ),
     (
@@ -295,24 +298,26 @@ const STOPS: [(Stop, &[u8]); 2] = [
             first_multicast: Some(65_552),
         },
         &[
-            0x86, 0xcd, 0x00, 0x05, // v=2, p=0, format 6, RTPFB, length 5
-            0x00, 0x00, 0xc0, 0x01, // SSRC of the packet's sender
-            0x11, 0x22, 0x33, 0x44, // SSRC of the media source
-            0x03, 0x00, 0x00, 0x00, // RAMS-T
-            0x3d, 0x00, 0x00, 0x04, // first multicast packet, length 4
-            0x00, 0x01, 0x00, 0x10, // 65,552
+            "86cd0005", // v=2, p=0, format 6, RTPFB, length 5
+            "0000c001", // SSRC of the packet's sender
+            "11223344", // SSRC of the media source
+            "03000000", // RAMS-T
+            "3d000004", // first multicast packet, length 4
+            "00010010", // 65,552
         ],
     ),
 ];
 
 #[test]
 fn terminations_go_there_and_back(rt: HostRuntime) -> Result<(), Fail> {
-    for (stop, packet) in STOPS {
+    for (stop, words) in STOPS {
+        let packet = bytes_of(rt.alloc(), words)?;
         let mut text = write_stop(rt.alloc(), CLIENT, MEDIA, &stop)?;
-        assert_eq!(rt; text.as_slice(), packet);
+        assert_eq!(rt; text, packet);
         append_stop(&mut text, CLIENT, MEDIA, &stop)?;
-        assert!(rt; text.ends_with(packet));
-        assert_eq!(rt; read_stop(&packet[12..]), Ok(stop));
+        assert!(rt; text.ends_with(&packet));
+        let (_, fci) = packet.split_at(packet.len().min(12));
+        assert_eq!(rt; read_stop(fci), Ok(stop));
     }
     assert_eq!(rt; read_stop(&[4, 0, 0, 0]), Err(TlvFault::Form));
     Ok(())

@@ -1,42 +1,43 @@
 //! Worked retransmissions, and what is restored of them (RFC 4588, 4).
+use crate::fixtures::bytes_of;
 use rtx_payload::{Rtp, RtxFault, append_rtx, restore, restoring_gives_the_original, write_rtx};
 use std::test::Fail;
 
 /// Packets, and their retransmissions under payload type 99 and sequence number 500.
-const ROWS: [(&[u8], &[u8]); 2] = [
+const ROWS: [(&[&str], &[&str]); 2] = [
     (
         &[
-            0xb2, 0xa1, 0x00, 0x0a, // v=2, p=1, x=1, count=2, m=1, type 33, sequence number 10
-            0x00, 0x00, 0x00, 0x00, // timestamp
-            0x11, 0x22, 0x33, 0x44, // SSRC
-            0x00, 0x00, 0x00, 0x01, // CSRC
-            0x00, 0x00, 0x00, 0x02, // CSRC
-            0xbe, 0xde, 0x00, 0x01, // extension: profile, one word
-            0x10, 0xff, 0x00, 0x00, // its word
-            0xaa, 0xbb, 0x00, 0x02, // payload of two bytes, padding of two
+            "b2a1000a", // v=2, p=1, x=1, count=2, m=1, type 33, sequence number 10
+            "00000000", // timestamp
+            "11223344", // SSRC
+            "00000001", // CSRC
+            "00000002", // CSRC
+            "bede0001", // extension: profile, one word
+            "10ff0000", // its word
+            "aabb0002", // payload of two bytes, padding of two
         ],
         &[
-            0x92, 0xe3, 0x01, 0xf4, // v=2, p=0, x=1, count=2, m=1, type 99, sequence number 500
-            0x00, 0x00, 0x00, 0x00, // timestamp
-            0x11, 0x22, 0x33, 0x44, // SSRC
-            0x00, 0x00, 0x00, 0x01, // CSRC
-            0x00, 0x00, 0x00, 0x02, // CSRC
-            0xbe, 0xde, 0x00, 0x01, // extension
-            0x10, 0xff, 0x00, 0x00, // its word
-            0x00, 0x0a, 0xaa, 0xbb, // original sequence number 10, payload
+            "92e301f4", // v=2, p=0, x=1, count=2, m=1, type 99, sequence number 500
+            "00000000", // timestamp
+            "11223344", // SSRC
+            "00000001", // CSRC
+            "00000002", // CSRC
+            "bede0001", // extension
+            "10ff0000", // its word
+            "000aaabb", // original sequence number 10, payload
         ],
     ),
     (
         &[
-            0x80, 0x21, 0xff, 0xff, // v=2, p=0, x=0, count=0, m=0, type 33, sequence number 65,535
-            0x00, 0x00, 0x03, 0x84, // timestamp 900
-            0x11, 0x22, 0x33, 0x44, // SSRC
+            "8021ffff", // v=2, p=0, x=0, count=0, m=0, type 33, sequence number 65,535
+            "00000384", // timestamp 900
+            "11223344", // SSRC
         ],
         &[
-            0x80, 0x63, 0x01, 0xf4, // v=2, p=0, x=0, count=0, m=0, type 99, sequence number 500
-            0x00, 0x00, 0x03, 0x84, // timestamp
-            0x11, 0x22, 0x33, 0x44, // SSRC
-            0xff, 0xff, // original sequence number 65,535, no payload
+            "806301f4", // v=2, p=0, x=0, count=0, m=0, type 99, sequence number 500
+            "00000384", // timestamp
+            "11223344", // SSRC
+            "ffff", // original sequence number 65,535, no payload
         ],
     ),
 ];
@@ -45,16 +46,18 @@ const ROWS: [(&[u8], &[u8]); 2] = [
 fn packets_go_there_and_back(rt: HostRuntime) -> Result<(), Fail> {
     let alloc = rt.alloc();
     restoring_gives_the_original();
-    for (packet, again) in ROWS {
-        let original = Rtp::read(packet).expect(&rt, "a packet");
+    for (words, words_again) in ROWS {
+        let packet = bytes_of(alloc, words)?;
+        let again = bytes_of(alloc, words_again)?;
+        let original = Rtp::read(&packet).expect(&rt, "a packet");
         let mut text = write_rtx(alloc, &original, 99, 500)?;
-        assert_eq!(rt; text.as_slice(), again);
+        assert_eq!(rt; text, again);
         append_rtx(&mut text, &original, 99, 500)?;
-        assert!(rt; text.ends_with(again));
-        let came = Rtp::read(again).expect(&rt, "a retransmission");
+        assert!(rt; text.ends_with(&again));
+        let came = Rtp::read(&again).expect(&rt, "a retransmission");
         let (number, restored) = restore(alloc, &came, 33).expect(&rt, "an original");
         assert_eq!(rt; number, original.sequence());
-        assert_eq!(rt; restored.as_slice(), original.strip(alloc)?.as_slice());
+        assert_eq!(rt; restored, original.strip(alloc)?);
     }
     Ok(())
 }

@@ -1,48 +1,52 @@
 //! A packet with every part, and each fault at its edge (RFC 3550, 5.1).
+use crate::fixtures::bytes_of;
 use rtp_record::RtpFault::{Csrc, Extension, Padding, Short, Version};
 use rtp_record::{Rtp, RtpFault, RtpFields, append_rtp, append_rtp_behind, write_rtp};
 use std::test::Fail;
 
-const PADDED: &[u8] = &[
-    0xb2, 0xa1, 0x00, 0x0a, // v=2, p=1, x=1, count=2, m=1, type 33, sequence number 10
-    0x00, 0x00, 0x03, 0x84, // timestamp 900
-    0x11, 0x22, 0x33, 0x44, // SSRC
-    0x00, 0x00, 0x00, 0x01, // CSRC
-    0x00, 0x00, 0x00, 0x02, // CSRC
-    0xbe, 0xde, 0x00, 0x01, // extension: profile, one word
-    0x10, 0xff, 0x00, 0x00, // its word
-    0xaa, 0xbb, 0x00, 0x02, // payload of two bytes, padding of two
+const PADDED: &[&str] = &[
+    "b2a1000a", // v=2, p=1, x=1, count=2, m=1, type 33, sequence number 10
+    "00000384", // timestamp 900
+    "11223344", // SSRC
+    "00000001", // CSRC
+    "00000002", // CSRC
+    "bede0001", // extension: profile, one word
+    "10ff0000", // its word
+    "aabb0002", // payload of two bytes, padding of two
 ];
 
-const STRIPPED: &[u8] = &[
-    0x92, 0xa1, 0x00, 0x0a, // p=0
-    0x00, 0x00, 0x03, 0x84, // timestamp
-    0x11, 0x22, 0x33, 0x44, // SSRC
-    0x00, 0x00, 0x00, 0x01, // CSRC
-    0x00, 0x00, 0x00, 0x02, // CSRC
-    0xbe, 0xde, 0x00, 0x01, // extension
-    0x10, 0xff, 0x00, 0x00, // its word
-    0xaa, 0xbb, // payload
+const STRIPPED: &[&str] = &[
+    "92a1000a", // p=0
+    "00000384", // timestamp
+    "11223344", // SSRC
+    "00000001", // CSRC
+    "00000002", // CSRC
+    "bede0001", // extension
+    "10ff0000", // its word
+    "aabb", // payload
 ];
 
 #[test]
 fn every_part_is_read(rt: HostRuntime) -> Result<(), Fail> {
     let alloc = rt.alloc();
-    let packet = Rtp::read(PADDED).expect(&rt, "a packet");
+    let padded = bytes_of(alloc, PADDED)?;
+    let stripped = bytes_of(alloc, STRIPPED)?;
+    let packet = Rtp::read(&padded).expect(&rt, "a packet");
     assert!(rt; packet.marker());
     assert_eq!(rt; packet.payload_type(), 33);
     assert_eq!(rt; packet.sequence(), 10);
     assert_eq!(rt; packet.timestamp(), 900);
     assert_eq!(rt; packet.ssrc(), 0x1122_3344);
-    assert_eq!(rt; packet.csrc(), &PADDED[12..20]);
-    assert_eq!(rt; packet.extension(), &PADDED[20..28]);
-    assert_eq!(rt; packet.payload(), &PADDED[28..30]);
+    assert_eq!(rt; packet.csrc(), [0, 0, 0, 1, 0, 0, 0, 2].as_slice());
+    let extension = [0xbe, 0xde, 0, 1, 0x10, 0xff, 0, 0];
+    assert_eq!(rt; packet.extension(), extension.as_slice());
+    assert_eq!(rt; packet.payload(), [0xaa, 0xbb].as_slice());
     assert_eq!(rt; packet.stripped_len(), 30);
-    assert_eq!(rt; packet.strip(alloc)?.as_slice(), STRIPPED);
+    assert_eq!(rt; packet.strip(alloc)?, stripped);
     let mut text = Vec::new(alloc);
     packet.append_stripped(&mut text)?;
-    assert_eq!(rt; text.as_slice(), STRIPPED);
-    assert_eq!(rt; write_rtp(alloc, &packet.fields())?.as_slice(), STRIPPED);
+    assert_eq!(rt; text, stripped);
+    assert_eq!(rt; write_rtp(alloc, &packet.fields())?, stripped);
     Ok(())
 }
 
@@ -57,24 +61,28 @@ const PLAIN: RtpFields<'static> = RtpFields {
     payload: &[7],
 };
 
-const SPELLED: &[u8] = &[
-    0x80, 0x7f, 0xff, 0xfe, // v=2, p=0, x=0, count=0, m=0, type 127, sequence number 65,534
-    0x01, 0x02, 0x03, 0x04, // timestamp
-    0x00, 0x00, 0x00, 0x05, // SSRC
-    0x07, // payload
+const SPELLED: &[&str] = &[
+    "807ffffe", // v=2, p=0, x=0, count=0, m=0, type 127, sequence number 65,534
+    "01020304", // timestamp
+    "00000005", // SSRC
+    "07", // payload
 ];
 
 #[test]
 fn packets_are_written_behind_what_is_there(rt: HostRuntime) -> Result<(), Fail> {
     let alloc = rt.alloc();
-    let mut text = Vec::from_slice(alloc, &[0xee])?;
+    let mut want = b"front".to_vec(alloc)?;
+    want.extend_from_slice(&bytes_of(alloc, SPELLED)?)?;
+    let mut text = b"front".to_vec(alloc)?;
     append_rtp(&mut text, &PLAIN)?;
-    assert_eq!(rt; text[0], 0xee);
-    assert_eq!(rt; &text[1..], SPELLED);
-    text.clear();
-    append_rtp_behind(&mut text, &PLAIN, &[8, 9])?;
-    assert_eq!(rt; &text[..12], &SPELLED[..12]);
-    assert_eq!(rt; &text[12..], [8, 9, 7].as_slice());
+    assert_eq!(rt; text, want);
+    let mut text = b"front".to_vec(alloc)?;
+    let plain = RtpFields {
+        payload: &[],
+        ..PLAIN
+    };
+    append_rtp_behind(&mut text, &plain, PLAIN.payload)?;
+    assert_eq!(rt; text, want);
     Ok(())
 }
 

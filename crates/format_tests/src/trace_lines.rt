@@ -1,0 +1,247 @@
+//! Lines of a trace: each kind, other forms, and numbers out of their ranges.
+use crate::trace_words::{expect_line, word};
+use std::test::Fail;
+use trace_text::{Line, decode, decode_to, read_line};
+
+/// Lines, and the word of what they are read as.
+const LINES: [(&str, &[&str]); 7] = [
+    // other words, spaces and ends
+    (
+        "form",
+        &[
+            "",
+            " ",
+            "tick ",
+            " tick",
+            "tick\r",
+            "Tick",
+            "ticks",
+            "tick tick",
+            "end 1",
+            "end\n",
+            "live",
+            "live 7",
+            "live  7 00",
+            "live 7  00",
+            "live 7 00 ",
+            "live 7 00 00",
+            "live\t7 00",
+            "fb 7 5",
+            "fb 7 5 00\r",
+            "channel 7",
+        ],
+    ),
+    // hexadecimal digits come in pairs, and are small
+    (
+        "form",
+        &[
+            "live 7 ",
+            "live 7 0",
+            "live 7 000",
+            "live 7 0A",
+            "live 7 A0",
+            "live 7 0g",
+            "live 7 0`",
+            "live 7 0/",
+            "live 7 0:",
+            "live 7 --",
+            "live 7 -0",
+            "live 7 0 0",
+        ],
+    ),
+    // no sign, no zero in front, at most 15 digits
+    (
+        "form",
+        &[
+            "live 00 -",
+            "live 07 -",
+            "live -1 -",
+            "live +1 -",
+            "live 1e3 -",
+            "live 1: -",
+            "live 1000000000000000 -",
+            "fb 7 05 00",
+            "fb 7 1000000000000000 00",
+            "rams-trace 2 tick 010 link 1500",
+        ],
+    ),
+    // other versions and fields
+    (
+        "form",
+        &[
+            "rams-trace 3 tick 10 link 1500",
+            "rams-trace 0 tick 10 link 1500",
+            "rams-trace 01 tick 10 link 1500",
+            "rams-trace 1 tick 10",
+            "rams-trace 1 link 1500 tick 10",
+            "rams-trace 1 tick 10 link 1500 ",
+        ],
+    ),
+    // lines of receivers
+    (
+        "form",
+        &[
+            "tune 7 5",
+            "tune 7 5 0000000",
+            "tune 7 5 000000000",
+            "tune 7 5 0000000A",
+            "tune 7 5 -",
+            "give",
+            "give 01",
+            "give 1 1",
+            "mcast 7 5",
+            "mcast 7 5 01",
+            "ask 7",
+            "ask 7 05",
+            "drop 7",
+            "drop 7 5 -",
+        ],
+    ),
+    (
+        "range",
+        &[
+            "live 0 -",
+            "live 65536 -",
+            "live 999999999999999 -",
+            "fb 0 5 -",
+            "fb 65536 5 -",
+            "fb 7 281474976710656 -",
+            "rams-trace 1 tick 0 link 1500",
+            "rams-trace 2 tick 1001 link 1500",
+            "rams-trace 2 tick 10 link 1499",
+            "rams-trace 1 tick 10 link 1000000001",
+            "tune 0 5 00000000",
+            "tune 7 281474976710656 00000000",
+            "mcast 65536 5 1",
+            "mcast 7 281474976710656 1",
+            "ask 65536 5",
+            "ask 7 281474976710656",
+            "drop 0 5",
+            "drop 7 281474976710656",
+        ],
+    ),
+    (
+        "ok",
+        &[
+            "live 1 -",
+            "live 65535 -",
+            "fb 1 0 00",
+            "fb 65535 281474976710655 -",
+            "rams-trace 1 tick 1 link 1500",
+            "rams-trace 2 tick 1000 link 1000000000",
+            "tune 65535 281474976710655 ffffffff",
+            "give 0",
+            "give 999999999999999",
+            "mcast 1 0 0",
+            "mcast 65535 281474976710655 999999999999999",
+            "ask 65535 281474976710655",
+            "drop 1 0",
+        ],
+    ),
+];
+
+#[test]
+fn lines_have_forms_and_ranges(rt: HostRuntime) {
+    for (want, lines) in LINES {
+        for line in lines {
+            assert_eq!(rt; word(read_line(line.as_bytes()).err()), want, "{line}");
+        }
+    }
+}
+
+/// A line of each kind but the channel's, and what it says.
+const KINDS: [(&str, Line<'static>); 10] = [
+    (
+        "rams-trace 2 tick 20 link 3000",
+        Line::Head {
+            version: 2,
+            tick_ms: 20,
+            link: 3000,
+        },
+    ),
+    (
+        "live 7 80c9",
+        Line::Live {
+            id: 7,
+            hex: b"80c9",
+        },
+    ),
+    (
+        "fb 7 5 -",
+        Line::Feedback {
+            id: 7,
+            client: 5,
+            hex: b"-",
+        },
+    ),
+    ("tick", Line::Tick),
+    ("end", Line::End),
+    (
+        "tune 7 5 0a10c3f9",
+        Line::Tune {
+            id: 7,
+            client: 5,
+            ssrc: 0x0a10_c3f9,
+        },
+    ),
+    ("give 3", Line::Give { number: 3 }),
+    (
+        "mcast 7 5 65546",
+        Line::Mcast {
+            id: 7,
+            client: 5,
+            n: 65546,
+        },
+    ),
+    ("ask 7 5", Line::Ask { id: 7, client: 5 }),
+    ("drop 7 5", Line::Drop { id: 7, client: 5 }),
+];
+
+#[test]
+fn each_kind_is_read_and_written(rt: HostRuntime) -> Result<(), Fail> {
+    for (text, line) in KINDS {
+        expect_line(&rt, rt.alloc(), text, line)?;
+    }
+    Ok(())
+}
+
+/// The front of a line, its length with digits `a` behind the front, and its answer.
+const LONG: [(&str, usize, &str); 4] = [
+    ("live 77 ", 4096, "ok"),
+    ("live 7 ", 4097, "form"),
+    ("live 0 ", 4095, "range"),
+    ("live 0 ", 4097, "form"),
+];
+
+#[test]
+fn a_line_has_at_most_4096_bytes(rt: HostRuntime) -> Result<(), Fail> {
+    for (front, len, want) in LONG {
+        let mut line = String::from_str(rt.alloc(), front)?;
+        for _ in front.len()..len {
+            line.push('a')?;
+        }
+        assert_eq!(rt; word(read_line(line.as_bytes()).err()), want, "{front}");
+    }
+    Ok(())
+}
+
+/// Words of digits, and their bytes.
+const DIGITS: [(&str, &[u8]); 2] = [
+    ("live 7 -", &[]),
+    ("live 7 00ff19ae", &[0x00, 0xff, 0x19, 0xae]),
+];
+
+#[test]
+fn words_of_digits_are_bytes(rt: HostRuntime) -> Result<(), Fail> {
+    let alloc = rt.alloc();
+    for (text, bytes) in DIGITS {
+        let Ok(Line::Live { hex, .. }) = read_line(text.as_bytes()) else {
+            return Err(Fail::from("no live line"));
+        };
+        assert_eq!(rt; decode(alloc, hex)?.as_slice(), bytes);
+        let mut room = b"before".to_vec(alloc)?;
+        decode_to(hex, &mut room)?;
+        assert_eq!(rt; room.as_slice(), bytes);
+    }
+    Ok(())
+}
