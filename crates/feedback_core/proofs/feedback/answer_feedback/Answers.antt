@@ -13,10 +13,10 @@ use Rattle.feedback_core.proofs.feedback.answer_feedback.Goals as goal
 
 pub answer_framed-requires-clause-few : goal.answer_framed-requires-clause-few
 answer_framed-requires-clause-few c =
-    let few = most_framed c.args.datagram.now (packets_left c.in-Ok.packets) c.in-Ok.ensures.ok in omega (arith, few, c.if-datagram-gt-MOST_BYTES.false)
+    let few = most_framed c.args.datagram.now (packets_left c.in-Ok.packets) c.in-Ok.ensures.ok in omega (arith, few, c.if-datagram-gt-LONGEST_DATAGRAM.false)
 
-pub returns-else-datagram-gt-MOST_BYTES-clause-few : goal.returns-else-datagram-gt-MOST_BYTES-clause-few
-returns-else-datagram-gt-MOST_BYTES-clause-few c =
+pub returns-else-datagram-gt-LONGEST_DATAGRAM-clause-few : goal.returns-else-datagram-gt-LONGEST_DATAGRAM-clause-few
+returns-else-datagram-gt-LONGEST_DATAGRAM-clause-few c =
     few_within c.answer_framed.result (most_notes (packets_left c.in-Ok.packets)) (length c.args.datagram.now)
     (most_framed c.args.datagram.now (packets_left c.in-Ok.packets) c.in-Ok.ensures.ok) c.answer_framed.ensures.few
 
