@@ -1,16 +1,16 @@
 -- A client that isn't known has no SSRC, and was sent nothing since it last was known.
-use Rattle.std.proofs.Common.{◌≡◌, ℕ, ◌+◌, ◌≤◌, Bool, true, false, cond, not, ◌&&◌, ⊎_elim, List, [], ◌∷◌, ◌++◌, Option, Some, None, refl, ap, sym, ◌∙◌, subst, eqb}
+use Rattle.std.proofs.Common.{◌≡◌, ℕ, ◌+◌, ◌≤◌, Bool, true, false, cond, not, ◌&&◌, ⊎_elim, List, [], ◌∷◌, Option, Some, None, refl, ap, sym, ◌∙◌, subst, eqb}
 use Rattle.std.specs.Prelude.{Contains, is_some}
-use Rattle.std.proofs.lemmas.Bool.{cond-true, cond-false, cases_Bool, or_parts, or_cases, and_parts, both_ways, eqb-true}
+use Rattle.std.proofs.lemmas.Bool.{cond-true, cond-false, cases_Bool, or_parts, or_cases, and_parts, both_ways, eqb-true, true≢false}
 use Rattle.std.proofs.lemmas.List.Elements.{All-from_recursion, All-contains}
 use Rattle.rams_model.specs.declared.event.Event.{Event}
 use Rattle.rams_model.specs.declared.held.Held.{Held}
 use Rattle.rams_model.specs.declared.note.Note.{Note}
 use Rattle.rams_model.specs.declared.note.Note.TheVariants as note
-use Rattle.rams_model.specs.Service.{Settings, Message, bye, Heard, live, dropped, feedback, unframed, tick, heard_of, Item, began, told, noted, History, known, is_among, sendings, ssrc, has_open, wanted, pending, after_message, after_messages, after_tick, after_hearing, history_of}
+use Rattle.rams_model.specs.Service.{Settings, Message, bye, Heard, tick, heard_of, Item, began, told, noted, History, known, is_among, sendings, ssrc, has_open, wanted, pending, after_message, after_tick, history_of}
 use Rattle.rams_model.specs.Laws.{makes_known, ends_known, is_accept_of, is_end_of}
-use Rattle.rams_model.proofs.Legal.{IsLegal, Allows, newest_told, in_tick, legal_part}
-use Rattle.rams_model.proofs.Legality.{legal_history, in_tick_from_runs}
+use Rattle.rams_model.proofs.Legal.{IsLegal, Allows, newest_told, in_tick}
+use Rattle.rams_model.proofs.Legality.{in_tick_from_runs}
 use Rattle.rams_model.proofs.Items.{is_note, is_of_tick, message_puts, tick_puts}
 use Rattle.rams_model.proofs.Induction.{onwards, is_at_once, between}
 use Rattle.channel_parts.proofs.Knowing.{known_step, open_step, still_known, made_known, forgotten_rests, OfKnown, pending_known}
