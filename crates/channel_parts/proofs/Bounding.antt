@@ -1,6 +1,6 @@
 -- The bounds of open bursts.
-use Rattle.std.proofs.Common.{◌≡◌, ℕ, ◌+◌, ◌<◌, ◌≤◌, List, [], ◌∷◌, Option, Some, None, refl, ap, sym, ◌∙◌, subst, arith, zero-le}
-use Rattle.std.specs.Prelude.{Contains, Ok}
+use Rattle.std.proofs.Common.{◌≡◌, ℕ, ◌+◌, ◌<◌, ◌≤◌, List, [], ◌∷◌, Option, Some, None, refl, ap, sym, ◌∙◌, subst, arith}
+use Rattle.std.specs.Prelude.{Contains}
 use Rattle.std.specs.List.{AllByRecursion as Each}
 use Rattle.std.proofs.lemmas.Bool.{eqb-true}
 use Rattle.std.proofs.lemmas.List.Elements.{All-contains, All-from_recursion}
@@ -8,21 +8,14 @@ use Rattle.rams_model.specs.declared.held.Held.{Held}
 use Rattle.rams_model.specs.declared.note.Note.{Note}
 use Rattle.rams_model.specs.declared.note.Note.TheVariants as note
 use Rattle.rams_model.specs.Service.{Settings, live, tick, began, told, noted, History, arrivals, hold, sequence, Burst, next, begun, bursts, open_burst}
-use Rattle.rams_model.specs.Packets.{lo, hi, chosen}
-use Rattle.rams_model.specs.Laws.{Rises, IsChoice}
-use Rattle.rams_model.proofs.Rising.{lower, below_hi}
-use Rattle.rams_model.proofs.Holding.{held_follow, rises_from}
-use Rattle.rams_model.proofs.Choosing.{newest_chosen}
+use Rattle.rams_model.specs.Packets.{hi}
+use Rattle.rams_model.specs.Laws.{Rises}
+use Rattle.rams_model.proofs.Rising.{below_hi}
 use Rattle.rams_model.proofs.Legal.{IsVerdict, Allows, IsLegal}
-use Rattle.book_laws.proofs.Reserved.{granted}
 use Rattle.channel_parts.specs.{IsWithinBounds}
-use Rattle.channel_parts.proofs.Granting.{asked}
-use Rattle.channel_parts.proofs.Numbers.{hi_rises, among_below}
-use Rattle.channel_parts.proofs.Changing.{Holds, Keeps, at_note, at_tick}
-
--- what is held rises
-pub held_rises : (s : Settings) (history : History) → Rises 0 (hold s history)
-held_rises s history = lower 0 (lo (hold s history)) (hold s history) zero-le (rises_from (lo (hold s history)) (hold s history) (held_follow s history))
+use Rattle.rams_model.proofs.Granting.{held_rises, accept_grants, update_grants, accepted_below}
+use Rattle.channel_parts.proofs.Numbers.{hi_rises}
+use Rattle.rams_model.proofs.OpenBurst.{Holds, Keeps, at_note, at_tick}
 
 -- a held packet is below the end
 each_below : (n : ℕ) (hs : List Held) → Rises n hs → Each (λ h. h.n < hi hs) hs
@@ -34,13 +27,6 @@ each_below n (h ∷ k ∷ hs) r = (omega (arith, r.1.0, below_hi (h.n + 1) k hs 
 pub held_below : (s : Settings) (history : History) (h : Held) → Contains (hold s history) h → h.n < hi (hold s history)
 held_below s history h c =
     let hs = hold s history in All-contains (λ k. k.n < hi hs) hs h (All-from_recursion (λ k. k.n < hi hs) hs (each_below 0 hs (held_rises s history))) c
-
--- so is a chosen access point
-pub chosen_below : (s : Settings) (history : History) (least : ℕ) (most : Option ℕ) (h : Held) → chosen s.channel (hold s history) least most ≡ Ok h → h.n < hi (hold s history)
-chosen_below s history least most h e =
-    let hs = hold s history in
-    let choice : IsChoice s.channel hs least most (Ok h) = subst (IsChoice s.channel hs least most) e (newest_chosen s.channel hs least most (held_rises s history)) in
-    among_below 0 hs h (held_rises s history) choice.0.among
 
 -- a burst that is as bounded as another, where no less is held
 as_bounded : (s : Settings) (held later : List Held) (b c : Burst) → hi held ≤ hi later → next c ≡ next b → c.rate ≡ b.rate → IsWithinBounds s held b → IsWithinBounds s later c
@@ -56,13 +42,8 @@ Bounded s history b = IsWithinBounds s (hold s history) b
 -- an Accept begins it there
 begins_bounded : (s : Settings) (history : History) (k first rate join : ℕ) → IsVerdict s history k (note.Accept k first rate join) → Bounded s history (begun s first rate join (sequence s k history))
 begins_bounded s history k first rate join v =
-    let may = asked s history k (note.Accept k first rate join) v in
-    let below = chosen_below s history may.least may.most may.start may.is_chosen in
-    record {
-      by_held = omega (arith, below, may.number);
-      rate_least = may.fast;
-      rate_most = (granted s history k (note.Accept k first rate join) v).0;
-    }
+    let may = (accept_grants s history k first rate join v).2 in
+    record { by_held = omega (arith, accepted_below s history k first rate join _ may); rate_least = may.fast; rate_most = may.within }
 
 some_eq : (b c : Burst) (o : Option Burst) → o ≡ Some b → o ≡ Some c → b ≡ c
 some_eq b c o e f = let same : Some b ≡ Some c = sym e ∙ f in cc
@@ -80,8 +61,8 @@ keeps_bounds s k (note.Update client rate join) packet history a = record {
   begins = λ f r j e. absurd cc;
   changes = λ b own is w. record {
     by_held = w.by_held;
-    rate_least = asked s history client (note.Update client rate join) a;
-    rate_most = (granted s history client (note.Update client rate join) a).0;
+    rate_least = (update_grants s history client rate join a).fast;
+    rate_most = (update_grants s history client rate join a).within;
   };
 }
 keeps_bounds s k (note.StopAt client m) packet history a = record { begins = λ f r j e. absurd cc; changes = λ b own is w. record { by_held = w.by_held; rate_least = w.rate_least; rate_most = w.rate_most } }

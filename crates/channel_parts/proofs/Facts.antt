@@ -9,7 +9,7 @@ use Rattle.channel_parts.proofs.Ordered.{sorted, known_rise, opened_rise}
 use Rattle.channel_parts.proofs.Waiting.{known_few, pending_within}
 use Rattle.channel_parts.proofs.Knowing.{OfKnown, pending_known}
 use Rattle.channel_parts.proofs.Opening.{unknown_closed, opened_filter}
-use Rattle.channel_parts.proofs.Changing.{holds_of}
+use Rattle.rams_model.proofs.OpenBurst.{holds_of}
 use Rattle.channel_parts.proofs.Bounding.{bounded}
 use Rattle.channel_parts.proofs.Lasting.{ticks_left}
 use Rattle.channel_parts.proofs.Idling.{idle_less}

@@ -10,7 +10,7 @@ use Rattle.std.proofs.lemmas.List.Elements.{All-from_recursion}
 use Rattle.std.proofs.lemmas.List.Sums.{sum_by-cons}
 use Rattle.rams_model.specs.declared.event.Event.{Event}
 use Rattle.rams_model.specs.declared.held.Held.{Held}
-use Rattle.rams_model.specs.Service.{Settings, History, arrivals, hold, known, is_among, next, kept, open_burst, has_open, most_of, reserved, history_of}
+use Rattle.rams_model.specs.Service.{Settings, History, arrivals, hold, known, is_among, open_burst, has_open, most_of, reserved, history_of}
 use Rattle.rams_model.specs.Packets.{lo, hi, Follows, stream_of}
 use Rattle.rams_model.specs.Packets.Source as sources
 use Rattle.rams_model.specs.Service.Bursts as model
@@ -24,7 +24,7 @@ use Rattle.channel_parts.specs.declared.parts.Parts.{Parts}
 use Rattle.channel_parts.specs.{IsWithinBounds, burst_kept, IsEntry, IsTable, StandsFor, IsBurstInBounds, amount_of, HeldPacketsAreInOrder, KnownClientsHaveEntries, EntriesAreOfTheirClients, EntriesAreInBounds, ReservedIsOfTheEntries}
 use Rattle.channel_parts.proofs.Ordered.{Rise, known_rise, not_below}
 use Rattle.channel_parts.proofs.Opening.{none_of, opened_filter}
-use Rattle.channel_parts.proofs.Changing.{holds_of}
+use Rattle.rams_model.proofs.OpenBurst.{holds_of}
 use Rattle.channel_parts.proofs.Bounding.{bounded}
 use Rattle.channel_parts.proofs.Lasting.{ticks_left}
 use Rattle.channel_parts.proofs.Idling.{idle_less}

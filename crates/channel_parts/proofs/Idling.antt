@@ -2,16 +2,18 @@
 use Rattle.std.proofs.Common.{◌≡◌, ℕ, ◌+◌, ◌-◌, ◌<◌, ◌≤◌, Bool, true, false, cond, not, ◌&&◌, ◌||◌, ◌⊎◌, inl, inr, ⊎_elim, List, [], ◌∷◌, Option, None, refl, sym, ◌∙◌, subst, arith, eqb}
 use Rattle.std.specs.Prelude.{◌≢◌, filter}
 use Rattle.std.specs.List.{list_any}
-use Rattle.std.proofs.lemmas.Bool.{cond_both, cond-false, cases_Bool, both_ways, or_cases, or_left, or_right, or_from, or_parts, and_parts, and_from, and_left, not_from_false, not-true, eqb-true, eqb-false, eq-eqb, ne_eqb}
+use Rattle.std.proofs.lemmas.Bool.{cond_both, cond-false, cases_Bool, both_ways, or_cases, or_left, or_right, or_from, or_parts, and_parts, and_from, and_left, not_from_false, not-true, eqb-true, eqb-false, eq-eqb, ne_eqb, true≢false}
 use Rattle.std.proofs.lemmas.List.Folds.{list_any-append}
 use Rattle.rams_model.specs.declared.event.Event.{Event}
 use Rattle.rams_model.specs.declared.held.Held.{Held}
 use Rattle.rams_model.specs.declared.note.Note.{Note}
 use Rattle.rams_model.specs.declared.note.Note.TheVariants as note
-use Rattle.rams_model.specs.Service.{Settings, Message, Heard, live, dropped, feedback, unframed, tick, heard_of, began, noted, History, known, is_among, bursts, has_open, Wanted, wanted, is_wanted, pending, is_busy, is_served, quiet_ticks, idle, all_forgotten, bursts_served, repairs_sent, after_tick, after_hearing, history_of}
+use Rattle.rams_model.specs.Service.{Settings, Message, Heard, feedback, tick, heard_of, began, noted, History, known, is_among, bursts, has_open, Wanted, wanted, is_wanted, pending, is_busy, is_served, quiet_ticks, idle, all_forgotten, bursts_served, repairs_sent, after_tick, history_of, hold, told, after_message, opened}
 use Rattle.rams_model.specs.Laws.{makes_known, ends_known, is_accept_of, is_end_of}
 use Rattle.channel_parts.proofs.Knowing.{known_step, open_step}
-use Rattle.channel_parts.proofs.Passing.{through_all_served, through_all_repaired, through_messages}
+use Rattle.rams_model.proofs.Legal.{is_tick, is_of_runs}
+use Rattle.rams_model.proofs.Items.{is_note, is_repair, Puts, message_puts, all_served_put, all_repaired_put}
+use Rattle.rams_model.proofs.Induction.{through, between}
 
 -- a repair waits for the client
 abbrev waits : ℕ → History → Bool
@@ -97,6 +99,9 @@ noted_rests s most k n packet history r is =
     cond_both (is_busy s k (i ∷ history)) 0 (quiet_ticks s k (i ∷ history)) (λ q. q ≤ most) (λ t. omega arith)
     (λ free. cond_both (is_served k n) 0 (quiet_ticks s k history) (λ q. q ≤ most) (λ t. omega arith) (λ unserved. rests_on s most k n packet history r is free unserved))
 
+rests_through : (s : Settings) (most k : ℕ) (kind : Note → Bool) (before after : History) → Puts kind before after → Rests s most k before → Rests s most k after
+rests_through s most k kind = through kind (Rests s most k) (λ n packet h is r. noted_rests s most k n packet h r)
+
 -- what begins or is told changes neither who is known nor who is busy
 less_quiet : (busy : Bool) (q less most : ℕ) → less ≤ q → cond busy 0 q ≤ most → cond busy 0 less ≤ most
 less_quiet true q less most le w = w
@@ -159,31 +164,33 @@ tick_rests : (s : Settings) (j : ℕ) (history : History) → Rests s s.channel.
 unfolding after_tick
 tick_rests s j history r =
     let most = s.channel.idle in
-    let step = noted_rests s most j in
     let served = bursts_served s history in
     let sent = repairs_sent s served in
-    let now : Rests s most j sent = through_all_repaired (Rests s most j) step s _ _ served (through_all_served (Rests s most j) step s _ _ history r) in
+    let now : Rests s most j sent =
+    rests_through s most j is_repair served sent (all_repaired_put s (hold s served) (pending served) served)
+    (rests_through s most j is_of_runs history served (all_served_put s (hold s history) (opened history) history) r) in
     all_rest s j (known sent) sent now
     (⊎_elim (λ t. inl t) (λ out. inr (unknown_rests s (most - 1) j sent out)) (cases_Bool (is_among j (known sent))))
 
-hearing_rests : (s : Settings) (heard : Heard) (j : ℕ) (history : History) → 1 ≤ s.channel.idle → Rests s (s.channel.idle - 1) j history
-    → Rests s (s.channel.idle - 1) j (after_hearing s heard history)
-unfolding after_hearing quiet_ticks bursts pending known
-hearing_rests s (live a) j history some r = r
-hearing_rests s (dropped note) j history some r = r
-hearing_rests s (feedback client messages) j history some r =
-    let most = s.channel.idle - 1 in
-    through_messages (Rests s most j) (noted_rests s most j) (λ k m h x. x) s client messages (began (feedback client messages) ∷ history)
-    (datagram_rests s most j client messages history r)
-hearing_rests s (unframed client fault) j history some r = r
-hearing_rests s tick j history some r =
-    let same : s.channel.idle - 1 + 1 ≡ s.channel.idle = omega (arith, some) in
-    tick_rests s j (began tick ∷ history) (subst (λ (m : ℕ). Rests s m j (began tick ∷ history)) same (begun_rests s (s.channel.idle - 1) j history r))
+heard_rests : (s : Settings) (most j : ℕ) (heard : Heard) (history : History) → is_tick heard ≡ false → Rests s most j history → Rests s most j (began heard ∷ history)
+unfolding quiet_ticks bursts pending known
+heard_rests s most j tick history other r = absurd (true≢false other)
+heard_rests s most j (feedback client ms) history other r = datagram_rests s most j client ms history r
+heard_rests s most j heard history other r = r
 
 resting : (s : Settings) (events : List Event) (j : ℕ) → 1 ≤ s.channel.idle → Rests s (s.channel.idle - 1) j (history_of s events)
-unfolding history_of known
-resting s [] j some = λ e. absurd cc
-resting s (event ∷ events) j some = hearing_rests s (heard_of s.channel event) j (history_of s events) some (resting s events j some)
+unfolding quiet_ticks bursts pending known
+resting s events j some =
+    let most = s.channel.idle - 1 in
+    let same : most + 1 ≡ s.channel.idle = omega (arith, some) in
+    between s (Rests s most j)
+    (λ event before n other once r. let heard = heard_of s.channel event in
+    noted_rests s most j n None (began heard ∷ history_of s before) (heard_rests s most j heard (history_of s before) other r))
+    (λ client ms history r. datagram_rests s most j client ms history r)
+    (λ client m history legal r. let asked = told client m ∷ history in
+    rests_through s most j is_note asked (after_message s client m asked) (message_puts s client m asked) r)
+    (λ before legal r. let start = began tick ∷ history_of s before in
+    tick_rests s j start (subst (λ (n : ℕ). Rests s n j start) same (begun_rests s most j (history_of s before) r))) (λ e. absurd cc) events
 
 pub idle_less : (s : Settings) (k : ℕ) (events : List Event) → 1 ≤ s.channel.idle → is_among k (known (history_of s events)) ≡ true → idle s k (history_of s events) < s.channel.idle
 idle_less s k events some is = omega (arith, resting s events k some is, some)

@@ -1,19 +1,21 @@
 -- Between two events an open burst has lasted fewer than `limit` ticks: each tick ends those that have lasted so many.
-use Rattle.std.proofs.Common.{◌≡◌, ℕ, ◌-◌, ◌<◌, ◌≤◌, true, ◌⊎◌, inl, inr, ⊎_elim, List, [], ◌∷◌, Option, Some, None, refl, sym, ◌∙◌, subst, arith, eqb}
+use Rattle.std.proofs.Common.{◌≡◌, ℕ, ◌-◌, ◌<◌, ◌≤◌, true, ◌⊎◌, inl, inr, ⊎_elim, List, [], ◌∷◌, Option, Some, None, refl, sym, ◌∙◌, subst, arith, eqb, Bool, false}
 use Rattle.std.specs.Prelude.{◌≢◌}
-use Rattle.std.proofs.lemmas.Bool.{cond_both, cases_Bool, or_cases, eqb-true, eqb-false}
+use Rattle.std.proofs.lemmas.Bool.{cond_both, cases_Bool, or_cases, eqb-true, eqb-false, true≢false}
 use Rattle.rams_model.specs.declared.event.Event.{Event}
 use Rattle.rams_model.specs.declared.held.Held.{Held}
 use Rattle.rams_model.specs.declared.note.Cause.{Cause}
 use Rattle.rams_model.specs.declared.note.Note.{Note}
 use Rattle.rams_model.specs.declared.note.Cause.TheVariants as cause
 use Rattle.rams_model.specs.declared.note.Note.TheVariants as note
-use Rattle.rams_model.specs.Service.{Settings, Heard, live, dropped, feedback, unframed, tick, heard_of, began, noted, History, hold, known, opened, is_among, Burst, next, after_note, size_of, bursts, open_burst, pending, run, send, is_lost, is_stop, after_run, run_sent, burst_served, all_served, bursts_served, repairs_sent, after_tick, after_hearing, history_of}
+use Rattle.rams_model.specs.Service.{Settings, Heard, tick, heard_of, began, noted, History, hold, known, opened, is_among, Burst, next, after_note, size_of, bursts, open_burst, pending, run, send, is_lost, is_stop, after_run, run_sent, burst_served, all_served, bursts_served, repairs_sent, after_tick, history_of, idle_forgotten, told, after_message}
 use Rattle.rams_model.specs.Packets.{from_number}
 use Rattle.book_laws.proofs.BurstAmounts.{opened_open}
 use Rattle.channel_parts.proofs.Opening.{none_of}
-use Rattle.channel_parts.proofs.Passing.{through_send, through_served, through_all_repaired, through_all_forgotten, through_messages}
-use Rattle.channel_parts.proofs.Changing.{Holds, holds_of, end_closes, at_note, at_tick}
+use Rattle.rams_model.proofs.Legal.{is_tick}
+use Rattle.rams_model.proofs.Items.{is_note, is_run_of, is_repair, is_forgotten, Puts, message_puts, send_puts, served_puts, all_repaired_put, all_forgotten_put}
+use Rattle.rams_model.proofs.Induction.{through, between}
+use Rattle.rams_model.proofs.OpenBurst.{Holds, holds_of, end_closes, at_note, at_tick}
 
 -- it has lasted at most so many ticks
 abbrev Within : ℕ → Burst → Type 0
@@ -35,6 +37,9 @@ noted_lasts : (s : Settings) (most k : ℕ) (n : Note) (packet : Option Held) (h
 noted_lasts s most k n packet history l =
     at_note s k (Within most) n packet history
     (record { begins = λ first rate join e. omega arith; changes = λ b own is within. omega (arith, same_ticks s n (size_of packet) b, within) }) l
+
+lasts_through : (s : Settings) (most k : ℕ) (kind : Note → Bool) (before after : History) → Puts kind before after → Lasts s most k before → Lasts s most k after
+lasts_through s most k kind = through kind (Lasts s most k) (λ n packet h is l. noted_lasts s most k n packet h l)
 
 closed_lasts : (s : Settings) (most k : ℕ) (history : History) → open_burst s k history ≡ None → Lasts s most k history
 closed_lasts s most k history e = subst (Holds (Within most)) (sym e) tt
@@ -62,7 +67,7 @@ served_lasts s held k (Some b) history e l =
     let hs = run b.stop (next b) b.left (from_number (next b) held) in
     let sent = send s k hs history in
     cond_both (is_lost (next b) held) (noted (note.End k cause.Lost) None ∷ history) (run_sent s k sent) (Lasts s (most - 1) k) (λ t. ended_lasts s (most - 1) k cause.Lost history)
-    (λ f. run_lasts s k (open_burst s k sent) sent refl (through_send (Lasts s most k) (noted_lasts s most k) s k hs history l))
+    (λ f. run_lasts s k (open_burst s k sent) sent refl (lasts_through s most k (is_run_of k) history sent (send_puts s k hs history) l))
 
 -- so have all, after each was served
 all_last : (s : Settings) (held : List Held) (j : ℕ) (ks : List ℕ) (history : History) → Lasts s s.channel.limit j history
@@ -72,7 +77,7 @@ all_last s held j [] history l o = ⊎_elim (λ t. absurd cc) (λ less. less) o
 all_last s held j (k ∷ ks) history l o =
     let most = s.channel.limit in
     let served = burst_served s held k (open_burst s k history) history in
-    let further : (m : ℕ) → Lasts s m j history → Lasts s m j served = λ m x. through_served (Lasts s m j) (noted_lasts s m j) s held k (open_burst s k history) history x in
+    let further : (m : ℕ) → Lasts s m j history → Lasts s m j served = λ m x. lasts_through s m j (is_run_of k) history served (served_puts s held k (open_burst s k history) history) x in
     all_last s held j ks served (further most l)
     (⊎_elim
     (λ t. ⊎_elim
@@ -93,25 +98,26 @@ tick_lasts s j history l =
     let most = s.channel.limit - 1 in
     let served = bursts_served s history in
     let sent = repairs_sent s served in
-    through_all_forgotten (Lasts s most j) (noted_lasts s most j) s (known sent) sent
-    (through_all_repaired (Lasts s most j) (noted_lasts s most j) s (hold s served) (pending served) served (runs_last s j history l))
+    lasts_through s most j is_forgotten sent (idle_forgotten s sent) (all_forgotten_put s (known sent) sent)
+    (lasts_through s most j is_repair served sent (all_repaired_put s (hold s served) (pending served) served) (runs_last s j history l))
 
-hearing_lasts : (s : Settings) (heard : Heard) (j : ℕ) (history : History) → 1 ≤ s.channel.limit → Lasts s (s.channel.limit - 1) j history
-    → Lasts s (s.channel.limit - 1) j (after_hearing s heard history)
-unfolding after_hearing bursts
-hearing_lasts s (live a) j history some l = l
-hearing_lasts s (dropped note) j history some l = l
-hearing_lasts s (feedback client messages) j history some l =
-    let most = s.channel.limit - 1 in
-    through_messages (Lasts s most j) (noted_lasts s most j) (λ k m h x. x) s client messages (began (feedback client messages) ∷ history) l
-hearing_lasts s (unframed client fault) j history some l = l
-hearing_lasts s tick j history some l =
-    tick_lasts s j (began tick ∷ history) (at_tick s j (Within (s.channel.limit - 1)) (Within s.channel.limit) history (λ b within. omega (arith, within, some)) l)
+begun_lasts : (s : Settings) (most j : ℕ) (heard : Heard) (history : History) → is_tick heard ≡ false → Lasts s most j history → Lasts s most j (began heard ∷ history)
+unfolding bursts
+begun_lasts s most j tick history other l = absurd (true≢false other)
+begun_lasts s most j heard history other l = l
 
 lasting : (s : Settings) (events : List Event) (j : ℕ) → 1 ≤ s.channel.limit → Lasts s (s.channel.limit - 1) j (history_of s events)
-unfolding history_of bursts
-lasting s [] j some = tt
-lasting s (event ∷ events) j some = hearing_lasts s (heard_of s.channel event) j (history_of s events) some (lasting s events j some)
+unfolding bursts
+lasting s events j some =
+    let most = s.channel.limit - 1 in
+    between s (Lasts s most j)
+    (λ event before n other once l. let heard = heard_of s.channel event in
+    noted_lasts s most j n None (began heard ∷ history_of s before) (begun_lasts s most j heard (history_of s before) other l))
+    (λ client ms history l. l)
+    (λ client m history legal l. let asked = told client m ∷ history in
+    lasts_through s most j is_note asked (after_message s client m asked) (message_puts s client m asked) l)
+    (λ before legal l. tick_lasts s j (began tick ∷ history_of s before)
+    (at_tick s j (Within most) (Within s.channel.limit) (history_of s before) (λ b within. omega (arith, within, some)) l)) tt events
 
 pub ticks_left : (s : Settings) (k : ℕ) (b : Burst) (events : List Event) → 1 ≤ s.channel.limit → open_burst s k (history_of s events) ≡ Some b → b.ticks < s.channel.limit
 ticks_left s k b events some e =

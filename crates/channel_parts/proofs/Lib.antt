@@ -1,11 +1,8 @@
 pub mod Begun
 pub mod Ordered
-pub mod Granting
 pub mod Waiting
 pub mod Knowing
 pub mod Opening
-pub mod Passing
-pub mod Changing
 pub mod Lasting
 pub mod Idling
 pub mod Numbers

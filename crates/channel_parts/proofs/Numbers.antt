@@ -1,11 +1,11 @@
 -- The end of what is held never falls.
-use Rattle.std.proofs.Common.{◌≡◌, ℕ, zero, suc, ◌+◌, ◌-◌, ◌<◌, ◌≤◌, ⊎_elim, List, [], ◌∷◌, ◌++◌, length, drop, refl, ap, sym, ◌∙◌, subst, arith, append-nil, le_refl, zero-le}
+use Rattle.std.proofs.Common.{◌≡◌, ℕ, zero, suc, ◌+◌, ◌-◌, ◌<◌, ◌≤◌, List, [], ◌∷◌, ◌++◌, length, drop, refl, ap, sym, ◌∙◌, subst, arith, append-nil, le_refl, zero-le}
 use Rattle.std.proofs.lemmas.Bool.{cond_both}
 use Rattle.rams_model.specs.declared.held.Held.{Held}
 use Rattle.rams_model.specs.Service.{Settings, live, Item, began, told, noted, History, arrivals, hold}
 use Rattle.rams_model.specs.Packets.{hi, Arrival, Stream, is_consecutive, consecutive_end, stream_of, source}
 use Rattle.rams_model.specs.Packets.Source as sources
-use Rattle.rams_model.specs.Laws.{Rises, IsAmong}
+use Rattle.rams_model.specs.Laws.{Rises}
 use Rattle.rams_model.proofs.Rising.{below_hi, hi_of_end}
 use Rattle.rams_model.proofs.Growing.{source_grows, source_rises}
 
@@ -79,11 +79,3 @@ hi_rises s (noted n p) history = le_refl (hi (hold s history))
 pub hi_never_falls : (s : Settings) (later history : History) → hi (hold s history) ≤ hi (hold s (later ++ history))
 hi_never_falls s [] history = le_refl (hi (hold s history))
 hi_never_falls s (i ∷ later) history = omega (arith, hi_never_falls s later history, hi_rises s i (later ++ history))
-
--- a packet is below the end
-pub among_below : (n : ℕ) (hs : List Held) (h : Held) → Rises n hs → IsAmong h hs → h.n < hi hs
-unfolding hi
-among_below n [] h r a = absurd a
-among_below n (k ∷ []) h r a = ⊎_elim (λ e. omega (arith, ap (λ (x : Held). x.n) e)) (λ b. absurd b) a
-among_below n (k ∷ j ∷ hs) h r a =
-    ⊎_elim (λ e. omega (arith, ap (λ (x : Held). x.n) e, r.1.0, below_hi (k.n + 1) j hs r.1)) (λ b. among_below (k.n + 1) (j ∷ hs) h r.1 b) a

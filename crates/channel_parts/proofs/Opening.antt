@@ -1,20 +1,19 @@
 -- Between two events only known clients have an open burst.
-use Rattle.std.proofs.Common.{◌≡◌, ℕ, ◌≤◌, Bool, true, false, cond, not, ◌&&◌, ⊎_elim, List, [], ◌∷◌, ◌++◌, Option, Some, None, refl, ap, sym, ◌∙◌, subst, append_assoc, eqb}
+use Rattle.std.proofs.Common.{◌≡◌, ℕ, ◌≤◌, Bool, true, false, cond, not, ◌&&◌, ⊎_elim, List, ◌∷◌, Option, Some, None, refl, ap, sym, ◌∙◌, subst, eqb}
 use Rattle.std.specs.Prelude.{filter, is_some}
-use Rattle.std.proofs.lemmas.Bool.{cond_both, cases_Bool, or_cases, and_parts, not-true, both_ways, eqb-true}
+use Rattle.std.proofs.lemmas.Bool.{cond_both, cases_Bool, or_cases, and_parts, not-true, both_ways, eqb-true, true≢false}
 use Rattle.std.proofs.lemmas.Map.Views.{any-filter_same}
 use Rattle.rams_model.specs.declared.event.Event.{Event}
 use Rattle.rams_model.specs.declared.held.Held.{Held}
 use Rattle.rams_model.specs.declared.note.Note.{Note}
 use Rattle.rams_model.specs.declared.note.Cause.TheVariants as cause
 use Rattle.rams_model.specs.declared.note.Note.TheVariants as note
-use Rattle.rams_model.specs.Service.{Settings, Message, bye, nack, asks, stops, Heard, live, dropped, feedback, unframed, tick, heard_of, Item, began, told, noted, History, known, opened, is_among, ssrc, bursts, open_burst, has_open, is_bye_of, after_bye, after_message, after_messages, after_tick, after_hearing, history_of}
+use Rattle.rams_model.specs.Service.{Settings, Message, bye, nack, asks, stops, Heard, tick, heard_of, Item, began, told, noted, History, known, opened, is_among, ssrc, bursts, open_burst, has_open, is_bye_of, after_bye, after_message, after_tick, history_of}
 use Rattle.rams_model.specs.Formats.{Framed}
 use Rattle.rams_model.specs.Laws.{makes_known, ends_known, is_accept_of, is_end_of}
-use Rattle.book_laws.specs.{AreNotes}
-use Rattle.rams_model.proofs.Legal.{newest_told, Allows, IsLegal, legal_part}
-use Rattle.rams_model.proofs.Legality.{legal_history}
-use Rattle.rams_model.proofs.Items.{message_puts, tick_puts}
+use Rattle.rams_model.proofs.Legal.{is_tick, Answers, Allows, IsLegal}
+use Rattle.rams_model.proofs.Items.{is_of_tick, tick_puts}
+use Rattle.rams_model.proofs.Induction.{onwards, in_answer, is_at_once, between}
 use Rattle.book_laws.proofs.BurstAmounts.{opened_open}
 use Rattle.channel_parts.proofs.Ordered.{rise_passed, known_rise, opened_rise, same_rise}
 use Rattle.channel_parts.proofs.Knowing.{open_step, still_known, made_known, forgotten_rests}
@@ -35,32 +34,14 @@ kept s i history stays are k e =
     ⊎_elim (λ t. absurd (stays k t was.1)) (λ f. still_known k i history f (are k was.1)) (cases_Bool (ends_known k i)))
     (or_cases (is_accept_of k i) (not (is_end_of k i) && has_open s k history) (sym (open_step s k i history) ∙ e))
 
--- no BYE is being answered
-abbrev NoBye : History → Type 0
-NoBye history = (client : ℕ) (p : Framed) → newest_told history ≡ Some (client, bye p) → ⊥
-
--- so a note lets no client go that has an open burst
-stays : (s : Settings) (history : History) (n : Note) (packet : Option Held) → 1 ≤ s.channel.idle → Allows s history n packet → NoBye history
+-- a note that is no Bye lets no client go that has an open burst
+stays : (s : Settings) (history : History) (n : Note) (packet : Option Held) → 1 ≤ s.channel.idle → Allows s history n packet → ((client : ℕ) → n ≡ note.Bye client → ⊥)
     → (k : ℕ) → ends_known k (noted n packet) ≡ true → has_open s k history ≡ true → ⊥
-stays s history (note.Bye client) packet some a free k e o = free client a.packet a.is_answer
+stays s history (note.Bye client) packet some a free k e o = free client refl
 stays s history (note.Forgot client) packet some a free k e o =
     let rests = forgotten_rests s client history some a in
     both_ways (has_open s k history) (subst (λ (j : ℕ). has_open s j history ≡ false) (eqb-true client k e) rests.0) o
 stays s history n packet some a free k e o = absurd cc
-
-kept_by_notes : (s : Settings) (items history : History) → 1 ≤ s.channel.idle → AreNotes items → IsLegal s (items ++ history) → NoBye history → AreKnown s history
-    → AreKnown s (items ++ history)
-kept_by_notes s [] history some n l free are = are
-kept_by_notes s (noted note packet ∷ items) history some n l free are =
-    kept s (noted note packet) (items ++ history) (stays s (items ++ history) note packet some l.0 (no_bye items n)) (kept_by_notes s items history some n l.1 free are)
-  where
-    no_bye : (items : History) → AreNotes items → NoBye (items ++ history)
-    no_bye [] n = free
-    no_bye (noted note packet ∷ items) n = no_bye items n
-    no_bye (began heard ∷ items) n = absurd n
-    no_bye (told client message ∷ items) n = absurd n
-kept_by_notes s (began heard ∷ items) history some n l free are = absurd n
-kept_by_notes s (told client message ∷ items) history some n l free are = absurd n
 
 -- a client that leaves has no open burst then
 left : (s : Settings) (k : ℕ) (history : History) → AreKnown s history → has_open s k history ≡ false → AreKnown s (noted (note.Bye k) None ∷ history)
@@ -90,11 +71,13 @@ message_of m (Some told') = told'.1
 answered : (s : Settings) (k : ℕ) (m : Message) (history : History) → 1 ≤ s.channel.idle → ((p : Framed) → m ≡ bye p → ⊥) → IsLegal s (after_message s k m (told k m ∷ history))
     → AreKnown s history → AreKnown s (after_message s k m (told k m ∷ history))
 unfolding bursts known message_of
-answered s k m history some other l are =
-    let p = message_puts s k m (told k m ∷ history) in
-    subst (AreKnown s) (sym p.splits)
-    (kept_by_notes s p.items (told k m ∷ history) some p.notes (subst (IsLegal s) p.splits l)
-    (λ client q e. other q (ap (message_of m) e)) are)
+answered s k m history some other l are = in_answer s (AreKnown s) k m each history l are
+  where
+    each : (n : Note) (packet : Option Held) (before : History) → Allows s before n packet → Answers before k m → AreKnown s before → AreKnown s (noted n packet ∷ before)
+    each n packet before a here known' =
+        kept s (noted n packet) before
+        (stays s before n packet some a
+        (λ client is. let bye_allowed = subst (λ (x : Note). Allows s before x packet) is a in other bye_allowed.packet (ap (message_of m) (sym here ∙ bye_allowed.is_answer)))) known'
 
 pub message_kept : (s : Settings) (k : ℕ) (m : Message) (history : History) → 1 ≤ s.channel.idle → IsLegal s (after_message s k m (told k m ∷ history)) → AreKnown s history
     → AreKnown s (after_message s k m (told k m ∷ history))
@@ -104,58 +87,37 @@ message_kept s k (nack media sender lows) history some l are = answered s k (nac
 message_kept s k (asks sender request) history some l are = answered s k (asks sender request) history some (λ p e. absurd cc) l are
 message_kept s k (stops stop) history some l are = answered s k (stops stop) history some (λ p e. absurd cc) l are
 
--- the answers to later messages come after those to earlier ones
-pub record IsPart (before after : History) : Type 0 where
-  pub later : History
-  pub splits : after ≡ later ++ before
-
-pub messages_part : (s : Settings) (k : ℕ) (ms : List Message) (history : History) → IsPart history (after_messages s k ms history)
-unfolding after_messages
-messages_part s k [] history = record { later = []; splits = refl }
-messages_part s k (m ∷ ms) history =
-    let p = message_puts s k m (told k m ∷ history) in
-    let rest = messages_part s k ms (after_message s k m (told k m ∷ history)) in
-    record {
-      later = (rest.later ++ p.items) ++ told k m ∷ [];
-      splits = rest.splits ∙ ap (λ (h : History). rest.later ++ h) p.splits ∙ regrouped rest.later p.items (told k m) history;
-    }
-  where
-    regrouped : (a b : History) (i : Item) (c : History) → a ++ (b ++ (i ∷ c)) ≡ ((a ++ b) ++ i ∷ []) ++ c
-    regrouped a b i c = simp append_assoc
-
-messages_kept : (s : Settings) (k : ℕ) (ms : List Message) (history : History) → 1 ≤ s.channel.idle → IsLegal s (after_messages s k ms history) → AreKnown s history
-    → AreKnown s (after_messages s k ms history)
-unfolding after_messages
-messages_kept s k [] history some l are = are
-messages_kept s k (m ∷ ms) history some l are =
-    let answered = after_message s k m (told k m ∷ history) in
-    let part = messages_part s k ms answered in
-    messages_kept s k ms answered some l (message_kept s k m history some (legal_part s part.later answered (subst (IsLegal s) part.splits l)) are)
-
 tick_kept : (s : Settings) (history : History) → 1 ≤ s.channel.idle → IsLegal s (after_tick s (began tick ∷ history)) → AreKnown s (began tick ∷ history)
     → AreKnown s (after_tick s (began tick ∷ history))
 tick_kept s history some l are =
-    let p = tick_puts s (began tick ∷ history) in
-    subst (AreKnown s) (sym p.splits)
-    (kept_by_notes s p.items (began tick ∷ history) some p.notes (subst (IsLegal s) p.splits l) (λ client q e. absurd cc) are)
+    let start = began tick ∷ history in
+    onwards is_of_tick s (AreKnown s)
+    (λ n packet before is a legal known'. kept s (noted n packet) before
+    (stays s before n packet some a (λ client bye. true≢false (sym is ∙ ap (λ (x : Note). is_of_tick x) bye))) known')
+    start (after_tick s start) (tick_puts s start) l are
 
 tick_begun : (s : Settings) (history : History) → AreKnown s history → AreKnown s (began tick ∷ history)
 tick_begun s history are = kept s (began tick) history (λ k e o. absurd cc) are
 
-hearing_kept : (s : Settings) (heard : Heard) (history : History) → 1 ≤ s.channel.idle → IsLegal s (after_hearing s heard history) → AreKnown s history
-    → AreKnown s (after_hearing s heard history)
-unfolding after_hearing bursts known
-hearing_kept s (live a) history some l are = are
-hearing_kept s (dropped note) history some l are = are
-hearing_kept s (feedback client messages) history some l are = messages_kept s client messages (began (feedback client messages) ∷ history) some l are
-hearing_kept s (unframed client fault) history some l are = are
-hearing_kept s tick history some l are = tick_kept s history some l (tick_begun s history are)
+begun_kept : (s : Settings) (heard : Heard) (history : History) → is_tick heard ≡ false → AreKnown s history → AreKnown s (began heard ∷ history)
+unfolding bursts known
+begun_kept s tick history other are = absurd (true≢false other)
+begun_kept s heard history other are = are
+
+once_kept : (s : Settings) (n : Note) (history : History) → is_at_once n ≡ true → AreKnown s history → AreKnown s (noted n None ∷ history)
+unfolding bursts known
+once_kept s (note.Live n) history is are = are
+once_kept s (note.BadFeedback client fault) history is are = are
+once_kept s n history is are = absurd (true≢false (sym is))
 
 pub open_known : (s : Settings) (events : List Event) → 1 ≤ s.channel.idle → AreKnown s (history_of s events)
-unfolding history_of bursts
-open_known s [] some = λ k e. absurd cc
-open_known s (event ∷ events) some =
-    hearing_kept s (heard_of s.channel event) (history_of s events) some (legal_history s (event ∷ events)) (open_known s events some)
+unfolding bursts known
+open_known s events some =
+    between s (AreKnown s)
+    (λ event before n other is are. let heard = heard_of s.channel event in
+    once_kept s n (began heard ∷ history_of s before) is (begun_kept s heard (history_of s before) other are))
+    (λ client ms history are. are) (λ client m history l are. message_kept s client m history some l are)
+    (λ before l are. tick_kept s (history_of s before) some l (tick_begun s (history_of s before) are)) (λ k e. absurd cc) events
 
 pub none_of : {A : Type 0} (o : Option A) → is_some o ≡ false → o ≡ None
 none_of None e = refl

@@ -12,7 +12,7 @@ use Rattle.rams_model.specs.declared.note.LiveNote.{LiveNote}
 use Rattle.rams_model.specs.declared.event.Event.TheVariants.{Live, Feedback, Tick}
 use Rattle.rams_model.specs.declared.note.LiveNote.TheVariants.{TooBig}
 use Rattle.rams_model.specs.declared.note.Note.TheVariants.{Live as LiveNoted}
-use Rattle.rams_model.specs.Service.{Settings, Message, messages, Heard, live, dropped, feedback, unframed, tick, heard_packet, heard_live, heard_feedback, heard_of, began, noted, History, arrivals, known, opened, sendings, ssrc, bursts, Wanted, pending, quiet_ticks, reserved, channel_left, after_messages, after_tick, after, after_hearing, history_of}
+use Rattle.rams_model.specs.Service.{Settings, messages, Heard, live, dropped, feedback, unframed, tick, heard_packet, heard_live, heard_feedback, heard_of, began, noted, History, arrivals, known, opened, sendings, ssrc, bursts, Wanted, pending, quiet_ticks, reserved, channel_left, after, after_hearing, history_of}
 use Rattle.rams_model.specs.Formats.{Packet, packet_at, Framed, framed}
 use Rattle.rams_model.specs.Packets.{Arrival}
 use Rattle.channel_config.specs.{IsLawful}
@@ -21,35 +21,22 @@ use Rattle.channel_cache.specs.Seen as caches
 use Rattle.channel_cache.proofs.Booked.{noted_so}
 use Rattle.link_budget.specs.{amounts}
 use Rattle.client_table.specs.Clients.{Clients}
-use Rattle.rams_model.proofs.Items.{tick_puts}
+use Rattle.rams_model.proofs.Induction.{arrivals_of_event}
 use Rattle.channel_parts.specs.declared.parts.Parts.{Parts}
 use Rattle.channel_parts.specs.{HaveLowNumbers, IsTable, IsQueue, IsBudget, IsCache, StandsFor, GoOn, OtherEventsLeaveTheCache, LivePacketsChangeTheCache}
 use Rattle.channel_parts.proofs.Knowing.{OfKnown, pending_known}
-use Rattle.channel_parts.proofs.Passing.{through_notes, through_messages}
 use Rattle.channel_parts.proofs.Small.{reads_low}
 use Rattle.rams_model.proofs.Legality.{legal_history}
 
--- Notes and messages bring no live packet.
-arrivals_after_messages : (s : Settings) (k : ℕ) (ms : List Message) (history : History) → arrivals (after_messages s k ms history) ≡ arrivals history
-unfolding arrivals
-arrivals_after_messages s k ms history =
-    through_messages (λ h. arrivals h ≡ arrivals history) (λ n packet h e. e) (λ j m h e. e) s k ms history refl
-
-arrivals_after_tick : (s : Settings) (history : History) → arrivals (after_tick s history) ≡ arrivals history
-unfolding arrivals
-arrivals_after_tick s history =
-    let puts = tick_puts s history in
-    ap arrivals puts.splits ∙ through_notes (λ h. arrivals h ≡ arrivals history) (λ n packet h e. e) puts.items history puts.notes refl
-
--- so a tick and a datagram bring none
+-- a tick and a datagram bring no live packet
 pub arrivals_of_tick : (s : Settings) (events : List Event) → arrivals (history_of s (Tick ∷ events)) ≡ arrivals (history_of s events)
 unfolding history_of after_hearing heard_of arrivals
-arrivals_of_tick s events = arrivals_after_tick s (began tick ∷ history_of s events)
+arrivals_of_tick s events = arrivals_of_event s tick (history_of s events)
 
 of_datagram : (s : Settings) (client : ℕ) (r : Result (List Framed) FrameFault) (history : History) → arrivals (after_hearing s (heard_feedback client r) history) ≡ arrivals history
 unfolding after_hearing arrivals
-of_datagram s client (Err fault) history = refl
-of_datagram s client (Ok ps) history = arrivals_after_messages s client (messages ps) (began (feedback client (messages ps)) ∷ history)
+of_datagram s client (Err fault) history = arrivals_of_event s (unframed client fault) history
+of_datagram s client (Ok ps) history = arrivals_of_event s (feedback client (messages ps)) history
 
 pub arrivals_of_feedback : (s : Settings) (client : ℕ) (bytes : List ℕ) (events : List Event) → arrivals (history_of s (Feedback client bytes ∷ events)) ≡ arrivals (history_of s events)
 unfolding history_of heard_of

@@ -15,7 +15,6 @@ use Rattle.client_table.specs.declared.entry.Entry.{Entry}
 use Rattle.client_table.specs.{clients_of, entry_of, with_entry}
 use Rattle.client_table.specs.Clients.{Clients}
 use Rattle.client_table.specs.Clients as tables
-use Rattle.rams_model.proofs.Legality.{some_of}
 use Rattle.channel_parts.proofs.Ordered.{Rise, not_below}
 use Rattle.channel_parts.proofs.Opening.{none_of}
 

@@ -1,15 +1,11 @@
 -- A table that stood for one history stands for a later one, where one client's entry was changed.
-use Rattle.std.proofs.Common.{◌≡◌, ◌≢◌, ℕ, true, false, ⊎_elim, Option, Some, None, ap, sym, ◌∙◌, subst}
-use Rattle.std.proofs.lemmas.Bool.{cases_eq, eqb-false}
-use Rattle.rams_model.specs.Service.{Settings, History, known, is_among, with_client, without, open_burst}
+use Rattle.std.proofs.Common.{◌≡◌, ◌≢◌, ℕ, false, ⊎_elim, Option, Some, None, sym, ◌∙◌, subst}
+use Rattle.std.proofs.lemmas.Bool.{cases_eq}
+use Rattle.rams_model.specs.Service.{Settings, History, known, is_among, open_burst}
 use Rattle.client_table.specs.declared.entry.Entry.{Entry}
-use Rattle.client_table.specs.{clients_of, entry_of, with_entry}
+use Rattle.client_table.specs.{entry_of}
 use Rattle.client_table.specs.Clients.{Clients}
-use Rattle.client_table.specs.Clients as tables
 use Rattle.channel_parts.specs.{IsEntry, IsTable}
-use Rattle.channel_parts.proofs.Ordered.{Rise, known_rise}
-use Rattle.channel_parts.proofs.Reserving.{among_rest}
-use Rattle.channel_parts.proofs.Tables.{clients-with_entry, entry-with_entry, others-with_entry, clients-with_client, entry-with_client, others-with_client, clients-without, others-without, entry_among}
 
 -- only known clients have an open burst
 abbrev pub OthersAreClosed : Settings → History → Type 0

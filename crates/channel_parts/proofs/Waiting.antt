@@ -7,7 +7,7 @@ use Rattle.rams_model.specs.Service.{Settings, began, told, noted, History, know
 use Rattle.repair_queue.specs.{IsWithinLimits}
 use Rattle.repair_queue.proofs.Pending.{length-filter-le, filter-filter-le, limits_less, limits_push}
 use Rattle.rams_model.proofs.Legal.{IsLegal}
-use Rattle.channel_parts.proofs.Granting.{asked, waits}
+use Rattle.rams_model.proofs.Granting.{accept_grants, waits}
 
 -- one more client, where there is room
 length_placed : (k : ℕ) (ks : List ℕ) → length (placed k ks) ≡ length ks + 1
@@ -33,7 +33,7 @@ known_few s [] l = omega arith
 known_few s (began heard ∷ history) l = known_few s history l
 known_few s (told client message ∷ history) l = known_few s history l
 known_few s (noted (note.Accept client first rate join) packet ∷ history) l =
-    few_with s client history (asked s history client (note.Accept client first rate join) l.0).room (known_few s history l.1)
+    few_with s client history (accept_grants s history client first rate join l.0).2.room (known_few s history l.1)
 known_few s (noted (note.Queued client n) packet ∷ history) l = few_with s client history (waits s history client n l.0).room (known_few s history l.1)
 known_few s (noted (note.Bye client) packet ∷ history) l = omega (arith, fewer (λ j. not (eqb j client)) (known history), known_few s history l.1)
 known_few s (noted (note.Forgot client) packet ∷ history) l = omega (arith, fewer (λ j. not (eqb j client)) (known history), known_few s history l.1)

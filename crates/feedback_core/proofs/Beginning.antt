@@ -7,7 +7,7 @@ use Rattle.std.proofs.lemmas.List.Elements.{recursion_from_All}
 use Rattle.rams_model.specs.declared.event.Event.{Event}
 use Rattle.rams_model.specs.declared.held.Held.{Held}
 use Rattle.rams_model.specs.declared.message.Info.{Info}
-use Rattle.rams_model.specs.Service.{Settings, Message, feedback, began, History, arrivals, hold, known, is_among, without, sendings, ssrc, bursts, open_burst, newest_open, Wanted, pending, quiet_ticks, reserved, channel_left, info_order, newest_notes, newest_orders, history_of}
+use Rattle.rams_model.specs.Service.{Settings, Message, feedback, began, History, arrivals, hold, known, is_among, without, sendings, ssrc, bursts, open_burst, Wanted, pending, quiet_ticks, reserved, channel_left, info_order, newest_notes, newest_orders, history_of}
 use Rattle.rams_model.specs.Packets.{lo, hi, last_of, Follows, consecutive_end, source, stream_of}
 use Rattle.rams_model.specs.Packets.Source as sources
 use Rattle.rams_model.specs.Service.Bursts as model

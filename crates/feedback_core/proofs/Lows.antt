@@ -14,7 +14,7 @@ use Rattle.client_table.specs.declared.entry.Burst.{Burst}
 use Rattle.client_table.specs.declared.entry.Entry.{Entry}
 use Rattle.ext_seq.specs.{IsResolved}
 use Rattle.repair_queue.specs.declared.wanted.Asked.{Asked}
-use Rattle.repair_queue.specs.{asked_of, count_of}
+use Rattle.repair_queue.specs.{asked_of}
 use Rattle.repair_queue.specs.declared.wanted.Asked.TheVariants as asks
 use Rattle.repair_queue.specs.Queue as queues
 use Rattle.feedback_core.specs.declared.visitor.Open.{Open}

@@ -1,20 +1,20 @@
 -- A client that isn't known has no SSRC, and was sent nothing since it last was known.
-use Rattle.std.proofs.Common.{◌≡◌, ℕ, ◌+◌, ◌≤◌, Bool, true, false, cond, not, ◌&&◌, ⊎_elim, List, [], ◌∷◌, ◌++◌, Option, Some, None, refl, ap, sym, ◌∙◌, subst, eqb}
+use Rattle.std.proofs.Common.{◌≡◌, ℕ, ◌+◌, ◌≤◌, Bool, true, false, cond, not, ◌&&◌, ⊎_elim, List, [], ◌∷◌, Option, Some, None, refl, ap, sym, ◌∙◌, subst, eqb}
 use Rattle.std.specs.Prelude.{Contains, is_some}
-use Rattle.std.proofs.lemmas.Bool.{cond-true, cond-false, cases_Bool, or_parts, or_cases, and_parts, both_ways, eqb-true}
+use Rattle.std.proofs.lemmas.Bool.{cond-true, cond-false, cases_Bool, or_parts, or_cases, and_parts, both_ways, eqb-true, true≢false}
 use Rattle.std.proofs.lemmas.List.Elements.{All-from_recursion, All-contains}
 use Rattle.rams_model.specs.declared.event.Event.{Event}
 use Rattle.rams_model.specs.declared.held.Held.{Held}
 use Rattle.rams_model.specs.declared.note.Note.{Note}
 use Rattle.rams_model.specs.declared.note.Note.TheVariants as note
-use Rattle.rams_model.specs.Service.{Settings, Message, bye, Heard, live, dropped, feedback, unframed, tick, heard_of, Item, began, told, noted, History, known, is_among, sendings, ssrc, has_open, wanted, pending, after_message, after_messages, after_tick, after_hearing, history_of}
+use Rattle.rams_model.specs.Service.{Settings, Message, bye, Heard, tick, heard_of, Item, began, told, noted, History, known, is_among, sendings, ssrc, has_open, wanted, pending, after_message, after_tick, history_of}
 use Rattle.rams_model.specs.Laws.{makes_known, ends_known, is_accept_of, is_end_of}
-use Rattle.book_laws.specs.{AreNotes}
-use Rattle.rams_model.proofs.Legal.{IsLegal, Allows, newest_told, in_tick, legal_part}
-use Rattle.rams_model.proofs.Legality.{legal_history, in_tick_from_runs}
-use Rattle.rams_model.proofs.Items.{message_puts, tick_puts}
+use Rattle.rams_model.proofs.Legal.{IsLegal, Allows, newest_told, in_tick}
+use Rattle.rams_model.proofs.Legality.{in_tick_from_runs}
+use Rattle.rams_model.proofs.Items.{is_note, is_of_tick, message_puts, tick_puts}
+use Rattle.rams_model.proofs.Induction.{onwards, is_at_once, between}
 use Rattle.channel_parts.proofs.Knowing.{known_step, open_step, still_known, made_known, forgotten_rests, OfKnown, pending_known}
-use Rattle.channel_parts.proofs.Opening.{AreKnown, open_known, messages_part}
+use Rattle.channel_parts.proofs.Opening.{AreKnown, open_known}
 
 -- what is true of a client that isn't known
 module _ (P : ℕ → History → Type 0) (k : ℕ) (history : History) where
@@ -106,76 +106,54 @@ record IsGoing (s : Settings) (history : History) : Type 0 where
   pub known : AreKnown s history
   pub unsent : AreUnsent history
 
-going : (s : Settings) (items history : History) → 1 ≤ s.channel.idle → AreNotes items → IsLegal s (items ++ history) → IsGoing s history → IsGoing s (items ++ history)
-going s [] history some n l g = g
-going s (noted note packet ∷ items) history some n l g =
-    let rest = going s items history some n l.1 g in
-    record {
-      free = rest.free;
-      known = known_note s note packet (items ++ history) some l.0 rest.free rest.known;
-      unsent = unsent_note s note packet (items ++ history) some l.1 l.0 (λ t. rest.known) rest.unsent;
-    }
-going s (began heard ∷ items) history some n l g = absurd n
-going s (told client message ∷ items) history some n l g = absurd n
+going : (s : Settings) → 1 ≤ s.channel.idle → (n : Note) (packet : Option Held) (history : History) → Allows s history n packet → IsLegal s history → IsGoing s history
+    → IsGoing s (noted n packet ∷ history)
+going s some n packet history a l g = record {
+  free = g.free;
+  known = known_note s n packet history some a g.free g.known;
+  unsent = unsent_note s n packet history some l a (λ t. g.known) g.unsent;
+}
 
 -- while a message is answered nothing is sent
-record IsResting (history : History) : Type 0 where
-  pub still : in_tick history ≡ false
-  pub unsent : AreUnsent history
-
-resting : (s : Settings) (items history : History) → 1 ≤ s.channel.idle → AreNotes items → IsLegal s (items ++ history) → IsResting history → IsResting (items ++ history)
-resting s [] history some n l r = r
-resting s (noted note packet ∷ items) history some n l r =
-    let rest = resting s items history some n l.1 r in
-    record {
-      still = rest.still;
-      unsent = unsent_note s note packet (items ++ history) some l.1 l.0 (λ t. absurd (both_ways (in_tick (items ++ history)) rest.still t)) rest.unsent;
-    }
-resting s (began heard ∷ items) history some n l r = absurd n
-resting s (told client message ∷ items) history some n l r = absurd n
-
-told_rests : (k : ℕ) (m : Message) (history : History) → AreUnsent history → IsResting (told k m ∷ history)
+message_unsent : (s : Settings) (k : ℕ) (m : Message) (history : History) → 1 ≤ s.channel.idle → IsLegal s (after_message s k m (told k m ∷ history)) → AreUnsent history
+    → AreUnsent (after_message s k m (told k m ∷ history))
 unfolding known sendings
-told_rests k m history are = record { still = refl; unsent = are }
-
-messages_unsent : (s : Settings) (k : ℕ) (ms : List Message) (history : History) → 1 ≤ s.channel.idle → IsLegal s (after_messages s k ms history) → AreUnsent history
-    → AreUnsent (after_messages s k ms history)
-unfolding after_messages
-messages_unsent s k [] history some l are = are
-messages_unsent s k (m ∷ ms) history some l are =
-    let answered = after_message s k m (told k m ∷ history) in
-    let part = messages_part s k ms answered in
-    let here = legal_part s part.later answered (subst (IsLegal s) part.splits l) in
-    let p = message_puts s k m (told k m ∷ history) in
-    let rests = resting s p.items (told k m ∷ history) some p.notes (subst (IsLegal s) p.splits here) (told_rests k m history are) in
-    messages_unsent s k ms answered some l (subst AreUnsent (sym p.splits) rests.unsent)
+message_unsent s k m history some l are =
+    let asked = told k m ∷ history in
+    (onwards is_note s (λ h. (in_tick h ≡ false) × AreUnsent h)
+    (λ n packet h is a legal r. (r.0, unsent_note s n packet h some legal a (λ t. absurd (both_ways (in_tick h) r.0 t)) r.1))
+    asked (after_message s k m asked) (message_puts s k m asked) l (refl, are)).1
 
 tick_unsent : (s : Settings) (history : History) → 1 ≤ s.channel.idle → IsLegal s (after_tick s (began tick ∷ history)) → AreKnown s history → AreUnsent history
     → AreUnsent (after_tick s (began tick ∷ history))
 unfolding known sendings
 tick_unsent s history some l is are =
-    let p = tick_puts s (began tick ∷ history) in
-    let begun : IsGoing s (began tick ∷ history) = record { free = refl; known = begun_known s history is; unsent = are } in
-    subst AreUnsent (sym p.splits) (going s p.items (began tick ∷ history) some p.notes (subst (IsLegal s) p.splits l) begun).unsent
+    let start = began tick ∷ history in
+    (onwards is_of_tick s (IsGoing s) (λ n packet h of_tick a legal g. going s some n packet h a legal g) start (after_tick s start) (tick_puts s start) l
+    (record { free = refl; known = begun_known s history is; unsent = are })).unsent
   where
     begun_known : (s : Settings) (history : History) → AreKnown s history → AreKnown s (began tick ∷ history)
     begun_known s history is k e =
         let b = and_parts (not (is_end_of k (began tick))) (has_open s k history) (sym (open_step s k (began tick) history) ∙ e) in is k b.1
 
-hearing_unsent : (s : Settings) (heard : Heard) (history : History) → 1 ≤ s.channel.idle → IsLegal s (after_hearing s heard history) → AreKnown s history → AreUnsent history
-    → AreUnsent (after_hearing s heard history)
-unfolding after_hearing known sendings
-hearing_unsent s (live a) history some l is are = are
-hearing_unsent s (dropped note) history some l is are = are
-hearing_unsent s (feedback client messages) history some l is are = messages_unsent s client messages (began (feedback client messages) ∷ history) some l are
-hearing_unsent s (unframed client fault) history some l is are = are
-hearing_unsent s tick history some l is are = tick_unsent s history some l is are
+begun_unsent : (s : Settings) (heard : Heard) (history : History) → AreUnsent history → AreUnsent (began heard ∷ history)
+unfolding known sendings
+begun_unsent s heard history are = are
+
+once_unsent : (s : Settings) (n : Note) (history : History) → is_at_once n ≡ true → AreUnsent history → AreUnsent (noted n None ∷ history)
+unfolding known sendings
+once_unsent s (note.Live n) history is are = are
+once_unsent s (note.BadFeedback client fault) history is are = are
+once_unsent s n history is are = absurd (true≢false (sym is))
 
 are_unsent : (s : Settings) (events : List Event) → 1 ≤ s.channel.idle → AreUnsent (history_of s events)
-unfolding history_of sendings
-are_unsent s [] some = λ k out. refl
-are_unsent s (event ∷ events) some =
-    hearing_unsent s (heard_of s.channel event) (history_of s events) some (legal_history s (event ∷ events)) (open_known s events some) (are_unsent s events some)
+unfolding known sendings
+are_unsent s events some =
+    between s AreUnsent
+    (λ event before n other is are. let heard = heard_of s.channel event in
+    once_unsent s n (began heard ∷ history_of s before) is (begun_unsent s heard (history_of s before) are))
+    (λ client ms history are. are) (λ client m history l are. message_unsent s client m history some l are)
+    (λ before l are. tick_unsent s (history_of s before) some l (open_known s before some) are) (λ k out. refl) events
 
 pub unsent : (s : Settings) (events : List Event) (k : ℕ) → 1 ≤ s.channel.idle → is_among k (known (history_of s events)) ≡ false → sendings k (history_of s events) ≡ 0
 unsent s events k some out = are_unsent s events some k out

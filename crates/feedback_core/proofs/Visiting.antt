@@ -5,7 +5,7 @@ use Rattle.std.proofs.lemmas.Bool.{cond_both, cond-true, eq-eqb}
 use Rattle.rams_model.specs.declared.message.Info.{Info}
 use Rattle.rams_model.specs.declared.note.Note.{Note}
 use Rattle.rams_model.specs.declared.note.Note.TheVariants as note
-use Rattle.rams_model.specs.Service.{Settings, Message, told, noted, History, arrivals, known, opened, sendings, ssrc, newest_sender, sequence, accept_info, bursts, begun, next, kept, newest_changed, after_note, newest_open, open_burst, has_open, Wanted, pending, is_busy, quiet_ticks, idle, reserved, channel_left}
+use Rattle.rams_model.specs.Service.{Settings, Message, told, noted, History, arrivals, known, opened, sendings, ssrc, newest_sender, sequence, accept_info, bursts, begun, newest_open, open_burst, Wanted, pending, is_busy, quiet_ticks, idle, reserved, channel_left}
 use Rattle.rams_model.specs.Service.Bursts as model
 use Rattle.link_budget.specs.Amounts.{Amounts}
 use Rattle.client_table.specs.declared.entry.Burst.{Burst}

@@ -18,7 +18,7 @@ use Rattle.channel_config.specs.{IsLawful}
 use Rattle.channel_parts.proofs.Facts.{known_clients_are_few, opened_are_the_known_with_bursts, repairs_are_within_limits}
 use Rattle.channel_parts.proofs.Given.{moment}
 use Rattle.book_laws.specs.{IsMoment}
-use Rattle.rams_model.proofs.Items.{Puts, none, one, both}
+use Rattle.rams_model.proofs.Items.{is_repair, is_forgotten, Puts, all_repaired_put, all_forgotten_put}
 use Rattle.session_core.specs.{IsCountable}
 
 -- the notes since the newest event began
@@ -104,47 +104,27 @@ count_all_served s held (k ∷ ks) history =
 
 -- ---- repairs, and who is forgotten
 
--- at most so many notes are put in front
-record PutsFew (before after : History) (most : ℕ) : Type 0 where
-  puts : Puts before after
-  few : noted_since after ≤ noted_since before + most
+count_repaired : (s : Settings) (held : List Held) (w : Wanted) (o : Option Held) (history : History) → noted_since (repaired s held w o history) ≤ noted_since history + 1
+count_repaired s held w None history = omega arith
+count_repaired s held w (Some h) history =
+    cond_both (nat_le h.wire (may_take s held w.client history) && nat_le h.wire (channel_left s history)) (noted (note.Repair w.client w.n (sequence s w.client history)) (Some h) ∷ history) history
+    (λ after. noted_since after ≤ noted_since history + 1) (λ t. omega arith) (λ f. omega arith)
 
-puts_none : (history : History) → PutsFew history history 0
-puts_none history = record { puts = none history; few = omega arith }
-
-puts_or_none : (n : Note) (packet : Option Held) (history : History) → PutsFew history history 1
-puts_or_none n packet history = record { puts = none history; few = omega arith }
-
-puts_one : (n : Note) (packet : Option Held) (history : History) → PutsFew history (noted n packet ∷ history) 1
-puts_one n packet history = record { puts = one n packet history; few = omega arith }
-
-puts_more : (before mid after : History) (count : ℕ) → PutsFew before mid 1 → PutsFew mid after count → PutsFew before after (suc count)
-puts_more before mid after count p q = record { puts = both before mid after p.puts q.puts; few = omega (arith, p.few, q.few) }
-
-repaired_few : (s : Settings) (held : List Held) (w : Wanted) (o : Option Held) (history : History) → PutsFew history (repaired s held w o history) 1
-repaired_few s held w None history = puts_one (note.Gone w.client w.n) None history
-repaired_few s held w (Some h) history =
-    let repair = note.Repair w.client w.n (sequence s w.client history) in
-    cond_both (nat_le h.wire (may_take s held w.client history) && nat_le h.wire (channel_left s history)) (noted repair (Some h) ∷ history) history
-    (λ after. PutsFew history after 1) (λ t. puts_one repair (Some h) history) (λ f. puts_or_none repair None history)
-
-all_repaired_few : (s : Settings) (held : List Held) (ws : List Wanted) (history : History) → PutsFew history (all_repaired s held ws history) (length ws)
+count_all_repaired : (s : Settings) (held : List Held) (ws : List Wanted) (history : History) → noted_since (all_repaired s held ws history) ≤ noted_since history + length ws
 unfolding all_repaired
-all_repaired_few s held [] history = puts_none history
-all_repaired_few s held (w ∷ ws) history =
+count_all_repaired s held [] history = omega arith
+count_all_repaired s held (w ∷ ws) history =
     let o = find (λ h. h.n == w.n) held in
-    let now = repaired s held w o history in
-    puts_more history now (all_repaired s held ws now) (length ws) (repaired_few s held w o history) (all_repaired_few s held ws now)
+    omega (arith, count_repaired s held w o history, count_all_repaired s held ws (repaired s held w o history))
 
-all_forgotten_few : (s : Settings) (ks : List ℕ) (history : History) → PutsFew history (all_forgotten s ks history) (length ks)
+count_all_forgotten : (s : Settings) (ks : List ℕ) (history : History) → noted_since (all_forgotten s ks history) ≤ noted_since history + length ks
 unfolding all_forgotten
-all_forgotten_few s [] history = puts_none history
-all_forgotten_few s (k ∷ ks) history =
+count_all_forgotten s [] history = omega arith
+count_all_forgotten s (k ∷ ks) history =
     let now = if idle s k history == s.channel.idle then noted (note.Forgot k) None ∷ history else history in
-    puts_more history now (all_forgotten s ks now) (length ks)
-    (cond_both (idle s k history == s.channel.idle) (noted (note.Forgot k) None ∷ history) history (λ after. PutsFew history after 1)
-    (λ t. puts_one (note.Forgot k) None history) (λ f. puts_or_none (note.Forgot k) None history))
-    (all_forgotten_few s ks now)
+    let one : noted_since now ≤ noted_since history + 1 =
+    cond_both (idle s k history == s.channel.idle) (noted (note.Forgot k) None ∷ history) history (λ after. noted_since after ≤ noted_since history + 1) (λ t. omega arith) (λ f. omega arith) in
+    omega (arith, one, count_all_forgotten s ks now)
 
 -- ---- the tick
 
@@ -165,8 +145,8 @@ opened_few s events lawful =
     )
 
 -- an earlier part of a moment's history
-earlier : (s : Settings) (before after : History) → Puts before after → IsMoment s after → IsMoment s before
-earlier s before after p m = record {
+earlier : (s : Settings) (kind : Note → Bool) (before after : History) → Puts kind before after → IsMoment s after → IsMoment s before
+earlier s kind before after p m = record {
   events = m.events;
   later = m.later ++ p.items;
   splits = m.splits ∙ ap (λ (h : History). m.later ++ h) p.splits ∙ sym (append_assoc m.later p.items before);
@@ -183,19 +163,19 @@ tick_counted s events lawful =
     let sent = repairs_sent s served in
     let done = idle_forgotten s sent in
     let runs = count_all_served s (hold s start) (opened start) start in
-    let repairs = all_repaired_few s (hold s served) (pending served) served in
-    let forgotten = all_forgotten_few s (known sent) sent in
+    let repairs = count_all_repaired s (hold s served) (pending served) served in
+    let forgotten = count_all_forgotten s (known sent) sent in
     let at_end : IsMoment s done = moment s (Tick ∷ events) in
-    let at_sent = earlier s sent done forgotten.puts at_end in
-    let at_served = earlier s served sent repairs.puts at_sent in
+    let at_sent = earlier s is_forgotten sent done (all_forgotten_put s (known sent) sent) at_end in
+    let at_served = earlier s is_repair served sent (all_repaired_put s (hold s served) (pending served) served) at_sent in
     let few_runs = runs_bound (length (opened start)) (length (hold s start)) (omega (arith, opened_few s events lawful, lawful.clients_most)) (omega (arith, held_few s start, lawful.ring_most)) in
     omega (
       arith,
       runs,
       few_runs,
-      repairs.few,
+      repairs,
       (repairs_are_within_limits s served at_served).in_all,
-      forgotten.few,
+      forgotten,
       known_clients_are_few s sent at_sent,
       lawful.clients_most,
     )
