@@ -1,14 +1,20 @@
 -- The parts of a book: its first line, what its lines are answered with, and what waits at the end.
-use Rattle.std.proofs.Common.{◌≡◌, ℕ, ◌+◌, List, [], ◌++◌, length, Option, None, Some, Result, Ok, Err, IfOk, IfErr, OnOk, refl, sym, ◌∙◌, subst, append-nil, length-append}
+use Rattle.std.proofs.Common.{◌≡◌, ℕ, ◌+◌, false, List, [], ◌∷◌, ◌++◌, length, Option, None, Some, Result, Ok, Err, IfOk, IfErr, OnOk, refl, sym, ◌∙◌, subst, append-nil, length-append}
 use Rattle.std.specs.Io.KnownBytes.{Appends}
 use Rattle.line_io.specs.Passes.{Passes}
 use Rattle.line_io.proofs.Passing.{Passes-none, Passes-then, Passes-put, Passes-more}
 use Rattle.rams_model.specs.declared.status.Status.{Status}
 use Rattle.trace_book.specs.{first_line, trace_text}
 use Rattle.rams_replay.specs.declared.stop.Stop.{Stop}
-use Rattle.rams_replay.specs.{StopsIn, EndsAs, IfTold, Ends}
+use Rattle.rams_replay.specs.{StopsIn, EndsAs, IfTold, Ends, begins_with_run, is_run}
 use Rattle.rams_replay.specs.declared.stop.Stop.TheVariants.{Memory, Read, Write}
 use Rattle.rams_replay.proofs.Running.{outcome}
+
+-- words that don't begin with `run` aren't `run` alone
+pub not_run : (words : List (List ℕ)) → begins_with_run words ≡ false → is_run words ≡ false
+not_run [] h = refl
+not_run (word ∷ []) h = h
+not_run (word ∷ other ∷ rest) h = refl
 
 -- where it holds of all bytes
 pub told_all : (o : Option (List ℕ)) (Q : List ℕ → Type 0) → ((xs : List ℕ) → Q xs) → IfTold o Q

@@ -4,7 +4,6 @@ pub mod Turns
 pub mod CommandWords
 pub mod Told
 pub mod Statuses
-
 unfoldable pub use Rattle.rams_replay.specs.Stops.{IsWriteStop, OnlyMemoryStops, IsReadStop, IsStop, StopsIn, EndsAs}
 pub use Rattle.rams_replay.specs.Stops.{IsStoppedByWrite, IsStoppedByRead, IsStopped}
 unfoldable pub use Rattle.rams_replay.specs.Entries.{entry_text}

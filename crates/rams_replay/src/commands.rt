@@ -19,6 +19,7 @@ use trace_book::laws::{traces_are_served_lawfully, traces_stay_within_the_link};
 ///
 /// `words` are those of the command line behind the program's name. `run` reads a trace and writes
 /// its book. Any other words are refused, and nothing is read or written.
+#[tactic(auto, using(crate::proofs::Booking::not_run))]
 pub fn run<R: Threads + Wait + Sync, S: Source, K: Sink, W: Wire, C: Clock, G: Gate + Sync>(
     _rt: &R,
     alloc: Global,

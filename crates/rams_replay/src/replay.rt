@@ -76,25 +76,25 @@ pub fn take_line(alloc: Global, replay: &mut Replay, line: &[u8]) -> Result<Turn
     ensures write { IfOk result CanWrite }
 {
     match replay.state.judge(line) {
-        Ok(read) => after_line(alloc, replay, read),
+        Ok(read) => after_line(alloc, replay, &read),
         Err(fault) => Ok(Turn::Refused(fault)),
     }
 }
 
 /// What a line does that may come.
-fn after_line(alloc: Global, replay: &mut Replay, line: Judged<'_>) -> Result<Turn, NoMemory>
-    requires settled { IsSettled (tick_of replay.old.state.head) line }
-    requires comes { (stage : Stage) × Comes replay.old.hub replay.old.events replay.old.state (told line) stage }
-    ensures turn { IfOk result (λ t. (stage : Stage) (number : ℕ) → Comes replay.old.hub replay.old.events replay.old.state (told line.entry) stage
-        → Took (after_line stage replay.old.state (told line.entry) (brought (told line.entry))) replay.new.hub replay.new.events replay.new.state number t) }
+fn after_line(alloc: Global, replay: &mut Replay, line: &Judged<'_>) -> Result<Turn, NoMemory>
+    requires settled { IsSettled (tick_of replay.old.state.head) line.now }
+    requires comes { (stage : Stage) × Comes replay.old.hub replay.old.events replay.old.state (told line.now) stage }
+    ensures turn { IfOk result (λ t. (stage : Stage) (number : ℕ) → Comes replay.old.hub replay.old.events replay.old.state (told line.now) stage
+        → Took (after_line stage replay.old.state (told line.now) (brought (told line.now))) replay.new.hub replay.new.events replay.new.state number t) }
     ensures write { IfOk result CanWrite }
 {
     match line {
         Judged::Channel { config, .. } => {
-            open(alloc, &mut replay.hub, config)?;
+            open(alloc, &mut replay.hub, *config)?;
             Ok(Turn::GoesOn)
         }
-        Judged::Other(line) => after_other(alloc, replay, line),
+        Judged::Other(line) => after_other(alloc, replay, *line),
     }
 }
 

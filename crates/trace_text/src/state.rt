@@ -95,9 +95,8 @@ impl State {
     }
 
     /// Reads a line, without its line feed, and goes on behind it. The first fault that is true, in
-    /// this order: `Form` where it is no line of a trace, `Order` where a line of its kind may not
-    /// come here or a channel line is of another version than the head, `Range` where a number is out of its range, and what is wrong with a channel line.
-    /// A refusal changes nothing.
+    /// this order: `Form` where it is no line of a trace, and what `accept` says of it. A refusal
+    /// changes nothing.
     #[tactic(auto, using(crate::proofs::Judging::judged_ok, crate::proofs::Judging::is_settled))]
     pub fn judge<'a>(&mut self, line: &'a [u8]) -> Result<Judged<'a>, LineFault>
         ensures ok { IfOk result (λ read. judged self.old line.now ≡ Ok (told read, self.new)) }
@@ -124,10 +123,11 @@ impl State {
     }
 
     /// Goes on behind this line. `Order` where a line of its kind may not come here or a channel line
-    /// is of another version than the head, else `Range` where a number is out of its range, or, for threads, is not the channel's, else what is wrong
-    /// with a channel line: `Twice` where a channel before has its number, the first of rules 1 to 3
-    /// that its settings break, `Rule(4)` where the shares are more than the link, `Rule(5)` where
-    /// there are 64 channels already. A refusal changes nothing.
+    /// is of another version than the head, else `Range` where a number is out of its range, or, for
+    /// threads, is not the channel's, else what is wrong with a channel line: `Twice` where a channel
+    /// before has its number, the first of rules 1 to 3 that its settings break, `Rule(4)` where the
+    /// shares are more than the link, `Rule(5)` where there are 64 channels already. A refusal changes
+    /// nothing.
     pub fn accept(&mut self, line: &Line<'_>) -> Result<(), LineFault>
         ensures ok { OnOk result (accepted self.old (shown line.now) ≡ Ok self.new) }
         ensures err { IfErr result (λ fault. accepted self.old (shown line.now) ≡ Err fault) }
