@@ -26,6 +26,7 @@ const PLAIN: Request<'static> = Request {
 };
 
 /// How many of the events of a seed have come.
+#[derive(Drop)]
 pub struct Made {
     seed: u32,
     /// The state of the draws.
