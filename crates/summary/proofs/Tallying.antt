@@ -6,9 +6,10 @@ use Rattle.std.proofs.lemmas.List.Sums.{sum_by-append}
 use Rattle.rams_model.specs.declared.answer.Order.{Order}
 use Rattle.rams_model.specs.declared.event.Event.{Event}
 use Rattle.rams_model.specs.declared.note.Note.{Note}
-use Rattle.rams_model.specs.Service.{Answered, Settings, book}
+use Rattle.rams_model.specs.Service.{Answered, Settings, answer, book}
 use Rattle.summary.specs.Counts.{Tallied, counts_of, size_of, bytes_of, tally_of}
 use Rattle.summary.specs.Steps.{sum_of}
+use Rattle.summary.specs.Text.{answers_in}
 use Rattle.summary.proofs.Counting.{counts_append}
 
 -- the notes and the orders of answers
@@ -33,3 +34,8 @@ pub length_book : (s : Settings) (events : List Event) → length (book s events
 unfolding book
 length_book s [] = refl
 length_book s (event ∷ events) = ap suc (length_book s events)
+
+-- One event more has one answer more.
+pub answers_more : (s : Settings) (event : Event) (events : List Event) → answers_in s (event ∷ events) ≡ answer s events event ∷ answers_in s events
+unfolding book
+answers_more s event events = refl

@@ -1,5 +1,5 @@
 //! The answers of a channel, counted, and the summary that tells them.
-ghost use Rattle.std.specs.Prelude.{◌≡◌, ◌*◌, ◌≤◌, ◌<◌, ◌^◌, ◌++◌, All, IfOk, OnOk, length};
+ghost use Rattle.std.specs.Prelude.{◌≡◌, ◌+◌, ◌*◌, ◌≤◌, ◌<◌, ◌^◌, ◌++◌, All, IfOk, OnOk, length};
 ghost use Rattle.summary.specs.Counts.{bytes_of, size_of};
 ghost use Rattle.summary.specs.Steps.{IsShort};
 ghost use Rattle.summary.specs.Text.{count_lines};
@@ -12,6 +12,7 @@ use std::alloc::Global;
 use std::marker::Model;
 
 /// What the answers of a channel have, counted.
+#[derive(Drop)]
 pub struct Tally {
     /// How many answers were added.
     answers: u64,
@@ -57,7 +58,8 @@ impl Tally {
         requires notes { length answer.now.notes < 2 ^ 32 }
         requires orders { length answer.now.orders < 2 ^ 32 }
         requires short { All IsShort answer.now.orders }
-        ensures { (answers : List Answered) → self.old ≡ tally_of answers → self.new ≡ tally_of (answer.now ∷ answers) }
+        ensures counts { (answers : List Answered) → self.old ≡ tally_of answers → self.new ≡ tally_of (answer.now ∷ answers) }
+        ensures answers { self.new.answers ≡ self.old.answers + 1 }
     {
         self.notes = Counts::of(&answer.notes).plus(self.notes);
         self.bytes += bytes(&answer.orders);

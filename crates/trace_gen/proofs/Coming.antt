@@ -48,11 +48,11 @@ behind seed b blocks k es more is =
     ∙ ap (λ (fs : List Event). drop k ((fs ++ Tick ∷ []) ++ from seed (b + 1) blocks)) is
 
 -- the feedback of a block, by its number modulo 4
-abbrev by_turn : ℕ → ℕ → ℕ → List Event
+abbrev pub by_turn : ℕ → ℕ → ℕ → List Event
 by_turn seed b turn =
     if turn == 1 then request seed b ∷ [] else if turn == 2 then nack seed b ∷ [] else if turn == 3 then stop seed b ∷ [] else []
 
-turn_is : (seed b turn : ℕ) → b % 4 ≡ turn → feedback seed b ≡ by_turn seed b turn
+pub turn_is : (seed b turn : ℕ) → b % 4 ≡ turn → feedback seed b ≡ by_turn seed b turn
 turn_is seed b turn is = ap (by_turn seed b) is
 
 request_comes_at : (seed b blocks : ℕ) → b < blocks → b % 4 ≡ 1 → left (place seed b 10) blocks ≡ request seed b ∷ left (place seed b 11) blocks

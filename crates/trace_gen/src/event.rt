@@ -27,7 +27,7 @@ pub fn event_of(
     Ok(kind.map(|kind| kind.with_bytes(page)))
 }
 
-/// `event_of`, its bytes on a page, of which nothing stays.
+/// `event_of`, with the event's bytes on `page`, whose room is used again: what stood there goes.
 #[tactic(auto, using(crate::proofs::Coming::none_comes, crate::proofs::Coming::packet_comes, crate::proofs::Coming::request_comes, crate::proofs::Coming::nack_comes, crate::proofs::Coming::stop_comes, crate::proofs::Coming::tick_comes))]
 pub fn event_into(blocks: u32, at: &mut Made, page: &mut Vec<u8>) -> Result<Option<Kind>, NoMemory>
     ensures next { IfOk result (λ kind. left at.old blocks ≡ with_first (option_map (λ k. event_on k page.new.items) kind) (left at.new blocks)) }

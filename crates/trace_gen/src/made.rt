@@ -26,6 +26,7 @@ const PLAIN: Request<'static> = Request {
 };
 
 /// How many of the events of a seed have come.
+#[derive(Drop)]
 pub struct Made {
     seed: u32,
     /// The state of the draws.
@@ -52,7 +53,7 @@ impl Made {
     ghost use Rattle.std.specs.Prelude.{ℕ};
     ghost use Rattle.trace_gen.specs.{Place, place, left, made, packet, request, nack, stop};
 
-    /// None of the events of this seed.
+    /// The place before the first event of this seed.
     #[tactic(auto, unfolding(crate::specs::Draws::state))]
     pub fn new(seed: u32) -> Made
         ensures value { result ≡ place seed 0 0 }
