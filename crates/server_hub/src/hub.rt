@@ -3,15 +3,12 @@ use crate::event::{AddFault, At, HubAnswer, HubEvent};
 use crate::places::place_of;
 use crate::steps::{feedback_at, live_at};
 use crate::ticks::tick_all;
-use channel_config::Config;
+use channel_config::{Config, MOST_CHANNELS};
 use ram_io::NoMemory;
 use rams_model::{Answer, MOST_ON_WIRE};
 use session_core::Core;
 use std::alloc::Global;
 use std::marker::Model;
-
-/// Most channels.
-const MOST_CHANNELS: usize = 64;
 
 /// The channels of a server, which share a link and a tick.
 ///
