@@ -1,3 +1,2 @@
 pub mod NoChannel
-
 unfoldable pub use Rattle.book_text.specs.NoChannel.{no_channel_line}

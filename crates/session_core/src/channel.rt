@@ -152,6 +152,7 @@ impl Core {
 
 impl Stepped for Core {
     ghost use Rattle.session_core.specs.{StandsFor};
+
     ghost settings = { λ core. core.settings };
 
     ghost calls = { λ core. core.calls };

@@ -4,7 +4,6 @@ pub mod Runs
 pub mod Promises
 pub mod Links
 pub mod Worked
-
 unfoldable pub use Rattle.trace_book.specs.TraceText.{opening, ended, first_line, done, refused, too_long, most_events, channel_text, named_text, event_text, counted, event_of, with_opened, eventless, after_line, after_judging, turn, after_text, after_turn, text_from, trace_text, stage_after, stage_from, last_stage, served_by, text_after, lines_text, read_text}
 pub use Rattle.trace_book.specs.TraceText.{Stage, Outcome, Turn, goes_on, ends}
 unfoldable pub use Rattle.trace_book.specs.Stages.{claim_of, settings_of, new_channels, AreLawful, Stand, TheOpeningIsAStage, StagesAreKept}
