@@ -230,6 +230,12 @@ const UPDATES: [Row; 7] = [
     ),
 ];
 
+/// A channel with room for one burst.
+const ONE_BURST: Channel = Channel {
+    share: 5500,
+    ..CHANNEL
+};
+
 /// Access points that are 200 and 100 ms old, and a burst of another client that leaves no room for a
 /// second. Of several causes of a refusal the first counts.
 const BUSY: [Row; 11] = [
@@ -344,6 +350,15 @@ const BUSY: [Row; 11] = [
     ),
 ];
 
+/// A channel that holds one packet and knows one client.
+const ONE_PLACE: Channel = Channel {
+    ring: 1,
+    declared: 0,
+    minwire: 45,
+    clients: 1,
+    ..CHANNEL
+};
+
 /// The only packet isn't eligible: the 46 bytes behind it are more than the 45 that the ring is sure to
 /// hold. Once another client has the only place, that comes first.
 const NO_PLACE: [Row; 5] = [
@@ -386,6 +401,11 @@ const NO_PLACE: [Row; 5] = [
     ),
 ];
 
+const NARROW: Channel = Channel {
+    share: 8699,
+    ..CHANNEL
+};
+
 /// Two bursts of 7,200 bytes a tick together leave the reserve of 1,500 where the share is 8,700; here it
 /// is one byte less.
 const RESERVED: [Row; 4] = [
@@ -421,22 +441,7 @@ fn messages_are_answered(rt: HostRuntime) -> Result<(), Fail> {
 
 #[test]
 fn requests_are_refused(rt: HostRuntime) -> Result<(), Fail> {
-    let busy = Channel {
-        share: 5500,
-        ..CHANNEL
-    };
-    let short = Channel {
-        ring: 1,
-        declared: 0,
-        minwire: 45,
-        clients: 1,
-        ..CHANNEL
-    };
-    let narrow = Channel {
-        share: 8699,
-        ..CHANNEL
-    };
-    expect_all(&rt, rt.alloc(), busy, &BUSY)?;
-    expect_all(&rt, rt.alloc(), short, &NO_PLACE)?;
-    expect_all(&rt, rt.alloc(), narrow, &RESERVED)
+    expect_all(&rt, rt.alloc(), ONE_BURST, &BUSY)?;
+    expect_all(&rt, rt.alloc(), ONE_PLACE, &NO_PLACE)?;
+    expect_all(&rt, rt.alloc(), NARROW, &RESERVED)
 }

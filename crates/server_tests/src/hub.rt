@@ -4,7 +4,7 @@ ghost use Rattle.std.specs.Prelude.{◌≡◌, ◌+◌, ◌<◌, OnOk, length};
 use crate::fixtures::CHANNEL;
 use crate::row::Given::{Asks, Start, Tick};
 use crate::row::{Given, event_of, text_of};
-use channel_config::{Channel, Config};
+use channel_config::Config;
 use rams_model::Event;
 use server_hub::{AddFault, At, Hub, HubAnswer, HubEvent};
 use std::alloc::Global;
@@ -36,11 +36,9 @@ const STEPS: [Step; 6] = [
 fn add(rt: &impl Abort, alloc: Global, hub: &mut Hub, id: u16, share: u64) -> Result<(), AddFault>
     ensures { hub.new.calls ≡ hub.old.calls }
 {
-    let settings = Channel {
-        id,
-        share,
-        ..CHANNEL
-    };
+    let mut settings = CHANNEL;
+    settings.id = id;
+    settings.share = share;
     let config = Config::check(settings, hub.tick_ms()).expect(rt, "lawful settings");
     assert_eq!(rt; config.tick_ms(), hub.tick_ms());
     hub.add(alloc, config)

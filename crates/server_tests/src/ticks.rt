@@ -53,6 +53,14 @@ const STOPPED: [Row; 7] = [
     ),
 ];
 
+const KEEPING: Channel = Channel {
+    burst: 2999,
+    declared: 0,
+    minwire: 1500,
+    depth: 1499,
+    ..CHANNEL
+};
+
 /// Packets of 1,500 bytes. Each tick gives the burst 2,999 bytes beside what it kept: it has 2,999, 4,498
 /// and 4,497. Then it has caught up.
 const KEPT: [Row; 10] = [
@@ -87,6 +95,12 @@ const KEPT: [Row; 10] = [
     (Tick, "[]", 0, None),
 ];
 
+const SHORT: Channel = Channel {
+    ring: 4,
+    minwire: 100,
+    ..CHANNEL
+};
+
 /// A ring of four packets: of six the first two are gone.
 const LOST: [Row; 9] = [
     (Start(10, 0, 4), "[Live(Took(65546))]", 0, None),
@@ -118,6 +132,11 @@ const LOST: [Row; 9] = [
     ),
 ];
 
+const BRIEF: Channel = Channel {
+    limit: 1,
+    ..CHANNEL
+};
+
 /// Bursts of one tick, which are served by rising client.
 const LAST_TICK: [Row; 4] = [
     (Start(10, 0, 4), "[Live(Took(65546))]", 0, None),
@@ -147,6 +166,12 @@ const LAST_TICK: [Row; 4] = [
     ),
 ];
 
+const SLOW: Channel = Channel {
+    burst: 1600,
+    idle: 2,
+    ..CHANNEL
+};
+
 /// Of 1,600 bytes a tick 1,500 are taken; the second packet waits, and the small one behind it doesn't.
 /// A client is forgotten in its second tick without a pending repair.
 const REPAIRED: [Row; 8] = [
@@ -170,48 +195,24 @@ const REPAIRED: [Row; 8] = [
     (Tick, "[Forgot { client: 5 }]", 0, None),
 ];
 
+const SWELLING: Channel = Channel {
+    swell: 1400,
+    ..CHANNEL
+};
+
 #[test]
 fn bursts_and_repairs_are_sent(rt: HostRuntime) -> Result<(), Fail> {
-    let kept = Channel {
-        burst: 2999,
-        declared: 0,
-        minwire: 1500,
-        depth: 1499,
-        ..CHANNEL
-    };
-    let few = Channel {
-        ring: 4,
-        minwire: 100,
-        ..CHANNEL
-    };
-    let slow = Channel {
-        burst: 1600,
-        idle: 2,
-        ..CHANNEL
-    };
     expect_all(&rt, rt.alloc(), CHANNEL, &STOPPED)?;
-    expect_all(&rt, rt.alloc(), kept, &KEPT)?;
-    expect_all(&rt, rt.alloc(), few, &LOST)?;
-    expect_all(
-        &rt,
-        rt.alloc(),
-        Channel {
-            limit: 1,
-            ..CHANNEL
-        },
-        &LAST_TICK,
-    )?;
-    expect_all(&rt, rt.alloc(), slow, &REPAIRED)
+    expect_all(&rt, rt.alloc(), KEEPING, &KEPT)?;
+    expect_all(&rt, rt.alloc(), SHORT, &LOST)?;
+    expect_all(&rt, rt.alloc(), BRIEF, &LAST_TICK)?;
+    expect_all(&rt, rt.alloc(), SLOW, &REPAIRED)
 }
 
 // Ticks of a channel to which nothing came: its budget keeps up to the swell.
 #[test]
 fn quiet_ticks(rt: HostRuntime) -> Result<(), Fail> {
-    let settings = Channel {
-        swell: 1400,
-        ..CHANNEL
-    };
-    let mut parts = Parts::new(rt.alloc(), &Config::check(settings, 10)?)?;
+    let mut parts = Parts::new(rt.alloc(), &Config::check(SWELLING, 10)?)?;
     let first = plan_tick(rt.alloc(), &parts)?;
     assert_eq!(rt; (first.answer.notes.len(), first.done.len()), (0, 0));
     commit_tick(&mut parts, &first);
