@@ -1,11 +1,10 @@
 -- How many events there are at most.
-use Rattle.std.proofs.Common.{◌≡◌, ℕ, ◌+◌, ◌*◌, ◌%◌, ◌≤◌, ◌<◌, zero, suc, List, [], ◌∷◌, ◌++◌, map, length, refl, ap, arith, length-append}
+use Rattle.std.proofs.Common.{◌≡◌, ℕ, ◌+◌, ◌*◌, ◌%◌, ◌≤◌, ◌<◌, zero, suc, [], ◌∷◌, ◌++◌, map, length, refl, ap, arith, length-append}
 use Rattle.std.specs.List.{flat_map, range_with_len}
 use Rattle.std.proofs.lemmas.List.Concat.{flat_map-cons}
-use Rattle.rams_model.specs.declared.event.Event.{Event}
 use Rattle.rams_model.specs.declared.event.Event.TheVariants.{Tick}
 use Rattle.trace_gen.specs.{packet, feedback, block, made}
-use Rattle.trace_gen.proofs.Coming.{by_turn, turn_is}
+use Rattle.trace_gen.proofs.Coming.{by_turn}
 
 turn_is_short : (seed b turn : ℕ) → turn < 4 → length (by_turn seed b turn) ≤ 1
 turn_is_short seed b zero small = omega arith
