@@ -45,6 +45,7 @@ fn new_parts_have_the_amounts_of_the_settings(rt: HostRuntime) -> Result<(), Fai
     assert_eq!(rt; parts.budget.left(), 10000);
     parts.budget.open_tick();
     assert_eq!(rt; parts.budget.left(), 10060);
+    assert!(rt; parts.table.find(9).is_none());
     parts.table.admit(rt.alloc(), 9, 9, 500)?;
     assert!(rt; parts.table.find(5).is_none());
     let second = parts.table.admit(rt.alloc(), 5, 5, 500);

@@ -94,7 +94,7 @@ pub fn text_of(alloc: Global, answer: &Answer) -> Result<String, Fail> {
 }
 
 /// A channel to which nothing came.
-pub fn new_core(alloc: Global, channel: Channel) -> Result<Core, Fail>
+fn new_core(alloc: Global, channel: Channel) -> Result<Core, Fail>
     ensures { IfOk result (λ core. core.calls ≡ 0) }
 {
     let config = Config::check(channel, 10)?;
@@ -102,7 +102,7 @@ pub fn new_core(alloc: Global, channel: Channel) -> Result<Core, Fail>
 }
 
 /// Each row's event is answered as it says.
-pub fn expect<S: Stepped>(
+fn expect<S: Stepped>(
     rt: &impl Abort,
     alloc: Global,
     stepped: &mut S,

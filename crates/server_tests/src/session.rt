@@ -1,7 +1,7 @@
 //! A channel's events, worked out by hand.
 use crate::fixtures::{BYE, CHANNEL, NACK, SENDER, SOURCE, STOP};
 use crate::row::Given::{Asks, Heard, Next, Start, Tick};
-use crate::row::{Row, expect, new_core};
+use crate::row::{Row, expect_all};
 use rams_model::Info;
 use std::test::Fail;
 
@@ -50,9 +50,5 @@ const EVENTS: [Row; 7] = [
 
 #[test]
 fn a_channel_answers(rt: HostRuntime) -> Result<(), Fail> {
-    let mut core = new_core(rt.alloc(), CHANNEL)?;
-    expect(&rt, rt.alloc(), &mut core, &EVENTS)?;
-    assert_eq!(rt; *core.config().channel(), CHANNEL);
-    assert_eq!(rt; (core.lo(), core.hi()), (131070, 131072));
-    Ok(())
+    expect_all(&rt, rt.alloc(), CHANNEL, &EVENTS)
 }
