@@ -220,7 +220,10 @@ fn expect(rt: &impl Abort, alloc: Global, state: &mut State, case: &str) -> Resu
         None => String::from_str(alloc, text)?,
     };
     let expected = state.expects(line.as_bytes());
-    let answer = word(state.judge(line.as_bytes()).err());
+    let answer = match state.judge(line.as_bytes()) {
+        Ok(_) => word(None),
+        Err(fault) => word(Some(fault)),
+    };
     assert!(rt; answer == want, "{case}: {answer}");
     assert!(rt;
         answer == "form" || expected == (answer != "order"),
