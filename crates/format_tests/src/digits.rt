@@ -58,7 +58,6 @@ const LENGTHS: [usize; 8] = [15, 16, 17, 31, 32, 33, 48, 1470];
 fn long_texts_are_as_the_crate_hex_has_them(rt: HostRuntime) -> Result<(), Fail> {
     let alloc = rt.alloc();
     let mut text = Vec::new(alloc);
-    let mut back = Vec::new(alloc);
     for len in LENGTHS {
         let mut bytes = Vec::new(alloc);
         for i in 0..len {
@@ -68,8 +67,6 @@ fn long_texts_are_as_the_crate_hex_has_them(rt: HostRuntime) -> Result<(), Fail>
         text.clear();
         append_encoded(&mut text, &bytes)?;
         assert_eq!(rt; text.as_slice(), wanted.as_bytes(), "{len}");
-        decode_digits(&mut back, &text)?;
-        assert_eq!(rt; back.as_slice(), bytes.as_slice(), "{len}");
     }
     Ok(())
 }
