@@ -111,15 +111,21 @@ fn change(c: &mut Channel, tick_ms: &mut u32, setting: &str, n: u32) -> Result<(
     Ok(())
 }
 
+/// The lawful settings with these changes, and the tick in ms.
+fn changed(changes: &[(&str, u32)]) -> Result<(Channel, u32), Fail> {
+    let mut channel = LAWFUL;
+    let mut tick_ms = 10;
+    for &(setting, n) in changes {
+        change(&mut channel, &mut tick_ms, setting, n)?;
+    }
+    Ok((channel, tick_ms))
+}
+
 #[test]
 fn settings_are_checked(rt: HostRuntime) -> Result<(), Fail> {
     lawful_settings();
     for (changes, fault) in ROWS {
-        let mut channel = LAWFUL;
-        let mut tick_ms = 10;
-        for &(setting, n) in changes {
-            change(&mut channel, &mut tick_ms, setting, n)?;
-        }
+        let (channel, tick_ms) = changed(changes)?;
         match Config::check(channel, tick_ms) {
             Ok(config) => {
                 assert_eq!(rt; None, fault, "{changes:?}");
