@@ -132,8 +132,8 @@ impl Gather {
     }
 }
 
-// Puts the whole text. Where the sink fails, a front of the text has gone.
-fn put_all<K: Sink>(sink: &mut K, text: &[u8]) -> Result<(), Failed>
+/// Puts the whole text, piece by piece. Where the sink fails, a front of the text has gone.
+pub fn put_all<K: Sink>(sink: &mut K, text: &[u8]) -> Result<(), Failed>
     ensures all { OnOk result (Appends (K.held sink.old) (K.held sink.new) text.now) }
     ensures prefix { (rest : List ℕ) × Passes (K.held sink.old) (K.held sink.new) text.now rest }
     ensures cause { HasCause (K.faults sink.old) (K.faults sink.new) result }

@@ -8,5 +8,5 @@ mod gather;
 mod reader;
 mod window;
 
-pub use gather::Gather;
+pub use gather::{Gather, put_all};
 pub use reader::{LineReader, Next};

@@ -13,7 +13,7 @@ use std::sync::Wait;
 use std::thread::Threads;
 use std::{env, io};
 
-const USAGE: &str = "usage: rams-replay run";
+const USAGE: &str = "usage: rams-replay run | make SEED BLOCKS";
 
 fn main(rt: HostRuntime) -> ExitCode {
     let status = match words(&rt) {

@@ -1,20 +1,33 @@
 -- The parts of a book: its first line, what its lines are answered with, and what waits at the end.
-use Rattle.std.proofs.Common.{◌≡◌, ℕ, ◌+◌, false, List, [], ◌∷◌, ◌++◌, length, Option, None, Some, Result, Ok, Err, IfOk, IfErr, OnOk, refl, sym, ◌∙◌, subst, append-nil, length-append}
+use Rattle.std.proofs.Common.{ap, ◌≡◌, ℕ, ◌+◌, ◌-◌, ◌^◌, ◌||◌, if◌then◌else◌, Bool, true, false, codes, bytes_eq, List, [], ◌∷◌, ◌++◌, length, Option, None, Some, Result, Ok, Err, IfOk, IfErr, OnOk, refl, sym, ◌∙◌, subst, append-nil, length-append}
 use Rattle.std.specs.Io.KnownBytes.{Appends}
 use Rattle.line_io.specs.Passes.{Passes}
 use Rattle.line_io.proofs.Passing.{Passes-none, Passes-then, Passes-put, Passes-more}
 use Rattle.rams_model.specs.declared.status.Status.{Status}
 use Rattle.trace_book.specs.{first_line, trace_text}
+use Rattle.rams_replay.specs.declared.words.Command.TheVariants.{Run}
 use Rattle.rams_replay.specs.declared.stop.Stop.{Stop}
-use Rattle.rams_replay.specs.{StopsIn, EndsAs, IfTold, Ends, begins_with_run, is_run}
+use Rattle.rams_replay.specs.{StopsIn, EndsAs, IfTold, Ends, begins_with_plain, command_of, make_of, number_within}
 use Rattle.rams_replay.specs.declared.stop.Stop.TheVariants.{Memory, Read, Write}
 use Rattle.rams_replay.proofs.Running.{outcome}
 
--- words that don't begin with `run` aren't `run` alone
-pub not_run : (words : List (List ℕ)) → begins_with_run words ≡ false → is_run words ≡ false
-not_run [] h = refl
-not_run (word ∷ []) h = h
-not_run (word ∷ other ∷ rest) h = refl
+first_false : (a b : Bool) → (a || b) ≡ false → a ≡ false
+first_false false b h = refl
+first_false true b h = h
+
+last_false : (a b : Bool) → (a || b) ≡ false → b ≡ false
+last_false false b h = h
+last_false true b h = cc
+
+-- words that begin with neither word spell no command
+pub not_plain : (words : List (List ℕ)) → begins_with_plain words ≡ false → command_of words ≡ None
+not_plain [] h = refl
+not_plain (word ∷ []) h = ap (λ (t : Bool). if t then Some Run else None) (first_false (bytes_eq word (codes "run")) (bytes_eq word (codes "make")) h)
+not_plain (word ∷ seed ∷ []) h = refl
+not_plain (word ∷ seed ∷ blocks ∷ []) h =
+    ap (λ (t : Bool). if t then make_of (number_within 0 (2 ^ 32 - 1) seed) (number_within 1 50000 blocks) else None)
+    (last_false (bytes_eq word (codes "run")) (bytes_eq word (codes "make")) h)
+not_plain (word ∷ seed ∷ blocks ∷ other ∷ rest) h = refl
 
 -- where it holds of all bytes
 pub told_all : (o : Option (List ℕ)) (Q : List ℕ → Type 0) → ((xs : List ℕ) → Q xs) → IfTold o Q

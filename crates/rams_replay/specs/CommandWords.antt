@@ -1,13 +1,42 @@
 -- The words of the command line, behind the program's name.
-use Rattle.std.specs.Prelude.{ℕ, Bool, false, List, [], ◌∷◌, codes, bytes_eq}
+use Rattle.std.specs.Prelude.{◌≡◌, ℕ, ◌-◌, ◌^◌, ◌||◌, if◌then◌else◌, Bool, false, List, [], ◌∷◌, Option, None, Some, codes, bytes_eq}
+use Rattle.std.specs.Int.{is_in_range}
+use Rattle.rams_model.specs.Texts.{number_in}
+use Rattle.rams_replay.specs.declared.words.Command.{Command}
+use Rattle.rams_replay.specs.declared.words.Command.TheVariants.{Run, Make}
 
--- the first word is `run`
-abbrev pub begins_with_run : List (List ℕ) → Bool
-begins_with_run [] = false
-begins_with_run (word ∷ rest) = bytes_eq word (codes "run")
+-- the number, where it is from low to high
+abbrev pub within : ℕ → ℕ → Option ℕ → Option ℕ
+within low high None = None
+within low high (Some n) = if is_in_range low high n then Some n else None
 
--- the words are `run` alone
-abbrev pub is_run : List (List ℕ) → Bool
-is_run [] = false
-is_run (word ∷ []) = bytes_eq word (codes "run")
-is_run (word ∷ other ∷ rest) = false
+-- the number of a word in decimal digits, where it is from low to high
+abbrev pub number_within : ℕ → ℕ → List ℕ → Option ℕ
+number_within low high word = within low high (number_in word)
+
+abbrev pub make_of : Option ℕ → Option ℕ → Option Command
+make_of None blocks = None
+make_of (Some seed) None = None
+make_of (Some seed) (Some blocks) = Some (Make seed blocks)
+
+-- `run` alone, or `make SEED BLOCKS`
+abbrev pub command_of : List (List ℕ) → Option Command
+command_of [] = None
+command_of (word ∷ []) = if bytes_eq word (codes "run") then Some Run else None
+command_of (word ∷ seed ∷ []) = None
+command_of (word ∷ seed ∷ blocks ∷ []) =
+    if bytes_eq word (codes "make") then make_of (number_within 0 (2 ^ 32 - 1) seed) (number_within 1 50000 blocks) else None
+command_of (word ∷ seed ∷ blocks ∷ other ∷ rest) = None
+
+-- the first word is that of a command which waits for nobody
+abbrev pub begins_with_plain : List (List ℕ) → Bool
+begins_with_plain [] = false
+begins_with_plain (word ∷ rest) = bytes_eq word (codes "run") || bytes_eq word (codes "make")
+
+-- the words are `run`
+abbrev pub AreRun : List (List ℕ) → Type 0
+AreRun words = command_of words ≡ Some Run
+
+-- the words are `make SEED BLOCKS`
+abbrev pub AreMake : List (List ℕ) → ℕ → ℕ → Type 0
+AreMake words seed blocks = command_of words ≡ Some (Make seed blocks)

@@ -9,8 +9,8 @@ pub use Rattle.rams_replay.specs.Stops.{IsStoppedByWrite, IsStoppedByRead, IsSto
 unfoldable pub use Rattle.rams_replay.specs.Entries.{entry_text}
 unfoldable pub use Rattle.rams_replay.specs.Turns.{event_of, claim_of, HubServes, StandsSomewhere, ending, IsEnd, settled_text, at_text, last_line, written, AllRender, CanWrite, turn_named, OpensIn, Took}
 pub use Rattle.rams_replay.specs.Turns.{Serves, Stands, Tells, CountsOne, CanOpen, Opens, Comes}
-unfoldable pub use Rattle.rams_replay.specs.CommandWords.{begins_with_run, is_run}
+unfoldable pub use Rattle.rams_replay.specs.CommandWords.{within, number_within, make_of, command_of, begins_with_plain, AreRun, AreMake}
 unfoldable pub use Rattle.rams_replay.specs.Told.{IfTold, IfBothTold, EndsIn, IsFirstTurn, Ends, HasLinesText, HasReadText}
 pub use Rattle.rams_replay.specs.Told.{GoesOnAfter}
-unfoldable pub use Rattle.rams_replay.specs.Statuses.{status_of, is_words, HasText, HasFault, IsOrLacksMemory}
+unfoldable pub use Rattle.rams_replay.specs.Statuses.{status_of, is_words, HasText, HasSummary, HasFault, IsOrLacksMemory}
 pub use Rattle.rams_replay.specs.Statuses.{IsCaused}

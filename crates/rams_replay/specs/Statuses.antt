@@ -1,6 +1,7 @@
 -- What the status of a command says.
 use Rattle.std.specs.Prelude.{◌≡◌, ℕ, ◌≤◌, Bool, true, false, List, Option, Result, Ok, Err}
 use Rattle.std.specs.Io.KnownBytes.{Appends}
+use Rattle.line_io.specs.Passes.{Passes}
 use Rattle.ram_io.specs.{Rose}
 use Rattle.rams_model.specs.declared.status.Status.{Status}
 use Rattle.rams_model.specs.declared.status.Status.TheVariants.{Done, NoMemory, Words, ReadFault, WriteFault, BadTrace, WireFault, TooLong}
@@ -26,6 +27,13 @@ HasText held holds o Done = (o.status ≡ Done) × Appends held holds o.text
 HasText held holds o BadTrace = (o.status ≡ BadTrace) × Appends held holds o.text
 HasText held holds o TooLong = (o.status ≡ TooLong) × Appends held holds o.text
 HasText held holds o _ = Unit {0}
+
+-- The sink got exactly the text where the command is done, and else, where memory or the sink stopped it, a front of it. It ends in no other way.
+abbrev pub HasSummary : Option (List ℕ) → Option (List ℕ) → List ℕ → Status → Type 0
+HasSummary held holds text Done = Appends held holds text
+HasSummary held holds text NoMemory = (rest : List ℕ) × Passes held holds text rest
+HasSummary held holds text WriteFault = (rest : List ℕ) × Passes held holds text rest
+HasSummary held holds text _ = ⊥
 
 -- the object's faults rose where the status names it; a run has no wire
 abbrev pub HasFault : ℕ → ℕ → ℕ → ℕ → Status → Type 0

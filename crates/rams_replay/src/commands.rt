@@ -1,13 +1,15 @@
 //! The commands.
-ghost use Rattle.std.specs.Prelude.{◌≡◌, false, true, not, ℕ, All, List, length};
+ghost use Rattle.std.specs.Prelude.{◌≡◌, ◌≢◌, false, true, is_none, ℕ, All, List, None, length};
 ghost use Rattle.line_io.specs.Passes.{Passes};
 ghost use Rattle.trace_book.specs.{KeepsTheLink, KeepsPromises, served_by, trace_text};
-ghost use Rattle.rams_model.specs.declared.status.Status.TheVariants.{ReadFault};
-ghost use Rattle.rams_replay.specs.{is_run, begins_with_run, status_of, is_words, HasText, IsCaused, IsOrLacksMemory, IfTold, IfBothTold, HasReadText};
+ghost use Rattle.rams_model.specs.declared.status.Status.TheVariants.{Done, ReadFault};
+ghost use Rattle.summary.specs.{made_summary};
+ghost use Rattle.rams_replay.specs.{AreMake, AreRun, begins_with_plain, command_of, status_of, is_words, HasSummary, HasText, IsCaused, IsOrLacksMemory, IfTold, IfBothTold, HasReadText};
 
 use crate::book::write_book;
+use crate::made::write_summary;
 use crate::stop::Stop;
-use crate::words::{begins_with_run, is_run};
+use crate::words::{Command, begins_with_plain, command_of};
 use ram_io::{Clock, Gate, Octets, Sink, Source, Wire};
 use rams_model::Status;
 use std::alloc::Global;
@@ -18,8 +20,9 @@ use trace_book::laws::{traces_are_served_lawfully, traces_stay_within_the_link};
 /// Runs a command over whatever it reads from, writes to, sends through and tells the time by.
 ///
 /// `words` are those of the command line behind the program's name. `run` reads a trace and writes
-/// its book. Any other words are refused, and nothing is read or written.
-#[tactic(auto, using(crate::proofs::Booking::not_run))]
+/// its book; `make SEED BLOCKS` writes the summary of a generated trace and reads nothing. Any other
+/// words are refused, and nothing is read or written.
+#[tactic(auto, using(crate::proofs::Booking::not_plain))]
 pub fn run<R: Threads + Wait + Sync, S: Source, K: Sink, W: Wire, C: Clock, G: Gate + Sync>(
     _rt: &R,
     alloc: Global,
@@ -30,20 +33,23 @@ pub fn run<R: Threads + Wait + Sync, S: Source, K: Sink, W: Wire, C: Clock, G: G
     clock: &mut C,
     _gate: &G,
 ) -> Status
-    ensures words { is_words result ≡ not (is_run words.now) }
-    ensures refused { is_run words.now ≡ false → (source.new ≡ source.old) × (sink.new ≡ sink.old) }
-    ensures text { is_run words.now ≡ true → IfTold (S.left source.old) (λ xs. HasText (K.held sink.old) (K.held sink.new) (trace_text xs) result) }
-    ensures front { IfTold (S.left source.old) (λ xs. (rest : List ℕ) × Passes (K.held sink.old) (K.held sink.new) (trace_text xs).text rest) }
+    ensures words { is_words result ≡ is_none (command_of words.now) }
+    ensures refused { command_of words.now ≡ None → (source.new ≡ source.old) × (sink.new ≡ sink.old) }
+    ensures text { AreRun words.now → IfTold (S.left source.old) (λ xs. HasText (K.held sink.old) (K.held sink.new) (trace_text xs) result) }
+    ensures front { AreRun words.now → IfTold (S.left source.old) (λ xs. (rest : List ℕ) × Passes (K.held sink.old) (K.held sink.new) (trace_text xs).text rest) }
     ensures lawful { IfTold (S.left source.old) (λ xs. All KeepsPromises (served_by xs)) }
     ensures link { IfTold (S.left source.old) KeepsTheLink }
     ensures read { result ≡ ReadFault → IfBothTold (S.left source.old) (S.left source.new) (HasReadText (K.held sink.old) (K.held sink.new)) }
     ensures cause { IsCaused (S.faults source.old) (S.faults source.new) (K.faults sink.old) (K.faults sink.new) result }
-    ensures whole { is_run words.now ≡ true → S.is_steady source.old → IfTold (S.left source.old)
+    ensures whole { AreRun words.now → S.is_steady source.old → IfTold (S.left source.old)
         (λ xs. K.is_steady sink.old (length (trace_text xs).text) → IsOrLacksMemory (trace_text xs).status result) }
+    ensures summary { (seed blocks : ℕ) → AreMake words.now seed blocks →
+        HasSummary (K.held sink.old) (K.held sink.new) (made_summary seed blocks) result × (source.new ≡ source.old) }
+    ensures summed { (seed blocks : ℕ) → AreMake words.now seed blocks → K.is_steady sink.old (length (made_summary seed blocks)) → IsOrLacksMemory Done result }
     ensures wire { wire.new ≡ wire.old }
     ensures clock { clock.new ≡ clock.old }
 {
-    if begins_with_run(words) {
+    if begins_with_plain(words) {
         return plain(alloc, words, source, sink);
     }
     traces_are_served_lawfully();
@@ -51,31 +57,34 @@ pub fn run<R: Threads + Wait + Sync, S: Source, K: Sink, W: Wire, C: Clock, G: G
     Status::Words
 }
 
-/// Runs a command that waits for nobody: the first word is `run`.
+/// Runs a command that waits for nobody: the first word is `run` or `make`.
 pub fn plain<S: Source, K: Sink>(
     alloc: Global,
     words: &[Octets],
     source: &mut S,
     sink: &mut K,
 ) -> Status
-    requires { begins_with_run words.now ≡ true }
-    ensures words { is_words result ≡ not (is_run words.now) }
-    ensures refused { is_run words.now ≡ false → (source.new ≡ source.old) × (sink.new ≡ sink.old) }
-    ensures text { is_run words.now ≡ true → IfTold (S.left source.old) (λ xs. HasText (K.held sink.old) (K.held sink.new) (trace_text xs) result) }
-    ensures front { IfTold (S.left source.old) (λ xs. (rest : List ℕ) × Passes (K.held sink.old) (K.held sink.new) (trace_text xs).text rest) }
+    requires { begins_with_plain words.now ≡ true }
+    ensures words { is_words result ≡ is_none (command_of words.now) }
+    ensures refused { command_of words.now ≡ None → (source.new ≡ source.old) × (sink.new ≡ sink.old) }
+    ensures text { AreRun words.now → IfTold (S.left source.old) (λ xs. HasText (K.held sink.old) (K.held sink.new) (trace_text xs) result) }
+    ensures front { AreRun words.now → IfTold (S.left source.old) (λ xs. (rest : List ℕ) × Passes (K.held sink.old) (K.held sink.new) (trace_text xs).text rest) }
     ensures lawful { IfTold (S.left source.old) (λ xs. All KeepsPromises (served_by xs)) }
     ensures link { IfTold (S.left source.old) KeepsTheLink }
     ensures read { result ≡ ReadFault → IfBothTold (S.left source.old) (S.left source.new) (HasReadText (K.held sink.old) (K.held sink.new)) }
     ensures cause { IsCaused (S.faults source.old) (S.faults source.new) (K.faults sink.old) (K.faults sink.new) result }
-    ensures whole { is_run words.now ≡ true → S.is_steady source.old → IfTold (S.left source.old)
+    ensures whole { AreRun words.now → S.is_steady source.old → IfTold (S.left source.old)
         (λ xs. K.is_steady sink.old (length (trace_text xs).text) → IsOrLacksMemory (trace_text xs).status result) }
+    ensures summary { (seed blocks : ℕ) → AreMake words.now seed blocks →
+        HasSummary (K.held sink.old) (K.held sink.new) (made_summary seed blocks) result × (source.new ≡ source.old) }
+    ensures summed { (seed blocks : ℕ) → AreMake words.now seed blocks → K.is_steady sink.old (length (made_summary seed blocks)) → IsOrLacksMemory Done result }
 {
     traces_are_served_lawfully();
     traces_stay_within_the_link();
-    if is_run(words) {
-        write_status(alloc, source, sink)
-    } else {
-        Status::Words
+    match command_of(words) {
+        Some(Command::Run) => write_status(alloc, source, sink),
+        Some(Command::Make { seed, blocks }) => status_of(write_summary(alloc, seed, blocks, sink)),
+        None => Status::Words,
     }
 }
 

@@ -4,6 +4,7 @@
 mod book;
 mod commands;
 mod entry;
+mod made;
 mod replay;
 mod stop;
 mod words;
@@ -12,4 +13,4 @@ mod writer;
 pub use commands::{plain, run};
 pub use ram_io::{NoMemory, Octets, Sink, Source};
 pub use rams_model::Status;
-pub use words::begins_with_run;
+pub use words::{Command, begins_with_plain, command_of};

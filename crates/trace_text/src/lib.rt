@@ -26,3 +26,4 @@ pub use rams_model::{LineFault, Mode};
 pub use read::read_line;
 pub use state::State;
 pub use text::{append_line, write_line};
+pub use values::number;

@@ -1,13 +1,13 @@
 use Rattle.std.specs.Prelude.{All}
 use Rattle.trace_book.specs.{KeepsPromises, served_by}
-use Rattle.rams_replay.proofs.Booking.{none_of, told_all}
+use Rattle.rams_replay.proofs.Booking.{told_all}
 use Rattle.rams_replay.proofs.commands.plain.Goals as goal
 
-pub returns-else-is_run-clause-front : goal.returns-else-is_run-clause-front
-returns-else-is_run-clause-front g c = none_of (g.K.Sink.held c.args.sink.now) (g.S.Source.left c.args.source.now)
+pub returns-in-Some-Run-clause-lawful : goal.returns-in-Some-Run-clause-lawful
+returns-in-Some-Run-clause-lawful g c = told_all (g.S.Source.left c.args.source.now) (λ xs. All KeepsPromises (served_by xs)) c.traces_are_served_lawfully.ensures
 
-pub returns-then-is_run-clause-lawful : goal.returns-then-is_run-clause-lawful
-returns-then-is_run-clause-lawful g c = told_all (g.S.Source.left c.args.source.now) (λ xs. All KeepsPromises (served_by xs)) c.traces_are_served_lawfully.ensures
+pub returns-in-Some-Make-clause-lawful : goal.returns-in-Some-Make-clause-lawful
+returns-in-Some-Make-clause-lawful g c = told_all (g.S.Source.left c.args.source.now) (λ xs. All KeepsPromises (served_by xs)) c.traces_are_served_lawfully.ensures
 
-pub returns-else-is_run-clause-lawful : goal.returns-else-is_run-clause-lawful
-returns-else-is_run-clause-lawful g c = told_all (g.S.Source.left c.args.source.now) (λ xs. All KeepsPromises (served_by xs)) c.traces_are_served_lawfully.ensures
+pub returns-in-None-clause-lawful : goal.returns-in-None-clause-lawful
+returns-in-None-clause-lawful g c = told_all (g.S.Source.left c.args.source.now) (λ xs. All KeepsPromises (served_by xs)) c.traces_are_served_lawfully.ensures

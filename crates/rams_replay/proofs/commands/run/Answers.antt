@@ -1,10 +1,7 @@
 use Rattle.std.specs.Prelude.{All}
 use Rattle.trace_book.specs.{KeepsPromises, served_by}
-use Rattle.rams_replay.proofs.Booking.{none_of, told_all}
+use Rattle.rams_replay.proofs.Booking.{told_all}
 use Rattle.rams_replay.proofs.commands.run.Goals as goal
-
-pub returns-clause-front : goal.returns-clause-front
-returns-clause-front g c = none_of (g.K.Sink.held c.args.sink.now) (g.S.Source.left c.args.source.now)
 
 pub returns-clause-lawful : goal.returns-clause-lawful
 returns-clause-lawful g c = told_all (g.S.Source.left c.args.source.now) (λ xs. All KeepsPromises (served_by xs)) c.traces_are_served_lawfully.ensures

@@ -1,0 +1,3 @@
+pub mod Brief
+pub mod Short
+pub mod Steps

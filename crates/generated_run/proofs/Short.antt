@@ -1,0 +1,16 @@
+-- What a core sends is short enough to be counted.
+use Rattle.std.proofs.Common.{◌≡◌, ◌+◌, ◌≤◌, All, List, length, arith}
+use Rattle.std.proofs.lemmas.List.Elements.{All-weaker}
+use Rattle.rams_model.specs.declared.answer.Order.{Order}
+use Rattle.rams_model.specs.declared.answer.Order.TheVariants.{Rtx, Info}
+use Rattle.session_core.specs as core
+use Rattle.session_core.specs.{SendsShort}
+use Rattle.rams_model.specs.Service.{Answered}
+use Rattle.summary.specs.{IsShort}
+
+short_is : (order : Order) → core.IsShort order → IsShort order
+short_is (Rtx client n sequence packet) short = omega (arith, short)
+short_is (Info client info) short = omega arith
+
+pub short_are : (orders : List Order) → All core.IsShort orders → All IsShort orders
+short_are orders all = All-weaker core.IsShort IsShort short_is orders all

@@ -1,0 +1,35 @@
+//! From a seed to the summary of its events.
+ghost use Rattle.std.specs.Prelude.{◌≡◌, ◌≤◌, IfOk};
+ghost use Rattle.summary.specs.{made_summary};
+
+use crate::serving::answer_to;
+use ram_io::NoMemory;
+use session_core::Core;
+use std::alloc::Global;
+use summary::Tally;
+use trace_gen::{Made, config_of, event_into};
+
+/// Most blocks of a generated trace.
+pub const MOST_BLOCKS: u32 = 50_000;
+
+/// Most events of so many blocks: a block has at most 12.
+const MOST_EVENTS: u64 = 600_000;
+
+/// The summary of the generated trace of this seed and of so many blocks: what the channel answers
+/// to its events, counted.
+pub fn summary_of(alloc: Global, seed: u32, blocks: u32) -> Result<Vec<u8>, NoMemory>
+    requires { blocks ≤ 50000 }
+    ensures { IfOk result (λ text. text.items ≡ made_summary seed blocks) }
+{
+    let mut core = Core::new(alloc, &config_of())?;
+    let mut at = Made::new(seed);
+    let mut tally = Tally::new();
+    let mut page = Vec::new(alloc);
+    for events in 0..=MOST_EVENTS {
+        let Some(kind) = event_into(blocks, &mut at, &mut page)? else {
+            return tally.write(alloc, seed, blocks, events);
+        };
+        tally.add(&answer_to(alloc, &mut core, kind, &page)?);
+    }
+    unreachable!()
+}
