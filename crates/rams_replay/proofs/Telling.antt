@@ -1,24 +1,23 @@
 -- What is written for the answers of the channels.
-use Rattle.std.proofs.Common.{◌≡◌, ◌≢◌, ℕ, Bool, true, false, cond, eqb, List, [], ◌∷◌, ◌++◌, map, length, Option, None, Some, option_map, refl, sym, ap, subst, ◌∙◌, append_assoc}
+use Rattle.std.proofs.Common.{◌≡◌, ◌≢◌, ℕ, Bool, true, false, cond, eqb, List, [], ◌∷◌, ◌++◌, map, length, Option, None, Some, option_map, refl, sym, ap, subst, ◌∙◌, append_assoc, append-nil}
 use Rattle.std.specs.Prelude.{All, AllPairs, slice_get}
 use Rattle.std.specs.List.{flat_map}
-use Rattle.std.proofs.lemmas.List.Elements.{All-map, All-cons}
+use Rattle.std.proofs.lemmas.List.Elements.{All-nil, All-map, All-cons}
 use Rattle.rams_model.specs.declared.event.Event.{Event}
 use Rattle.rams_model.specs.declared.event.Event.TheVariants as event
 use Rattle.rams_model.specs.Service.{Answered, Settings}
 use Rattle.order_datagrams.specs.{Renders}
 use Rattle.order_datagrams.proofs.ReadPackets.{answer_renders}
 use Rattle.server_hub.specs.declared.event.At.{At}
+use Rattle.server_hub.specs.declared.event.HubAnswer.{HubAnswer}
 use Rattle.server_hub.specs.declared.event.HubEvent.{HubEvent}
-use Rattle.server_hub.specs.{IsHub, Serves, StandsFor, settings_of, ids_of, with_event, after_event, after_event_of, after_tick, id_of, channel_of, answer_to, answer_of, answer_at, answers_to_tick, Pairwise}
+use Rattle.server_hub.specs.{IsHub, Serves, StandsFor, settings_of, ids_of, with_event, after_event, after_event_of, after_tick, id_of, channel_of, answer_to, answer_of, answer_at, answers_to_tick, Told, says, told, told_of, told_to, answers_said, Pairwise}
 use Rattle.server_hub.specs.declared.event.HubEvent.TheVariants.{Live, Feedback, Tick}
 use Rattle.server_hub.specs.Seen.{Seen}
 use Rattle.server_hub.specs.Served.{Served}
 use Rattle.server_hub.proofs.Finding.{with_id, one_has, settings_found}
 use Rattle.trace_book.specs.{channel_text, event_text, named_text}
-use Rattle.rams_replay.specs.declared.replay.Turn.{Turn}
-use Rattle.rams_replay.specs.{AllRender, CanWrite, Tells, at_text, ending, settled_text, turn_named, written}
-use Rattle.rams_replay.specs.declared.replay.Turn.TheVariants.{GoesOn, Answered as AnsweredTurn, NoChannel, Ticked, Refused, TooLong, Done}
+use Rattle.rams_replay.specs.{AllRender, Tells, at_text, settled_text, told_text}
 
 -- the settings of the channels
 abbrev pub settings_all : List Served → List Settings
@@ -35,15 +34,19 @@ pairs_settled f R same (v ∷ vs) (c ∷ channels) all = ap (λ s. s ∷ map f v
 pub settings_stand : (v : Seen) (channels : List Served) → StandsFor v channels → settings_of v ≡ settings_all channels
 settings_stand v channels stands = pairs_settled (λ core. core.settings) Serves (λ core c serves. serves.settings) v.channels channels stands
 
+-- what is written for one answer
+pub one_is_told : (hub : Option Seen) (n : ℕ) (at : At) → told_text hub n (says (at ∷ [])) ≡ at_text hub n at
+one_is_told hub n at = append-nil (at_text hub n at)
+
 -- what is written for an event of one channel
-pub named_is_written : (v : Seen) (channels : List Served) (id : ℕ) (e : Event) (n number : ℕ) → settings_of v ≡ settings_all channels
-    → written (Some v) n number (turn_named id (answer_of id e channels)) ≡ named_text n id e (channel_of id channels)
-named_is_written v channels id e n number is =
+named_is_written : (v : Seen) (channels : List Served) (id : ℕ) (e : Event) (n : ℕ) → settings_of v ≡ settings_all channels
+    → told_text (Some v) n (told_of id (answer_of id e channels)) ≡ named_text n id e (channel_of id channels)
+named_is_written v channels id e n is =
     by (channel_of id channels) (ap (with_id id) is ∙ settings_found id channels)
   where
-    by : (o : Option Served) → with_id id (settings_of v) ≡ option_map (λ c. c.settings) o → written (Some v) n number (turn_named id (option_map (answer_to e) o)) ≡ named_text n id e o
+    by : (o : Option Served) → with_id id (settings_of v) ≡ option_map (λ c. c.settings) o → told_text (Some v) n (told_of id (option_map (answer_to e) o)) ≡ named_text n id e o
     by None found = refl
-    by (Some c) found = ap (settled_text n (answer_to e c)) found
+    by (Some c) found = one_is_told (Some v) n (record { id = id; answer = answer_to e c }) ∙ ap (settled_text n (answer_to e c)) found
 
 -- the channel at its place, behind those before it
 id_there : (before rest : List Served) (c : Served) → slice_get (ids_of (settings_all (before ++ c ∷ rest))) (length before) ≡ Some (id_of c)
@@ -70,12 +73,12 @@ pub ticks_are_written : (n : ℕ) (v : Seen) (channels : List Served) → settin
 ticks_are_written n v channels is once = each_is_written n v [] channels is once
 
 -- each order of an answer has a datagram
-pub named_renders : (id : ℕ) (e : Event) (channels : List Served) → CanWrite (turn_named id (answer_of id e channels))
+named_renders : (id : ℕ) (e : Event) (channels : List Served) → All AllRender (answers_said (told_of id (answer_of id e channels)))
 named_renders id e channels = by (channel_of id channels)
   where
-    by : (o : Option Served) → CanWrite (turn_named id (option_map (answer_to e) o))
-    by None = tt
-    by (Some c) = answer_renders c.settings c.events e
+    by : (o : Option Served) → All AllRender (answers_said (told_of id (option_map (answer_to e) o)))
+    by None = All-nil AllRender
+    by (Some c) = All-cons AllRender (record { id = id; answer = answer_to e c }) [] (answer_renders c.settings c.events e) (All-nil AllRender)
 
 ticks_at : (channels : List Served) → All (λ c. AllRender (answer_at event.Tick c)) channels
 ticks_at channels = λ k d less. answer_renders _ _ event.Tick
@@ -97,50 +100,26 @@ tick_settled : (channels : List Served) → settings_all (after_tick channels) �
 tick_settled [] = refl
 tick_settled (c ∷ channels) = ap (λ l. c.settings ∷ l) (tick_settled channels)
 
--- the answer to an event of one channel
-named_goes_on : (id : ℕ) (o : Option Answered) → ending (turn_named id o) ≡ None
-named_goes_on id None = refl
-named_goes_on id (Some a) = refl
+settled : (h : HubEvent) (channels : List Served) → settings_all (after_event h channels) ≡ settings_all channels
+settled (Live id bytes) channels = event_settled id (event.Live bytes) channels
+settled (Feedback id client bytes) channels = event_settled id (event.Feedback client bytes) channels
+settled Tick channels = tick_settled channels
 
-named_tells : (h : HubEvent) (id : ℕ) (e : Event) (channels : List Served) (w : Seen) (a : Option Answered) (t : Turn) → StandsFor w (after_event h channels)
-    → settings_all (after_event h channels) ≡ settings_all channels → ((n : ℕ) → named_text n id e (channel_of id channels) ≡ event_text n h channels)
-    → a ≡ answer_of id e channels → t ≡ turn_named id a → Tells h channels w t
-named_tells h id e channels w a t stands settled same is_a is_t =
-    let is : t ≡ turn_named id (answer_of id e channels) = is_t ∙ ap (turn_named id) is_a in
-    record {
-      stands = stands;
-      goes_on = ap ending is ∙ named_goes_on id (answer_of id e channels);
-      text = λ n number. ap (written (Some w) n number) is ∙ (named_is_written w channels id e n number (settings_stand w _ stands ∙ settled) ∙ same n);
-      renders = subst CanWrite (sym is) (named_renders id e channels);
-    }
+said_text : (h : HubEvent) (n : ℕ) (channels : List Served) (w : Seen) → settings_of w ≡ settings_all channels → (h ≡ Tick → IsHub w)
+    → told_text (Some w) n (told_to h channels) ≡ event_text n h channels
+said_text (Live id bytes) n channels w is hub = named_is_written w channels id (event.Live bytes) n is
+said_text (Feedback id client bytes) n channels w is hub = named_is_written w channels id (event.Feedback client bytes) n is
+said_text Tick n channels w is hub = ticks_are_written n w channels is (hub refl).channels.once
 
-pub live_tells : (id : ℕ) (bytes : List ℕ) (channels : List Served) (w : Seen) (a : Option Answered) (t : Turn)
-    → (a ≡ answer_of id (event.Live bytes) channels) × StandsFor w (after_event_of id (event.Live bytes) channels) → t ≡ turn_named id a → Tells (Live id bytes) channels w t
-live_tells id bytes channels w a t both is = named_tells (Live id bytes) id (event.Live bytes) channels w a t both.1 (event_settled id (event.Live bytes) channels) (λ n. refl) both.0 is
+said_renders : (h : HubEvent) (channels : List Served) → All AllRender (answers_said (told_to h channels))
+said_renders (Live id bytes) channels = named_renders id (event.Live bytes) channels
+said_renders (Feedback id client bytes) channels = named_renders id (event.Feedback client bytes) channels
+said_renders Tick channels = ticks_render channels
 
-pub feedback_tells : (id client : ℕ) (bytes : List ℕ) (channels : List Served) (w : Seen) (a : Option Answered) (t : Turn)
-    → (a ≡ answer_of id (event.Feedback client bytes) channels) × StandsFor w (after_event_of id (event.Feedback client bytes) channels) → t ≡ turn_named id a
-    → Tells (Feedback id client bytes) channels w t
-feedback_tells id client bytes channels w a t both is =
-    named_tells (Feedback id client bytes) id (event.Feedback client bytes) channels w a t both.1 (event_settled id (event.Feedback client bytes) channels) (λ n. refl) both.0 is
-
--- these are the answers to a tick
-abbrev pub AreTicks : Turn → List At → Type 0
-AreTicks (Ticked all) answers = all.items ≡ answers
-AreTicks _ answers = ⊥
-
-pub ticks_tell : (channels : List Served) (w : Seen) (t : Turn) → AreTicks t (answers_to_tick channels) → StandsFor w (after_tick channels) → IsHub w → Tells Tick channels w t
-ticks_tell channels w (Ticked all) is stands hub = record {
-  stands = stands;
-  goes_on = refl;
-  text = λ n number.
-      ap (flat_map (at_text (Some w) n)) is
-      ∙ ticks_are_written n w channels (settings_stand w (after_tick channels) stands ∙ tick_settled channels) hub.channels.once;
-  renders = subst (All AllRender) (sym is) (ticks_render channels);
+-- What the hub says to an event tells it.
+pub hub_tells : (h : HubEvent) (channels : List Served) (w : Seen) (a : HubAnswer) → (told a ≡ told_to h channels) × StandsFor w (after_event h channels) → (h ≡ Tick → IsHub w) → Tells h channels w a
+hub_tells h channels w a both hub = record {
+  stands = both.1;
+  text = λ n. ap (told_text (Some w) n) both.0 ∙ said_text h n channels w (settings_stand w (after_event h channels) both.1 ∙ settled h channels) hub;
+  renders = subst (λ (t : Told). All AllRender (answers_said t)) (sym both.0) (said_renders h channels);
 }
-ticks_tell channels w GoesOn is stands hub = absurd is
-ticks_tell channels w (AnsweredTurn at) is stands hub = absurd is
-ticks_tell channels w (NoChannel id) is stands hub = absurd is
-ticks_tell channels w (Refused fault) is stands hub = absurd is
-ticks_tell channels w TooLong is stands hub = absurd is
-ticks_tell channels w Done is stands hub = absurd is

@@ -8,7 +8,7 @@ use Rattle.rams_model.specs.declared.mode.LineKind.{LineKind}
 use Rattle.rams_model.specs.declared.fault.LineFault.TheVariants.{Order, Range}
 use Rattle.rams_model.specs.Texts.{TraceLine, line_in_range, Claim, Head, Reached, accepted, has_channel, judged, judged_line, kind_of, kind_may_come, may_come, with_line, with_reached, line_is_served}
 use Rattle.rams_model.specs.declared.mode.LineKind.TheVariants as kind
-use Rattle.server_hub.specs.declared.event.At.{At}
+use Rattle.server_hub.specs.declared.event.HubAnswer.{HubAnswer}
 use Rattle.server_hub.specs.declared.event.HubEvent.{HubEvent}
 use Rattle.server_hub.specs.{StandsFor, id_of, with_event, after_event, after_event_of, after_tick}
 use Rattle.server_hub.specs.declared.event.HubEvent.TheVariants.{Live, Feedback, Tick}
@@ -17,7 +17,7 @@ use Rattle.server_hub.specs.Served.{Served}
 use Rattle.trace_book.specs.{Stage, goes_on, ends, too_long, most_events, after_judging, after_line, counted, event_text, turn, event_of as brought}
 use Rattle.rams_replay.specs.declared.replay.Turn.{Turn}
 use Rattle.rams_replay.specs.{Comes, HubServes, Stands, StandsSomewhere, CountsOne, Tells, Took, claim_of, ending, last_line, written}
-use Rattle.rams_replay.specs.declared.replay.Turn.TheVariants.{GoesOn, Answered as AnsweredTurn, NoChannel, Ticked, Refused, TooLong, Done}
+use Rattle.rams_replay.specs.declared.replay.Turn.TheVariants.{GoesOn, Said, Refused, TooLong, Done}
 use Rattle.trace_book.specs.TraceText as text
 use Rattle.trace_text.specs.declared.line.Line.{Line}
 use Rattle.trace_text.specs.{shown, IsOther}
@@ -168,13 +168,13 @@ event_has_hub hub events later line stage comes is =
     has_hub hub events stage.reached stage comes.before ((and_parts _ _ (and_parts _ _ event).1).0)
 
 -- an event that is served
-pub served_turn : (v w : Seen) (events : ℕ) (e : HubEvent) (t : Turn) → events < 1000000 → CountsOne v w
-    → ((channels : List Served) → StandsFor v channels → Tells e channels w t)
-    → (stage : Stage) (number : ℕ) → Stands (Some v) events stage.reached stage → Took (counted stage stage.reached e) (Some w) (events + 1) stage.reached number t
-served_turn v w events e t few counts tells stage number stands = by_head stage.reached.head refl stands.served
+pub served_turn : (v w : Seen) (events : ℕ) (e : HubEvent) (a : HubAnswer) → events < 1000000 → CountsOne v w
+    → ((channels : List Served) → StandsFor v channels → Tells e channels w a)
+    → (stage : Stage) (number : ℕ) → Stands (Some v) events stage.reached stage → Took (counted stage stage.reached e) (Some w) (events + 1) stage.reached number (Said a)
+served_turn v w events e a few counts tells stage number stands = by_head stage.reached.head refl stands.served
   where
     by_head : (h : Option Head) → stage.reached.head ≡ h → HubServes (Some v) h stage.channels stage.events
-        → Took (counted stage stage.reached e) (Some w) (events + 1) stage.reached number t
+        → Took (counted stage stage.reached e) (Some w) (events + 1) stage.reached number (Said a)
     by_head None is serves = absurd serves
     by_head (Some head) is serves =
         let told = tells stage.channels serves.stands in
@@ -186,8 +186,8 @@ served_turn v w events e t few counts tells stage number stands = by_head stage.
             counted = ap (λ n. n + 1) stands.counted;
             lines = refl;
           },
-          told.goes_on,
-          told.text (events + 1) number ∙ ap (λ n. event_text (n + 1) e stage.channels) stands.counted,
+          refl,
+          told.text (events + 1) ∙ ap (λ n. event_text (n + 1) e stage.channels) stands.counted,
         )
 
 -- where a turn goes on, the hub stands for the stage behind it
@@ -197,12 +197,9 @@ goes_somewhere (goes_on later bytes) hub events reached number t took none = (la
 goes_somewhere (ends o) hub events reached number t took none = absurd cc
 
 -- what is written for a turn that answers nothing
-pub written_last : (hub : Option Seen) (events number : ℕ) (t : Turn) → ((at : At) → t ≡ AnsweredTurn at → ⊥) → ((id : ℕ) → t ≡ NoChannel id → ⊥) → ((all : _) → t ≡ Ticked all → ⊥)
-    → last_line events number t ≡ written hub events number t
-written_last hub events number (AnsweredTurn at) one none all = absurd (one at refl)
-written_last hub events number (NoChannel id) one none all = absurd (none id refl)
-written_last hub events number (Ticked answers) one none all = absurd (all answers refl)
-written_last hub events number GoesOn one none all = refl
-written_last hub events number (Refused fault) one none all = refl
-written_last hub events number TooLong one none all = refl
-written_last hub events number Done one none all = refl
+pub written_last : (hub : Option Seen) (events number : ℕ) (t : Turn) → ((a : HubAnswer) → t ≡ Said a → ⊥) → last_line events number t ≡ written hub events number t
+written_last hub events number (Said a) none = absurd (none a refl)
+written_last hub events number GoesOn none = refl
+written_last hub events number (Refused fault) none = refl
+written_last hub events number TooLong none = refl
+written_last hub events number Done none = refl

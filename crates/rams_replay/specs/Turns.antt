@@ -9,22 +9,14 @@ use Rattle.book_text.specs.{no_channel_line}
 use Rattle.order_datagrams.specs.{Renders}
 use Rattle.server_hub.specs.declared.event.At.{At}
 use Rattle.server_hub.specs.declared.event.HubEvent.{HubEvent}
-use Rattle.server_hub.specs.{StandsFor, settings_of, refused as refused_add, served, after_event}
-use Rattle.server_hub.specs.declared.event.HubEvent.TheVariants as events
+use Rattle.server_hub.specs.declared.event.HubAnswer.{HubAnswer}
+use Rattle.server_hub.specs.{StandsFor, Told, no_channel, says, told, answers_said, settings_of, refused as refused_add, served, after_event}
 use Rattle.server_hub.specs.Seen.{Seen}
 use Rattle.server_hub.specs.Served.{Served}
-use Rattle.rams_replay.specs.declared.replay.Heard.{Heard}
-use Rattle.rams_replay.specs.declared.replay.Heard.TheVariants.{Live, Feedback, Tick}
 use Rattle.rams_replay.specs.declared.replay.Turn.{Turn}
-use Rattle.rams_replay.specs.declared.replay.Turn.TheVariants.{GoesOn, Answered as AnsweredTurn, NoChannel, Ticked, Refused, TooLong, Done}
+use Rattle.rams_replay.specs.declared.replay.Turn.TheVariants.{GoesOn, Said, Refused, TooLong, Done}
 use Rattle.trace_book.specs.{Stage, Outcome, goes_on, ends, refused, too_long, done, event_text}
 use Rattle.trace_book.specs.TraceText as text
-
--- the event that is heard
-abbrev pub event_of : Heard → HubEvent
-event_of (Live id bytes) = events.Live id bytes.now
-event_of (Feedback id client bytes) = events.Feedback id client bytes.now
-event_of Tick = events.Tick
 
 -- what a trace's lines keep of a channel
 abbrev pub claim_of : Served → Claim
@@ -57,9 +49,7 @@ StandsSomewhere hub events reached = (stage : Stage) × Stands hub events reache
 -- how a turn ends the run, if it does
 abbrev pub ending : Turn → Option Status
 ending GoesOn = None
-ending (AnsweredTurn at) = None
-ending (NoChannel id) = None
-ending (Ticked all) = None
+ending (Said a) = None
 ending (Refused fault) = Some statuses.BadTrace
 ending TooLong = Some statuses.TooLong
 ending Done = Some statuses.Done
@@ -88,33 +78,33 @@ last_line events number TooLong = too_long.text
 last_line events number Done = (done events).text
 last_line events number _ = []
 
+-- the lines of what the channels say
+abbrev pub told_text : Option Seen → ℕ → Told → List ℕ
+told_text hub event (no_channel id) = no_channel_line event id
+told_text hub event (says all) = flat_map (at_text hub event) all
+
 -- what is written for a turn, at the line of this number
 abbrev pub written : Option Seen → ℕ → ℕ → Turn → List ℕ
-written hub events number (AnsweredTurn at) = at_text hub events at
-written hub events number (Ticked all) = flat_map (at_text hub events) all.items
-written hub events number (NoChannel id) = no_channel_line events id
+written hub events number (Said a) = told_text hub events (told a)
 written hub events number t = last_line events number t
 
 -- the orders of an answer can be rendered
 abbrev pub AllRender : At → Type 0
 AllRender at = All Renders at.answer.orders
 
+-- those of all that is said can be
+abbrev pub SaidRender : HubAnswer → Type 0
+SaidRender a = All AllRender (answers_said (told a))
+
 abbrev pub CanWrite : Turn → Type 0
-CanWrite (AnsweredTurn at) = AllRender at
-CanWrite (Ticked all) = All AllRender all.items
+CanWrite (Said a) = SaidRender a
 CanWrite _ = Unit {0}
 
--- the turn of an event of this channel, where there may be none of its number
-abbrev pub turn_named : ℕ → Option Answered → Turn
-turn_named id None = NoChannel id
-turn_named id (Some a) = AnsweredTurn (record { id = id; answer = a })
-
--- The turn tells what the server answers to an event after what came to its channels, and the hub has served it.
-pub record Tells (e : HubEvent) (channels : List Served) (v : Seen) (t : Turn) : Type 0 where
+-- The answer tells what the server says to an event after what came to its channels, and the hub has served it.
+pub record Tells (e : HubEvent) (channels : List Served) (v : Seen) (a : HubAnswer) : Type 0 where
   pub stands : StandsFor v (after_event e channels)
-  pub goes_on : ending t ≡ None
-  pub text : (event number : ℕ) → written (Some v) event number t ≡ event_text event e channels
-  pub renders : CanWrite t
+  pub text : (event : ℕ) → told_text (Some v) event (told a) ≡ event_text event e channels
+  pub renders : SaidRender a
 
 -- The hub is of the same head line, and counts one more event.
 pub record CountsOne (old new : Seen) : Type 0 where

@@ -49,7 +49,7 @@ fn ending(turn: &Turn) -> Option<Status>
     ensures end { IfSome result IsEnd }
 {
     match turn {
-        Turn::GoesOn | Turn::Answered(_) | Turn::NoChannel(_) | Turn::Ticked(_) => None,
+        Turn::GoesOn | Turn::Said(_) => None,
         Turn::Refused(_) => Some(Status::BadTrace),
         Turn::TooLong => Some(Status::TooLong),
         Turn::Done => Some(Status::Done),

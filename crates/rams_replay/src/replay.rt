@@ -1,43 +1,29 @@
 //! A trace, line by line.
 ghost use Rattle.std.specs.Prelude.{◌≡◌, ◌<◌, ◌^◌, ℕ, true, IfOk, OnOk, IsSomeAnd, None, is_some, List};
-ghost use Rattle.server_hub.specs.{StandsFor};
+ghost use Rattle.server_hub.specs.{StandsFor, event_of};
 ghost use Rattle.server_hub.specs.Served.{Served};
 ghost use Rattle.rams_model.specs.Texts.{tick_of};
 ghost use Rattle.trace_text.specs.{shown, told, HasDigits, IsOther, IsSettled};
 ghost use Rattle.trace_book.specs.{Stage, opening, turn, after_line, counted, event_of as brought};
-ghost use Rattle.rams_replay.specs.{Stands, StandsSomewhere, Comes, CanOpen, OpensIn, CountsOne, Tells, Took, CanWrite, ending, event_of, turn_named};
+ghost use Rattle.rams_replay.specs.{Stands, StandsSomewhere, Comes, CanOpen, OpensIn, CountsOne, Tells, Took, CanWrite, ending};
 
 use channel_config::Config;
 use ram_io::NoMemory;
-use rams_model::{Answer, LineFault};
-use server_hub::{At, Hub};
+use rams_model::LineFault;
+use server_hub::{Heard, Hub, HubAnswer};
 use std::alloc::Global;
 use trace_text::{Judged, Line, Mode, State, decode_to};
 
 /// Most events of a trace.
 const MOST_EVENTS: u64 = 1_000_000;
 
-/// What comes to the server, with its bytes borrowed.
-#[derive(Clone, Copy)]
-pub enum Heard<'a> {
-    /// A packet of the multicast of this channel.
-    Live(u16, &'a [u8]),
-    /// A datagram to the feedback target of this channel, from this client.
-    Feedback(u16, u64, &'a [u8]),
-    Tick,
-}
-
 /// What a line does.
 #[derive(Drop)]
 pub enum Turn {
     /// Nothing is written.
     GoesOn,
-    /// A channel answers its event.
-    Answered(At),
-    /// Its event is of a channel that isn't there.
-    NoChannel(u16),
-    /// Every channel answers the tick.
-    Ticked(Vec<At>),
+    /// The channels answer its event.
+    Said(HubAnswer),
     /// It is refused for this fault, and the run ends.
     Refused(LineFault),
     /// Its event is one too many, and the run ends.
@@ -114,12 +100,19 @@ fn after_other(alloc: Global, replay: &mut Replay, line: Line<'_>) -> Result<Tur
         }
         Line::Live { id, hex } => {
             decode_to(hex, &mut replay.bytes)?;
-            let heard = Heard::Live(id, &replay.bytes);
+            let heard = Heard::Live {
+                id,
+                bytes: &replay.bytes,
+            };
             serve(alloc, &mut replay.hub, &mut replay.events, heard)
         }
         Line::Feedback { id, client, hex } => {
             decode_to(hex, &mut replay.bytes)?;
-            let heard = Heard::Feedback(id, client, &replay.bytes);
+            let heard = Heard::Feedback {
+                id,
+                client,
+                bytes: &replay.bytes,
+            };
             serve(alloc, &mut replay.hub, &mut replay.events, heard)
         }
         Line::Tick => serve(alloc, &mut replay.hub, &mut replay.events, Heard::Tick),
@@ -161,32 +154,16 @@ fn serve(
         return Ok(Turn::TooLong);
     }
     let Some(hub) = hub else { unreachable!() };
-    let turn = answer(alloc, hub, heard)?;
+    let answer = answer(alloc, hub, heard)?;
     *events += 1;
-    Ok(turn)
+    Ok(Turn::Said(answer))
 }
 
 /// What the channels answer.
-fn answer(alloc: Global, hub: &mut Hub, heard: Heard<'_>) -> Result<Turn, NoMemory>
+fn answer(alloc: Global, hub: &mut Hub, heard: Heard<'_>) -> Result<HubAnswer, NoMemory>
     requires { hub.old.calls < 2 ^ 40 }
-    ensures tells { IfOk result (λ t. (channels : List Served) → StandsFor hub.old channels → Tells (event_of heard.entry) channels hub.new t) }
+    ensures tells { IfOk result (λ a. (channels : List Served) → StandsFor hub.old channels → Tells (event_of heard.entry) channels hub.new a) }
     ensures counts { OnOk result (CountsOne hub.old hub.new) }
 {
-    match heard {
-        Heard::Live(id, bytes) => Ok(turn_of(id, hub.live(alloc, id, bytes)?)),
-        Heard::Feedback(id, client, bytes) => {
-            Ok(turn_of(id, hub.feedback(alloc, id, client, bytes)?))
-        }
-        Heard::Tick => Ok(Turn::Ticked(hub.tick(alloc)?)),
-    }
-}
-
-/// The turn of an event of this channel.
-fn turn_of(id: u16, answer: Option<Answer>) -> Turn
-    ensures { result ≡ turn_named id answer }
-{
-    match answer {
-        Some(answer) => Turn::Answered(At { id, answer }),
-        None => Turn::NoChannel(id),
-    }
+    Ok(hub.hear(alloc, heard)?)
 }

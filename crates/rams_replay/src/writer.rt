@@ -4,8 +4,9 @@ ghost use Rattle.std.specs.List.{flat_map};
 ghost use Rattle.line_io.specs.Passes.{Passes};
 ghost use Rattle.rams_model.specs.Texts.{answer_text};
 ghost use Rattle.order_datagrams.specs.{Renders};
+ghost use Rattle.server_hub.specs.{told};
 ghost use Rattle.book_text.specs.{no_channel_line};
-ghost use Rattle.rams_replay.specs.{entry_text, last_line, written, at_text, AllRender, CanWrite, IsStoppedByWrite, OnlyMemoryStops, StopsIn};
+ghost use Rattle.rams_replay.specs.{entry_text, last_line, told_text, written, at_text, AllRender, SaidRender, CanWrite, IsStoppedByWrite, OnlyMemoryStops, StopsIn};
 
 use crate::entry::{after, append_entry};
 use crate::replay::{Replay, Turn};
@@ -14,7 +15,7 @@ use book_text::{append_count, append_no_channel, append_refused};
 use line_io::Gather;
 use ram_io::{NoMemory, Sink};
 use rams_model::{Answer, Note, Order};
-use server_hub::{At, Config, Hub};
+use server_hub::{At, Config, Hub, HubAnswer};
 use std::alloc::Global;
 
 /// The text that waits for the sink, and room for some lines and a datagram.
@@ -90,7 +91,7 @@ fn append_last(text: &mut Vec<u8>, events: u64, number: u64, turn: &Turn) -> Res
     ensures { OnOk result (text.new.items ≡ text.old.items ++ last_line events number turn.now) }
 {
     match turn {
-        Turn::GoesOn | Turn::Answered(_) | Turn::NoChannel(_) | Turn::Ticked(_) => Ok(()),
+        Turn::GoesOn | Turn::Said(_) => Ok(()),
         Turn::Refused(fault) => append_refused(text, number, *fault),
         Turn::TooLong => {
             text.extend_from_slice(b"too-long\n")?;
@@ -212,6 +213,29 @@ fn write_no_channel<K: Sink>(
     put(&mut writer.gather, sink, &writer.lines)
 }
 
+/// Adds the lines of what the channels say to an event.
+#[tactic(auto, using(crate::proofs::Telling::one_is_told))]
+fn write_said<K: Sink>(
+    writer: &mut Writer,
+    sink: &mut K,
+    hub: &Option<Hub>,
+    event: u64,
+    answer: &HubAnswer,
+) -> Result<(), Stop>
+    requires { SaidRender answer.now }
+    ensures all { OnOk result (Passes (K.held sink.old) (K.held sink.new) (writer.old.gather ++ told_text hub.now event (told answer.now)) writer.new.gather) }
+    ensures front { IfErr result (StopsIn (K.held sink.old) (K.held sink.new) (writer.old.gather ++ told_text hub.now event (told answer.now)) writer.new.gather) }
+    ensures cause { IsStoppedByWrite (K.faults sink.old) (K.faults sink.new) result }
+    ensures steady { (room : ℕ) → K.is_steady sink.old (length writer.old.gather + length (told_text hub.now event (told answer.now)) + room)
+        → OnlyMemoryStops result (K.is_steady sink.new (length writer.new.gather + room)) }
+{
+    match answer {
+        HubAnswer::NoChannel(id) => write_no_channel(writer, sink, event, *id),
+        HubAnswer::Answer(at) => write_at(writer, sink, hub, event, at),
+        HubAnswer::Answers(all) => write_all(writer, sink, hub, event, all),
+    }
+}
+
 /// Adds what is written for a turn at the line of this number.
 pub fn write_turn<K: Sink>(
     writer: &mut Writer,
@@ -228,9 +252,7 @@ pub fn write_turn<K: Sink>(
         → OnlyMemoryStops result (K.is_steady sink.new (length writer.new.gather + room)) }
 {
     match turn {
-        Turn::Answered(at) => write_at(writer, sink, &replay.hub, replay.events, at),
-        Turn::Ticked(all) => write_all(writer, sink, &replay.hub, replay.events, all),
-        Turn::NoChannel(id) => write_no_channel(writer, sink, replay.events, *id),
+        Turn::Said(answer) => write_said(writer, sink, &replay.hub, replay.events, answer),
         _ => write_last(writer, sink, replay.events, number, turn),
     }
 }

@@ -29,4 +29,6 @@ mod row;
 #[cfg(test)]
 mod stops;
 #[cfg(test)]
+mod summaries;
+#[cfg(test)]
 mod words;

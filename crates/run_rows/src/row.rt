@@ -1,6 +1,6 @@
 //! What a row of a table is, and how it is run.
 use ram_io::{MemSink, MemSource};
-use rams_replay::{Octets, Status, begins_with_run, plain};
+use rams_replay::{Octets, Status, begins_with_plain, plain};
 use std::alloc::{AllocError, Global};
 use std::process::Abort;
 use std::str;
@@ -119,7 +119,7 @@ pub fn ran(
     let mut sink = sink.ok().ok_or("memory")?;
     let mut words = Vec::new(alloc);
     words.push(Octets::of(b"run".to_vec(alloc)?))?;
-    assert!(rt; begins_with_run(&words));
+    assert!(rt; begins_with_plain(&words));
     let status = plain(alloc, &words, &mut source, &mut sink);
     Ok((status, sink))
 }

@@ -5,6 +5,8 @@ use Rattle.rams_model.specs.declared.event.Event.TheVariants as event
 use Rattle.rams_model.specs.Service.{Answered, Settings, hold, history_of, answer}
 use Rattle.rams_model.specs.Packets.{hi}
 use Rattle.server_hub.specs.declared.event.At.{At}
+use Rattle.server_hub.specs.declared.event.Heard.{Heard}
+use Rattle.server_hub.specs.declared.event.Heard.TheVariants as heard
 use Rattle.server_hub.specs.declared.event.HubAnswer.{HubAnswer}
 use Rattle.server_hub.specs.declared.event.HubAnswer.TheVariants as answers
 use Rattle.server_hub.specs.declared.event.HubEvent.{HubEvent}
@@ -57,6 +59,12 @@ answer_at e c = record { id = id_of c; answer = answer_to e c }
 abbrev pub answers_to_tick : List Served → List At
 answers_to_tick channels = map (answer_at event.Tick) channels
 
+-- the event that is heard
+abbrev pub event_of : Heard → HubEvent
+event_of (heard.Live id bytes) = Live id bytes.now
+event_of (heard.Feedback id client bytes) = Feedback id client bytes.now
+event_of heard.Tick = Tick
+
 -- the channels after an event of the server
 abbrev pub after_event : HubEvent → List Served → List Served
 after_event (Live id bytes) channels = after_event_of id (event.Live bytes) channels
@@ -73,6 +81,7 @@ pub data Told : Type 0 where
 -- an answer of the hub as what it says
 abbrev pub told : HubAnswer → Told
 told (answers.NoChannel id) = no_channel id
+told (answers.Answer at) = says (at ∷ [])
 told (answers.Answers all) = says all.items
 
 -- what is said of the answer of one channel, where there is one

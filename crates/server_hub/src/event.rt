@@ -1,7 +1,7 @@
 //! What comes to a server, and what it answers.
-ghost use Rattle.std.specs.Prelude.{◌≡◌, ◌<◌, [], vec_capacity};
+ghost use Rattle.std.specs.Prelude.{◌≡◌};
 ghost use Rattle.server_hub.specs.declared.event.AddFault.TheVariants as faults;
-ghost use Rattle.server_hub.specs.{told, told_of};
+ghost use Rattle.server_hub.specs.{event_of, told, told_of};
 
 use ram_io::NoMemory as OutOfMemory;
 use rams_model::{Answer, Octets};
@@ -18,6 +18,44 @@ pub enum HubEvent {
     Tick,
 }
 
+/// One event of a server, with its bytes where they stand.
+#[derive(Clone, Copy, Debug)]
+pub enum Heard<'a> {
+    /// A packet of the multicast of the channel `id`, as it came.
+    Live {
+        id: u16,
+        bytes: &'a [u8],
+    },
+    /// A datagram to the feedback target (RFC 4585) of the channel `id` from this client.
+    Feedback {
+        id: u16,
+        client: u64,
+        bytes: &'a [u8],
+    },
+    /// A tick of the clock of all channels.
+    Tick,
+}
+
+impl HubEvent {
+    /// The event with its bytes borrowed.
+    pub fn heard(&self) -> Heard<'_>
+        ensures { event_of result ≡ self.now }
+    {
+        match self {
+            HubEvent::Live { id, bytes } => Heard::Live {
+                id: *id,
+                bytes: bytes.bytes(),
+            },
+            HubEvent::Feedback { id, client, bytes } => Heard::Feedback {
+                id: *id,
+                client: *client,
+                bytes: bytes.bytes(),
+            },
+            HubEvent::Tick => Heard::Tick,
+        }
+    }
+}
+
 /// What the channel `id` answers.
 #[derive(Debug, Drop)]
 pub struct At {
@@ -30,22 +68,21 @@ pub struct At {
 pub enum HubAnswer {
     /// There is no channel of this number.
     NoChannel(u16),
-    /// The answers of the channels that the event came to, in the order in which they were added.
+    /// The answer of the channel that the event named.
+    Answer(At),
+    /// The answers of all channels to a tick, in the order in which they were added.
     Answers(Vec<At>),
 }
 
 impl HubAnswer {
-    /// What one channel answers, in a vector with room for it; or that there is no channel of this number.
-    pub(crate) fn of_one(id: u16, answer: Option<Answer>, mut room: Vec<At>) -> HubAnswer
-        requires none { room.items ≡ [] }
-        requires room { 0 < vec_capacity room }
+    /// What one channel answers; or that there is no channel of this number.
+    pub(crate) fn of_one(id: u16, answer: Option<Answer>) -> HubAnswer
         ensures { told result ≡ told_of id answer }
     {
-        let Some(answer) = answer else {
-            return HubAnswer::NoChannel(id);
-        };
-        room.push(At { id, answer }).unwrap();
-        HubAnswer::Answers(room)
+        match answer {
+            Some(answer) => HubAnswer::Answer(At { id, answer }),
+            None => HubAnswer::NoChannel(id),
+        }
     }
 }
 

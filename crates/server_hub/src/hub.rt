@@ -1,5 +1,5 @@
 //! The channels of a server.
-use crate::event::{AddFault, At, HubAnswer, HubEvent};
+use crate::event::{AddFault, At, Heard, HubAnswer, HubEvent};
 use crate::places::place_of;
 use crate::steps::{feedback_at, live_at};
 use crate::ticks::tick_all;
@@ -45,7 +45,7 @@ impl Hub {
     ghost use Rattle.std.specs.Prelude.{◌≡◌, ◌+◌, ◌^◌, ◌<◌, ◌≤◌, ◌++◌, ◌==◌, List, [], ◌∷◌, Err, IfNone, IfOk, IfSome, IsOkUnless, OnErr, OnOk, find, is_some, option_copied, option_map};
     ghost use Rattle.rams_model.specs.declared.event.Event.TheVariants as events;
     ghost use Rattle.server_hub.specs.declared.event.AddFault.TheVariants as faults;
-    ghost use Rattle.server_hub.specs.{served, hi_of, channel_of, answer_of, after_event_of, answers_to_tick, after_tick, told, told_to, after_event, AllKeepJoinTimes, IsHub, StandsFor, KeepsSettings, AddsSettings, new_hub, settings_of, has_id, refused};
+    ghost use Rattle.server_hub.specs.{served, hi_of, channel_of, answer_of, after_event_of, answers_to_tick, after_tick, event_of, told, told_to, after_event, AllKeepJoinTimes, IsHub, StandsFor, KeepsSettings, AddsSettings, new_hub, settings_of, has_id, refused};
     ghost use Rattle.server_hub.specs.Served.{Served};
 
     /// A hub without channels, for ticks of `tick_ms` ms and a link of so many bytes a tick. It takes the
@@ -202,6 +202,28 @@ impl Hub {
 
     /// One event. It goes to the channel that it names, and a tick to all, in the order in which they were
     /// added; after want of memory all is as before.
+    pub fn hear(&mut self, alloc: Global, heard: Heard<'_>) -> Result<HubAnswer, NoMemory>
+        requires { self.old.calls < 2 ^ 40 }
+        ensures stands { (channels : List Served) → StandsFor self.old channels →
+            IfOk result (λ a. (told a ≡ told_to (event_of heard.entry) channels) × StandsFor self.new (after_event (event_of heard.entry) channels)) }
+        ensures lawful { event_of heard.entry ≡ HubEvent.Tick → IsHub self.new }
+        ensures join_times { (channels : List Served) → StandsFor self.old channels → event_of heard.entry ≡ HubEvent.Tick →
+            OnOk result (AllKeepJoinTimes (after_event (event_of heard.entry) channels)) }
+        ensures settings { KeepsSettings self.old self.new }
+        ensures calls { OnOk result (self.new.calls ≡ self.old.calls + 1) }
+        ensures same { OnErr result (self.new ≡ self.old) }
+    {
+        match heard {
+            Heard::Live { id, bytes } => Ok(HubAnswer::of_one(id, self.live(alloc, id, bytes)?)),
+            Heard::Feedback { id, client, bytes } => {
+                let answer = self.feedback(alloc, id, client, bytes)?;
+                Ok(HubAnswer::of_one(id, answer))
+            }
+            Heard::Tick => Ok(HubAnswer::Answers(self.tick(alloc)?)),
+        }
+    }
+
+    /// The same of an event that has its bytes.
     pub fn step(&mut self, alloc: Global, event: &HubEvent) -> Result<HubAnswer, NoMemory>
         requires { self.old.calls < 2 ^ 40 }
         ensures stands { (channels : List Served) → StandsFor self.old channels →
@@ -212,18 +234,6 @@ impl Hub {
         ensures calls { OnOk result (self.new.calls ≡ self.old.calls + 1) }
         ensures same { OnErr result (self.new ≡ self.old) }
     {
-        match event {
-            HubEvent::Live { id, bytes } => {
-                let room = Vec::with_capacity(alloc, 1)?;
-                let answer = self.live(alloc, *id, bytes.bytes())?;
-                Ok(HubAnswer::of_one(*id, answer, room))
-            }
-            HubEvent::Feedback { id, client, bytes } => {
-                let room = Vec::with_capacity(alloc, 1)?;
-                let answer = self.feedback(alloc, *id, *client, bytes.bytes())?;
-                Ok(HubAnswer::of_one(*id, answer, room))
-            }
-            HubEvent::Tick => Ok(HubAnswer::Answers(self.tick(alloc)?)),
-        }
+        self.hear(alloc, event.heard())
     }
 }

@@ -12,7 +12,7 @@ mod steps;
 mod ticks;
 
 pub use channel_config::Config;
-pub use event::{AddFault, At, HubAnswer, HubEvent};
+pub use event::{AddFault, At, Heard, HubAnswer, HubEvent};
 pub use hub::Hub;
 pub use ram_io::NoMemory;
 pub use rams_model::{Answer, Octets};

@@ -8,9 +8,11 @@ use Rattle.generated_run.proofs.Steps.{begins, goes_on, as_many, ends, is_few}
 use Rattle.generated_run.proofs.run.summary_of.Goals as goal
 
 pub loop-events-init : goal.loop-events-init
-loop-events-init c =
-    (begins c.args.seed c.args.blocks c.new-at.result c.in_ok-core.core c.new-tally.result (c.new-at.ensures.all c.args.blocks) (c.in_ok-core.ensures.value.0 ∙ c.config_of.ensures) c.in_ok-core.ensures.value.1
-    c.in_ok-core.ensures.stands c.new-tally.ensures, ap (λ p. p.seed) c.new-at.ensures.value)
+loop-events-init c = (
+  begins c.args.seed c.args.blocks c.new-at.result c.in_ok-core.core c.new-tally.result (c.new-at.ensures.all c.args.blocks) (c.in_ok-core.ensures.value.0 ∙ c.config_of.ensures) c.in_ok-core.ensures.value.1
+      c.in_ok-core.ensures.stands c.new-tally.ensures,
+  ap (λ p. p.seed) c.new-at.ensures.value,
+)
 
 pub returns-in_default : goal.returns-in_default
 returns-in_default c =
@@ -37,12 +39,14 @@ loop-events-preserved c =
     let event = event_on c.in-Some.kind c.deref.result.now in
     let rest = left c.event_into.new.at c.args.blocks in
     let next =
-        c.in_ok-kind.ensures.next
-        ∙ ap (λ (o : Option Kind). with_first (option_map (λ k. event_on k c.event_into.new.page.items) o) rest) c.in-Some.is
-        ∙ ap (λ (bytes : List ℕ). event_on c.in-Some.kind bytes ∷ rest) (sym c.deref.ensures.value) in
-    let running = c.loop-events.invariant.0 in
-    (goes_on c.args.seed c.args.blocks c.loop-events.events c.loop-events.at c.event_into.new.at c.loop-events.core c.answer_to.new.core c.loop-events.tally c.add-in-loop-events.new.self event c.in_ok-answer_to.field-0
-    running next c.in_ok-answer_to.ensures.settings c.in_ok-answer_to.ensures.calls (c.in_ok-answer_to.ensures.stands running.came running.stands) c.add-in-loop-events.ensures.counts, c.event_into.ensures.seed ∙ c.loop-events.invariant.1)
+    c.in_ok-kind.ensures.next
+    ∙ ap (λ (o : Option Kind). with_first (option_map (λ k. event_on k c.event_into.new.page.items) o) rest) c.in-Some.is
+    ∙ ap (λ (bytes : List ℕ). event_on c.in-Some.kind bytes ∷ rest) (sym c.deref.ensures.value) in
+    let running = c.loop-events.invariant.0 in (
+      goes_on c.args.seed c.args.blocks c.loop-events.events c.loop-events.at c.event_into.new.at c.loop-events.core c.answer_to.new.core c.loop-events.tally c.add-in-loop-events.new.self event c.in_ok-answer_to.field-0
+          running next c.in_ok-answer_to.ensures.settings c.in_ok-answer_to.ensures.calls (c.in_ok-answer_to.ensures.stands running.came running.stands) c.add-in-loop-events.ensures.counts,
+      c.event_into.ensures.seed ∙ c.loop-events.invariant.1,
+    )
 
 pub unreachable-requires : goal.unreachable-requires
 unreachable-requires c =

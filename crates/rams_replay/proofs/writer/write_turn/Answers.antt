@@ -5,26 +5,12 @@ use Rattle.line_io.specs.Passes.{Passes}
 use Rattle.rams_replay.proofs.Turning.{written_last}
 use Rattle.rams_replay.proofs.writer.write_turn.Goals as goal
 
-pub returns-in-Answered-clause-front : goal.returns-in-Answered-clause-front
-returns-in-Answered-clause-front g c =
-    let call = c.write_at in
+pub returns-in-Said-clause-front : goal.returns-in-Said-clause-front
+returns-in-Said-clause-front g c =
+    let call = c.write_said in
     let replay = c.args.replay.now in
     subst (λ (t : Turn). IfErr call.result (StopsIn (g.K.Sink.held c.args.sink.now) (g.K.Sink.held call.new.sink) (c.args.writer.now.gather ++ written replay.hub replay.events c.args.number t) call.new.writer.gather))
-    (sym c.in-Answered.is) call.ensures.front
-
-pub returns-in-Ticked-clause-front : goal.returns-in-Ticked-clause-front
-returns-in-Ticked-clause-front g c =
-    let call = c.write_all in
-    let replay = c.args.replay.now in
-    subst (λ (t : Turn). IfErr call.result (StopsIn (g.K.Sink.held c.args.sink.now) (g.K.Sink.held call.new.sink) (c.args.writer.now.gather ++ written replay.hub replay.events c.args.number t) call.new.writer.gather))
-    (sym c.in-Ticked.is) (rw (sym c.deref.ensures.value) call.ensures.front)
-
-pub returns-in-NoChannel-clause-front : goal.returns-in-NoChannel-clause-front
-returns-in-NoChannel-clause-front g c =
-    let call = c.write_no_channel in
-    let replay = c.args.replay.now in
-    subst (λ (t : Turn). IfErr call.result (StopsIn (g.K.Sink.held c.args.sink.now) (g.K.Sink.held call.new.sink) (c.args.writer.now.gather ++ written replay.hub replay.events c.args.number t) call.new.writer.gather))
-    (sym c.in-NoChannel.is) call.ensures.front
+    (sym c.in-Said.is) call.ensures.front
 
 pub returns-in_default : goal.returns-in_default
 returns-in_default g c =
@@ -32,7 +18,7 @@ returns-in_default g c =
     let waits = c.args.writer.now.gather in
     let held = g.K.Sink.held c.args.sink.now in
     let holds = g.K.Sink.held call.new.sink in
-    let same = written_last c.args.replay.now.hub c.args.replay.now.events c.args.number c.args.turn.now c.in_default.not-Answered c.in_default.not-NoChannel c.in_default.not-Ticked in
+    let same = written_last c.args.replay.now.hub c.args.replay.now.events c.args.number c.args.turn.now c.in_default.not-Said in
     record {
       all = subst (λ (text : List ℕ). OnOk call.result (Passes held holds (waits ++ text) call.new.writer.gather)) same call.ensures.all;
       front = subst (λ (text : List ℕ). IfErr call.result (StopsIn held holds (waits ++ text) call.new.writer.gather)) same call.ensures.front;
