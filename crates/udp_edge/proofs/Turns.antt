@@ -1,10 +1,9 @@
 -- The next place of a round is where the code looks for it.
-use Rattle.std.proofs.Common.{◌≡◌, ◌≢◌, ℕ, ◌+◌, ◌-◌, ◌/◌, ◌%◌, ◌^◌, ◌<◌, ◌≤◌, sym, ◌∙◌, ap, subst, arith}
+use Rattle.std.proofs.Common.{◌≡◌, ◌≢◌, ℕ, ◌+◌, ◌-◌, ◌/◌, ◌%◌, ◌^◌, ◌<◌, ◌≤◌, sym, ◌∙◌, ap, arith}
 use Rattle.std.specs.Int.{bit_at, trailing_zeros, w128}
 use Rattle.std.proofs.Math.Nat.{div-div-eq-div-mul, div-le_self}
 use Rattle.std.proofs.lemmas.Nat.{pow-add}
 use Rattle.std.proofs.lemmas.Nat.Bits.{bit_at-trailing_zeros, bit_at-zero, bit_at_above}
-use Rattle.udp_edge.specs.{steps_behind}
 use Rattle.udp_edge.specs.Round.{IsNext}
 
 -- shifted down by k places, a number has its bits k places lower
@@ -39,15 +38,15 @@ next_from_turn ready turn in_round fits some =
     let fits_above : ready / 2 ^ turn < 2 ^ 128 = omega (arith, div-le_self ready (2 ^ turn)) in
     let lowest = bit_at-trailing_zeros w128 (ready / 2 ^ turn) (omega arith) fits_above in
     let is_ready : bit_at ready (turn + trailing_zeros w128 (ready / 2 ^ turn)) ≡ 1 =
-        sym (bit_at-shr ready turn (trailing_zeros w128 (ready / 2 ^ turn))) ∙ lowest.1 in
+    sym (bit_at-shr ready turn (trailing_zeros w128 (ready / 2 ^ turn))) ∙ lowest.1 in
     let within : turn + trailing_zeros w128 (ready / 2 ^ turn) < 128 = place_of_bit ready 128 _ fits is_ready in
     record {
       within = within;
       is_ready = is_ready;
       nearest = λ other below set.
-        let no_later : turn ≤ other → trailing_zeros w128 (ready / 2 ^ turn) ≤ other - turn =
-            λ from. lowest_le (ready / 2 ^ turn) (other - turn) fits_above (bit_at-shr_from ready turn other from ∙ set) in
-        grind (arith, no_later);
+          let no_later : turn ≤ other → trailing_zeros w128 (ready / 2 ^ turn) ≤ other - turn =
+          λ from. lowest_le (ready / 2 ^ turn) (other - turn) fits_above (bit_at-shr_from ready turn other from ∙ set) in
+          grind (arith, no_later);
     }
 
 -- where none from the turn on is ready, the lowest of all is next
@@ -55,13 +54,13 @@ pub next_round_the_end : (ready turn : ℕ) → turn < 128 → ready < 2 ^ 128 �
 next_round_the_end ready turn in_round fits none some =
     let lowest = bit_at-trailing_zeros w128 ready (omega arith) fits in
     let before : (place : ℕ) → bit_at ready place ≡ 1 → turn ≤ place → ⊥ =
-        λ place set from. some_bit (ready / 2 ^ turn) (place - turn) (bit_at-shr_from ready turn place from ∙ set) none in
+    λ place set from. some_bit (ready / 2 ^ turn) (place - turn) (bit_at-shr_from ready turn place from ∙ set) none in
     record {
       within = lowest.0;
       is_ready = lowest.1;
       nearest = λ other below set.
-        let first : turn ≤ trailing_zeros w128 ready → ⊥ = before (trailing_zeros w128 ready) lowest.1 in
-        let second : turn ≤ other → ⊥ = before other set in
-        let no_later : trailing_zeros w128 ready ≤ other = lowest_le ready other fits set in
-        grind (arith, first, second, no_later);
+          let first : turn ≤ trailing_zeros w128 ready → ⊥ = before (trailing_zeros w128 ready) lowest.1 in
+          let second : turn ≤ other → ⊥ = before other set in
+          let no_later : trailing_zeros w128 ready ≤ other = lowest_le ready other fits set in
+          grind (arith, first, second, no_later);
     }

@@ -16,3 +16,11 @@ pub record IsNext (ready turn place : ℕ) : Type 0 where
 pub record SetsBit (old new place bit : ℕ) : Type 0 where
   pub changed : bit_at new place ≡ bit
   pub others : (other : ℕ) → other < 128 → other ≢ place → bit_at new other ≡ bit_at old other
+
+-- The place is ready, if it is one of the round.
+abbrev pub IsReady : ℕ → ℕ → Type 0
+IsReady ready place = place < 128 → bit_at ready place ≡ 1
+
+-- Each place that was ready is ready still.
+abbrev pub KeepsReady : ℕ → ℕ → Type 0
+KeepsReady old new = (place : ℕ) → IsReady old place → IsReady new place

@@ -12,6 +12,13 @@ pub enum BindFault {
 }
 
 impl From<io::Error> for BindFault {
+    ghost use Rattle.std.specs.Prelude.{◌≡◌, ◌↔◌};
+    ghost use Rattle.std.specs.IoError.{error_kind};
+    ghost use Rattle.std.specs.declared.io.ErrorKind.TheVariants.{OutOfMemory};
+    ghost use Rattle.udp_edge.specs.declared.bind_fault.BindFault.TheVariants.{NoMemory};
+
+    ghost from_gives = { λ e fault. (fault ≡ NoMemory) ↔ (error_kind e ≡ OutOfMemory) };
+
     fn from(e: io::Error) -> BindFault {
         match e.kind() {
             io::ErrorKind::OutOfMemory => BindFault::NoMemory,

@@ -1,5 +1,8 @@
 //! What is asked of the sockets of a wire.
-ghost use Rattle.std.specs.Prelude.{◌≡◌, ◌+◌, ◌^◌, ◌<◌, ◌≤◌, length, vec_len, IfOk, IfSome};
+ghost use Rattle.std.specs.Prelude.{◌≡◌, ◌+◌, ◌-◌, ◌%◌, ◌^◌, ◌<◌, ◌≤◌, All, length, vec_len, IfOk, IfSome};
+ghost use Rattle.mio.specs.Event.{event_token};
+ghost use Rattle.mio.specs.Events.{items};
+ghost use Rattle.udp_edge.specs.{IsNext, IsReady, KeepsReady};
 
 use crate::address::number_of;
 use crate::bind_fault::BindFault;
@@ -43,7 +46,12 @@ pub(crate) fn bound_sockets(
 }
 
 // Each socket that the system tells of is ready.
-pub(crate) fn mark_all(round: &mut Round, events: &Events) {
+pub(crate) fn mark_all(round: &mut Round, events: &Events)
+    ensures marked { All (λ event. IsReady round.new.ready (event_token event).0)
+        (items events.now) }
+    ensures kept { KeepsReady round.old.ready round.new.ready }
+    ensures turn { round.new.turn ≡ round.old.turn }
+{
     for event in events {
         let place = usize::from(event.token());
         if place < PLACES {
@@ -65,6 +73,11 @@ pub(crate) fn next_datagram(
     ensures bound { IfOk result (λ o. IfSome o (λ a. (a.from < 2 ^ 48) × (a.len ≤ 2000))) }
     ensures port { IfOk result (λ o. IfSome o (λ a. (first ≤ a.port)
         × (a.port < first + length sockets.now))) }
+
+    // Each socket that came sooner in the round has nothing, and the next one has its turn now.
+    ensures fair { IfOk result (λ o. IfSome o (λ a. IsNext round.new.ready round.old.turn
+        (a.port - first))) }
+    ensures turn { IfOk result (λ o. IfSome o (λ a. round.new.turn ≡ (a.port - first + 1) % 128)) }
 {
     for _ in 0..TRIES {
         let Some(place) = round.next() else {
@@ -93,7 +106,12 @@ pub(crate) fn next_datagram(
 
 // Whether the datagram went out. Where it would block it waits and is tried again. A client that
 // has closed its port is sent to all the same, and nobody can listen at port 0.
-pub(crate) fn is_sent(clock: &impl Clock, socket: &UdpSocket, to: SocketAddrV4, bytes: &[u8]) -> bool {
+pub(crate) fn is_sent(
+    clock: &impl Clock,
+    socket: &UdpSocket,
+    to: SocketAddrV4,
+    bytes: &[u8],
+) -> bool {
     if to.port() == 0 {
         return true;
     }

@@ -1,10 +1,9 @@
 //! The clock of the machine, and one that can't be read.
 use ram_io::{Clock as _, StdClock};
 use std::cell::Cell;
-use std::io;
 use std::rt::Clock;
-use std::thread;
 use std::time::Duration;
+use std::{io, thread};
 
 /// A clock that reads a moment, in ms, each second time, and else can't be read.
 #[derive(Drop)]
@@ -46,5 +45,8 @@ fn the_machines_clock_goes_on(rt: HostRuntime) {
     thread::sleep(&rt, Duration::from_millis(20));
     let after = clock.now_ms();
     assert!(rt; before != 0);
-    assert!(rt; after.saturating_sub(before) >= 19, "from {before} to {after}");
+    assert!(rt;
+        after.saturating_sub(before) >= 19,
+        "from {before} to {after}"
+    );
 }

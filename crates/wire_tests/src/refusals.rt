@@ -4,6 +4,9 @@ use ram_io::{Failed, Wire};
 use std::test::Fail;
 use udp_edge::{BindFault, FailedWire, UdpWire};
 
+// A number that has no address.
+const NOBODY: u64 = 1 << 48;
+
 /// Ports of which one is bound are refused, and they are free once the wire is gone.
 #[test]
 fn bound_ports_are_refused(rt: HostRuntime) -> Result<(), Fail> {
@@ -28,7 +31,7 @@ fn datagrams_that_cant_be_sent_are_faults(rt: HostRuntime) -> Result<(), Fail> {
     let long = Vec::from_elem(rt.alloc(), 7u8, 65_508)?;
     assert_eq!(rt; wire.send(to, first + 4, b"late"), Err(Failed));
     assert_eq!(rt; wire.send(to, first - 1, b"late"), Err(Failed));
-    assert_eq!(rt; wire.send(to + (1 << 48), first, b"late"), Err(Failed));
+    assert_eq!(rt; wire.send(NOBODY, first, b"late"), Err(Failed));
     assert_eq!(rt; wire.send(to, first, &long), Err(Failed));
     assert_eq!(rt; wire.send(to, first, b"late"), Ok(()));
     Ok(())
