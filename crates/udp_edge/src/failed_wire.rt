@@ -1,6 +1,6 @@
 //! A wire that only fails.
-ghost use Rattle.std.specs.Prelude.{◌≡◌, ◌+◌, ◌-◌, ◌^◌, ◌<◌, ◌≤◌, length, min, IfOk, IfSome, IsErr, IsOkAnd, None};
-ghost use Rattle.ram_io.specs.{HasCause, outgoing, SendsOne, TakesNext};
+ghost use Rattle.std.specs.Prelude.{◌≡◌, IsErr, None};
+ghost use Rattle.ram_io.specs.{HasCause};
 
 use crate::faults::Faults;
 use ram_io::{Arrival, Failed, Wire};

@@ -1,5 +1,5 @@
 //! A wire over UDP.
-ghost use Rattle.std.specs.Prelude.{◌≡◌, ◌≢◌, ◌+◌, ◌-◌, ◌*◌, ◌^◌, ◌<◌, ◌≤◌, length, vec_len, IfOk, IfSome, IsErr, None};
+ghost use Rattle.std.specs.Prelude.{◌≡◌, ◌+◌, ◌*◌, ◌^◌, ◌<◌, ◌≤◌, length, IfOk, IfSome, IsErr, None};
 ghost use Rattle.ram_io.specs.{HasCause};
 ghost use Rattle.udp_edge.specs.{IsPortOf};
 
@@ -50,8 +50,9 @@ impl<R> Model for UdpWire<R> {
 }
 
 impl<R: Net + Clock + Clone + Drop> UdpWire<R> {
-    /// Binds the 2 * `channels` ports from `port` on, on 127.0.0.1. `receive` waits for at most
-    /// `wait_ms` ms. `Failed`: a port is taken, or the system refuses what is asked.
+    /// Binds the 2 * `channels` ports from `port` on, on 127.0.0.1: at most 128 ports, from 1 to
+    /// 65535. `receive` waits for at most `wait_ms` ms. `Failed`: a port is taken, or the system
+    /// refuses what is asked.
     pub fn bind(
         rt: &R,
         alloc: Global,
@@ -59,7 +60,7 @@ impl<R: Net + Clock + Clone + Drop> UdpWire<R> {
         channels: u16,
         wait_ms: u32,
     ) -> Result<UdpWire<R>, BindFault>
-        requires named { 0 < port }
+        requires first { 0 < port }
         requires channels { channels ≤ 64 }
         requires ports { port + 2 * channels ≤ 2 ^ 16 }
         ensures first { IfOk result (λ wire. wire.first ≡ port) }
@@ -138,6 +139,7 @@ impl<R: Clock> Wire for UdpWire<R> {
     }
 
     fn send(&mut self, to: u64, port: u16, bytes: &[u8]) -> Result<(), Failed>
+        // Another's port, or a number that has no address.
         ensures refused { ¬ (IsPortOf self.old port × (to < 2 ^ 48)) → IsErr result }
         ensures cause { HasCause self.old.faults self.new.faults result }
         ensures ports { self.new ≡ record self.old { faults = self.new.faults } }
