@@ -2,6 +2,7 @@
 use crate::peers::{client, first_port, local, peer, wire};
 use ram_io::{Arrival, Wire};
 use std::test::Fail;
+use std::thread;
 use std::time::{Duration, Instant};
 
 // A live packet: type 33, sequence number 10, timestamp 0, marked, four bytes.
@@ -50,6 +51,7 @@ fn busy_sockets_take_turns(rt: HostRuntime) -> Result<(), Fail> {
         for place in come {
             peer.send_to(&LIVE, local(first + place % 4))?;
         }
+        thread::sleep(&rt, Duration::from_millis(20));
         for place in order {
             let got = wire.receive(&mut buf)?.map(|arrival| arrival.port);
             assert_eq!(rt; got, Some(first + place % 4), "in round {round}");

@@ -7,7 +7,7 @@ use std::test::Fail;
 use std::time::Duration;
 use udp_edge::UdpWire;
 
-/// The first of 32 ports that no other test run uses, each below those that the system gives away.
+/// The first of 32 ports that few other runs use, each below those that the system gives away.
 pub fn first_port(rt: &HostRuntime) -> u16
     ensures low { 16_000 ≤ result }
     ensures high { result ≤ 32_000 }
