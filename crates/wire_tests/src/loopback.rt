@@ -8,7 +8,7 @@ use std::time::{Duration, Instant};
 // A live packet: type 33, sequence number 10, timestamp 0, marked, four bytes.
 const LIVE: [u8; 16] = *b"\x80\xa1\0\x0a\0\0\0\0\x11\x22\x33\x44\x47\x1f\xff\x10";
 
-// A port of the wire, counted from its first, and how many bytes come there. Those of 16 bytes are the
+// A port of the wire, counted from its first, and how many bytes come there. The 16 bytes are the
 // live packet.
 const LENGTHS: [(u16, usize); 5] = [(0, 16), (3, 1_470), (2, 0), (1, 2_000), (1, 2_001)];
 
