@@ -29,7 +29,7 @@ pub struct UdpWire<R> {
     sockets: Vec<UdpSocket>,
     first: u16,
     wait: Duration,
-    // A place's bit falls only where its socket had nothing more: the system tells of changes alone.
+    // A bit falls only where its socket had nothing more, as the system tells of changes alone.
     round: Round,
     faults: Faults,
 }
