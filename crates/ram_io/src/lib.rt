@@ -18,6 +18,7 @@ mod mem_source;
 mod mem_wire;
 mod sink;
 mod source;
+mod std_clock;
 mod std_edge;
 mod wire;
 
@@ -31,5 +32,6 @@ pub use mem_wire::{MemWire, Sent};
 pub use rams_model::Octets;
 pub use sink::Sink;
 pub use source::Source;
+pub use std_clock::StdClock;
 pub use std_edge::{StdSink, StdSource};
 pub use wire::{Arrival, Incoming, Wire};
