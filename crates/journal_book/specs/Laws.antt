@@ -1,0 +1,102 @@
+-- The laws of journals.
+use Rattle.std.specs.Prelude.{◌≡◌, ◌≢◌, ℕ, ◌+◌, ◌*◌, ◌<◌, ◌≤◌, List, [], ◌∷◌, ◌++◌, length, slice_get, Some, None, Ok, All, codes}
+use Rattle.rams_model.specs.declared.event.Event.TheVariants as event
+use Rattle.rams_model.specs.declared.status.Status.TheVariants.{Done}
+use Rattle.rams_model.specs.Texts.{TraceLine, end_line, line_text, Reached, judged}
+use Rattle.ram_io.specs.declared.wire.Incoming.{Incoming}
+use Rattle.ram_io.specs.declared.wire.Incoming.TheVariants.{Datagram}
+use Rattle.ram_io.specs.{Outgoing}
+use Rattle.line_io.specs.{HasNoFeed}
+use Rattle.server_hub.specs.declared.event.HubEvent.{HubEvent}
+use Rattle.server_hub.specs.declared.event.HubEvent.TheVariants.{Live, Feedback}
+use Rattle.server_hub.specs.Served.{Served}
+use Rattle.server_hub.specs.{id_of, answer_to, after_event}
+use Rattle.trace_book.specs.{Stage, most_events, with_opened, event_text, trace_text, last_stage, served_by}
+use Rattle.journal_book.specs.Heard.{heard, events_of}
+use Rattle.journal_book.specs.Journal.{HasLine, CanCome, event_line, event_lines, journal_of, behind}
+use Rattle.journal_book.specs.Sent.{answer_datagrams, datagrams_of, sent_for}
+use Rattle.journal_book.specs.Replay.{replayed}
+use Rattle.journal_book.specs.Heads.{Leads, Opens}
+use Rattle.journal_book.specs.Texts.{AreApart, own_texts, unheard_text}
+
+-- What holds of a journal: its head opens the channels, and its events have lines and are no more than a trace may have.
+pub record IsJournal (head : List ℕ) (channels : List Served) (events : List HubEvent) : Type 0 where
+  pub opens : Opens head channels
+  pub lines : All HasLine events
+  pub few : length events ≤ most_events
+
+-- A journal is a trace that `run` reads to its end, and its replay sends exactly what was sent.
+abbrev pub JournalsReplay : Type 0
+JournalsReplay =
+    (live : ℕ) (head : List ℕ) (channels : List Served) (events : List HubEvent) → IsJournal head channels events
+    → ((trace_text (journal_of head events)).status ≡ Done) × (replayed live (journal_of head events) ≡ sent_for (live + 1) channels events)
+
+-- It is served by the server's channels, to which the same events came, and has as many events.
+abbrev pub JournalsAreServed : Type 0
+JournalsAreServed =
+    (head : List ℕ) (channels : List Served) (events : List HubEvent) → IsJournal head channels events
+    → (served_by (journal_of head events) ≡ behind events channels) × ((last_stage (journal_of head events)).events ≡ length events)
+
+-- Whatever stands behind the head and the lines of these events, the replay sends what was sent for them first.
+abbrev pub FrontsReplay : Type 0
+FrontsReplay =
+    (live : ℕ) (head rest : List ℕ) (channels : List Served) (events : List HubEvent) → IsJournal head channels events
+    → (more : List Outgoing) × (replayed live (head ++ (event_lines events ++ rest)) ≡ sent_for (live + 1) channels events ++ more)
+
+-- what a server reaches by a line of the head
+abbrev pub stage_behind : Stage → TraceLine → Reached → Stage
+stage_behind stage line reached = record { reached = reached; channels = with_opened reached line stage.channels; events = stage.events }
+
+-- A line that a server takes, and that isn't `end`, makes a longer head.
+abbrev pub HeadsGrow : Type 0
+HeadsGrow =
+    (head bytes : List ℕ) (stage : Stage) (line : TraceLine) (reached : Reached) → Leads head stage → HasNoFeed bytes → judged stage.reached bytes ≡ Ok (line, reached) → line ≢ end_line
+    → Leads (head ++ (line_text line ++ codes "\n")) (stage_behind stage line reached)
+
+-- Where `end` is taken, the lines before it open the channels so far.
+abbrev pub HeadsEnd : Type 0
+HeadsEnd = (head bytes : List ℕ) (stage : Stage) (reached : Reached) → Leads head stage → judged stage.reached bytes ≡ Ok (end_line, reached) → Opens head stage.channels
+
+-- What can come has a line.
+abbrev pub EventsAreSpelled : Type 0
+EventsAreSpelled = (event : HubEvent) → CanCome event → HasLine event
+
+-- A turn brings at most two events.
+abbrev pub EventsAreFew : Type 0
+EventsAreFew =
+    (live tick turns : ℕ) (channels : List Served) (arrivals : List Incoming) (moments : List ℕ) → length (events_of live tick channels turns arrivals moments) ≤ 2 * turns
+
+-- The channel at a place has its live packets from the port 2 * place above the first one, and its feedback from the port above that.
+abbrev pub PortsAreHeard : Type 0
+PortsAreHeard =
+    (live place sender : ℕ) (channels : List Served) (c : Served) (bytes : List ℕ) → slice_get channels place ≡ Some c
+    → (heard live channels (Datagram sender (live + 2 * place) bytes) ≡ Some (Live (id_of c) bytes))
+    × (heard live channels (Datagram sender (live + 2 * place + 1) bytes) ≡ Some (Feedback (id_of c) sender bytes))
+
+-- A datagram to a port below these or above them is no event.
+abbrev pub OtherPortsAreNot : Type 0
+OtherPortsAreNot =
+    (live port sender : ℕ) (channels : List Served) (bytes : List ℕ)
+    → (port < live → heard live channels (Datagram sender port bytes) ≡ None)
+    × (live + 2 * length channels ≤ port → heard live channels (Datagram sender port bytes) ≡ None)
+
+-- What is sent for a datagram is what its own channel answers, from that channel's feedback port.
+abbrev pub OneAnswers : Type 0
+OneAnswers =
+    (port place client : ℕ) (channels : List Served) (c : Served) (bytes : List ℕ) → AreApart channels → slice_get channels place ≡ Some c
+    → (datagrams_of port (Live (id_of c) bytes) channels ≡ answer_datagrams (port + 2 * place) c.settings (answer_to (event.Live bytes) c))
+    × (datagrams_of port (Feedback (id_of c) client bytes) channels ≡ answer_datagrams (port + 2 * place) c.settings (answer_to (event.Feedback client bytes) c))
+
+-- What `run` writes for an event are the lines of the same answers, channel by channel, and one line where it comes to no channel.
+abbrev pub RunsWriteOfThem : Type 0
+RunsWriteOfThem =
+    (number : ℕ) (event : HubEvent) (channels : List Served) → AreApart channels → event_text number event channels ≡ own_texts number event channels ++ unheard_text number event channels
+
+-- What one more event adds to a journal: its line, its datagrams, and itself to its channels.
+pub record GrowsBy (event : HubEvent) (port : ℕ) (channels : List Served) (events : List HubEvent) : Type 0 where
+  pub lines : event_lines (events ++ event ∷ []) ≡ event_lines events ++ event_line event
+  pub sent : sent_for port channels (events ++ event ∷ []) ≡ sent_for port channels events ++ datagrams_of port event (behind events channels)
+  pub channels_are : behind (events ++ event ∷ []) channels ≡ after_event event (behind events channels)
+
+abbrev pub JournalsGrow : Type 0
+JournalsGrow = (event : HubEvent) (port : ℕ) (channels : List Served) (events : List HubEvent) → GrowsBy event port channels events

@@ -1,0 +1,36 @@
+-- The lines that `run` writes for an event, channel by channel.
+use Rattle.std.specs.Prelude.{◌≢◌, ℕ, List, [], Option, Some, None, AllPairs}
+use Rattle.std.specs.List.{flat_map}
+use Rattle.rams_model.specs.declared.event.Event.{Event}
+use Rattle.server_hub.specs.declared.event.HubEvent.{HubEvent}
+use Rattle.server_hub.specs.declared.event.HubEvent.TheVariants.{Live, Feedback, Tick}
+use Rattle.server_hub.specs.Served.{Served}
+use Rattle.server_hub.specs.{channel_of, ids_of}
+use Rattle.book_text.specs.{no_channel_line}
+use Rattle.trace_book.specs.{channel_text}
+use Rattle.trace_book.specs.Stages.{settings_of}
+use Rattle.journal_book.specs.Sent.{own_event}
+
+-- no two of these channels have one number
+abbrev pub AreApart : List Served → Type 0
+AreApart channels = AllPairs (λ x y. x ≢ y) (ids_of (settings_of channels))
+
+-- the lines of what a channel answers to the event of this number, where it comes to the channel
+abbrev pub own_text : ℕ → Option Event → Served → List ℕ
+own_text number None c = []
+own_text number (Some e) c = channel_text number e c
+
+-- those of all channels, in their order
+abbrev pub own_texts : ℕ → HubEvent → List Served → List ℕ
+own_texts number event channels = flat_map (λ c. own_text number (own_event event c) c) channels
+
+-- the line of an event whose channel there may not be
+abbrev pub absent_text : ℕ → ℕ → Option Served → List ℕ
+absent_text number id None = no_channel_line number id
+absent_text number id (Some c) = []
+
+-- the line of an event of no channel
+abbrev pub unheard_text : ℕ → HubEvent → List Served → List ℕ
+unheard_text number (Live id bytes) channels = absent_text number id (channel_of id channels)
+unheard_text number (Feedback id client bytes) channels = absent_text number id (channel_of id channels)
+unheard_text number Tick channels = []

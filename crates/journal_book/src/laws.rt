@@ -1,0 +1,51 @@
+//! Laws of journals: that they replay, how they grow, and what stands in them.
+ghost use Rattle.journal_book.specs.{JournalsReplay, JournalsAreServed, FrontsReplay, JournalsGrow, ServedSo, FrontSo, HeadSo, HeadsGrow, HeadsEnd, EventsAreFew, PortsAreHeard, OtherPortsAreNot, EventsAreSpelled, OneAnswers, RunsWriteOfThem};
+
+/// A journal is a trace that `run` reads to its end, and its replay sends exactly what was sent for
+/// its events. So does a front of it for the events whose lines it has.
+pub fn journals_replay()
+    ensures replay { JournalsReplay }
+    ensures fronts { FrontsReplay }
+    ensures served { JournalsAreServed }
+{}
+
+/// One more event adds its line to the journal, its datagrams to what is sent, and itself to what
+/// came to its channels.
+pub fn journals_grow()
+    ensures { JournalsGrow }
+{}
+
+/// What the sink and the wire hold after the last turn, or whatever ended the turns: a journal, or a
+/// front of one, and the datagrams of its replay, or a front of these.
+pub fn journals_are_kept()
+    ensures whole { ServedSo }
+    ensures front { FrontSo }
+    ensures head { HeadSo }
+{}
+
+/// A line that a server takes makes a longer head, and `end` ends it.
+pub fn heads_are_led()
+    ensures grow { HeadsGrow }
+    ensures end { HeadsEnd }
+{}
+
+/// A turn brings at most two events. What comes to a channel's two ports is its own, and what comes
+/// to any other port is no event.
+pub fn ports_are_heard()
+    ensures few { EventsAreFew }
+    ensures ports { PortsAreHeard }
+    ensures others { OtherPortsAreNot }
+{}
+
+/// What can come has a line that a trace may have.
+#[tactic(auto, using(crate::proofs::Spelled::events_are_spelled))]
+pub fn events_are_spelled()
+    ensures { EventsAreSpelled }
+{}
+
+/// What is sent for a datagram is what its own channel answers, from that channel's feedback port;
+/// and what `run` writes for an event are the lines of the same answers.
+pub fn channels_answer_their_own()
+    ensures one { OneAnswers }
+    ensures texts { RunsWriteOfThem }
+{}
