@@ -1,5 +1,5 @@
 -- Which channel an event comes to, and what is sent and written of its answer.
-use Rattle.std.proofs.Common.{◌≡◌, ◌≢◌, ℕ, zero, suc, ◌+◌, ◌*◌, Bool, true, false, cond, eqb, List, [], ◌∷◌, ◌++◌, get_or, Option, Some, None, option_map, refl, sym, ap, subst, ◌∙◌, arith, append-nil}
+use Rattle.std.proofs.Common.{◌≡◌, ◌≢◌, ℕ, zero, suc, ◌+◌, ◌*◌, Bool, true, false, cond, eqb, List, [], ◌∷◌, ◌++◌, get_or, Option, Some, None, option_map, refl, sym, ap, subst, ◌∙◌, arith, append-nil, append_assoc, length}
 use Rattle.std.specs.Prelude.{All, slice_get, flat_map}
 use Rattle.std.proofs.lemmas.Bool.{eq-eqb, ne_eqb, eqb-true}
 use Rattle.std.proofs.lemmas.Option.{slice_get-map}
@@ -13,7 +13,7 @@ use Rattle.server_hub.specs.Served.{Served}
 use Rattle.server_hub.specs.{id_of, answer_to, channel_of, ids_of}
 use Rattle.server_hub.proofs.Changing.{rest_once, first_once, later_differs}
 use Rattle.trace_book.specs.{settings_of, named_text, channel_text}
-use Rattle.journal_book.specs.{own_event, answer_datagrams, own_datagrams, datagrams_of, AreApart, own_text, own_texts, absent_text, OneAnswers, RunsWriteOfThem}
+use Rattle.journal_book.specs.{own_event, answer_datagrams, own_datagrams, datagrams_of, AreApart, own_text, own_texts, absent_text, OneAnswers, ChannelsAnswerInOrder, RunsWriteOfThem}
 
 -- the numbers of some channels
 abbrev numbers : List Served → List ℕ
@@ -91,3 +91,12 @@ pub runs_write_of_them : RunsWriteOfThem
 runs_write_of_them number (Live id bytes) channels apart = one_writes id (event.Live bytes) number channels apart
 runs_write_of_them number (Feedback id client bytes) channels apart = one_writes id (event.Feedback client bytes) number channels apart
 runs_write_of_them number Tick channels apart = sym (append-nil (own_texts number Tick channels))
+
+pub answer_in_order : ChannelsAnswerInOrder
+answer_in_order port event [] more = ap (λ p. datagrams_of p event more) (let same : port ≡ port + 0 = omega arith in same)
+answer_in_order port event (c ∷ channels) more =
+    let sent = own_datagrams port (own_event event c) c in
+    let behind : port + 2 + 2 * length channels ≡ port + 2 * suc (length channels) = omega arith in
+    ap (λ (os : List Outgoing). sent ++ os) (answer_in_order (port + 2) event channels more)
+    ∙ sym (append_assoc sent (datagrams_of (port + 2) event channels) (datagrams_of (port + 2 + 2 * length channels) event more))
+    ∙ ap (λ p. (sent ++ datagrams_of (port + 2) event channels) ++ datagrams_of p event more) behind

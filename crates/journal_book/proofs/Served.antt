@@ -8,8 +8,8 @@ use Rattle.ram_io.specs.{Outgoing}
 use Rattle.server_hub.specs.declared.event.HubEvent.{HubEvent}
 use Rattle.server_hub.specs.Served.{Served}
 use Rattle.server_hub.specs.{after_event}
-use Rattle.trace_book.specs.{Stage, opening, text_from, trace_text, last_stage, served_by}
-use Rattle.journal_book.specs.{event_line, event_lines, journal_of, behind, HasLine, datagrams_of, sent_for, replayed_from, replayed, IsJournal, JournalsReplay, JournalsAreServed, FrontsReplay, GrowsBy, ServedSo, FrontSo, HeadSo}
+use Rattle.trace_book.specs.{Stage, Outcome, ended, done, first_line, opening, after_text, text_from, trace_text, last_stage, served_by}
+use Rattle.journal_book.specs.{event_line, event_lines, journal_of, behind, HasLine, datagrams_of, sent_for, replayed_from, replayed, text_for, IsJournal, JournalsReplay, RunsWriteJournals, JournalsAreServed, FrontsReplay, GrowsBy, ServedSo, FrontSo, HeadSo}
 use Rattle.journal_book.proofs.Modes.{stage_of_run}
 use Rattle.journal_book.proofs.Replays.{Passes, pass_on, head_passes, IsReady, events_pass, end_passes}
 
@@ -21,7 +21,7 @@ module _ (head : List ℕ) (channels : List Served) (events : List HubEvent) (is
     ready : IsReady to
     channels_are : to.channels ≡ behind events channels
     count : to.events ≡ length events
-    passes : Passes port opening 1 (head ++ event_lines events) to (sent_for port channels events)
+    passes : Passes port opening 1 (head ++ event_lines events) to (sent_for port channels events) (text_for 0 channels events)
 
   front : (port : ℕ) → Front port
   front port =
@@ -38,8 +38,9 @@ module _ (head : List ℕ) (channels : List Served) (events : List HubEvent) (is
         channels_are = rest.channels ∙ ap (behind events) is.opens.opened;
         count = omega (arith, none, count);
         passes =
-            subst (λ (cs : List Served). Passes port opening 1 (head ++ event_lines events) rest.to (sent_for port cs events)) is.opens.opened
-            (pass_on port opening (stage_of_run stage) rest.to 1 head (event_lines events) [] (sent_for port stage.channels events) first.passes rest.passes);
+            subst (λ n. Passes port opening 1 (head ++ event_lines events) rest.to (sent_for port channels events) (text_for n channels events)) none
+            (subst (λ (cs : List Served). Passes port opening 1 (head ++ event_lines events) rest.to (sent_for port cs events) (text_for stage.events cs events)) is.opens.opened
+            (pass_on port opening (stage_of_run stage) rest.to 1 head (event_lines events) [] (sent_for port stage.channels events) [] (text_for stage.events stage.channels events) first.passes rest.passes));
       }
 
   behind_front : (rest : List ℕ) → (head ++ event_lines events) ++ rest ≡ head ++ (event_lines events ++ rest)
@@ -50,14 +51,22 @@ module _ (head : List ℕ) (channels : List Served) (events : List HubEvent) (is
       let f = front (live + 1) in
       (replayed_from (live + 1) f.to f.passes.next (whole_lines rest), ap (replayed live) (sym (behind_front rest)) ∙ f.passes.replays rest)
 
-  pub journal_replays : (live : ℕ) → ((trace_text (journal_of head events)).status ≡ Done) × (replayed live (journal_of head events) ≡ sent_for (live + 1) channels events)
+  pub journal_written : trace_text (journal_of head events) ≡ ended Done (first_line ++ (text_for 0 channels events ++ (done (length events)).text))
   unfolding journal_of trace_text
+  journal_written =
+      let f = front 0 in
+      let e = end_passes 0 f.to f.passes.next f.ready in
+      let split = sym (behind_front (codes "end\n")) in
+      ap (λ (bs : List ℕ). after_text first_line (text_from opening 1 (lines_of bs))) split ∙ ap (after_text first_line) (f.passes.outcome (codes "end\n"))
+      ∙ ap (λ (o : Outcome). after_text first_line (after_text (text_for 0 channels events) o)) (e.outcome ∙ ap done f.count)
+
+  pub journal_replays : (live : ℕ) → ((trace_text (journal_of head events)).status ≡ Done) × (replayed live (journal_of head events) ≡ sent_for (live + 1) channels events)
+  unfolding journal_of
   journal_replays live =
       let f = front (live + 1) in
-      let e = end_passes (live + 1) f.to f.passes.next f.ready in
-      let split = sym (behind_front (codes "end\n")) in (
-        ap (λ (bs : List ℕ). (text_from opening 1 (lines_of bs)).status) split ∙ f.passes.status (codes "end\n") ∙ e.status,
-        ap (replayed live) split ∙ f.passes.replays (codes "end\n") ∙ ap (λ (os : List Outgoing). sent_for (live + 1) channels events ++ os) e.replays
+      let e = end_passes (live + 1) f.to f.passes.next f.ready in (
+        ap (λ (o : Outcome). o.status) journal_written,
+        ap (replayed live) (sym (behind_front (codes "end\n"))) ∙ f.passes.replays (codes "end\n") ∙ ap (λ (os : List Outgoing). sent_for (live + 1) channels events ++ os) e.replays
             ∙ append-nil (sent_for (live + 1) channels events),
       )
 
@@ -71,6 +80,9 @@ module _ (head : List ℕ) (channels : List Served) (events : List HubEvent) (is
 
 pub journals_replay : JournalsReplay
 journals_replay live head channels events is = journal_replays head channels events is live
+
+pub runs_write_journals : RunsWriteJournals
+runs_write_journals head channels events is = journal_written head channels events is
 
 pub journals_are_served : JournalsAreServed
 journals_are_served head channels events is = journal_serves head channels events is

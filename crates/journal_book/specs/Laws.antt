@@ -11,13 +11,13 @@ use Rattle.server_hub.specs.declared.event.HubEvent.{HubEvent}
 use Rattle.server_hub.specs.declared.event.HubEvent.TheVariants.{Live, Feedback}
 use Rattle.server_hub.specs.Served.{Served}
 use Rattle.server_hub.specs.{id_of, answer_to, after_event}
-use Rattle.trace_book.specs.{Stage, most_events, with_opened, event_text, trace_text, last_stage, served_by}
+use Rattle.trace_book.specs.{Stage, most_events, ended, done, first_line, with_opened, event_text, trace_text, last_stage, served_by}
 use Rattle.journal_book.specs.Heard.{heard, events_of}
 use Rattle.journal_book.specs.Journal.{HasLine, CanCome, event_line, event_lines, journal_of, behind}
 use Rattle.journal_book.specs.Sent.{answer_datagrams, datagrams_of, sent_for}
 use Rattle.journal_book.specs.Replay.{replayed}
 use Rattle.journal_book.specs.Heads.{Leads, Opens}
-use Rattle.journal_book.specs.Texts.{AreApart, own_texts, unheard_text}
+use Rattle.journal_book.specs.Texts.{AreApart, own_texts, unheard_text, text_for}
 
 -- What holds of a journal: its head opens the channels, and its events have lines and are no more than a trace may have.
 pub record IsJournal (head : List ℕ) (channels : List Served) (events : List HubEvent) : Type 0 where
@@ -30,6 +30,12 @@ abbrev pub JournalsReplay : Type 0
 JournalsReplay =
     (live : ℕ) (head : List ℕ) (channels : List Served) (events : List HubEvent) → IsJournal head channels events
     → ((trace_text (journal_of head events)).status ≡ Done) × (replayed live (journal_of head events) ≡ sent_for (live + 1) channels events)
+
+-- What `run` writes for it is what its events are answered with.
+abbrev pub RunsWriteJournals : Type 0
+RunsWriteJournals =
+    (head : List ℕ) (channels : List Served) (events : List HubEvent) → IsJournal head channels events
+    → trace_text (journal_of head events) ≡ ended Done (first_line ++ (text_for 0 channels events ++ (done (length events)).text))
 
 -- It is served by the server's channels, to which the same events came, and has as many events.
 abbrev pub JournalsAreServed : Type 0
@@ -86,6 +92,12 @@ OneAnswers =
     (port place client : ℕ) (channels : List Served) (c : Served) (bytes : List ℕ) → AreApart channels → slice_get channels place ≡ Some c
     → (datagrams_of port (Live (id_of c) bytes) channels ≡ answer_datagrams (port + 2 * place) c.settings (answer_to (event.Live bytes) c))
     × (datagrams_of port (Feedback (id_of c) client bytes) channels ≡ answer_datagrams (port + 2 * place) c.settings (answer_to (event.Feedback client bytes) c))
+
+-- Channels answer in their order: the first of them, and then those behind, from the ports behind.
+abbrev pub ChannelsAnswerInOrder : Type 0
+ChannelsAnswerInOrder =
+    (port : ℕ) (event : HubEvent) (channels more : List Served)
+    → datagrams_of port event (channels ++ more) ≡ datagrams_of port event channels ++ datagrams_of (port + 2 * length channels) event more
 
 -- What `run` writes for an event are the lines of the same answers, channel by channel, and one line where it comes to no channel.
 abbrev pub RunsWriteOfThem : Type 0

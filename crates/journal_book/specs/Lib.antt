@@ -15,8 +15,8 @@ unfoldable pub use Rattle.journal_book.specs.Sent.{own_event, answer_datagrams, 
 unfoldable pub use Rattle.journal_book.specs.Replay.{event_read, datagrams_to, sent_after, replayed_from, replayed}
 unfoldable pub use Rattle.journal_book.specs.Heads.{starting}
 pub use Rattle.journal_book.specs.Heads.{Leads, nothing, line, Opens}
-unfoldable pub use Rattle.journal_book.specs.Texts.{AreApart, own_text, own_texts, absent_text, unheard_text}
-unfoldable pub use Rattle.journal_book.specs.Laws.{JournalsReplay, JournalsAreServed, FrontsReplay, stage_behind, HeadsGrow, HeadsEnd, EventsAreSpelled, EventsAreFew, PortsAreHeard, OtherPortsAreNot, OneAnswers, RunsWriteOfThem, JournalsGrow}
+unfoldable pub use Rattle.journal_book.specs.Texts.{AreApart, own_text, own_texts, absent_text, unheard_text, text_for}
+unfoldable pub use Rattle.journal_book.specs.Laws.{JournalsReplay, RunsWriteJournals, JournalsAreServed, FrontsReplay, stage_behind, HeadsGrow, HeadsEnd, EventsAreSpelled, EventsAreFew, PortsAreHeard, OtherPortsAreNot, OneAnswers, ChannelsAnswerInOrder, RunsWriteOfThem, JournalsGrow}
 pub use Rattle.journal_book.specs.Laws.{IsJournal, GrowsBy}
 unfoldable pub use Rattle.journal_book.specs.Serving.{ServedSo, FrontSo, HeadSo}
 pub use Rattle.journal_book.specs.Serving.{HasServed, HasServedFront}

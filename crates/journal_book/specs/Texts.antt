@@ -1,13 +1,13 @@
 -- The lines that `run` writes for an event, channel by channel.
-use Rattle.std.specs.Prelude.{◌≢◌, ℕ, List, [], Option, Some, None, AllPairs}
+use Rattle.std.specs.Prelude.{◌≢◌, ℕ, ◌+◌, List, [], ◌∷◌, ◌++◌, Option, Some, None, AllPairs}
 use Rattle.std.specs.List.{flat_map}
 use Rattle.rams_model.specs.declared.event.Event.{Event}
 use Rattle.server_hub.specs.declared.event.HubEvent.{HubEvent}
 use Rattle.server_hub.specs.declared.event.HubEvent.TheVariants.{Live, Feedback, Tick}
 use Rattle.server_hub.specs.Served.{Served}
-use Rattle.server_hub.specs.{channel_of, ids_of}
+use Rattle.server_hub.specs.{channel_of, ids_of, after_event}
 use Rattle.book_text.specs.{no_channel_line}
-use Rattle.trace_book.specs.{channel_text}
+use Rattle.trace_book.specs.{channel_text, event_text}
 use Rattle.trace_book.specs.Stages.{settings_of}
 use Rattle.journal_book.specs.Sent.{own_event}
 
@@ -34,3 +34,8 @@ abbrev pub unheard_text : ℕ → HubEvent → List Served → List ℕ
 unheard_text number (Live id bytes) channels = absent_text number id (channel_of id channels)
 unheard_text number (Feedback id client bytes) channels = absent_text number id (channel_of id channels)
 unheard_text number Tick channels = []
+
+-- What `run` writes for these events, the oldest first, where so many were counted before.
+unfoldable pub text_for : ℕ → List Served → List HubEvent → List ℕ
+text_for count channels [] = []
+text_for count channels (event ∷ events) = event_text (count + 1) event channels ++ text_for (count + 1) (after_event event channels) events

@@ -1,11 +1,17 @@
 //! Laws of journals: that they replay, how they grow, and what stands in them.
-ghost use Rattle.journal_book.specs.{JournalsReplay, JournalsAreServed, FrontsReplay, JournalsGrow, ServedSo, FrontSo, HeadSo, HeadsGrow, HeadsEnd, EventsAreFew, PortsAreHeard, OtherPortsAreNot, EventsAreSpelled, OneAnswers, RunsWriteOfThem};
+ghost use Rattle.journal_book.specs.{JournalsReplay, RunsWriteJournals, JournalsAreServed, FrontsReplay, JournalsGrow, ServedSo, FrontSo, HeadSo, HeadsGrow, HeadsEnd, EventsAreFew, PortsAreHeard, OtherPortsAreNot, EventsAreSpelled, OneAnswers, ChannelsAnswerInOrder, RunsWriteOfThem};
 
 /// A journal is a trace that `run` reads to its end, and its replay sends exactly what was sent for
 /// its events. So does a front of it for the events whose lines it has.
 pub fn journals_replay()
     ensures replay { JournalsReplay }
     ensures fronts { FrontsReplay }
+{}
+
+/// What `run` writes for a journal is what its events are answered with, and the channels of that run
+/// are those that the server has.
+pub fn runs_of_journals()
+    ensures text { RunsWriteJournals }
     ensures served { JournalsAreServed }
 {}
 
@@ -43,9 +49,11 @@ pub fn events_are_spelled()
     ensures { EventsAreSpelled }
 {}
 
-/// What is sent for a datagram is what its own channel answers, from that channel's feedback port;
-/// and what `run` writes for an event are the lines of the same answers.
+/// What is sent for a datagram is what its own channel answers, from that channel's feedback port.
+/// Where several answer, each does in its place, from its own port. What `run` writes for an event are
+/// the lines of the same answers.
 pub fn channels_answer_their_own()
     ensures one { OneAnswers }
+    ensures order { ChannelsAnswerInOrder }
     ensures texts { RunsWriteOfThem }
 {}
