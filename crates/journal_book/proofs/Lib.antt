@@ -6,3 +6,4 @@ pub mod Heads
 pub mod Heard
 pub mod Channels
 pub mod Spelled
+pub mod Orders

@@ -1,5 +1,6 @@
 -- The laws of journals.
 use Rattle.std.specs.Prelude.{◌≡◌, ◌≢◌, ℕ, ◌+◌, ◌*◌, ◌<◌, ◌≤◌, List, [], ◌∷◌, ◌++◌, length, slice_get, Some, None, Ok, All, codes}
+use Rattle.rams_model.specs.declared.event.Event.{Event}
 use Rattle.rams_model.specs.declared.event.Event.TheVariants as event
 use Rattle.rams_model.specs.declared.status.Status.TheVariants.{Done}
 use Rattle.rams_model.specs.Texts.{TraceLine, end_line, line_text, Reached, judged}
@@ -17,7 +18,7 @@ use Rattle.journal_book.specs.Journal.{HasLine, CanCome, event_line, event_lines
 use Rattle.journal_book.specs.Sent.{answer_datagrams, datagrams_of, sent_for}
 use Rattle.journal_book.specs.Replay.{replayed}
 use Rattle.journal_book.specs.Heads.{Leads, Opens}
-use Rattle.journal_book.specs.Texts.{AreApart, own_texts, unheard_text, text_for}
+use Rattle.journal_book.specs.Texts.{AreApart, own_texts, unheard_text, text_for, WritesItsDatagrams}
 
 -- What holds of a journal: its head opens the channels, and its events have lines and are no more than a trace may have.
 pub record IsJournal (head : List ℕ) (channels : List Served) (events : List HubEvent) : Type 0 where
@@ -103,6 +104,10 @@ ChannelsAnswerInOrder =
 abbrev pub RunsWriteOfThem : Type 0
 RunsWriteOfThem =
     (number : ℕ) (event : HubEvent) (channels : List Served) → AreApart channels → event_text number event channels ≡ own_texts number event channels ++ unheard_text number event channels
+
+-- What a channel answers is written with a line for each of its datagrams, in their order.
+abbrev pub AnswersWriteTheirDatagrams : Type 0
+AnswersWriteTheirDatagrams = (number : ℕ) (e : Event) (c : Served) → WritesItsDatagrams c.settings number (answer_to e c)
 
 -- What one more event adds to a journal: its line, its datagrams, and itself to its channels.
 pub record GrowsBy (event : HubEvent) (port : ℕ) (channels : List Served) (events : List HubEvent) : Type 0 where

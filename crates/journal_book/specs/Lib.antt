@@ -16,7 +16,8 @@ unfoldable pub use Rattle.journal_book.specs.Replay.{event_read, datagrams_to, s
 unfoldable pub use Rattle.journal_book.specs.Heads.{starting}
 pub use Rattle.journal_book.specs.Heads.{Leads, nothing, line, Opens}
 unfoldable pub use Rattle.journal_book.specs.Texts.{AreApart, own_text, own_texts, absent_text, unheard_text, text_for}
-unfoldable pub use Rattle.journal_book.specs.Laws.{JournalsReplay, RunsWriteJournals, JournalsAreServed, FrontsReplay, stage_behind, HeadsGrow, HeadsEnd, EventsAreSpelled, EventsAreFew, PortsAreHeard, OtherPortsAreNot, OneAnswers, ChannelsAnswerInOrder, RunsWriteOfThem, JournalsGrow}
+pub use Rattle.journal_book.specs.Texts.{WritesItsDatagrams}
+unfoldable pub use Rattle.journal_book.specs.Laws.{JournalsReplay, RunsWriteJournals, JournalsAreServed, FrontsReplay, stage_behind, HeadsGrow, HeadsEnd, EventsAreSpelled, EventsAreFew, PortsAreHeard, OtherPortsAreNot, OneAnswers, ChannelsAnswerInOrder, RunsWriteOfThem, AnswersWriteTheirDatagrams, JournalsGrow}
 pub use Rattle.journal_book.specs.Laws.{IsJournal, GrowsBy}
 unfoldable pub use Rattle.journal_book.specs.Serving.{ServedSo, FrontSo, HeadSo}
 pub use Rattle.journal_book.specs.Serving.{HasServed, HasServedFront}

@@ -1,7 +1,11 @@
 -- The lines that `run` writes for an event, channel by channel.
-use Rattle.std.specs.Prelude.{◌≢◌, ℕ, ◌+◌, List, [], ◌∷◌, ◌++◌, Option, Some, None, AllPairs}
+use Rattle.std.specs.Prelude.{◌≡◌, ◌≢◌, ℕ, ◌+◌, List, [], ◌∷◌, ◌++◌, map, Option, Some, None, AllPairs}
 use Rattle.std.specs.List.{flat_map}
 use Rattle.rams_model.specs.declared.event.Event.{Event}
+use Rattle.rams_model.specs.declared.answer.Order.{Order}
+use Rattle.rams_model.specs.declared.note.Note.{Note}
+use Rattle.rams_model.specs.Service.{Answered, Settings}
+use Rattle.rams_model.specs.Texts.{note_line, order_line, answer_text}
 use Rattle.server_hub.specs.declared.event.HubEvent.{HubEvent}
 use Rattle.server_hub.specs.declared.event.HubEvent.TheVariants.{Live, Feedback, Tick}
 use Rattle.server_hub.specs.Served.{Served}
@@ -39,3 +43,10 @@ unheard_text number Tick channels = []
 unfoldable pub text_for : ℕ → List Served → List HubEvent → List ℕ
 text_for count channels [] = []
 text_for count channels (event ∷ events) = event_text (count + 1) event channels ++ text_for (count + 1) (after_event event channels) events
+
+-- The lines of an answer to the event of this number: each note's own, and then those of the datagrams that it asks for. So each datagram of the answer has one line, and they stand in its order.
+pub record WritesItsDatagrams (s : Settings) (number : ℕ) (a : Answered) : Type 0 where
+  pub entries : List (Note × List Order)
+  pub notes : map (λ x. x.0) entries ≡ a.notes
+  pub orders : flat_map (λ x. x.1) entries ≡ a.orders
+  pub text : answer_text s number a ≡ flat_map (λ x. note_line number s.channel.id x.0 ++ flat_map (order_line s number) x.1) entries

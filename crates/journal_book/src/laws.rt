@@ -1,5 +1,5 @@
 //! Laws of journals: that they replay, how they grow, and what stands in them.
-ghost use Rattle.journal_book.specs.{JournalsReplay, RunsWriteJournals, JournalsAreServed, FrontsReplay, JournalsGrow, ServedSo, FrontSo, HeadSo, HeadsGrow, HeadsEnd, EventsAreFew, PortsAreHeard, OtherPortsAreNot, EventsAreSpelled, OneAnswers, ChannelsAnswerInOrder, RunsWriteOfThem};
+ghost use Rattle.journal_book.specs.{JournalsReplay, RunsWriteJournals, JournalsAreServed, FrontsReplay, JournalsGrow, ServedSo, FrontSo, HeadSo, HeadsGrow, HeadsEnd, EventsAreFew, PortsAreHeard, OtherPortsAreNot, EventsAreSpelled, OneAnswers, ChannelsAnswerInOrder, RunsWriteOfThem, AnswersWriteTheirDatagrams};
 
 /// A journal is a trace that `run` reads to its end, and its replay sends exactly what was sent for
 /// its events. So does a front of it for the events whose lines it has.
@@ -51,9 +51,10 @@ pub fn events_are_spelled()
 
 /// What is sent for a datagram is what its own channel answers, from that channel's feedback port.
 /// Where several answer, each does in its place, from its own port. What `run` writes for an event are
-/// the lines of the same answers.
+/// the lines of the same answers, one for each datagram.
 pub fn channels_answer_their_own()
     ensures one { OneAnswers }
     ensures order { ChannelsAnswerInOrder }
     ensures texts { RunsWriteOfThem }
+    ensures datagrams { AnswersWriteTheirDatagrams }
 {}
