@@ -1,9 +1,8 @@
 -- The notes of an answer ask for as many datagrams as it has, so that each has its line.
-use Rattle.std.proofs.Common.{◌≡◌, ℕ, ◌+◌, Bool, true, false, not, cond, if◌then◌else◌, List, [], ◌∷◌, ◌++◌, map, length, take, drop, Option, Some, None, Result, Ok, Err, option_to_list, refl, sym, ap, subst, ◌∙◌, arith, append_assoc, length-append, length-drop, take-append-drop}
+use Rattle.std.proofs.Common.{◌≡◌, ℕ, ◌+◌, Bool, true, false, not, cond, List, [], ◌∷◌, ◌++◌, map, length, take, drop, Option, Some, None, Result, Ok, Err, option_to_list, refl, sym, ap, subst, ◌∙◌, arith, length-append, length-drop, take-append-drop}
 use Rattle.std.specs.Prelude.{flat_map}
 use Rattle.std.proofs.lemmas.Bool.{cond_both, true≢false}
 use Rattle.rams_model.specs.declared.answer.Order.{Order}
-use Rattle.rams_model.specs.declared.event.Event.{Event}
 use Rattle.rams_model.specs.declared.fault.TlvFault.{TlvFault}
 use Rattle.rams_model.specs.declared.held.Held.{Held}
 use Rattle.rams_model.specs.declared.note.Cause.{Cause}
@@ -11,12 +10,10 @@ use Rattle.rams_model.specs.declared.note.Note.{Note}
 use Rattle.rams_model.specs.declared.note.Cause.TheVariants.{Stopped, Lost, Limit, Bye}
 use Rattle.rams_model.specs.declared.note.Note.TheVariants as note
 use Rattle.rams_model.specs.Service.{Settings, began, told, noted, History, hold, Burst, open_burst, reserved, is_slow, is_too_much, is_full, join_from, asked_rate, begins, on_request, verdict, packet_order, again_order, update_order, end_order, order_of, newest_notes, newest_orders, Answered, history_of}
-use Rattle.rams_model.specs.Packets.{chosen}
 use Rattle.rams_model.specs.Formats.{Request, names}
 use Rattle.rams_model.specs.Texts.{note_line, order_count, end_order_count, order_line, notes_text}
 use Rattle.rams_model.proofs.Legal.{Allows, IsLegal}
 use Rattle.rams_model.proofs.Legality.{legal_history}
-use Rattle.server_hub.specs.Served.{Served}
 use Rattle.server_hub.specs.{answer_to}
 use Rattle.journal_book.specs.{WritesItsDatagrams, AnswersWriteTheirDatagrams}
 

@@ -1,6 +1,6 @@
 -- What a whole journal is, and a front of it.
-use Rattle.std.proofs.Common.{◌≡◌, ℕ, ◌+◌, List, [], ◌∷◌, ◌++◌, length, codes, refl, sym, ap, subst, ◌∙◌, arith, append_assoc, append-nil}
-use Rattle.std.proofs.lemmas.List.Elements.{recursion_from_All}
+use Rattle.std.proofs.Common.{◌≡◌, ℕ, ◌+◌, List, [], ◌∷◌, ◌++◌, length, codes, refl, sym, ap, subst, ◌∙◌, arith, append_assoc, append-nil, ◌<◌, length-append}
+use Rattle.std.proofs.lemmas.List.Elements.{All-append, All-cons, All-nil, recursion_from_All}
 use Rattle.std.proofs.lemmas.List.Concat.{flat_map-append}
 use Rattle.rams_model.specs.declared.status.Status.TheVariants.{Done}
 use Rattle.rams_model.specs.Texts.{lines_of, whole_lines}
@@ -8,7 +8,7 @@ use Rattle.ram_io.specs.{Outgoing}
 use Rattle.server_hub.specs.declared.event.HubEvent.{HubEvent}
 use Rattle.server_hub.specs.Served.{Served}
 use Rattle.server_hub.specs.{after_event}
-use Rattle.trace_book.specs.{Stage, Outcome, ended, done, first_line, opening, after_text, text_from, trace_text, last_stage, served_by}
+use Rattle.trace_book.specs.{Stage, Outcome, most_events, ended, done, first_line, opening, after_text, text_from, trace_text, last_stage, served_by}
 use Rattle.journal_book.specs.{event_line, event_lines, journal_of, behind, HasLine, datagrams_of, sent_for, replayed_from, replayed, text_for, IsJournal, JournalsReplay, RunsWriteJournals, JournalsAreServed, FrontsReplay, GrowsBy, ServedSo, FrontSo, HeadSo}
 use Rattle.journal_book.proofs.Modes.{stage_of_run}
 use Rattle.journal_book.proofs.Replays.{Passes, pass_on, head_passes, IsReady, events_pass, end_passes}
@@ -106,9 +106,16 @@ unfolding behind
 one_behind [] event channels = refl
 one_behind (e ∷ events) event channels = one_behind events event (after_event e channels)
 
+one_event : (head : List ℕ) (event : HubEvent) (channels : List Served) (events : List HubEvent) → IsJournal head channels events → HasLine event → length events < most_events → IsJournal head channels (events ++ event ∷ [])
+one_event head event channels events is has few = record {
+  opens = is.opens;
+  lines = All-append HasLine events (event ∷ []) is.lines (All-cons HasLine event [] has (All-nil HasLine));
+  few = omega (arith, few, length-append events (event ∷ []));
+}
+
 pub journal_grows : (event : HubEvent) (port : ℕ) (channels : List Served) (events : List HubEvent) → GrowsBy event port channels events
 journal_grows event port channels events =
-    record { lines = one_line events event; sent = one_sent port events event channels; channels_are = one_behind events event channels }
+    record { journal = λ head. one_event head event channels events; lines = one_line events event; sent = one_sent port events event channels; channels_are = one_behind events event channels }
 
 -- what the sink and the wire hold
 pub served_so : ServedSo

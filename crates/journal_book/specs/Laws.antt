@@ -12,13 +12,13 @@ use Rattle.server_hub.specs.declared.event.HubEvent.{HubEvent}
 use Rattle.server_hub.specs.declared.event.HubEvent.TheVariants.{Live, Feedback}
 use Rattle.server_hub.specs.Served.{Served}
 use Rattle.server_hub.specs.{id_of, answer_to, after_event}
-use Rattle.trace_book.specs.{Stage, most_events, ended, done, first_line, with_opened, event_text, trace_text, last_stage, served_by}
+use Rattle.trace_book.specs.{Stage, most_events, ended, done, first_line, with_opened, event_text, trace_text, last_stage, served_by, new_channels}
 use Rattle.journal_book.specs.Heard.{heard, events_of}
 use Rattle.journal_book.specs.Journal.{HasLine, CanCome, event_line, event_lines, journal_of, behind}
 use Rattle.journal_book.specs.Sent.{answer_datagrams, datagrams_of, sent_for}
 use Rattle.journal_book.specs.Replay.{replayed}
 use Rattle.journal_book.specs.Heads.{Leads, Opens}
-use Rattle.journal_book.specs.Texts.{AreApart, own_texts, unheard_text, text_for, WritesItsDatagrams}
+use Rattle.journal_book.specs.Written.{AreApart, own_texts, unheard_text, text_for, WritesItsDatagrams}
 
 -- What holds of a journal: its head opens the channels, and its events have lines and are no more than a trace may have.
 pub record IsJournal (head : List ℕ) (channels : List Served) (events : List HubEvent) : Type 0 where
@@ -63,6 +63,12 @@ HeadsGrow =
 -- Where `end` is taken, the lines before it open the channels so far.
 abbrev pub HeadsEnd : Type 0
 HeadsEnd = (head bytes : List ℕ) (stage : Stage) (reached : Reached) → Leads head stage → judged stage.reached bytes ≡ Ok (end_line, reached) → Opens head stage.channels
+
+-- To the channels that a head opens nothing has come, and no two of them have one number, whatever comes to them later.
+abbrev pub HeadsOpenNewChannels : Type 0
+HeadsOpenNewChannels =
+    (head : List ℕ) (channels : List Served) (events : List HubEvent) → IsJournal head channels events
+    → (channels ≡ new_channels channels) × AreApart (behind events channels)
 
 -- What can come has a line.
 abbrev pub EventsAreSpelled : Type 0
@@ -109,8 +115,9 @@ RunsWriteOfThem =
 abbrev pub AnswersWriteTheirDatagrams : Type 0
 AnswersWriteTheirDatagrams = (number : ℕ) (e : Event) (c : Served) → WritesItsDatagrams c.settings number (answer_to e c)
 
--- What one more event adds to a journal: its line, its datagrams, and itself to its channels.
+-- What one more event adds to a journal: its line, its datagrams, and itself to its channels. Where it has a line and isn't one too many, it makes a longer journal.
 pub record GrowsBy (event : HubEvent) (port : ℕ) (channels : List Served) (events : List HubEvent) : Type 0 where
+  pub journal : (head : List ℕ) → IsJournal head channels events → HasLine event → length events < most_events → IsJournal head channels (events ++ event ∷ [])
   pub lines : event_lines (events ++ event ∷ []) ≡ event_lines events ++ event_line event
   pub sent : sent_for port channels (events ++ event ∷ []) ≡ sent_for port channels events ++ datagrams_of port event (behind events channels)
   pub channels_are : behind (events ++ event ∷ []) channels ≡ after_event event (behind events channels)

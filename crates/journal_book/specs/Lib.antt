@@ -3,7 +3,7 @@ pub mod Journal
 pub mod Sent
 pub mod Replay
 pub mod Heads
-pub mod Texts
+pub mod Written
 pub mod Laws
 pub mod Serving
 pub mod Worked
@@ -15,9 +15,9 @@ unfoldable pub use Rattle.journal_book.specs.Sent.{own_event, answer_datagrams, 
 unfoldable pub use Rattle.journal_book.specs.Replay.{event_read, datagrams_to, sent_after, replayed_from, replayed}
 unfoldable pub use Rattle.journal_book.specs.Heads.{starting}
 pub use Rattle.journal_book.specs.Heads.{Leads, nothing, line, Opens}
-unfoldable pub use Rattle.journal_book.specs.Texts.{AreApart, own_text, own_texts, absent_text, unheard_text, text_for}
-pub use Rattle.journal_book.specs.Texts.{WritesItsDatagrams}
-unfoldable pub use Rattle.journal_book.specs.Laws.{JournalsReplay, RunsWriteJournals, JournalsAreServed, FrontsReplay, stage_behind, HeadsGrow, HeadsEnd, EventsAreSpelled, EventsAreFew, PortsAreHeard, OtherPortsAreNot, OneAnswers, ChannelsAnswerInOrder, RunsWriteOfThem, AnswersWriteTheirDatagrams, JournalsGrow}
+unfoldable pub use Rattle.journal_book.specs.Written.{AreApart, own_text, own_texts, absent_text, unheard_text, text_for}
+pub use Rattle.journal_book.specs.Written.{WritesItsDatagrams}
+unfoldable pub use Rattle.journal_book.specs.Laws.{JournalsReplay, RunsWriteJournals, JournalsAreServed, FrontsReplay, stage_behind, HeadsGrow, HeadsEnd, HeadsOpenNewChannels, EventsAreSpelled, EventsAreFew, PortsAreHeard, OtherPortsAreNot, OneAnswers, ChannelsAnswerInOrder, RunsWriteOfThem, AnswersWriteTheirDatagrams, JournalsGrow}
 pub use Rattle.journal_book.specs.Laws.{IsJournal, GrowsBy}
 unfoldable pub use Rattle.journal_book.specs.Serving.{ServedSo, FrontSo, HeadSo}
 pub use Rattle.journal_book.specs.Serving.{HasServed, HasServedFront}

@@ -112,6 +112,22 @@ ItsDatagrams =
     ++ codes "3 7 send 5 80e301f40000000011223344000a00000000\n"
     ++ codes "done 3\n"))
 
+-- a NACK for packet 10 (RFC 4585, 6.2.1)
+abbrev pub loss : List ℕ
+loss = bytes_in (codes "81cd00030000c00111223344000a0000")
+
+-- channel 8 with other sequence numbers of its own
+abbrev pub eight_from_700 : Served
+eight_from_700 = served (settings (record channel { id = 8; seq0 = 700 }) 10) []
+
+-- In a tick each channel answers from its own feedback port, in the order of their lines.
+abbrev pub EachFromItsOwnPort : Type 0
+EachFromItsOwnPort =
+    sent_for 5001 (eight_from_700 ∷ seven ∷ []) (Live 7 packet ∷ Live 8 packet ∷ Feedback 7 5 loss ∷ Feedback 8 6 loss ∷ Tick ∷ [])
+    ≡ outgoing 6 5001 (bytes_in (codes "80e302bc0000000011223344000a00000000"))
+    ∷ outgoing 5 5003 (bytes_in (codes "80e301f40000000011223344000a00000000"))
+    ∷ []
+
 -- Where the last line is cut, it isn't replayed: in its digits it may read as another event.
 abbrev pub ACutLineIsNotReplayed : Type 0
 ACutLineIsNotReplayed =

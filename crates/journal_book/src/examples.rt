@@ -1,5 +1,5 @@
 //! Worked examples, which the checker computes.
-ghost use Rattle.journal_book.specs.Worked.{TwoPortsEach, TicksFallDue, JournalOfThreeTurns, ItsDatagrams, ACutLineIsNotReplayed, TheHeadOpens, AnEndTooMany};
+ghost use Rattle.journal_book.specs.Worked.{TwoPortsEach, TicksFallDue, JournalOfThreeTurns, ItsDatagrams, EachFromItsOwnPort, ACutLineIsNotReplayed, TheHeadOpens, AnEndTooMany};
 
 /// What a server hears at its ports, and when its ticks come.
 pub fn events_of_turns()
@@ -11,6 +11,7 @@ pub fn events_of_turns()
 pub fn journal_of_three_turns()
     ensures journal { JournalOfThreeTurns }
     ensures datagrams { ItsDatagrams }
+    ensures ports { EachFromItsOwnPort }
     ensures cut_line { ACutLineIsNotReplayed }
     ensures head { TheHeadOpens }
     ensures an_end_too_many { AnEndTooMany }

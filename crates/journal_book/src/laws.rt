@@ -1,5 +1,7 @@
 //! Laws of journals: that they replay, how they grow, and what stands in them.
-ghost use Rattle.journal_book.specs.{JournalsReplay, RunsWriteJournals, JournalsAreServed, FrontsReplay, JournalsGrow, ServedSo, FrontSo, HeadSo, HeadsGrow, HeadsEnd, EventsAreFew, PortsAreHeard, OtherPortsAreNot, EventsAreSpelled, OneAnswers, ChannelsAnswerInOrder, RunsWriteOfThem, AnswersWriteTheirDatagrams};
+ghost use Rattle.journal_book.specs.{JournalsReplay, RunsWriteJournals, JournalsAreServed, FrontsReplay, JournalsGrow, ServedSo, FrontSo, HeadSo, HeadsGrow, HeadsEnd, HeadsOpenNewChannels, EventsAreFew, PortsAreHeard, OtherPortsAreNot, EventsAreSpelled, OneAnswers, ChannelsAnswerInOrder, RunsWriteOfThem, AnswersWriteTheirDatagrams};
+
+use trace_book::laws::{traces_are_served_by_their_lines, traces_stay_within_the_link};
 
 /// A journal is a trace that `run` reads to its end, and its replay sends exactly what was sent for
 /// its events. So does a front of it for the events whose lines it has.
@@ -23,17 +25,25 @@ pub fn journals_grow()
 
 /// What the sink and the wire hold after the last turn, or whatever ended the turns: a journal, or a
 /// front of one, and the datagrams of its replay, or a front of these.
-pub fn journals_are_kept()
+pub fn sink_and_wire_agree()
     ensures whole { ServedSo }
     ensures front { FrontSo }
     ensures head { HeadSo }
 {}
 
 /// A line that a server takes makes a longer head, and `end` ends it.
-pub fn heads_are_led()
+pub fn heads_grow()
     ensures grow { HeadsGrow }
     ensures end { HeadsEnd }
 {}
+
+/// To the channels that a head opens nothing has come, and no two have one number.
+pub fn heads_open_new_channels()
+    ensures { HeadsOpenNewChannels }
+{
+    traces_are_served_by_their_lines();
+    traces_stay_within_the_link();
+}
 
 /// A turn brings at most two events. What comes to a channel's two ports is its own, and what comes
 /// to any other port is no event.

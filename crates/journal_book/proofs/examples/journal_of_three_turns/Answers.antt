@@ -11,12 +11,12 @@ use Rattle.rams_model.specs.Texts.{nothing_reached, note_line, send_line, notes_
 use Rattle.trace_book.specs.{Stage, goes_on, turn, text_from, trace_text, stage_from}
 use Rattle.trace_book.specs.Worked.{head_text}
 use Rattle.journal_book.specs.{starting, nothing, line, turns_of, events_of_turns, event_line, journal_of, sent_for, replayed_from}
-use Rattle.journal_book.specs.Worked.{seven, TheHeadOpens, JournalOfThreeTurns, ItsDatagrams, ACutLineIsNotReplayed, AnEndTooMany}
+use Rattle.journal_book.specs.Worked.{seven, TheHeadOpens, JournalOfThreeTurns, ItsDatagrams, ACutLineIsNotReplayed, AnEndTooMany, EachFromItsOwnPort}
 use Rattle.journal_book.proofs.examples.journal_of_three_turns.Goals as goal
 
-computed : JournalOfThreeTurns × ItsDatagrams × ACutLineIsNotReplayed × AnEndTooMany
+computed : JournalOfThreeTurns × ItsDatagrams × ACutLineIsNotReplayed × AnEndTooMany × EachFromItsOwnPort
 unfolding digits encode_with decode_pairs checked header spelling fields_of packet_at rams_info pieces_from words32 word_numbers numbers_of first_value hi numbered awaited live_note stream_of source consecutive_end hold has_access chosen message_of messages heard_of arrivals as_tick_began known opened sendings newest_sender ssrc bursts pending quiet_ticks channel_left sent_now verdict number_answer after_numbers after_messages run send all_served all_repaired all_forgotten after_tick order_of newest_notes newest_orders datagram after_hearing history_of note_line send_line notes_text lines_of whole_lines words_of head_in kept_in channel_in live_in feedback_in line_text accepted judged turn text_from trace_text stage_from turns_of events_of_turns event_line journal_of sent_for replayed_from
-computed = (refl, (refl, refl, refl), refl, (refl, refl))
+computed = (refl, (refl, refl, refl), refl, (refl, refl), refl)
 
 -- the head's lines without their line feeds
 abbrev head_bytes : List ℕ
@@ -63,3 +63,6 @@ returns-clause-an_end_too_many c = computed.3
 
 pub returns-clause-head : goal.returns-clause-head
 returns-clause-head c = opens
+
+pub returns-clause-ports : goal.returns-clause-ports
+returns-clause-ports c = computed.4

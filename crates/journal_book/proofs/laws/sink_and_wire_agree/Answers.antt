@@ -1,5 +1,5 @@
 use Rattle.journal_book.proofs.Served.{served_so, front_so, head_so}
-use Rattle.journal_book.proofs.laws.journals_are_kept.Goals as goal
+use Rattle.journal_book.proofs.laws.sink_and_wire_agree.Goals as goal
 
 pub returns-clause-whole : goal.returns-clause-whole
 returns-clause-whole c = served_so

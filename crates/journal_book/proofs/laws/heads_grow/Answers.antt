@@ -1,5 +1,5 @@
 use Rattle.journal_book.proofs.Heads.{heads_grow, heads_end}
-use Rattle.journal_book.proofs.laws.heads_are_led.Goals as goal
+use Rattle.journal_book.proofs.laws.heads_grow.Goals as goal
 
 pub returns-clause-grow : goal.returns-clause-grow
 returns-clause-grow c = heads_grow
