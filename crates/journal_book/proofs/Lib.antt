@@ -7,3 +7,5 @@ pub mod Heard
 pub mod Channels
 pub mod Spelled
 pub mod Orders
+pub mod Turns
+pub mod Opened

@@ -43,10 +43,10 @@ short_true : (n : ℕ) → n < 10 ^ 15 → is_short n ≡ true
 short_true n h = lt-ltb n (10 ^ 15) h
 
 id_short : (id : ℕ) (bytes : List ℕ) → IsDatagramOf id bytes → id < 10 ^ 15
-id_short id bytes is = let most = is.id_most in omega (arith, most)
+id_short id bytes is = let most = is.number.most in omega (arith, most)
 
 id_is : (id : ℕ) (bytes : List ℕ) → IsDatagramOf id bytes → id_in_range id ≡ true
-id_is id bytes is = in_range id is.id_least is.id_most
+id_is id bytes is = in_range id is.number.least is.number.most
   where
     in_range : (n : ℕ) → 1 ≤ n → n ≤ 65535 → id_in_range n ≡ true
     in_range n low high = grind (arith, nat_tests)

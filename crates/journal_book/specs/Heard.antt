@@ -1,5 +1,5 @@
 -- What a server hears at its ports, and the events of its turns.
-use Rattle.std.specs.Prelude.{ℕ, zero, suc, ◌+◌, ◌==◌, nat_le, if◌then◌else◌, List, [], ◌∷◌, ◌++◌, drop, slice_index, Option, Some, None, option_to_list}
+use Rattle.std.specs.Prelude.{ℕ, zero, suc, ◌+◌, ◌^◌, ◌<◌, All, ◌==◌, nat_le, if◌then◌else◌, List, [], ◌∷◌, ◌++◌, drop, slice_index, Option, Some, None, option_to_list}
 use Rattle.ram_io.specs.declared.wire.Incoming.{Incoming}
 use Rattle.ram_io.specs.declared.wire.Incoming.TheVariants.{Nothing, Datagram}
 use Rattle.ram_io.specs.{cut, next_answer, later}
@@ -20,6 +20,11 @@ heard_from live (c ∷ channels) sender port bytes =
 abbrev pub heard : ℕ → List Served → Incoming → Option HubEvent
 heard live channels Nothing = None
 heard live channels (Datagram sender port bytes) = heard_from live channels sender port bytes
+
+-- What a wire can bring: bytes, from an IPv4 address times 65,536, plus a port.
+abbrev pub CanArrive : Incoming → Type 0
+CanArrive Nothing = Unit {0}
+CanArrive (Datagram sender port bytes) = (sender < 2 ^ 48) × All (λ b. b < 256) bytes
 
 -- A turn of a server: what the wire gave, and the moment after it, in ms.
 pub record ServerTurn : Type 0 where

@@ -34,10 +34,14 @@ behind (event ∷ events) channels = behind events (after_event event channels)
 abbrev pub HasLine : HubEvent → Type 0
 HasLine event = is_spelled (line_of_event event) ≡ true
 
--- a datagram of at most 2,000 bytes for the channel of a number that a channel may have
+-- a number that a channel may have
+pub record IsNumber (id : ℕ) : Type 0 where
+  pub least : 1 ≤ id
+  pub most : id ≤ 65535
+
+-- a datagram of at most 2,000 bytes for the channel of this number
 pub record IsDatagramOf (id : ℕ) (bytes : List ℕ) : Type 0 where
-  pub id_least : 1 ≤ id
-  pub id_most : id ≤ 65535
+  pub number : IsNumber id
   pub short : length bytes ≤ 2000
   pub octets : All (λ b. b < 256) bytes
 

@@ -1,5 +1,5 @@
 -- The laws of journals.
-use Rattle.std.specs.Prelude.{◌≡◌, ◌≢◌, ℕ, ◌+◌, ◌*◌, ◌<◌, ◌≤◌, List, [], ◌∷◌, ◌++◌, length, slice_get, Some, None, Ok, All, codes}
+use Rattle.std.specs.Prelude.{◌≡◌, ◌≢◌, ℕ, ◌+◌, ◌*◌, ◌<◌, ◌≤◌, List, [], ◌∷◌, ◌++◌, length, slice_get, Some, None, Ok, All, IfSome, codes}
 use Rattle.rams_model.specs.declared.event.Event.{Event}
 use Rattle.rams_model.specs.declared.event.Event.TheVariants as event
 use Rattle.rams_model.specs.declared.status.Status.TheVariants.{Done}
@@ -13,8 +13,8 @@ use Rattle.server_hub.specs.declared.event.HubEvent.TheVariants.{Live, Feedback}
 use Rattle.server_hub.specs.Served.{Served}
 use Rattle.server_hub.specs.{id_of, answer_to, after_event}
 use Rattle.trace_book.specs.{Stage, most_events, ended, done, first_line, with_opened, event_text, trace_text, last_stage, served_by, new_channels}
-use Rattle.journal_book.specs.Heard.{heard, events_of}
-use Rattle.journal_book.specs.Journal.{HasLine, CanCome, event_line, event_lines, journal_of, behind}
+use Rattle.journal_book.specs.Heard.{heard_from, heard, CanArrive, events_of}
+use Rattle.journal_book.specs.Journal.{IsNumber, HasLine, CanCome, event_line, event_lines, journal_of, behind}
 use Rattle.journal_book.specs.Sent.{answer_datagrams, datagrams_of, sent_for}
 use Rattle.journal_book.specs.Replay.{replayed}
 use Rattle.journal_book.specs.Heads.{Leads, Opens}
@@ -64,11 +64,25 @@ HeadsGrow =
 abbrev pub HeadsEnd : Type 0
 HeadsEnd = (head bytes : List ℕ) (stage : Stage) (reached : Reached) → Leads head stage → judged stage.reached bytes ≡ Ok (end_line, reached) → Opens head stage.channels
 
--- To the channels that a head opens nothing has come, and no two of them have one number, whatever comes to them later.
+-- Channels to which nothing has come, with numbers that channels may have, no two of them the same.
+pub record AreNew (channels : List Served) : Type 0 where
+  pub new : channels ≡ new_channels channels
+  pub numbered : All (λ c. IsNumber (id_of c)) channels
+  pub apart : AreApart channels
+
+-- Such channels a head opens.
 abbrev pub HeadsOpenNewChannels : Type 0
-HeadsOpenNewChannels =
-    (head : List ℕ) (channels : List Served) (events : List HubEvent) → IsJournal head channels events
-    → (channels ≡ new_channels channels) × AreApart (behind events channels)
+HeadsOpenNewChannels = (head : List ℕ) (channels : List Served) → Opens head channels → AreNew channels
+
+-- Whatever comes to them, no two have one number.
+abbrev pub ChannelsStayApart : Type 0
+ChannelsStayApart = (head : List ℕ) (channels : List Served) (events : List HubEvent) → IsJournal head channels events → AreApart (behind events channels)
+
+-- A datagram of at most 2,000 bytes brings an event that can come.
+abbrev pub WhatIsHeardCanCome : Type 0
+WhatIsHeardCanCome =
+    (live sender port : ℕ) (channels : List Served) (bytes : List ℕ) → All (λ c. IsNumber (id_of c)) channels → CanArrive (Datagram sender port bytes) → length bytes ≤ 2000
+    → IfSome (heard_from live channels sender port bytes) CanCome
 
 -- What can come has a line.
 abbrev pub EventsAreSpelled : Type 0
@@ -78,6 +92,16 @@ EventsAreSpelled = (event : HubEvent) → CanCome event → HasLine event
 abbrev pub EventsAreFew : Type 0
 EventsAreFew =
     (live tick turns : ℕ) (channels : List Served) (arrivals : List Incoming) (moments : List ℕ) → length (events_of live tick channels turns arrivals moments) ≤ 2 * turns
+
+-- most turns
+abbrev pub most_turns : ℕ
+most_turns = 500000
+
+-- Whatever comes in some turns, the head that opens the channels and the events of the turns make a journal.
+abbrev pub TurnsMakeJournals : Type 0
+TurnsMakeJournals =
+    (live tick turns : ℕ) (head : List ℕ) (channels : List Served) (arrivals : List Incoming) (moments : List ℕ) → Opens head channels → All CanArrive arrivals → turns ≤ most_turns
+    → IsJournal head channels (events_of live tick channels turns arrivals moments)
 
 -- The channel at a place has its live packets from the port 2 * place above the first one, and its feedback from the port above that.
 abbrev pub PortsAreHeard : Type 0

@@ -1,5 +1,5 @@
 //! Laws of journals: that they replay, how they grow, and what stands in them.
-ghost use Rattle.journal_book.specs.{JournalsReplay, RunsWriteJournals, JournalsAreServed, FrontsReplay, JournalsGrow, ServedSo, FrontSo, HeadSo, HeadsGrow, HeadsEnd, HeadsOpenNewChannels, EventsAreFew, PortsAreHeard, OtherPortsAreNot, EventsAreSpelled, OneAnswers, ChannelsAnswerInOrder, RunsWriteOfThem, AnswersWriteTheirDatagrams};
+ghost use Rattle.journal_book.specs.{JournalsReplay, RunsWriteJournals, JournalsAreServed, FrontsReplay, JournalsGrow, ServedSo, FrontSo, HeadSo, HeadsGrow, HeadsEnd, HeadsOpenNewChannels, ChannelsStayApart, EventsAreFew, PortsAreHeard, OtherPortsAreNot, WhatIsHeardCanCome, EventsAreSpelled, TurnsMakeJournals, OneAnswers, ChannelsAnswerInOrder, RunsWriteOfThem, AnswersWriteTheirDatagrams};
 
 use trace_book::laws::{traces_are_served_by_their_lines, traces_stay_within_the_link};
 
@@ -37,27 +37,31 @@ pub fn heads_grow()
     ensures end { HeadsEnd }
 {}
 
-/// To the channels that a head opens nothing has come, and no two have one number.
+/// To the channels that a head opens nothing has come, and no two have one number, then or later.
 pub fn heads_open_new_channels()
-    ensures { HeadsOpenNewChannels }
+    ensures new { HeadsOpenNewChannels }
+    ensures apart { ChannelsStayApart }
 {
     traces_are_served_by_their_lines();
     traces_stay_within_the_link();
 }
 
-/// A turn brings at most two events. What comes to a channel's two ports is its own, and what comes
-/// to any other port is no event.
+/// What comes to a channel's two ports is its own, and what comes to any other port is no event.
 pub fn ports_are_heard()
-    ensures few { EventsAreFew }
     ensures ports { PortsAreHeard }
     ensures others { OtherPortsAreNot }
 {}
 
-/// What can come has a line that a trace may have.
-#[tactic(auto, using(crate::proofs::Spelled::events_are_spelled))]
-pub fn events_are_spelled()
-    ensures { EventsAreSpelled }
-{}
+/// What comes in a turn has a line that a trace may have, and in at most 500,000 turns no more comes
+/// than a trace may have: the events of these turns make a journal.
+pub fn turns_make_journals()
+    ensures heard { WhatIsHeardCanCome }
+    ensures spelled { EventsAreSpelled }
+    ensures few { EventsAreFew }
+    ensures journal { TurnsMakeJournals }
+{
+    heads_open_new_channels();
+}
 
 /// What is sent for a datagram is what its own channel answers, from that channel's feedback port.
 /// Where several answer, each does in its place, from its own port. What `run` writes for an event are

@@ -1,8 +1,5 @@
-use Rattle.journal_book.proofs.Heard.{events_are_few, ports_are_heard, other_ports_are_not}
+use Rattle.journal_book.proofs.Heard.{ports_are_heard, other_ports_are_not}
 use Rattle.journal_book.proofs.laws.ports_are_heard.Goals as goal
-
-pub returns-clause-few : goal.returns-clause-few
-returns-clause-few c = events_are_few
 
 pub returns-clause-ports : goal.returns-clause-ports
 returns-clause-ports c = ports_are_heard
