@@ -15,10 +15,10 @@ use Rattle.server_hub.specs.{id_of, answer_to, after_event}
 use Rattle.trace_book.specs.{Stage, most_events, ended, done, first_line, with_opened, event_text, trace_text, last_stage, served_by, new_channels}
 use Rattle.journal_book.specs.Heard.{heard_from, heard, CanArrive, events_of}
 use Rattle.journal_book.specs.Journal.{IsNumber, HasLine, CanCome, event_line, event_lines, journal_of, behind}
-use Rattle.journal_book.specs.Sent.{answer_datagrams, datagrams_of, sent_for}
+use Rattle.journal_book.specs.Sent.{AreApart, answer_datagrams, datagrams_of, sent_for}
 use Rattle.journal_book.specs.Replay.{replayed}
 use Rattle.journal_book.specs.Heads.{Leads, Opens}
-use Rattle.journal_book.specs.Written.{AreApart, own_texts, unheard_text, text_for, WritesItsDatagrams}
+use Rattle.journal_book.specs.Written.{own_texts, unheard_text, text_for, WritesItsDatagrams}
 
 -- What holds of a journal: its head opens the channels, and its events have lines and are no more than a trace may have.
 pub record IsJournal (head : List ℕ) (channels : List Served) (events : List HubEvent) : Type 0 where

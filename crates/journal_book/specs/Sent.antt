@@ -1,5 +1,5 @@
 -- The datagrams that a server sends for its events.
-use Rattle.std.specs.Prelude.{ℕ, ◌+◌, ◌==◌, if◌then◌else◌, List, [], ◌∷◌, ◌++◌, map, Option, Some, None}
+use Rattle.std.specs.Prelude.{◌≢◌, AllPairs, ℕ, ◌+◌, ◌==◌, if◌then◌else◌, List, [], ◌∷◌, ◌++◌, map, Option, Some, None}
 use Rattle.rams_model.specs.declared.event.Event.{Event}
 use Rattle.rams_model.specs.declared.event.Event.TheVariants as event
 use Rattle.rams_model.specs.Service.{Answered, Settings, client_of, datagram}
@@ -7,7 +7,12 @@ use Rattle.ram_io.specs.{Outgoing, outgoing}
 use Rattle.server_hub.specs.declared.event.HubEvent.{HubEvent}
 use Rattle.server_hub.specs.declared.event.HubEvent.TheVariants.{Live, Feedback, Tick}
 use Rattle.server_hub.specs.Served.{Served}
-use Rattle.server_hub.specs.{id_of, answer_to, after_event}
+use Rattle.server_hub.specs.{id_of, ids_of, answer_to, after_event}
+use Rattle.trace_book.specs.Stages.{settings_of}
+
+-- no two of these channels have one number
+abbrev pub AreApart : List Served → Type 0
+AreApart channels = AllPairs (λ x y. x ≢ y) (ids_of (settings_of channels))
 
 -- the event as the channel has it, where it comes to the channel: a tick comes to each, a datagram to the channel that it names
 abbrev pub own_event : HubEvent → Served → Option Event

@@ -1,5 +1,5 @@
 -- The lines that `run` writes for an event, channel by channel.
-use Rattle.std.specs.Prelude.{◌≡◌, ◌≢◌, ℕ, ◌+◌, List, [], ◌∷◌, ◌++◌, map, Option, Some, None, AllPairs}
+use Rattle.std.specs.Prelude.{◌≡◌, ℕ, ◌+◌, List, [], ◌∷◌, ◌++◌, map, Option, Some, None}
 use Rattle.std.specs.List.{flat_map}
 use Rattle.rams_model.specs.declared.event.Event.{Event}
 use Rattle.rams_model.specs.declared.answer.Order.{Order}
@@ -9,15 +9,10 @@ use Rattle.rams_model.specs.Texts.{note_line, order_line, answer_text}
 use Rattle.server_hub.specs.declared.event.HubEvent.{HubEvent}
 use Rattle.server_hub.specs.declared.event.HubEvent.TheVariants.{Live, Feedback, Tick}
 use Rattle.server_hub.specs.Served.{Served}
-use Rattle.server_hub.specs.{channel_of, ids_of, after_event}
+use Rattle.server_hub.specs.{channel_of, after_event}
 use Rattle.book_text.specs.{no_channel_line}
 use Rattle.trace_book.specs.{channel_text, event_text}
-use Rattle.trace_book.specs.Stages.{settings_of}
 use Rattle.journal_book.specs.Sent.{own_event}
-
--- no two of these channels have one number
-abbrev pub AreApart : List Served → Type 0
-AreApart channels = AllPairs (λ x y. x ≢ y) (ids_of (settings_of channels))
 
 -- the lines of what a channel answers to the event of this number, where it comes to the channel
 abbrev pub own_text : ℕ → Option Event → Served → List ℕ

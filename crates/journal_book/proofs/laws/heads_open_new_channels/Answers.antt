@@ -1,4 +1,4 @@
-use Rattle.std.proofs.Common.{◌≡◌, [], arith}
+use Rattle.std.proofs.Common.{[], arith}
 use Rattle.std.proofs.lemmas.List.Elements.{All-nil}
 use Rattle.journal_book.specs.{journal_of, behind, HasLine}
 use Rattle.journal_book.proofs.Opened.{new_channels_are, journal_fits}
