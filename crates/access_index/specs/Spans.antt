@@ -17,8 +17,8 @@ IsIn s ts = (s.least ≤ ts) × (ts ≤ s.greatest)
 abbrev pub Reaches : Span → ℕ → ℕ → Type 0
 Reaches s last least = (ts : ℕ) × IsIn s ts × (least ≤ age_ms last ts)
 
--- Each point's timestamp is in its span. The points are counted from the first of the first span, of
--- which so many are gone; each span but the first has 64 of them, and the last has one at least.
+-- Each point's timestamp is in its span: 64 points have one, counted with the `gone` points of the first
+-- span that are no longer kept. There are as many spans as these need.
 pub record Spanned (gone : ℕ) (spans : List Span) (points : List Point) : Type 0 where
   pub few : gone < 64
   pub all : gone + length points ≤ 64 * length spans
