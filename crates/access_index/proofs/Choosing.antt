@@ -1,22 +1,18 @@
--- The search from the newest point on.
-use Rattle.std.proofs.Common.{◌≡◌, ℕ, ◌+◌, ◌-◌, ◌<◌, ◌≤◌, Bool, true, false, nat_le, if◌then◌else◌, List, [], ◌∷◌, ◌++◌, map, filter, Option, Some, refl, sym, ◌∙◌, ap, append-nil, arith}
+-- The search among the points, from the newest on.
+use Rattle.std.proofs.Common.{◌≡◌, ℕ, zero, suc, ◌+◌, ◌-◌, ◌<◌, ◌≤◌, Bool, true, false, nat_le, if◌then◌else◌, List, [], ◌∷◌, ◌++◌, length, map, filter, get_or, take, drop, slice_range, Some, refl, sym, ◌∙◌, ap, subst, append-nil, take-suc, take-append-drop, take-add, take_all, arith}
 use Rattle.std.proofs.lemmas.Bool.Decides.{nat_tests}
 use Rattle.std.proofs.lemmas.List.{map-append}
 use Rattle.std.proofs.lemmas.List.Elements.{filter-append}
 use Rattle.rams_model.specs.Packets.{age_ms}
-use Rattle.access_index.specs.declared.choice.Choice.{Choice}
-use Rattle.access_index.specs.declared.index.Point.{Point}
-use Rattle.access_index.specs.{AccessPoint, leaves_room, age_at, newest, start_unless, start_at, choice_among, shown, RiseIn}
 use Rattle.access_index.specs.declared.choice.Choice.TheVariants.{NoStart, MinUnmet}
+use Rattle.access_index.specs.declared.point.Ask.{Ask}
+use Rattle.access_index.specs.declared.point.Point.{Point}
+use Rattle.access_index.specs.{AccessPoint, leaves_room, age_at, newest, start_unless, start_at, choice_among, shown, RiseIn, roomy, start_of, choice_for}
+use Rattle.access_index.proofs.Rising.{rise_numbers, rise_bytes}
 
 -- the points that are old enough
 abbrev pub of_age : ℕ → ℕ → List AccessPoint → List AccessPoint
 of_age last least ps = filter (λ q. nat_le least (age_at last q)) ps
-
--- the choice where all points behind these were too young, or there were none
-abbrev pub choice_or : Choice → ℕ → ℕ → Option ℕ → List AccessPoint → Choice
-choice_or none last least most [] = none
-choice_or none last least most (p ∷ ps) = start_at last most (newest (of_age last least (p ∷ ps)))
 
 pub newest-append : (ps : List AccessPoint) (p : AccessPoint) → newest (ps ++ p ∷ []) ≡ Some p
 newest-append [] p = refl
@@ -30,75 +26,83 @@ filter_one test p false is = ap (λ b. if b then p ∷ [] else []) is
 pub filter_last : (test : AccessPoint → Bool) (ps : List AccessPoint) (p : AccessPoint) (b : Bool) → test p ≡ b → filter test (ps ++ p ∷ []) ≡ filter test ps ++ (if b then p ∷ [] else [])
 filter_last test ps p b is = filter-append test ps (p ∷ []) ∙ ap (λ qs. filter test ps ++ qs) (filter_one test p b is)
 
--- the last is old enough
-pub old_last : (none : Choice) (last least : ℕ) (most : Option ℕ) (ps : List AccessPoint) (p : AccessPoint) → nat_le least (age_at last p) ≡ true
-    → choice_or none last least most (ps ++ p ∷ []) ≡ start_unless most (age_at last p) p.n p.behind
-old_last none last least most [] p old =
-    ap (λ qs. start_at last most (newest qs)) (filter_one (λ q. nat_le least (age_at last q)) p true old)
-old_last none last least most (q ∷ ps) p old =
-    ap (λ qs. start_at last most (newest qs)) (filter_last (λ r. nat_le least (age_at last r)) (q ∷ ps) p true old)
-    ∙ ap (start_at last most) (newest-append (of_age last least (q ∷ ps)) p)
+-- ---- the last of some points
+pub room_last : (a : Ask) (ps : List Point) (p : Point) (b : Bool) → leaves_room a.room a.declared (shown a.total p) ≡ b → roomy a (ps ++ p ∷ []) ≡ roomy a ps ++ (if b then shown a.total p ∷ [] else [])
+room_last a ps p b is =
+    ap (filter (leaves_room a.room a.declared)) (map-append (shown a.total) ps (p ∷ [])) ∙ filter_last (leaves_room a.room a.declared) (map (shown a.total) ps) (shown a.total p) b is
 
--- the last is too young
-pub young_last : (none : Choice) (last least : ℕ) (most : Option ℕ) (ps : List AccessPoint) (p : AccessPoint) → nat_le least (age_at last p) ≡ false
-    → choice_or none last least most (ps ++ p ∷ []) ≡ choice_or MinUnmet last least most ps
-young_last none last least most [] p young =
-    ap (λ qs. start_at last most (newest qs)) (filter_one (λ q. nat_le least (age_at last q)) p false young)
-young_last none last least most (q ∷ ps) p young =
-    ap (λ qs. start_at last most (newest qs)) (filter_last (λ r. nat_le least (age_at last r)) (q ∷ ps) p false young ∙ append-nil (of_age last least (q ∷ ps)))
+-- it leaves room and is old enough
+pub start_old : (a : Ask) (ps : List Point) (p : Point) → leaves_room a.room a.declared (shown a.total p) ≡ true → a.min_ms ≤ age_ms a.last p.ts
+    → start_of a (ps ++ p ∷ []) ≡ start_unless a.max_ms (age_ms a.last p.ts) p.n (a.total - p.before)
+start_old a ps p fits old =
+    let is : nat_le a.min_ms (age_at a.last (shown a.total p)) ≡ true = grind (arith, nat_tests) in
+    ap (λ qs. start_at a.last a.max_ms (newest (of_age a.last a.min_ms qs))) (room_last a ps p true fits)
+    ∙ (ap (λ qs. start_at a.last a.max_ms (newest qs)) (filter_last (λ q. nat_le a.min_ms (age_at a.last q)) (roomy a ps) (shown a.total p) true is)
+    ∙ ap (start_at a.last a.max_ms) (newest-append (of_age a.last a.min_ms (roomy a ps)) (shown a.total p)))
 
--- ---- the points as they are kept
--- the last leaves room
-pub room_last : (total room declared : ℕ) (ps : List Point) (p : Point) → total - p.before + declared ≤ room
-    → filter (leaves_room room declared) (map (shown total) (ps ++ p ∷ [])) ≡ filter (leaves_room room declared) (map (shown total) ps) ++ shown total p ∷ []
-room_last total room declared ps p fits =
-    ap (filter (leaves_room room declared)) (map-append (shown total) ps (p ∷ []))
-    ∙ filter_last (leaves_room room declared) (map (shown total) ps) (shown total p) true (grind (arith, nat_tests))
+-- it is too young, whether it leaves room or not
+pub start_young : (a : Ask) (ps : List Point) (p : Point) (b : Bool) → leaves_room a.room a.declared (shown a.total p) ≡ b → age_ms a.last p.ts < a.min_ms → start_of a (ps ++ p ∷ []) ≡ start_of a ps
+start_young a ps p true fits young =
+    let is : nat_le a.min_ms (age_at a.last (shown a.total p)) ≡ false = grind (arith, nat_tests) in
+    ap (λ qs. start_at a.last a.max_ms (newest (of_age a.last a.min_ms qs))) (room_last a ps p true fits)
+    ∙ ap (λ qs. start_at a.last a.max_ms (newest qs))
+    (filter_last (λ q. nat_le a.min_ms (age_at a.last q)) (roomy a ps) (shown a.total p) false is ∙ append-nil (of_age a.last a.min_ms (roomy a ps)))
+start_young a ps p false full young = ap (λ qs. start_at a.last a.max_ms (newest (of_age a.last a.min_ms qs))) (room_last a ps p false full ∙ append-nil (roomy a ps))
 
+-- ---- points that rise
 -- points behind the first of some have no fewer bytes before them
-pub before_last : (lo hi least total : ℕ) (ps : List Point) (p : Point) → RiseIn lo hi least total (ps ++ p ∷ []) → least ≤ p.before
-before_last lo hi least total [] p rise = rise.0.1
-before_last lo hi least total (q ∷ ps) p rise = omega (arith, rise.0.1, before_last (q.n + 1) hi q.before total ps p rise.1)
+pub before_last : (lo hi least total : ℕ) (ps : List Point) (p : Point) → RiseIn lo hi least total (ps ++ p ∷ []) → (least ≤ p.before) × (p.before ≤ total)
+before_last lo hi least total [] p rise = (rise.0.1, rise.1.1)
+before_last lo hi least total (q ∷ ps) p rise =
+    let behind : (q.before ≤ p.before) × (p.before ≤ total) = before_last (q.n + 1) hi q.before total ps p rise.1 in (omega (arith, rise.0.1), behind.1)
 
--- where the last leaves none, none of them does
-pub no_room : (lo hi least total room declared : ℕ) (ps : List Point) (p : Point) → RiseIn lo hi least total (ps ++ p ∷ []) → room < total - p.before + declared
-    → filter (leaves_room room declared) (map (shown total) (ps ++ p ∷ [])) ≡ []
-no_room lo hi least total room declared [] p rise full = filter_one (leaves_room room declared) (shown total p) false (grind (arith, nat_tests))
-no_room lo hi least total room declared (q ∷ ps) p rise full =
-    let less : q.before ≤ p.before = before_last (q.n + 1) hi q.before total ps p rise.1 in
-    ap (λ b. if b then shown total q ∷ filter (leaves_room room declared) (map (shown total) (ps ++ p ∷ [])) else filter (leaves_room room declared) (map (shown total) (ps ++ p ∷ [])))
-    (let out : leaves_room room declared (shown total q) ≡ false = grind (arith, nat_tests) in out)
-    ∙ no_room (q.n + 1) hi q.before total room declared ps p rise.1 full
+-- where the last leaves no room, none of them does
+pub no_room : (a : Ask) (lo hi least : ℕ) (ps : List Point) (p : Point) → RiseIn lo hi least a.total (ps ++ p ∷ []) → leaves_room a.room a.declared (shown a.total p) ≡ false → roomy a (ps ++ p ∷ []) ≡ []
+no_room a lo hi least [] p rise full = filter_one (leaves_room a.room a.declared) (shown a.total p) false full
+no_room a lo hi least (q ∷ ps) p rise full =
+    let less = before_last (q.n + 1) hi q.before a.total ps p rise.1 in
+    let out : leaves_room a.room a.declared (shown a.total q) ≡ false = grind (arith, nat_tests) in
+    ap (λ b. if b then shown a.total q ∷ roomy a (ps ++ p ∷ []) else roomy a (ps ++ p ∷ [])) out
+    ∙ no_room a (q.n + 1) hi q.before ps p rise.1 full
 
--- the points in front of the last
-pub rise_front : (lo hi least total : ℕ) (ps : List Point) (p : Point) → RiseIn lo hi least total (ps ++ p ∷ []) → RiseIn lo hi least total ps
-rise_front lo hi least total [] p rise = (omega (arith, rise.0.0, rise.1.0), omega (arith, rise.0.1, rise.1.1))
-rise_front lo hi least total (q ∷ ps) p rise = (rise.0, rise_front (q.n + 1) hi q.before total ps p rise.1)
+pub start_full : (a : Ask) (lo hi least : ℕ) (ps : List Point) (p : Point) → RiseIn lo hi least a.total (ps ++ p ∷ []) → leaves_room a.room a.declared (shown a.total p) ≡ false → start_of a (ps ++ p ∷ []) ≡ MinUnmet
+start_full a lo hi least ps p rise full = ap (λ qs. start_at a.last a.max_ms (newest (of_age a.last a.min_ms qs))) (no_room a lo hi least ps p rise full)
 
-pub last_within : (lo hi least total : ℕ) (ps : List Point) (p : Point) → RiseIn lo hi least total (ps ++ p ∷ []) → p.before ≤ total
-last_within lo hi least total [] p rise = rise.1.1
-last_within lo hi least total (q ∷ ps) p rise = last_within (q.n + 1) hi q.before total ps p rise.1
+-- the points in front
+pub rise_front : (lo hi least total : ℕ) (ps qs : List Point) → RiseIn lo hi least total (ps ++ qs) → RiseIn lo hi least total ps
+rise_front lo hi least total [] qs rise = (rise_numbers lo hi least total qs rise, rise_bytes lo hi least total qs rise)
+rise_front lo hi least total (p ∷ ps) qs rise = (rise.0, rise_front (p.n + 1) hi p.before total ps qs rise.1)
 
--- ---- a step of the search
-pub search_old : (none : Choice) (total room declared last least age : ℕ) (most : Option ℕ) (rest ps : List Point) (p : Point) → rest ≡ ps ++ p ∷ [] → total - p.before + declared ≤ room → age ≡ age_ms last p.ts → least ≤ age
-    → choice_or none last least most (filter (leaves_room room declared) (map (shown total) rest)) ≡ start_unless most age p.n (total - p.before)
-search_old none total room declared last least age most rest ps p joined fits is old =
-    let old : nat_le least (age_at last (shown total p)) ≡ true = grind (arith, nat_tests) in
-    ap (λ qs. choice_or none last least most (filter (leaves_room room declared) (map (shown total) qs))) joined
-    ∙ (ap (choice_or none last least most) (room_last total room declared ps p fits)
-    ∙ (old_last none last least most (filter (leaves_room room declared) (map (shown total) ps)) (shown total p) old
-    ∙ sym (ap (λ (n : ℕ). start_unless most n p.n (total - p.before)) is)))
+pub rise_take : (lo hi least total k : ℕ) (ps : List Point) → RiseIn lo hi least total ps → RiseIn lo hi least total (take k ps)
+rise_take lo hi least total k ps rise =
+    rise_front lo hi least total (take k ps) (drop k ps) (subst (λ (qs : List Point). RiseIn lo hi least total qs) (sym (take-append-drop k ps)) rise)
 
-pub search_young : (none : Choice) (total room declared last least age : ℕ) (most : Option ℕ) (rest ps : List Point) (p : Point) → rest ≡ ps ++ p ∷ [] → total - p.before + declared ≤ room → age ≡ age_ms last p.ts → age < least
-    → choice_or none last least most (filter (leaves_room room declared) (map (shown total) rest)) ≡ choice_or MinUnmet last least most (filter (leaves_room room declared) (map (shown total) ps))
-search_young none total room declared last least age most rest ps p joined fits is less =
-    let young : nat_le least (age_at last (shown total p)) ≡ false = grind (arith, nat_tests) in
-    ap (λ qs. choice_or none last least most (filter (leaves_room room declared) (map (shown total) qs))) joined
-    ∙ (ap (choice_or none last least most) (room_last total room declared ps p fits)
-    ∙ young_last none last least most (filter (leaves_room room declared) (map (shown total) ps)) (shown total p) young)
+-- ---- points in parts
+-- a range behind the points in front of it
+pub take_range : (ps : List Point) (start end : ℕ) → start ≤ end → take start ps ++ slice_range ps start end ≡ take end ps
+take_range ps start end ordered = let whole : start + (end - start) ≡ end = omega arith in sym (take-add start (end - start) ps) ∙ ap (λ (n : ℕ). take n ps) whole
 
-pub search_end : (none : Choice) (lo hi bytes total room declared last least : ℕ) (most : Option ℕ) (rest ps : List Point) (p : Point) → rest ≡ ps ++ p ∷ [] → RiseIn lo hi bytes total (ps ++ p ∷ []) → room < total - p.before + declared
-    → choice_or none last least most (filter (leaves_room room declared) (map (shown total) rest)) ≡ none
-search_end none lo hi bytes total room declared last least most rest ps p joined rise full =
-    ap (λ qs. choice_or none last least most (filter (leaves_room room declared) (map (shown total) qs))) joined
-    ∙ ap (choice_or none last least most) (no_room lo hi bytes total room declared ps p rise full)
+-- the newest apart
+pub take_newest : (ps : List Point) (count : ℕ) (p : Point) → count ≡ length ps → 0 < count → p ≡ get_or ps (count - 1) p → ps ≡ take (count - 1) ps ++ p ∷ []
+take_newest ps count p all some is =
+    let next : count ≡ suc (count - 1) = omega arith in
+    sym (take_all count ps (omega arith))
+    ∙ (ap (λ (n : ℕ). take n ps) next ∙ (take-suc ps (count - 1) p (omega arith) ∙ ap (λ q. take (count - 1) ps ++ q ∷ []) (sym is)))
+
+-- ---- the newest leaves no room
+pub choice_full : (a : Ask) (lo hi least : ℕ) (ps : List Point) (p : Point) → RiseIn lo hi least a.total (ps ++ p ∷ []) → leaves_room a.room a.declared (shown a.total p) ≡ false → choice_for a (ps ++ p ∷ []) ≡ NoStart
+choice_full a lo hi least ps p rise full = ap (choice_among a.last a.min_ms a.max_ms) (no_room a lo hi least ps p rise full)
+
+-- ---- points that are passed over
+abbrev pub no_point : Point
+no_point = record { n = 0; ts = 0; before = 0 }
+
+-- they are too young, one and all
+pub start_passed : (a : Ask) (ps : List Point) (start count : ℕ) → start + count ≤ length ps → ((j : ℕ) → start ≤ j → j < start + count → age_ms a.last (get_or ps j no_point).ts < a.min_ms)
+    → start_of a (take start ps) ≡ start_of a (take (start + count) ps)
+start_passed a ps start zero some young = ap (λ (n : ℕ). start_of a (take n ps)) (omega arith)
+start_passed a ps start (suc count) some young =
+    let more : start + suc count ≡ suc (start + count) = omega arith in
+    start_passed a ps start count (omega arith) (λ j from below. young j from (omega arith))
+    ∙ (sym (start_young a (take (start + count) ps) (get_or ps (start + count) no_point) (leaves_room a.room a.declared (shown a.total (get_or ps (start + count) no_point))) refl (young (start + count) (omega arith) (omega arith)))
+    ∙ (sym (ap (start_of a) (take-suc ps (start + count) no_point (omega arith))) ∙ ap (λ (n : ℕ). start_of a (take n ps)) (sym more)))

@@ -1,5 +1,6 @@
 pub mod Choosing
 pub mod Packets
-pub mod Points
 pub mod Pushing
+pub mod Rising
+pub mod Spanning
 pub mod Standing

@@ -1,11 +1,8 @@
 -- The fields of an index while a packet comes.
-use Rattle.std.proofs.Common.{◌≡◌, ℕ, ◌+◌, ◌<◌, Bool, true, false, ◌==◌, if◌then◌else◌, [], ◌∷◌, ◌++◌, sym, ◌∙◌, ap, append-nil, arith, Global}
-use Rattle.std.specs.declared.collections.VecDeque.{VecDeque}
-use Rattle.std.specs.VecDeque.{deque_capacity}
+use Rattle.std.proofs.Common.{◌≡◌, ℕ, ◌+◌, ◌<◌, Bool, true, false, ◌==◌, if◌then◌else◌, [], ◌∷◌, ◌++◌, sym, ◌∙◌, ap, append-nil, arith}
 use Rattle.access_index.specs.declared.index.Index.TheInside.{Inside}
-use Rattle.access_index.specs.declared.index.Point.{Point}
-use Rattle.access_index.specs.{pushed, seen_of, RiseIn}
-use Rattle.access_index.proofs.Points.{own, pushed_is, rise_pushed}
+use Rattle.access_index.specs.{pushed, seen_of, RiseIn, Row}
+use Rattle.access_index.proofs.Rising.{own, pushed_is, rise_pushed}
 
 -- once the packet stands among the points, if it is one; the interval begins with `first`
 pub record IsTaken (old new : Inside) (first n ts : ℕ) (access : Bool) : Type 0 where
@@ -14,18 +11,18 @@ pub record IsTaken (old new : Inside) (first n ts : ℕ) (access : Bool) : Type 
   pub lo : new.lo ≡ first
   pub total : new.total ≡ old.total
   pub points : new.points.items ≡ old.points.items ++ own access n ts old.total
-  pub room : deque_capacity new.points ≡ deque_capacity old.points
+  pub room : new.points.capacity ≡ old.points.capacity
 
-pub taken_point : (old new : Inside) (points : VecDeque Point Global) (first n ts : ℕ) (access : Bool) → new ≡ record old { lo = first; points = points } → access ≡ true
-    → points.items ≡ old.points.items ++ record { n = n; ts = ts; before = old.total } ∷ [] → deque_capacity points ≡ deque_capacity old.points → IsTaken old new first n ts access
-taken_point old new points first n ts access is point items room =
+pub taken_point : (old new : Inside) (points : Row) (first n ts : ℕ) (access : Bool) → new ≡ record old { lo = first; points = points } → access ≡ true
+    → points ≡ record { items = old.points.items ++ record { n = n; ts = ts; before = old.total } ∷ []; capacity = old.points.capacity } → IsTaken old new first n ts access
+taken_point old new points first n ts access is point more =
     record {
       capacity = ap (λ i. i.capacity) is;
       calls = ap (λ i. i.calls) is;
       lo = ap (λ i. i.lo) is;
       total = ap (λ i. i.total) is;
-      points = ap (λ i. i.points.items) is ∙ (items ∙ sym (ap (λ b. old.points.items ++ own b n ts old.total) point));
-      room = ap (λ i. deque_capacity i.points) is ∙ room;
+      points = ap (λ i. i.points.items) is ∙ (ap (λ r. r.items) more ∙ sym (ap (λ b. old.points.items ++ own b n ts old.total) point));
+      room = ap (λ i. i.points.capacity) is ∙ ap (λ r. r.capacity) more;
     }
 
 pub taken_other : (old new : Inside) (first n ts : ℕ) (access : Bool) → new ≡ record old { lo = first } → access ≡ false → IsTaken old new first n ts access
@@ -36,7 +33,7 @@ taken_other old new first n ts access is other =
       lo = ap (λ i. i.lo) is;
       total = ap (λ i. i.total) is;
       points = ap (λ i. i.points.items) is ∙ (sym (append-nil old.points.items) ∙ sym (ap (λ b. old.points.items ++ own b n ts old.total) other));
-      room = ap (λ i. deque_capacity i.points) is;
+      room = ap (λ i. i.points.capacity) is;
     }
 
 -- what is shown then

@@ -1,6 +1,6 @@
 -- The access points as an index keeps them, each with the bytes that were pushed before it.
 use Rattle.std.specs.Prelude.{ℕ, ◌+◌, ◌-◌, ◌≤◌, nat_lt, if◌then◌else◌, List, [], ◌∷◌, map}
-use Rattle.access_index.specs.declared.index.Point.{Point}
+use Rattle.access_index.specs.declared.point.Point.{Point}
 use Rattle.access_index.specs.Seen.{AccessPoint, Seen}
 
 -- a point, of all bytes that were pushed

@@ -1,8 +1,13 @@
+pub mod Asked
 pub mod Kept
 pub mod Marks
 pub mod Seen
+pub mod Spans
+unfoldable pub use Rattle.access_index.specs.Asked.{roomy, start_of, choice_for}
 unfoldable pub use Rattle.access_index.specs.Kept.{shown, seen_of, RiseIn, above}
 unfoldable pub use Rattle.access_index.specs.Marks.{point_of, points_of, refused, choice_of}
 pub use Rattle.access_index.specs.Marks.{StandsFor}
 unfoldable pub use Rattle.access_index.specs.Seen.{new_index, more_behind, pushed, left_from, leaves_room, age_at, newest, start_unless, start_at, choice_among, choice}
 pub use Rattle.access_index.specs.Seen.{AccessPoint}
+unfoldable pub use Rattle.access_index.specs.Spans.{IsIn, Reaches}
+pub use Rattle.access_index.specs.Spans.{Row, Spanned, IsNoted}

@@ -3,25 +3,15 @@ ghost use Rattle.std.specs.Prelude.{◌≡◌, ◌-◌, ◌*◌, ◌^◌, ◌<�
 ghost use Rattle.rams_model.specs.declared.channel.Channel.{Channel};
 ghost use Rattle.rams_model.specs.declared.held.Held.{Held};
 ghost use Rattle.rams_model.specs.Packets.{from_number, chosen};
-ghost use Rattle.std.specs.VecDeque.{deque_capacity};
-ghost use Rattle.access_index.specs.{above, new_index, pushed, left_from, start_unless, choice, StandsFor, choice_of};
+ghost use Rattle.access_index.specs.{new_index, pushed, left_from, choice, StandsFor, choice_of};
 
 use crate::Choice;
-use ext_seq::age_ms;
+use crate::point::{Ask, Point};
+use crate::points::Points;
 use ram_io::NoMemory;
 use rams_model::MOST_ON_WIRE;
 use std::alloc::Global;
-use std::collections::VecDeque;
 use std::marker::Model;
-
-/// An access point.
-#[derive(Clone, Copy)]
-struct Point {
-    n: u64,
-    ts: u32,
-    /// The wire sizes of all packets that were pushed before it.
-    before: u64,
-}
 
 /// The access points among the marks, which are the packets that were pushed and not dropped. The
 /// numbers of the marks follow one another.
@@ -38,12 +28,11 @@ pub struct Index {
     last: u32,
     /// The wire sizes of all packets that were pushed.
     total: u64,
-    points: VecDeque<Point>,
+    points: Points,
 }
 
 impl Model for Index {
     ghost use Rattle.std.specs.Prelude.{◌*◌, ◌^◌, ◌≤◌};
-    ghost use Rattle.std.specs.VecDeque.{deque_capacity};
     ghost use Rattle.access_index.specs.Seen.{Seen};
     ghost use Rattle.access_index.specs.{seen_of, RiseIn};
 
@@ -56,7 +45,7 @@ impl Model for Index {
       small : i.hi ≤ 2 ^ 62;
       bytes : i.total ≤ 1500 * i.calls;
       few : i.calls ≤ 2 ^ 40;
-      room : i.capacity ≤ deque_capacity i.points;
+      room : i.capacity ≤ i.points.capacity;
     } };
 }
 
@@ -76,7 +65,7 @@ impl Index {
             hi: 0,
             last: 0,
             total: 0,
-            points: VecDeque::with_capacity(alloc, capacity as usize)?,
+            points: Points::new(alloc, capacity as usize)?,
         })
     }
 
@@ -96,7 +85,7 @@ impl Index {
         // Where no mark is left, the interval begins anew.
         self.lo = if self.lo == self.hi { n } else { self.lo };
         if access {
-            self.points.push_back_reserved(Point {
+            self.points.push(Point {
                 n,
                 ts,
                 before: self.total,
@@ -113,62 +102,27 @@ impl Index {
         ensures step { self.new ≡ left_from self.old lo }
         ensures stands { (marks : List Held) → StandsFor self.old marks → StandsFor self.new (from_number lo marks) }
     {
-        drop_points(&mut self.points, lo);
+        self.points.drop_below(lo);
         self.lo = self.lo.max(lo).min(self.hi);
     }
 
     /// Chooses the newest access point that leaves room and is at least `min_ms` old, unless it is older
     /// than `max_ms`. An access point leaves room where the wire sizes from it on, with the `declared`
     /// bytes, are at most `room`. Its age is the time, in ms, from its timestamp to the last mark's;
-    /// timestamps go around at 2^32 (RFC 3550, 5.1). The search goes through the points from the newest on
-    /// and ends at the first that is old enough, or leaves no room.
+    /// timestamps go around at 2^32 (RFC 3550, 5.1).
     pub fn choose(&self, room: u64, declared: u64, min_ms: u32, max_ms: Option<u32>) -> Choice
         requires { declared ≤ 10 ^ 9 }
         ensures value { result ≡ choice self.now room declared min_ms max_ms }
         ensures stands { (c : Channel) (marks : List Held) → c.ring * c.minwire ≡ room → c.declared ≡ declared → StandsFor self.now marks →
             result ≡ choice_of marks (chosen c marks min_ms max_ms) }
     {
-        self.search(room, declared, min_ms, max_ms)
-    }
-
-    // The choice among the points alone; `choose` adds that it is the one among the marks.
-    fn search(&self, room: u64, declared: u64, min_ms: u32, max_ms: Option<u32>) -> Choice
-        requires { declared ≤ 10 ^ 9 }
-        ensures { result ≡ choice self.now room declared min_ms max_ms }
-    {
-        let mut choice = Choice::NoStart;
-        for point in self.points.iter().rev() {
-            let behind = self.total - point.before;
-            if behind + declared > room {
-                break;
-            }
-            let age = age_ms(self.last, point.ts);
-            if age >= min_ms {
-                return start_at(point.n, behind, age, max_ms);
-            }
-            choice = Choice::MinUnmet;
-        }
-        choice
-    }
-}
-
-// The points with numbers below `lo`, which stand in front, go.
-fn drop_points(points: &mut VecDeque<Point>, lo: u64)
-    ensures items { points.new.items ≡ above lo points.old.items }
-    ensures capacity { deque_capacity points.new ≡ deque_capacity points.old }
-{
-    while points.front().is_some_and(|point| point.n < lo) {
-        let _ = points.pop_front();
-    }
-}
-
-// A start at a point of this age, where it isn't too old.
-fn start_at(n: u64, behind: u64, age: u32, max_ms: Option<u32>) -> Choice
-    ensures { result ≡ start_unless max_ms age n behind }
-{
-    if max_ms.is_some_and(|most| most < age) {
-        Choice::MaxUnmet
-    } else {
-        Choice::Start { n, behind }
+        self.points.choose(&Ask {
+            room,
+            declared,
+            min_ms,
+            max_ms,
+            last: self.last,
+            total: self.total,
+        })
     }
 }

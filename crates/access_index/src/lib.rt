@@ -6,6 +6,9 @@
 
 mod choice;
 mod index;
+mod point;
+mod points;
+mod span;
 
 pub use choice::Choice;
 pub use index::Index;

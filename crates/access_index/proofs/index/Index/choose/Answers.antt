@@ -1,7 +1,18 @@
-use Rattle.std.proofs.Common.{◌∙◌}
+use Rattle.std.proofs.Common.{◌^◌, ◌∙◌, ap, arith}
+use Rattle.access_index.specs.{choice}
+use Rattle.access_index.proofs.Rising.{rise_wider}
 use Rattle.access_index.proofs.Standing.{choice_stands}
 use Rattle.access_index.proofs.index.Index.choose.Goals as goal
 
+pub choose-requires : goal.choose-requires
+choose-requires c =
+    let i = c.self.inside in
+    rise_wider i.lo i.hi 0 i.total 0 (2 ^ 62) 0 i.total i.points.items (omega arith) c.self.invariant.small (omega arith) (omega arith) c.self.invariant.rise
+
+pub returns-clause-value : goal.returns-clause-value
+returns-clause-value c =
+    c.choose.ensures ∙ ap (λ v. choice v c.args.room c.args.declared c.args.min_ms c.args.max_ms) c.self.view_is
+
 pub returns-clause-stands : goal.returns-clause-stands
 returns-clause-stands c = λ channel marks is_room is_declared stood.
-    c.search.ensures ∙ choice_stands c.args.self.now c.args.room c.args.declared c.args.min_ms c.args.max_ms channel marks is_room is_declared stood
+    returns-clause-value c ∙ choice_stands c.args.self.now c.args.room c.args.declared c.args.min_ms c.args.max_ms channel marks is_room is_declared stood

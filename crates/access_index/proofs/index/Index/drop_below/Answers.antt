@@ -1,9 +1,9 @@
 use Rattle.std.proofs.Common.{ℕ, List, min, max, sym, ◌∙◌, ap, subst, arith}
 use Rattle.rams_model.specs.Packets.{from_number}
-use Rattle.access_index.specs.declared.index.Point.{Point}
+use Rattle.access_index.specs.declared.point.Point.{Point}
 use Rattle.access_index.specs.{left_from, StandsFor, RiseIn}
 use Rattle.access_index.specs.Seen.{Seen}
-use Rattle.access_index.proofs.Points.{left_is, rise_above}
+use Rattle.access_index.proofs.Rising.{left_is, rise_above}
 use Rattle.access_index.proofs.Standing.{left_stands}
 use Rattle.access_index.proofs.index.Index.drop_below.Goals as goal
 
@@ -12,19 +12,19 @@ invariant_of-self c =
     let i = c.self.inside in
     let lo = c.min-self-inside.ensures ∙ ap (λ (n : ℕ). min n i.hi) c.max.ensures in
     record {
-      rise = subst (λ (n : ℕ). RiseIn n i.hi 0 i.total c.drop_points.new.points.items) (sym lo)
-          (subst (λ (ps : List Point). RiseIn (min (max i.lo c.args.lo) i.hi) i.hi 0 i.total ps) (sym c.drop_points.ensures.items) (rise_above i.lo i.hi 0 i.total c.args.lo i.points.items c.self.invariant.rise));
+      rise = subst (λ (n : ℕ). RiseIn n i.hi 0 i.total c.drop_below.new.self.items) (sym lo)
+          (subst (λ (ps : List Point). RiseIn (min (max i.lo c.args.lo) i.hi) i.hi 0 i.total ps) (sym (ap (λ r. r.items) c.drop_below.ensures)) (rise_above i.lo i.hi 0 i.total c.args.lo i.points.items c.self.invariant.rise));
       small = c.self.invariant.small;
       bytes = c.self.invariant.bytes;
       few = c.self.invariant.few;
-      room = omega (arith, c.self.invariant.room, c.drop_points.ensures.capacity);
+      room = omega (arith, c.self.invariant.room, ap (λ r. r.capacity) c.drop_below.ensures);
     }
 
 pub returns-clause-step : goal.returns-clause-step
 returns-clause-step c =
     let i = c.self.inside in
     let lo = c.min-self-inside.ensures ∙ ap (λ (n : ℕ). min n i.hi) c.max.ensures in
-    left_is i.capacity i.calls i.lo i.hi i.last i.total c.args.lo c.min-self-inside.result i.points.items c.drop_points.new.points.items c.self.invariant.rise lo c.drop_points.ensures.items
+    left_is i.capacity i.calls i.lo i.hi i.last i.total c.args.lo c.min-self-inside.result i.points.items c.drop_below.new.self.items c.self.invariant.rise lo (ap (λ r. r.items) c.drop_below.ensures)
     ∙ ap (λ v. left_from v c.args.lo) c.self.view_is
 
 pub returns-clause-stands : goal.returns-clause-stands

@@ -2,16 +2,16 @@ use Rattle.std.proofs.Common.{◌≡◌, [], ◌∷◌, ◌++◌, ◌==◌, if�
 use Rattle.std.proofs.lemmas.Bool.Decides.{nat_tests}
 use Rattle.access_index.specs.{pushed, StandsFor}
 use Rattle.access_index.specs.Seen.{Seen}
-use Rattle.access_index.proofs.Points.{rise-length}
+use Rattle.access_index.proofs.Rising.{rise-length}
 use Rattle.access_index.proofs.Standing.{pushed_stands}
 use Rattle.access_index.proofs.Pushing.{IsTaken, taken_point, taken_other, taken_is, taken_rise}
 use Rattle.access_index.proofs.index.Index.push.Goals as goal
 use Rattle.access_index.proofs.index.Index.push.Goals.{then-access, else-access, then-self, else-self}
 
-pub push_back_reserved-requires : goal.push_back_reserved-requires
-push_back_reserved-requires c =
+pub push-requires : goal.push-requires
+push-requires c =
     let i = c.self.inside in
-    omega (arith, rise-length i.lo i.hi 0 i.total i.points.items c.self.invariant.rise, c.self.invariant.room, i.points.ok, ap (λ v. v.hi) c.self.view_is, ap (λ v. v.lo) c.self.view_is, ap (λ v. v.capacity) c.self.view_is, c.requires.room)
+    omega (arith, rise-length i.lo i.hi 0 i.total i.points.items c.self.invariant.rise, c.self.invariant.room, ap (λ v. v.hi) c.self.view_is, ap (λ v. v.lo) c.self.view_is, ap (λ v. v.capacity) c.self.view_is, c.requires.room)
 
 pub invariant_of-self : goal.invariant_of-self
 invariant_of-self c =
@@ -19,7 +19,7 @@ invariant_of-self c =
     let new = c.if-access.self-inside in
     let first : c.if-self.self ≡ (if old.lo == old.hi then c.args.n else old.lo) = elim c.if-self.branch [ then-self w ↦ grind (arith, nat_tests) | else-self w ↦ grind (arith, nat_tests) ] in
     let taken : IsTaken old new c.if-self.self c.args.n c.args.ts c.args.access = elim c.if-access.branch [
-      | then-access w ↦ taken_point old new w.push_back_reserved.new.self c.if-self.self c.args.n c.args.ts c.args.access w.self-inside-is w.if-access.true w.push_back_reserved.ensures.items w.push_back_reserved.ensures.capacity
+      | then-access w ↦ taken_point old new w.push.new.self c.if-self.self c.args.n c.args.ts c.args.access w.self-inside-is w.if-access.true w.push.ensures
       | else-access w ↦ taken_other old new c.if-self.self c.args.n c.args.ts c.args.access w.self-inside-is w.if-access.false
     ] in
     record {
@@ -37,7 +37,7 @@ returns-clause-step c =
     let new = c.if-access.self-inside in
     let first : c.if-self.self ≡ (if old.lo == old.hi then c.args.n else old.lo) = elim c.if-self.branch [ then-self w ↦ grind (arith, nat_tests) | else-self w ↦ grind (arith, nat_tests) ] in
     let taken : IsTaken old new c.if-self.self c.args.n c.args.ts c.args.access = elim c.if-access.branch [
-      | then-access w ↦ taken_point old new w.push_back_reserved.new.self c.if-self.self c.args.n c.args.ts c.args.access w.self-inside-is w.if-access.true w.push_back_reserved.ensures.items w.push_back_reserved.ensures.capacity
+      | then-access w ↦ taken_point old new w.push.new.self c.if-self.self c.args.n c.args.ts c.args.access w.self-inside-is w.if-access.true w.push.ensures
       | else-access w ↦ taken_other old new c.if-self.self c.args.n c.args.ts c.args.access w.self-inside-is w.if-access.false
     ] in
     taken_is old new c.if-self.self c.args.n c.args.ts c.args.wire c.from.result c.args.access c.self.invariant.rise first c.from.ensures taken

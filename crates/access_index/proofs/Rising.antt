@@ -2,7 +2,7 @@
 use Rattle.std.proofs.Common.{◌≡◌, ℕ, ◌+◌, ◌-◌, ◌<◌, ◌≤◌, min, max, Bool, true, false, ◌==◌, nat_lt, nat_le, if◌then◌else◌, List, [], ◌∷◌, ◌++◌, length, map, filter, refl, sym, ◌∙◌, ap, subst, append-nil, arith}
 use Rattle.std.proofs.lemmas.List.{map-append}
 use Rattle.std.proofs.lemmas.Bool.Decides.{nat_tests}
-use Rattle.access_index.specs.declared.index.Point.{Point}
+use Rattle.access_index.specs.declared.point.Point.{Point}
 use Rattle.access_index.specs.{AccessPoint, more_behind, pushed, left_from, shown, seen_of, RiseIn, above}
 
 -- ---- points that rise

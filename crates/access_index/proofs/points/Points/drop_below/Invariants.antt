@@ -1,0 +1,17 @@
+use Rattle.std.proofs.Common.{◌≡◌, ◌+◌, ◌/◌, ◌≤◌, deque_len}
+use Rattle.std.specs.VecDeque.{deque_capacity}
+use Rattle.access_index.specs.{above, Spanned}
+use Rattle.access_index.proofs.points.Points.drop_below.Given as goal
+
+abbrev pub invariant-loop-lo : goal.invariant-loop-lo
+invariant-loop-lo l =
+    let p = l.self-inside in
+    record {
+      items : above l.lo p.points.items ≡ above l.lo l.fn.self.items;
+      capacity : deque_capacity p.points ≡ l.fn.self.capacity;
+      spanned : Spanned p.gone p.spans.items p.points.items;
+      room : deque_capacity p.points / 64 + 2 ≤ deque_capacity p.spans;
+    }
+
+abbrev pub decreases-loop-lo : goal.decreases-loop-lo
+decreases-loop-lo l = deque_len l.self-inside.points

@@ -1,0 +1,32 @@
+-- The points side by side, and the timestamps of each 64 of them.
+use Rattle.std.specs.Prelude.{ℕ, ◌+◌, ◌*◌, ◌/◌, ◌<◌, ◌≤◌, ◌≡◌, List, length, get_or}
+use Rattle.rams_model.specs.Packets.{age_ms}
+use Rattle.access_index.specs.declared.point.Point.{Point}
+use Rattle.access_index.specs.declared.span.Span.{Span}
+
+-- the points that are kept, and for how many there is room
+pub record Row : Type 0 where
+  pub items : List Point
+  pub capacity : ℕ
+
+-- a timestamp between the least and the greatest
+abbrev pub IsIn : Span → ℕ → Type 0
+IsIn s ts = (s.least ≤ ts) × (ts ≤ s.greatest)
+
+-- one of them is so old at a timestamp
+abbrev pub Reaches : Span → ℕ → ℕ → Type 0
+Reaches s last least = (ts : ℕ) × IsIn s ts × (least ≤ age_ms last ts)
+
+-- Each point's timestamp is in its span: 64 points have one, counted with the `gone` points of the first
+-- span that are no longer kept. There are as many spans as these need.
+pub record Spanned (gone : ℕ) (spans : List Span) (points : List Point) : Type 0 where
+  pub few : gone < 64
+  pub all : gone + length points ≤ 64 * length spans
+  pub tight : 64 * length spans < gone + length points + 64
+  pub within : (j : ℕ) (d : Span) (e : Point) → j < length points → IsIn (get_or spans ((gone + j) / 64) d) (get_or points j e).ts
+
+-- the spans once the point behind `count` others is noted: it is in its own, and each other is in its own still
+pub record IsNoted (count ts : ℕ) (old new : List Span) : Type 0 where
+  pub number : length new ≡ count / 64 + 1
+  pub own : (d : Span) → IsIn (get_or new (count / 64) d) ts
+  pub others : (k : ℕ) (d : Span) (t : ℕ) → k < length old → IsIn (get_or old k d) t → IsIn (get_or new k d) t

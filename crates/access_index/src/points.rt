@@ -1,0 +1,142 @@
+//! The access points in their order, and the timestamps of each 64 of them.
+ghost use Rattle.std.specs.Prelude.{◌≡◌, ℕ, ◌*◌, ◌+◌, ◌%◌, ◌++◌, ◌^◌, ◌<◌, ◌≤◌, List, [], ◌∷◌, length, take, IfOk, IfSome, IfNone};
+ghost use Rattle.std.specs.VecDeque.{deque_len, deque_capacity};
+ghost use Rattle.access_index.specs.{above, start_of, choice_for, RiseIn, IsNoted};
+
+use crate::Choice;
+use crate::point::{Ask, Point};
+use crate::span::Span;
+use ext_seq::age_ms;
+use ram_io::NoMemory;
+use std::alloc::Global;
+use std::collections::VecDeque;
+use std::marker::Model;
+
+// How many points a span has.
+const SPAN: usize = 64;
+
+/// The access points by rising number. They are counted from the first that ever came, and each
+/// `SPAN` of them have a span.
+#[derive(Drop)]
+pub struct Points {
+    points: VecDeque<Point>,
+    /// The span of each point that is kept, and of no other.
+    spans: VecDeque<Span>,
+    /// How many points of the first span are gone.
+    gone: usize,
+}
+
+impl Model for Points {
+    ghost use Rattle.std.specs.Prelude.{◌+◌, ◌/◌, ◌≤◌};
+    ghost use Rattle.std.specs.VecDeque.{deque_capacity};
+    ghost use Rattle.access_index.specs.{Row, Spanned};
+
+    ghost Value = { Row };
+
+    ghost view = { λ p. record { items = p.points.items; capacity = deque_capacity p.points } };
+
+    ghost invariant = { λ p. record {
+      spanned : Spanned p.gone p.spans.items p.points.items;
+      room : deque_capacity p.points / 64 + 2 ≤ deque_capacity p.spans;
+    } };
+}
+
+impl Points {
+    /// No points, and room for `capacity`.
+    pub fn new(alloc: Global, capacity: usize) -> Result<Points, NoMemory>
+        ensures { IfOk result (λ points. points ≡ record { items = []; capacity = capacity }) }
+    {
+        Ok(Points {
+            points: VecDeque::with_capacity(alloc, capacity)?,
+            spans: VecDeque::with_capacity(alloc, capacity / SPAN + 2)?,
+            gone: 0,
+        })
+    }
+
+    /// Takes the next point.
+    pub fn push(&mut self, point: Point)
+        requires { length self.old.items < self.old.capacity }
+        ensures { self.new ≡ record { items = self.old.items ++ point ∷ []; capacity = self.old.capacity } }
+    {
+        note(&mut self.spans, self.gone + self.points.len(), point.ts);
+        self.points.push_back_reserved(point);
+    }
+
+    /// The points with numbers below `lo`, which stand in front, go.
+    pub fn drop_below(&mut self, lo: u64)
+        ensures { self.new ≡ record { items = above lo self.old.items; capacity = self.old.capacity } }
+    {
+        while self.points.front().is_some_and(|point| point.n < lo) {
+            let _ = self.points.pop_front();
+            self.gone += 1;
+            if self.gone == SPAN {
+                let _ = self.spans.pop_front();
+                self.gone = 0;
+            }
+        }
+    }
+
+    /// The choice among the points. The search goes from the newest on, and into a span only where a
+    /// point of it may be old enough.
+    pub fn choose(&self, ask: &Ask) -> Choice
+        requires { RiseIn 0 (2 ^ 62) 0 ask.now.total self.now.items }
+        ensures { result ≡ choice_for ask.now self.now.items }
+    {
+        // Where the newest leaves no room, no other does.
+        let Some(newest) = self.points.back() else {
+            return Choice::NoStart;
+        };
+        if !ask.leaves_room(newest) {
+            return Choice::NoStart;
+        }
+        let mut end = self.points.len();
+        while end > 0 {
+            let place = (self.gone + end - 1) / SPAN;
+            let start = (place * SPAN).saturating_sub(self.gone);
+            if self.spans[place].reaches(ask.last, ask.min_ms)
+                && let Some(choice) = self.look(ask, start, end)
+            {
+                return choice;
+            }
+            end = start;
+        }
+        Choice::MinUnmet
+    }
+
+    // The choice among the first `end` points, if one of those from `start` on decides it: the newest of
+    // them that leaves no room, or is old enough. `None` where each of these is too young.
+    fn look(&self, ask: &Ask, start: usize, end: usize) -> Option<Choice>
+        requires ordered { start ≤ end }
+        requires within { end ≤ length self.now.items }
+        requires rise { RiseIn 0 (2 ^ 62) 0 ask.now.total self.now.items }
+        ensures some { IfSome result (λ choice. choice ≡ start_of ask.now (take end self.now.items)) }
+        ensures none { IfNone result (start_of ask.now (take start self.now.items) ≡ start_of ask.now (take end self.now.items)) }
+    {
+        for point in self.points.range(start..end).rev() {
+            if !ask.leaves_room(point) {
+                return Some(Choice::MinUnmet);
+            }
+            let age = age_ms(ask.last, point.ts);
+            if age >= ask.min_ms {
+                return Some(ask.start_at(point, age));
+            }
+        }
+        None
+    }
+}
+
+// Notes the timestamp of the point behind `count` others: a new span begins with each `SPAN` of them.
+fn note(spans: &mut VecDeque<Span>, count: usize, ts: u32)
+    requires all { count ≤ SPAN * deque_len spans.old }
+    requires tight { SPAN * deque_len spans.old < count + SPAN }
+    requires room { count % SPAN ≡ 0 → deque_len spans.old < deque_capacity spans.old }
+    ensures noted { IsNoted count ts spans.old.items spans.new.items }
+    ensures capacity { deque_capacity spans.new ≡ deque_capacity spans.old }
+{
+    if count % SPAN == 0 {
+        spans.push_back_reserved(Span::of(ts));
+    } else {
+        let last = &mut spans[count / SPAN];
+        *last = last.widened(ts);
+    }
+}
