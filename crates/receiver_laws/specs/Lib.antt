@@ -1,0 +1,5 @@
+pub mod Fair
+pub mod Presenting
+unfoldable pub use Rattle.receiver_laws.specs.Fair.{IsOf, IsNear, IsWithin, IsFair, AreFair}
+unfoldable pub use Rattle.receiver_laws.specs.Presenting.{Presents, WhatIsPresentedIsAPrefix, IsMedia, WhatIsDeliveredIsPresented, presented_often, PresentingEnds}
+pub use Rattle.receiver_laws.specs.Presenting.{PresentsAPrefix, WasDelivered}
