@@ -10,6 +10,6 @@ unfoldable pub use Rattle.rams_model.specs.Receiver.Reading.{is_of, again_of, re
 pub use Rattle.rams_model.specs.Receiver.Reading.{Told, informs, unread, Media, again, multicast, unfit}
 unfoldable pub use Rattle.rams_model.specs.Receiver.Receiving.{nothing_got, info_came, with_info, within_room, distance_from, first_number, or_begun, play_for_again, came_into, arrived, arrived_by_multicast, after_told, after_media, told_answer, media_answer, join_answer, shown_now, after_shown}
 pub use Rattle.rams_model.specs.Receiver.Receiving.{Reception}
-unfoldable pub use Rattle.rams_model.specs.Receiver.Sending.{compound, request_datagram, join_datagram, nack_datagram, bye_datagram, end_of, missing, most_named, nack_of, join_again, asked_in_play, asked_since, asked}
+unfoldable pub use Rattle.rams_model.specs.Receiver.Sending.{compound, request_datagram, join_datagram, nack_datagram, bye_datagram, last_number, missing, most_named, nack_of, join_again, asked_in_play, asked_since, asked}
 unfoldable pub use Rattle.rams_model.specs.Receiver.Turns.{reception, shown, first_by, source_first}
 pub use Rattle.rams_model.specs.Receiver.Turns.{Turn, hears, delivers, presents}

@@ -26,14 +26,14 @@ nack_datagram t numbers = compound t (nack_packet t.ssrc t.media (map (λ n. n %
 abbrev pub bye_datagram : Tuned → List ℕ
 bye_datagram t = compound t (bye_packet t.ssrc)
 
--- one above the greatest number of the pieces, which stand by number; the given one where there is none
-unfoldable pub end_of : ℕ → List Piece → ℕ
-end_of n [] = n
-end_of n (q ∷ qs) = end_of (q.n + 1) qs
+-- the number of the last of the pieces, which stand by number; the given one where there is none
+unfoldable pub last_number : ℕ → List Piece → ℕ
+last_number n [] = n
+last_number n (q ∷ qs) = last_number q.n qs
 
 -- The numbers below the greatest that arrived which didn't arrive, in rising order. All below the next one were presented.
 abbrev pub missing : Playing → List ℕ
-missing p = filter (λ n. not (has_piece n p.waits)) (range_with_len p.next (end_of p.next p.waits - p.next))
+missing p = filter (λ n. not (has_piece n p.waits)) (range_with_len p.next (last_number p.next p.waits - p.next))
 
 -- the most that one NACK names
 abbrev pub most_named : ℕ

@@ -3,12 +3,12 @@ use Rattle.std.proofs.Common.{refl}
 use Rattle.std.specs.Fmt.{digits}
 use Rattle.hex.specs.Hex.{encode_with, decode_pairs}
 use Rattle.rams_model.specs.Formats.{header, spelling, fields_of, packet_at, pieces_from, words_from, rams_request, rams_stop, first_value}
-use Rattle.rams_model.specs.Receiver.{with_piece, without_piece, first_info, end_of, after_told, after_media, after_shown}
+use Rattle.rams_model.specs.Receiver.{with_piece, without_piece, first_info, last_number, after_told, after_media, after_shown}
 use Rattle.rams_model.specs.Worked.Receptions.{shown_in, past_shown, rows_from, Handover, BeforeTheBurst, TheFirstNumber, TheRoom, JoinsWithWhatItHas, UnfitMedia, TuneAndLeave}
 use Rattle.rams_model.proofs.receptions.receptions_of_datagrams.Goals as goal
 
 computed : Handover × BeforeTheBurst × TheFirstNumber × TheRoom × JoinsWithWhatItHas × UnfitMedia × TuneAndLeave
-unfolding digits encode_with decode_pairs header spelling fields_of packet_at pieces_from words_from rams_request rams_stop first_value with_piece without_piece first_info end_of after_told after_media after_shown shown_in past_shown rows_from
+unfolding digits encode_with decode_pairs header spelling fields_of packet_at pieces_from words_from rams_request rams_stop first_value with_piece without_piece first_info last_number after_told after_media after_shown shown_in past_shown rows_from
 computed = (refl, refl, refl, refl, refl, refl, (refl, refl))
 
 pub returns-clause-handover : goal.returns-clause-handover
