@@ -1,18 +1,8 @@
 -- Presenting ends: each time it takes out a piece that waits.
 use Rattle.std.proofs.Common.{◌≡◌, ℕ, zero, suc, ◌+◌, ◌≤◌, ◌⊎◌, Bool, true, false, cond, List, [], ◌∷◌, length, Option, Some, None, option_map, option_and_then, refl, ap, sym, ◌∙◌, arith, inl, inr, ⊎_elim, eqb}
 use Rattle.rams_model.specs.Receiver.{Piece, Playing, piece_at, without_piece, presented, past, after_presenting, Reception, shown_now, after_shown}
+use Rattle.rams_model.proofs.PieceCounts.{one_less}
 use Rattle.receiver_laws.specs.Presenting.{presented_often}
-
--- what is found is one of the pieces
-one_less_step : (b : Bool) (q r : Piece) (qs rest : List Piece) (found : Option Piece) → cond b (Some r) found ≡ Some q → (found ≡ Some q → length rest + 1 ≡ length qs)
-    → length (cond b qs (r ∷ rest)) + 1 ≡ length (r ∷ qs)
-one_less_step true q r qs rest found e less = omega arith
-one_less_step false q r qs rest found e less = omega (arith, less e)
-
-one_less : (n : ℕ) (q : Piece) (qs : List Piece) → piece_at n qs ≡ Some q → length (without_piece n qs) + 1 ≡ length qs
-unfolding without_piece
-one_less n q [] e = absurd cc
-one_less n q (r ∷ qs) e = one_less_step (eqb r.n n) q r qs (without_piece n qs) (piece_at n qs) e (one_less n q qs)
 
 none_there : (n : ℕ) (qs : List Piece) → length qs ≤ 0 → piece_at n qs ≡ None
 none_there n [] le = refl
