@@ -1,10 +1,9 @@
 -- The numbers of a receiver go no further than packets came.
-use Rattle.std.proofs.Common.{◌≡◌, ℕ, ◌+◌, ◌<◌, ◌≤◌, ◌^◌, List, length, Option, Some, None, IfSome, option_map, refl, arith, ltb, leb}
-use Rattle.std.proofs.lemmas.Bool.{cond_both}
+use Rattle.std.proofs.Common.{◌≡◌, ℕ, ◌+◌, ◌≤◌, ◌^◌, List, Option, Some, None, IfSome, option_map, refl, arith}
 use Rattle.rams_model.specs.declared.reception.MediaCame.{MediaCame}
 use Rattle.rams_model.specs.declared.reception.MediaCame.TheVariants.{Took, Behind, Beyond, Twice, BeforeFirst, Foreign, Bad}
 use Rattle.rams_model.specs.Packets.{ahead}
-use Rattle.rams_model.specs.Receiver.{Piece, Playing, piece, nearest, came, kept, joining, join_kept, piece_at, presented, past, after_presenting, playing_from, or_begun, first_number, arrived, arrived_by_multicast}
+use Rattle.rams_model.specs.Receiver.{Piece, Playing, piece, nearest, came, kept, joining, join_kept, presented, past, after_presenting, playing_from, or_begun, first_number, arrived, arrived_by_multicast}
 use Rattle.rams_model.proofs.PieceCounts.{one_more, one_less}
 use Rattle.receiver_core.specs.{IsBounded, IsSafe}
 

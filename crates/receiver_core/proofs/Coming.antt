@@ -1,5 +1,5 @@
 -- What becomes of a packet, by the tests of the code.
-use Rattle.std.proofs.Common.{◌≡◌, ℕ, ◌+◌, ◌<◌, ◌≤◌, Bool, true, false, cond, List, Option, Some, None, is_some, refl, ap, ◌∙◌, ltb, leb}
+use Rattle.std.proofs.Common.{◌≡◌, ℕ, ◌+◌, ◌<◌, ◌≤◌, true, false, cond, List, Option, Some, None, is_some, refl, ap, ◌∙◌, ltb, leb}
 use Rattle.std.proofs.lemmas.Bool.{cond-true, cond-false, le-ltb, lt-leb}
 use Rattle.rams_model.specs.declared.reception.MediaCame.{MediaCame}
 use Rattle.rams_model.specs.declared.reception.MediaCame.TheVariants.{Took, Behind, Beyond, Twice}

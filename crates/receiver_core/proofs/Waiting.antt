@@ -1,5 +1,5 @@
 -- What an ordered map of packets is as pieces that wait.
-use Rattle.std.proofs.Common.{◌≡◌, ℕ, suc, ◌-◌, ◌<◌, Bool, true, false, ◌||◌, cond, List, [], ◌∷◌, length, Option, Some, None, option_map, is_some, refl, ap, subst, arith, eqb, ltb, Ordering, Less, Equal, Greater, nat_cmp, is_eq}
+use Rattle.std.proofs.Common.{◌≡◌, ℕ, suc, ◌-◌, ◌<◌, Bool, true, false, ◌||◌, cond, List, [], ◌∷◌, length, Some, None, option_map, is_some, refl, ap, subst, arith, eqb, ltb, Less, Equal, Greater, nat_cmp, is_eq}
 use Rattle.std.specs.Ordering.{match_ordering}
 use Rattle.std.specs.BTreeMap.{insert_entry, is_at}
 use Rattle.std.specs.Map.{lookup, remove_entry}
@@ -55,7 +55,7 @@ with_entry n packet (e ∷ es) none = step (ltb n e.0) (eqb n e.0) none (with_en
     step : (below same : Bool) → cond (is_eq (cond below Less (cond same Equal Greater))) (Some e.1) (lookup (is_at (nat_cmp n)) es) ≡ None
         → (lookup (is_at (nat_cmp n)) es ≡ None → with_piece (piece n packet) (pieces_of es) ≡ pieces_of (insert_entry nat_cmp es n packet))
         → cond below (piece n packet ∷ piece e.0 e.1 ∷ pieces_of es) (piece e.0 e.1 ∷ with_piece (piece n packet) (pieces_of es))
-            ≡ pieces_of (match_ordering (cond below Less (cond same Equal Greater)) ((n, packet) ∷ e ∷ es) ((e.0, packet) ∷ es) (e ∷ insert_entry nat_cmp es n packet))
+        ≡ pieces_of (match_ordering (cond below Less (cond same Equal Greater)) ((n, packet) ∷ e ∷ es) ((e.0, packet) ∷ es) (e ∷ insert_entry nat_cmp es n packet))
     step true same none rest = refl
     step false true none rest = absurd cc
     step false false none rest = ap (λ (qs : List Piece). piece e.0 e.1 ∷ qs) (rest none)

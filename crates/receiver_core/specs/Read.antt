@@ -1,5 +1,5 @@
 -- What was read, as the definitions have it.
-use Rattle.std.specs.Prelude.{ℕ, Result, Ok, Err}
+use Rattle.std.specs.Prelude.{Result, Ok, Err}
 use Rattle.rams_model.specs.declared.message.Info.{Info}
 use Rattle.rams_model.specs.declared.reception.InfoCame.{InfoCame}
 use Rattle.rams_model.specs.declared.reception.MediaCame.{MediaCame}

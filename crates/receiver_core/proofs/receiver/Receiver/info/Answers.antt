@@ -1,6 +1,5 @@
 -- What was told.
-use Rattle.std.proofs.Common.{◌≡◌, ℕ, true, sym, ap, ◌∙◌, subst}
-use Rattle.rams_model.specs.declared.reception.InfoCame.{InfoCame}
+use Rattle.std.proofs.Common.{◌≡◌, true, sym, ap, ◌∙◌, subst}
 use Rattle.rams_model.specs.Receiver.{Told, Reception, told_by, after_told, told_answer, with_info}
 use Rattle.receiver_core.specs.{Seen, with_got}
 use Rattle.receiver_core.proofs.Calls.{after_info, after_unread, others_keep}

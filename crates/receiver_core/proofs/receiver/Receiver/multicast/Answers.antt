@@ -1,5 +1,5 @@
 -- What was got, and the bounds of its numbers.
-use Rattle.std.proofs.Common.{◌≡◌, ℕ, ◌+◌, Option, IfSome, sym, ap, subst, arith}
+use Rattle.std.proofs.Common.{◌≡◌, ◌+◌, Option, IfSome, sym, ap, subst, arith}
 use Rattle.rams_model.specs.Formats.{stripped}
 use Rattle.rams_model.specs.Receiver.{Playing, after_media, brought_by_multicast}
 use Rattle.receiver_core.specs.{Seen, IsBounded, with_call}

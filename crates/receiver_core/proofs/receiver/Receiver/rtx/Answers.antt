@@ -1,7 +1,7 @@
 -- What was got, and the bounds of its numbers.
 use Rattle.std.proofs.Common.{◌≡◌, ℕ, ◌+◌, List, Option, IfSome, sym, ap, ◌∙◌, subst, arith}
 use Rattle.rams_model.specs.Formats.{original_number}
-use Rattle.rams_model.specs.Receiver.{Playing, Media, again, after_media, brought_again}
+use Rattle.rams_model.specs.Receiver.{Playing, again, after_media, brought_again}
 use Rattle.receiver_core.specs.{Seen, IsBounded, with_call}
 use Rattle.receiver_core.proofs.Bounds.{again_bounded}
 use Rattle.receiver_core.proofs.Calls.{after_unfit, after_again}

@@ -1,5 +1,5 @@
 -- What becomes of a packet with room.
-use Rattle.std.proofs.Common.{◌≡◌, true, false, List, ℕ, sym, ap, ◌∙◌, subst, arith}
+use Rattle.std.proofs.Common.{◌≡◌, true, false, List, sym, ap, ◌∙◌, subst, arith}
 use Rattle.rams_model.specs.declared.reception.MediaCame.TheVariants.{Took, Twice}
 use Rattle.rams_model.specs.Receiver.{Piece, Playing, has_piece, came, with_arrival}
 use Rattle.receiver_core.specs.{pieces_of}

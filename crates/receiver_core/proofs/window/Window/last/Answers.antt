@@ -1,7 +1,6 @@
 -- The last entry of the map has the last number.
-use Rattle.std.proofs.Common.{◌≡◌, ℕ, ◌<◌, true, false, sym, subst}
+use Rattle.std.proofs.Common.{◌≡◌, true, false, sym, subst}
 use Rattle.rams_model.specs.Receiver.{Playing, last_number}
-use Rattle.receiver_core.specs.{pieces_of}
 use Rattle.receiver_core.proofs.Waiting.{last_entry, no_entry}
 use Rattle.receiver_core.proofs.window.Window.last.Goals as goal
 
