@@ -1,6 +1,6 @@
 -- Presenting ends: each time it takes out a piece that waits.
-use Rattle.std.proofs.Common.{◌≡◌, ℕ, zero, suc, ◌+◌, ◌≤◌, ◌⊎◌, Bool, true, false, cond, List, [], ◌∷◌, length, Option, Some, None, option_map, option_and_then, refl, ap, sym, ◌∙◌, arith, inl, inr, ⊎_elim, eqb}
-use Rattle.rams_model.specs.Receiver.{Piece, Playing, piece_at, without_piece, presented, past, after_presenting, Reception, shown_now, after_shown}
+use Rattle.std.proofs.Common.{◌≡◌, ℕ, zero, suc, ◌≤◌, ◌⊎◌, List, [], ◌∷◌, length, Option, Some, None, option_map, option_and_then, refl, ap, sym, ◌∙◌, arith, inl, inr, ⊎_elim}
+use Rattle.rams_model.specs.Receiver.{Piece, Playing, piece_at, presented, past, after_presenting, Reception, shown_now, after_shown}
 use Rattle.rams_model.proofs.PieceCounts.{one_less}
 use Rattle.receiver_laws.specs.Presenting.{presented_often}
 

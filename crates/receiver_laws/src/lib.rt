@@ -6,5 +6,6 @@
 mod presenting;
 
 pub use presenting::{
-    presenting_ends, what_is_delivered_is_presented, what_is_presented_is_a_prefix,
+    a_handover_is_fair, presenting_ends, what_is_delivered_is_presented,
+    what_is_presented_is_a_prefix,
 };

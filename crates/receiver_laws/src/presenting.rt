@@ -1,5 +1,5 @@
 //! What receivers present.
-ghost use Rattle.receiver_laws.specs.{WhatIsPresentedIsAPrefix, WhatIsDeliveredIsPresented, PresentingEnds};
+ghost use Rattle.receiver_laws.specs.{WhatIsPresentedIsAPrefix, WhatIsDeliveredIsPresented, PresentingEnds, AHandoverIsFair};
 
 /// What a receiver presents are the source's packets from its first number on, each once, in their
 /// order, and without their padding; whatever was lost, repeated or reordered on the way.
@@ -19,4 +19,9 @@ pub fn what_is_delivered_is_presented()
 /// As often as packets wait is often enough to present all that can be presented.
 pub fn presenting_ends()
     ensures { PresentingEnds }
+{}
+
+/// There are such deliveries: a handover of three packets, the first of which comes last.
+pub fn a_handover_is_fair()
+    ensures { AHandoverIsFair }
 {}
