@@ -26,3 +26,4 @@ pub mod Legality
 pub mod Adding
 pub mod Induction
 pub mod Granting
+pub mod PieceCounts

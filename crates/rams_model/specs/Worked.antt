@@ -8,3 +8,4 @@ pub mod Requests
 pub mod Buckets
 pub mod Parts
 pub mod Texts
+pub mod Receptions

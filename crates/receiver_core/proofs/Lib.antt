@@ -1,0 +1,5 @@
+pub mod Waiting
+pub mod Coming
+pub mod Missing
+pub mod Bounds
+pub mod Calls

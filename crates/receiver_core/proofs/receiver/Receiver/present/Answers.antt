@@ -1,0 +1,23 @@
+-- What is left, and the bounds of its numbers.
+use Rattle.std.proofs.Common.{◌≡◌, Option, IfSome, sym, subst}
+use Rattle.rams_model.specs.Receiver.{Playing, after_shown}
+use Rattle.receiver_core.specs.{Seen, IsBounded, with_got}
+use Rattle.receiver_core.proofs.Bounds.{shown_bounded}
+use Rattle.receiver_core.proofs.Calls.{after_present}
+use Rattle.receiver_core.proofs.receiver.Receiver.present.Goals as goal
+
+pub invariant_of-self : goal.invariant_of-self
+invariant_of-self c =
+    let i = c.self.inside in
+    record {
+      media = c.self.invariant.media;
+      again = c.self.invariant.again;
+      few = c.self.invariant.few;
+      play = subst (λ (play : Option Playing). IfSome play (IsBounded i.calls)) (sym c.present.ensures.after) (shown_bounded i.calls i.play c.self.invariant.play);
+    }
+
+pub returns-clause-after : goal.returns-clause-after
+returns-clause-after c =
+    let i = c.self.inside in
+    let s : Seen = record { tuned = i.tuned; got = record { named = i.named; ended = i.ended; play = i.play }; calls = i.calls } in
+    subst (λ (t : Seen). with_got (record s.got { play = c.present.new.play }) s ≡ with_got (after_shown t.got) t) c.self.view_is (after_present s c.present.new.play c.present.ensures.after)

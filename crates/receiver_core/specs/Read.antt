@@ -1,0 +1,23 @@
+-- What was read, as the definitions have it.
+use Rattle.std.specs.Prelude.{Result, Ok, Err}
+use Rattle.rams_model.specs.declared.message.Info.{Info}
+use Rattle.rams_model.specs.declared.reception.InfoCame.{InfoCame}
+use Rattle.rams_model.specs.declared.reception.MediaCame.{MediaCame}
+use Rattle.rams_model.specs.declared.reception.Tuned.{Tuned}
+use Rattle.rams_model.specs.Formats.{Packet, spelling, stripped, original, original_number}
+use Rattle.rams_model.specs.Receiver.{Told, informs, unread, Media, again, multicast, unfit}
+
+-- a retransmission, or what becomes of the bytes
+abbrev pub as_again : Tuned → Result Packet MediaCame → Media
+as_again t (Ok r) = again r.sequence (original_number r) (spelling (original r t.pt))
+as_again t (Err why) = unfit why
+
+-- a packet of the multicast
+abbrev pub as_multicast : Result Packet MediaCame → Media
+as_multicast (Ok p) = multicast p.sequence (stripped p)
+as_multicast (Err why) = unfit why
+
+-- a RAMS-I
+abbrev pub as_told : Result Info InfoCame → Told
+as_told (Ok i) = informs i
+as_told (Err why) = unread why

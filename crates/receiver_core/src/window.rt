@@ -1,0 +1,157 @@
+//! What a receiver plays.
+ghost use Rattle.std.specs.Prelude.{◌≡◌, ◌%◌, ◌^◌, ◌<◌, ◌≤◌, Some, map, take, option_map, vec_len, IfOk, OnOk, OnErr};
+ghost use Rattle.rams_model.specs.Receiver.{Playing, playing_from, nearest, came, with_arrival, joining, join_kept, presented, after_presenting, last_number, missing, most_named};
+ghost use Rattle.receiver_core.specs.{as_shown};
+
+use crate::numbers::{ROOM, SEQUENCE_NUMBERS, nearest};
+use ram_io::NoMemory;
+use rams_model::{MediaCame, Octets, Shown};
+use std::alloc::Global;
+use std::collections::BTreeMap;
+use std::marker::Model;
+
+// The most numbers that one NACK names.
+const MOST_NAMED: usize = 256;
+
+/// The packets that arrived and wait, by their numbers, from the one that is presented next on.
+#[derive(Drop)]
+pub(crate) struct Window {
+    first: u64,
+    next: u64,
+    waits: BTreeMap<u64, Octets>,
+    /// The number of the packet with which the receiver joined the multicast.
+    joined: Option<u64>,
+}
+
+impl Model for Window {
+    ghost use Rattle.rams_model.specs.Receiver.{Playing};
+    ghost use Rattle.receiver_core.specs.Pieces.{pieces_of};
+
+    ghost Value = { Playing };
+
+    ghost view = { λ w. record { first = w.first; next = w.next; waits = pieces_of w.waits.entries; joined = w.joined } };
+}
+
+impl Window {
+    /// Nothing arrived yet, and this number is the first. It takes no memory.
+    pub(crate) fn new(alloc: Global, first: u64) -> Window
+        ensures { result ≡ playing_from first }
+    {
+        Window {
+            first,
+            next: first,
+            waits: BTreeMap::new(alloc),
+            joined: None,
+        }
+    }
+
+    /// The first number of all.
+    pub(crate) fn first(&self) -> u64
+        ensures { result ≡ self.now.first }
+    {
+        self.first
+    }
+
+    /// The number that is presented next.
+    pub(crate) fn next(&self) -> u64
+        ensures { result ≡ self.now.next }
+    {
+        self.next
+    }
+
+    /// The number with which the receiver joined.
+    pub(crate) fn joined(&self) -> Option<u64>
+        ensures { result ≡ self.now.joined }
+    {
+        self.joined
+    }
+
+    /// The number of a packet with these low 16 bits, the nearest to the next one.
+    pub(crate) fn number_of(&self, low: u16) -> u64
+        requires high { 65536 ≤ self.now.next }
+        requires small { self.now.next < 2 ^ 62 }
+        ensures { result ≡ nearest self.now.next low }
+    {
+        nearest(self.next, low)
+    }
+
+    /// A packet with this number arrives: it is kept where it is new and has room. After want of
+    /// memory all is as before.
+    pub(crate) fn arrive(&mut self, n: u64, packet: Octets) -> Result<MediaCame, NoMemory>
+        requires { self.old.next < 2 ^ 62 }
+        ensures came { IfOk result (λ c. c ≡ came self.old n) }
+        ensures after { OnOk result (self.new ≡ with_arrival n packet self.old) }
+        ensures same { OnErr result (self.new ≡ self.old) }
+    {
+        if n < self.next {
+            return Ok(MediaCame::Behind);
+        }
+        if n >= self.next + ROOM {
+            return Ok(MediaCame::Beyond);
+        }
+        if self.waits.contains_key(&n) {
+            return Ok(MediaCame::Twice);
+        }
+        self.waits.insert(n, packet)?;
+        Ok(MediaCame::Took)
+    }
+
+    /// The number with which the receiver joins, where a multicast packet with this number makes it
+    /// join.
+    pub(crate) fn joining(&self, n: u64) -> Option<u64>
+        requires { self.now.next < 2 ^ 62 }
+        ensures { result ≡ joining self.now n }
+    {
+        if self.joined.is_some() || n < self.first || n >= self.next + ROOM {
+            return None;
+        }
+        Some(n)
+    }
+
+    /// The receiver joined with this number.
+    pub(crate) fn join(&mut self, n: u64)
+        ensures { self.new ≡ join_kept (Some n) self.old }
+    {
+        self.joined = Some(n);
+    }
+
+    /// The next packet, where it arrived.
+    pub(crate) fn present(&mut self) -> Option<Shown>
+        requires { self.old.next < 2 ^ 62 }
+        ensures shown { result ≡ option_map as_shown (presented self.old) }
+        ensures after { self.new ≡ after_presenting self.old }
+    {
+        let packet = self.waits.remove(&self.next)?;
+        let n = self.next;
+        self.next += 1;
+        Some(Shown { n, packet })
+    }
+
+    /// The low 16 bits of the numbers that are missing below the greatest that arrived, in rising
+    /// order, the least 256 of them where there are more.
+    pub(crate) fn missing(&self, alloc: Global) -> Result<Vec<u16>, NoMemory>
+        ensures value { IfOk result (λ v. v.items ≡ map (λ n. n % 65536) (take most_named (missing self.now))) }
+        ensures few { IfOk result (λ v. vec_len v ≤ 256) }
+    {
+        let mut numbers = Vec::new(alloc);
+        for n in self.next..self.last() {
+            if numbers.len() == MOST_NAMED {
+                break;
+            }
+            if !self.waits.contains_key(&n) {
+                numbers.push((n % SEQUENCE_NUMBERS) as u16)?;
+            }
+        }
+        Ok(numbers)
+    }
+
+    // The greatest number that waits; the next one where none does.
+    fn last(&self) -> u64
+        ensures { result ≡ last_number self.now.next self.now.waits }
+    {
+        match self.waits.last_key_value() {
+            Some((last, _)) => *last,
+            None => self.next,
+        }
+    }
+}

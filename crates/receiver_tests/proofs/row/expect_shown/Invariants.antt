@@ -1,0 +1,5 @@
+use Rattle.std.proofs.Common.{◌≡◌}
+use Rattle.receiver_tests.proofs.row.expect_shown.Given as goal
+
+abbrev pub invariant-loop-n : goal.invariant-loop-n
+invariant-loop-n g l = l.receiver.calls ≡ l.fn.receiver.calls

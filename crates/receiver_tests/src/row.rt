@@ -1,0 +1,172 @@
+//! What a row of a table is, and how it is run.
+ghost use Rattle.std.specs.Prelude.{◌≡◌, ◌+◌, ◌<◌, ◌≤◌, ◌^◌, IfOk, OnOk, length};
+
+use receiver_core::{InfoCame, MediaCame, Receiver, Tuned};
+use std::alloc::Global;
+use std::process::Abort;
+use std::test::Fail;
+
+/// A client of a channel whose retransmissions have payload type 99.
+pub const TUNED: Tuned = Tuned {
+    client: 5,
+    ssrc: 0x0000_c001,
+    media: 0x1122_3344,
+    pt: 33,
+    rtx: 99,
+};
+
+/// With what each datagram of a receiver begins: a report, and its name, `stb` (RFC 3550, 6.4.2 and
+/// 6.5).
+const FRONT: &[&str] = &["80c90001", "0000c001", "81ca0003", "0000c001", "01037374", "62000000"];
+
+/// Bytes, as words of hexadecimal digits.
+pub type Words = &'static [&'static str];
+
+/// What is done with a receiver.
+#[derive(Clone, Copy, Debug)]
+pub enum Call {
+    Info(Words),
+    Rtx(Words),
+    Multicast(Words),
+    Ask,
+}
+
+/// What it answers. Messages stand behind the report and the name.
+#[derive(Clone, Copy, Debug)]
+pub enum Said {
+    Told(InfoCame),
+    Came(MediaCame),
+    /// With a RAMS-T.
+    Joined(MediaCame, Words),
+    Asks(&'static [Words]),
+}
+
+/// What is done, what is answered, and what is presented then: numbers, and the packets.
+pub type Row = (Call, Said, &'static [(u64, Words)]);
+
+/// The bytes of words.
+pub fn bytes_of(alloc: Global, words: &[&str]) -> Result<Vec<u8>, Fail> {
+    let mut bytes = Vec::new(alloc);
+    for word in words {
+        let piece = hex::decode(alloc, word.as_bytes())?;
+        bytes.extend_from_slice(&piece)?;
+    }
+    Ok(bytes)
+}
+
+/// A receiver's datagram with this message.
+pub fn datagram(alloc: Global, message: &[&str]) -> Result<Vec<u8>, Fail> {
+    let mut bytes = bytes_of(alloc, FRONT)?;
+    bytes.extend_from_slice(&bytes_of(alloc, message)?)?;
+    Ok(bytes)
+}
+
+/// A receiver that has got nothing.
+pub fn tuned(alloc: Global) -> Result<Receiver, Fail>
+    ensures { IfOk result (λ receiver. receiver.calls ≡ 0) }
+{
+    let (receiver, _) = Receiver::tune(alloc, TUNED)?;
+    Ok(receiver)
+}
+
+// A packet of the multicast is answered so.
+fn expect_multicast(
+    rt: &impl Abort,
+    alloc: Global,
+    receiver: &mut Receiver,
+    packet: &[u8],
+    said: Said,
+) -> Result<(), Fail>
+    requires { receiver.old.calls < 2 ^ 40 }
+    ensures { OnOk result (receiver.new.calls ≡ receiver.old.calls + 1) }
+{
+    let (came, text) = receiver.multicast(alloc, packet)?;
+    match said {
+        Said::Joined(expected, message) => {
+            assert_eq!(rt; came, expected, "{said:?}");
+            let stop = text.expect(rt, "a RAMS-T");
+            assert_eq!(rt; stop, datagram(alloc, message)?, "{said:?}");
+        }
+        Said::Came(expected) => {
+            assert_eq!(rt; came, expected, "{said:?}");
+            assert!(rt; text.is_none());
+        }
+        _ => assert!(rt; false, "{said:?}"),
+    }
+    Ok(())
+}
+
+// The receiver asks by these datagrams.
+fn expect_datagrams(
+    rt: &impl Abort,
+    alloc: Global,
+    receiver: &Receiver,
+    messages: &[Words],
+) -> Result<(), Fail> {
+    let datagrams = receiver.ask(alloc)?;
+    assert_eq!(rt; datagrams.len(), messages.len(), "{messages:?}");
+    for (asked, message) in datagrams.iter().zip(messages) {
+        let expected = datagram(alloc, message)?;
+        assert_eq!(rt; asked.bytes(), expected.as_slice(), "{message:?}");
+    }
+    Ok(())
+}
+
+// A call is answered so.
+fn expect(
+    rt: &impl Abort,
+    alloc: Global,
+    receiver: &mut Receiver,
+    call: Call,
+    said: Said,
+) -> Result<(), Fail>
+    requires { receiver.old.calls < 2 ^ 40 }
+    ensures { OnOk result (receiver.new.calls ≤ receiver.old.calls + 1) }
+{
+    match (call, said) {
+        (Call::Info(words), Said::Told(expected)) => {
+            let came = receiver.info(&bytes_of(alloc, words)?);
+            assert_eq!(rt; came, expected, "{words:?}");
+        }
+        (Call::Rtx(words), Said::Came(expected)) => {
+            let came = receiver.rtx(alloc, &bytes_of(alloc, words)?)?;
+            assert_eq!(rt; came, expected, "{words:?}");
+        }
+        (Call::Multicast(words), _) => {
+            let packet = bytes_of(alloc, words)?;
+            expect_multicast(rt, alloc, receiver, &packet, said)?;
+        }
+        (Call::Ask, Said::Asks(messages)) => expect_datagrams(rt, alloc, receiver, messages)?,
+        _ => assert!(rt; false, "{call:?} {said:?}"),
+    }
+    Ok(())
+}
+
+// These packets are presented, and no more.
+fn expect_shown(
+    rt: &impl Abort,
+    alloc: Global,
+    receiver: &mut Receiver,
+    shown: &[(u64, Words)],
+) -> Result<(), Fail>
+    ensures { OnOk result (receiver.new.calls ≡ receiver.old.calls) }
+{
+    for (n, packet) in shown {
+        let piece = receiver.present().expect(rt, "a packet");
+        let expected = bytes_of(alloc, packet)?;
+        assert_eq!(rt; (piece.n, piece.packet.bytes()), (*n, expected.as_slice()));
+    }
+    assert!(rt; receiver.present().is_none());
+    Ok(())
+}
+
+/// Each row's call of a receiver is answered as the row says, and what it says is presented.
+pub fn expect_all(rt: &impl Abort, alloc: Global, rows: &[Row]) -> Result<(), Fail> {
+    assert!(rt; rows.len() < 1000);
+    let mut receiver = tuned(alloc)?;
+    for (call, said, shown) in rows {
+        expect(rt, alloc, &mut receiver, *call, *said)?;
+        expect_shown(rt, alloc, &mut receiver, shown)?;
+    }
+    Ok(())
+}
