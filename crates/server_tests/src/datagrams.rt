@@ -1,5 +1,5 @@
 //! Worked datagrams, byte for byte.
-use crate::fixtures::{CHANNEL, SOURCE, bytes_of};
+use crate::fixtures::{CHANNEL, SOURCE, bytes_of, holds, same};
 use bytes::Bytes;
 use channel_config::Config;
 use order_datagrams::{Order, append_order, render_order, renders};
@@ -20,7 +20,7 @@ struct Again {
     sent: (&'static [u32], usize),
 }
 
-const AGAIN: [Again; 4] = [
+const AGAIN: &[Again] = &[
     Again {
         name: "the marker is kept",
         packet: (
@@ -125,7 +125,9 @@ const STOPPED: Info = Info {
 };
 
 /// What a client is told, and the RAMS-I that says so (RFC 6285, 7.3).
-const TOLD: [(&str, Info, &[u32]); 3] = [
+type Told = (&'static str, Info, &'static [u32]);
+
+const TOLD: &[Told] = &[
     (
         "an accept at 1,500 bytes a tick of 10 ms",
         Info {
@@ -179,7 +181,9 @@ const TOLD: [(&str, Info, &[u32]); 3] = [
 ];
 
 /// Words that aren't an RTP packet.
-const NO_PACKET: [(&str, &[u32]); 3] = [
+type NoPacket = (&'static str, &'static [u32]);
+
+const NO_PACKET: &[NoPacket] = &[
     ("8 bytes", &[0x80a1_000a, 0]),
     ("version 1", &[0x40a1_000a, 0, SOURCE]),
     (
@@ -199,7 +203,7 @@ fn retransmission(alloc: Global, words: &[u32], zeros: usize, seq: u16) -> Resul
 }
 
 /// The order sends these bytes, alone and behind others.
-fn sends(
+fn expect_sent(
     rt: &impl Abort,
     alloc: Global,
     name: &str,
@@ -207,35 +211,49 @@ fn sends(
     want: &[u8],
 ) -> Result<(), Fail> {
     let config = Config::check(CHANNEL, 10)?;
-    assert!(rt; renders(order), "{name}");
-    let bytes = render_order(alloc, &config, order)?;
-    assert_eq!(rt; bytes.as_slice(), want, "{name}");
-    let mut text = b"ab".to_vec(alloc)?;
-    append_order(&mut text, &config, order)?;
-    assert_eq!(rt; text.strip_prefix(b"ab"), Some(want), "{name}");
+    assert!(rt; renders(order));
+    let mut bytes = render_order(alloc, &config, order)?;
+    append_order(&mut bytes, &config, order)?;
+    same(rt, &bytes.strip_prefix(want), &Some(want), &name);
+    Ok(())
+}
+
+fn expect_again(rt: &impl Abort, alloc: Global, rows: &[Again]) -> Result<(), Fail> {
+    for case in rows {
+        let order = retransmission(alloc, case.packet.0, case.packet.1, case.seq)?;
+        let want = bytes_of(alloc, case.sent.0, case.sent.1)?;
+        expect_sent(rt, alloc, case.name, &order, &want)?;
+    }
+    Ok(())
+}
+
+fn expect_none(rt: &impl Abort, alloc: Global, rows: &[NoPacket]) -> Result<(), Fail> {
+    for (name, words) in rows {
+        let order = retransmission(alloc, words, 0, 500)?;
+        holds(rt, !renders(&order), name);
+    }
     Ok(())
 }
 
 #[test]
 fn packets_are_sent_again(rt: HostRuntime) -> Result<(), Fail> {
-    let alloc = rt.alloc();
-    for case in AGAIN {
-        let order = retransmission(alloc, case.packet.0, case.packet.1, case.seq)?;
-        let want = bytes_of(alloc, case.sent.0, case.sent.1)?;
-        sends(&rt, alloc, case.name, &order, &want)?;
-    }
-    for (name, words) in NO_PACKET {
-        assert!(rt; !renders(&retransmission(alloc, words, 0, 500)?), "{name}");
+    expect_again(&rt, rt.alloc(), AGAIN)?;
+    expect_none(&rt, rt.alloc(), NO_PACKET)
+}
+
+fn expect_told(rt: &impl Abort, alloc: Global, rows: &[Told]) -> Result<(), Fail> {
+    for (name, info, words) in rows {
+        let want = bytes_of(alloc, words, 0)?;
+        let order = Order::Info {
+            client: 5,
+            info: *info,
+        };
+        expect_sent(rt, alloc, name, &order, &want)?;
     }
     Ok(())
 }
 
 #[test]
 fn clients_are_told(rt: HostRuntime) -> Result<(), Fail> {
-    for (name, info, words) in TOLD {
-        let want = bytes_of(rt.alloc(), words, 0)?;
-        let order = Order::Info { client: 5, info };
-        sends(&rt, rt.alloc(), name, &order, &want)?;
-    }
-    Ok(())
+    expect_told(&rt, rt.alloc(), TOLD)
 }

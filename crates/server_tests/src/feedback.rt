@@ -1,7 +1,7 @@
 //! Worked answers to datagrams.
 use crate::fixtures::{BYE, CHANNEL, NACK, REQUEST, SENDER, SOURCE, STOP};
 use crate::row::Given::{Asks, Heard, Next, Start};
-use crate::row::{Row, expect_all};
+use crate::row::{Case, Row, expect_all};
 use channel_config::Channel;
 use rams_model::Info;
 use std::test::Fail;
@@ -56,7 +56,7 @@ const REFUSED: Info = Info {
 
 /// The messages of a datagram are answered in their order, of the RAMS messages the first alone; one that
 /// doesn't frame changes nothing.
-const MESSAGES: [Row; 16] = [
+const MESSAGES: &[Row] = &[
     (Start(65534, 0, 4), "[Live(Took(131070))]", 0, None),
     (Next(65535, 900, 4), "[Live(Took(131071))]", 0, None),
     (Next(0, 1800, 4), "[Live(Took(131072))]", 0, None),
@@ -185,7 +185,7 @@ const UPDATED: Info = Info {
 
 /// A request that names another bit rate changes the rate; the stop is the packet that is next. A RAMS-T
 /// that can't be read is refused.
-const UPDATES: [Row; 7] = [
+const UPDATES: &[Row] = &[
     (Start(10, 0, 4), "[Live(Took(65546))]", 0, None),
     (
         Heard(5, &[&UNREADABLE_STOP]),
@@ -238,7 +238,7 @@ const ONE_BURST: Channel = Channel {
 
 /// Access points that are 200 and 100 ms old, and a burst of another client that leaves no room for a
 /// second. Of several causes of a refusal the first counts.
-const BUSY: [Row; 11] = [
+const BUSY: &[Row] = &[
     (Start(10, 0, 4), "[Live(Took(65546))]", 0, None),
     (Start(11, 9000, 4), "[Live(Took(65547))]", 0, None),
     (Next(12, 18000, 4), "[Live(Took(65548))]", 0, None),
@@ -361,7 +361,7 @@ const ONE_PLACE: Channel = Channel {
 
 /// The only packet isn't eligible: the 46 bytes behind it are more than the 45 that the ring is sure to
 /// hold. Once another client has the only place, that comes first.
-const NO_PLACE: [Row; 5] = [
+const NO_PLACE: &[Row] = &[
     (Start(10, 0, 4), "[Live(Took(65546))]", 0, None),
     (
         Asks(
@@ -408,7 +408,7 @@ const NARROW: Channel = Channel {
 
 /// Two bursts of 7,200 bytes a tick together leave the reserve of 1,500 where the share is 8,700; here it
 /// is one byte less.
-const RESERVED: [Row; 4] = [
+const RESERVED: &[Row] = &[
     (Start(10, 0, 4), "[Live(Took(65546))]", 0, None),
     (
         Asks(5, &SLOW),
@@ -433,15 +433,16 @@ const RESERVED: [Row; 4] = [
     ),
 ];
 
+const ANSWERED: &[Case] = &[(CHANNEL, MESSAGES), (CHANNEL, UPDATES)];
+
 #[test]
 fn messages_are_answered(rt: HostRuntime) -> Result<(), Fail> {
-    expect_all(&rt, rt.alloc(), CHANNEL, &MESSAGES)?;
-    expect_all(&rt, rt.alloc(), CHANNEL, &UPDATES)
+    expect_all(&rt, rt.alloc(), ANSWERED)
 }
+
+const REFUSALS: &[Case] = &[(ONE_BURST, BUSY), (ONE_PLACE, NO_PLACE), (NARROW, RESERVED)];
 
 #[test]
 fn requests_are_refused(rt: HostRuntime) -> Result<(), Fail> {
-    expect_all(&rt, rt.alloc(), ONE_BURST, &BUSY)?;
-    expect_all(&rt, rt.alloc(), ONE_PLACE, &NO_PLACE)?;
-    expect_all(&rt, rt.alloc(), NARROW, &RESERVED)
+    expect_all(&rt, rt.alloc(), REFUSALS)
 }

@@ -1,6 +1,18 @@
-//! A channel's settings, and the bytes of what comes to it.
+//! What is compared, a channel's settings, and the bytes of what comes to it.
 use channel_config::{Access, Channel};
 use std::alloc::{AllocError, Global};
+use std::fmt::Debug;
+use std::process::Abort;
+
+/// The value is the one that is wanted of this.
+pub fn same<T: Debug + PartialEq, C: Debug>(rt: &impl Abort, got: &T, want: &T, of: &C) {
+    assert_eq!(rt; *got, *want, "{of:?}");
+}
+
+/// It holds of this.
+pub fn holds<C: Debug>(rt: &impl Abort, is_so: bool, of: &C) {
+    assert!(rt; is_so, "{of:?}");
+}
 
 /// The media source of the channel.
 pub const SOURCE: u32 = 0x1122_3344;

@@ -1,7 +1,7 @@
 //! Two channels, worked out by hand.
 ghost use Rattle.std.specs.Prelude.{◌≡◌, ◌+◌, ◌<◌, OnOk, length};
 
-use crate::fixtures::CHANNEL;
+use crate::fixtures::{CHANNEL, holds, same};
 use crate::row::Given::{Asks, Start, Tick};
 use crate::row::{Given, event_of, text_of};
 use channel_config::Config;
@@ -15,7 +15,7 @@ use std::test::Fail;
 /// The channel that an event names, the event, and the notes of each channel that answers it.
 type Step = (u16, Given, &'static str);
 
-const STEPS: [Step; 6] = [
+const STEPS: &[Step] = &[
     (7, Start(10, 0, 4), "7 [Live(Took(65546))]\n"),
     (8, Start(20, 0, 4), "8 [Live(Took(65556))]\n"),
     (9, Start(10, 0, 4), "no channel 9"),
@@ -40,8 +40,30 @@ fn add(rt: &impl Abort, alloc: Global, hub: &mut Hub, id: u16, share: u64) -> Re
     settings.id = id;
     settings.share = share;
     let config = Config::check(settings, hub.tick_ms()).expect(rt, "lawful settings");
-    assert_eq!(rt; config.tick_ms(), hub.tick_ms());
+    assert!(rt; config.tick_ms() == hub.tick_ms());
     hub.add(alloc, config)
+}
+
+// A channel's number and share, and whether it is added.
+type Added = (u16, u64, Result<(), AddFault>);
+
+const TWO_CHANNELS: &[Added] = &[(7, 10_000, Ok(())), (8, 10_000, Ok(()))];
+
+// Behind the channels 1 to 63, each of a 64th of the link.
+const REFUSED: &[Added] = &[
+    (63, 6_001, Err(AddFault::Twice)),
+    (64, 6_001, Err(AddFault::Link)),
+    (64, 6_000, Ok(())),
+    (65, 6_000, Err(AddFault::Full)),
+    (1, 6_000, Err(AddFault::Full)),
+];
+
+fn expect_added(rt: &impl Abort, alloc: Global, hub: &mut Hub, rows: &[Added])
+    ensures { hub.new.calls ≡ hub.old.calls }
+{
+    for (id, share, want) in rows {
+        same(rt, &add(rt, alloc, hub, *id, *share), want, id);
+    }
 }
 
 fn event_at(alloc: Global, id: u16, given: Given) -> Result<HubEvent, Fail> {
@@ -75,7 +97,7 @@ fn expect_steps(rt: &impl Abort, alloc: Global, hub: &mut Hub, steps: &[Step]) -
     for (id, given, expected) in steps {
         let event = event_at(alloc, *id, *given)?;
         let answer = hub.step(alloc, &event)?;
-        assert_eq!(rt; text(alloc, &answer)?.as_str(), *expected);
+        same(rt, &text(alloc, &answer)?.as_str(), expected, id);
     }
     Ok(())
 }
@@ -83,38 +105,36 @@ fn expect_steps(rt: &impl Abort, alloc: Global, hub: &mut Hub, steps: &[Step]) -
 // Each event goes to its channel alone, and a tick to both.
 #[test]
 fn events_go_to_their_channels(rt: HostRuntime) -> Result<(), Fail> {
-    let alloc = rt.alloc();
-    let mut hub = Hub::new(alloc, 10, 100_000)?;
-    assert_eq!(rt; (hub.tick_ms(), hub.link()), (10, 100_000));
-    assert_eq!(rt; add(&rt, alloc, &mut hub, 7, 10_000), Ok(()));
-    assert_eq!(rt; add(&rt, alloc, &mut hub, 8, 10_000), Ok(()));
-    expect_steps(&rt, alloc, &mut hub, &STEPS)?;
-    assert_eq!(rt; hub.hi(7), Some(65547));
-    assert_eq!(rt; hub.hi(9), None);
+    let mut hub = Hub::new(rt.alloc(), 10, 100_000)?;
+    same(
+        &rt,
+        &(hub.tick_ms(), hub.link()),
+        &(10, 100_000),
+        &"tick and link",
+    );
+    expect_added(&rt, rt.alloc(), &mut hub, TWO_CHANNELS);
+    expect_steps(&rt, rt.alloc(), &mut hub, STEPS)?;
+    same(&rt, &(hub.hi(7), hub.hi(9)), &(Some(65547), None), &"hi");
     Ok(())
+}
+
+// A hub of 63 channels.
+fn with_63_channels(rt: &impl Abort, alloc: Global) -> Result<Hub, Fail> {
+    let mut hub = Hub::new(alloc, 10, 64 * 6_000)?;
+    for id in 1..=63 {
+        same(rt, &add(rt, alloc, &mut hub, id, 6_000), &Ok(()), &id);
+    }
+    Ok(hub)
 }
 
 // The first of the faults is the one that is answered: 64 channels, then a number that is known, then
 // the link.
 #[test]
 fn refused_channels(rt: HostRuntime) -> Result<(), Fail> {
-    let alloc = rt.alloc();
-    let mut hub = Hub::new(alloc, 10, 64 * 6_000)?;
-    for id in 1..=63 {
-        assert_eq!(rt; add(&rt, alloc, &mut hub, id, 6_000), Ok(()));
-    }
-    let cases: [(u16, u64, Result<(), AddFault>); 5] = [
-        (63, 6_001, Err(AddFault::Twice)),
-        (64, 6_001, Err(AddFault::Link)),
-        (64, 6_000, Ok(())),
-        (65, 6_000, Err(AddFault::Full)),
-        (1, 6_000, Err(AddFault::Full)),
-    ];
-    for (id, share, expected) in cases {
-        assert_eq!(rt; add(&rt, alloc, &mut hub, id, share), expected);
-    }
+    let mut hub = with_63_channels(&rt, rt.alloc())?;
+    expect_added(&rt, rt.alloc(), &mut hub, REFUSED);
     let last = hub.config(64).map(|config| config.channel().id);
-    assert_eq!(rt; last, Some(64));
-    assert_eq!(rt; hub.config(65).is_none(), true);
+    same(&rt, &last, &Some(64), &"the last channel");
+    holds(&rt, hub.config(65).is_none(), &"channel 65");
     Ok(())
 }

@@ -1,5 +1,5 @@
 //! New parts, by what their own calls say of them.
-use crate::fixtures::CHANNEL;
+use crate::fixtures::{CHANNEL, same};
 use channel_config::{Channel, Config};
 use channel_parts::{AdmitFault, Parts};
 use std::alloc::Global;
@@ -26,29 +26,45 @@ fn parts(alloc: Global) -> Result<Parts, Fail> {
 #[test]
 fn new_parts_are_empty(rt: HostRuntime) -> Result<(), Fail> {
     let parts = parts(rt.alloc())?;
-    assert_eq!(rt; *parts.config.channel(), SETTINGS);
-    assert_eq!(rt; (parts.cache.lo(), parts.cache.hi()), (0, 0));
-    assert_eq!(rt; parts.table.count(), 0);
-    assert_eq!(rt; parts.queue.pending().len(), 0);
-    assert_eq!(rt; (parts.budget.reserved(), parts.budget.left()), (0, 0));
+    same(&rt, parts.config.channel(), &SETTINGS, &"settings");
+    same(
+        &rt,
+        &(parts.cache.lo(), parts.cache.hi()),
+        &(0, 0),
+        &"cache",
+    );
+    let counts = (parts.table.count(), parts.queue.pending().len());
+    same(&rt, &counts, &(0, 0), &"clients and repairs");
+    same(
+        &rt,
+        &(parts.budget.reserved(), parts.budget.left()),
+        &(0, 0),
+        &"budget",
+    );
     Ok(())
 }
 
-// Bursts have the share but for the reserve, a tick that sends nothing keeps the swell, and as many
-// clients are known as the settings allow.
+// Bursts have the share but for the reserve, and a tick that sends nothing keeps the swell.
 #[test]
 fn new_parts_have_the_amounts_of_the_settings(rt: HostRuntime) -> Result<(), Fail> {
     let mut parts = parts(rt.alloc())?;
-    assert!(rt; !parts.budget.reserve(8401));
-    assert!(rt; parts.budget.reserve(8400));
+    let reserved = (parts.budget.reserve(8401), parts.budget.reserve(8400));
+    same(&rt, &reserved, &(false, true), &"reserve");
     parts.budget.open_tick();
-    assert_eq!(rt; parts.budget.left(), 10000);
+    let first = parts.budget.left();
     parts.budget.open_tick();
-    assert_eq!(rt; parts.budget.left(), 10060);
+    same(&rt, &(first, parts.budget.left()), &(10000, 10060), &"left");
+    Ok(())
+}
+
+// As many clients are known as the settings allow.
+#[test]
+fn one_client_is_known(rt: HostRuntime) -> Result<(), Fail> {
+    let mut parts = parts(rt.alloc())?;
     assert!(rt; parts.table.find(9).is_none());
     parts.table.admit(rt.alloc(), 9, 9, 500)?;
     assert!(rt; parts.table.find(5).is_none());
     let second = parts.table.admit(rt.alloc(), 5, 5, 500);
-    assert_eq!(rt; second, Err(AdmitFault::Full));
+    same(&rt, &second, &Err(AdmitFault::Full), &"the second client");
     Ok(())
 }

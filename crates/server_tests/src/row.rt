@@ -1,7 +1,7 @@
 //! What a row of a table is, and how it is run.
 ghost use Rattle.std.specs.Prelude.{◌≡◌, ◌+◌, ◌<◌, ◌^◌, IfOk, length};
 
-use crate::fixtures::{REQUEST, SOURCE, bytes_of};
+use crate::fixtures::{REQUEST, SOURCE, bytes_of, same};
 use channel_config::{Channel, Config};
 use rams_model::{Answer, Event, Info, Octets, Order};
 use session_core::{Core, Stepped};
@@ -113,21 +113,22 @@ fn expect<S: Stepped>(
     for (given, notes, orders, info) in rows {
         let event = event_of(alloc, *given)?;
         let answer = stepped.step(alloc, &event)?;
-        let noted = text_of(alloc, &answer)?;
-        assert_eq!(rt; (noted.as_str(), answer.orders.len()), (*notes, *orders));
-        assert_eq!(rt; told(&answer), *info, "{notes}");
+        same(rt, &text_of(alloc, &answer)?.as_str(), notes, given);
+        same(rt, &answer.orders.len(), orders, notes);
+        same(rt, &told(&answer), info, notes);
     }
     Ok(())
 }
 
-/// The same, from a channel's first event on.
-pub fn expect_all(
-    rt: &impl Abort,
-    alloc: Global,
-    channel: Channel,
-    rows: &[Row],
-) -> Result<(), Fail> {
-    assert!(rt; rows.len() < 1000);
-    let mut core = new_core(alloc, channel)?;
-    expect(rt, alloc, &mut core, rows)
+/// A channel, and what comes to it from its first event on.
+pub type Case = (Channel, &'static [Row]);
+
+/// Each case's events are answered as its rows say.
+pub fn expect_all(rt: &impl Abort, alloc: Global, cases: &[Case]) -> Result<(), Fail> {
+    for (channel, rows) in cases {
+        assert!(rt; rows.len() < 1000);
+        let mut core = new_core(alloc, *channel)?;
+        expect(rt, alloc, &mut core, rows)?;
+    }
+    Ok(())
 }

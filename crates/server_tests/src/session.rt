@@ -1,12 +1,12 @@
 //! A channel's events, worked out by hand.
 use crate::fixtures::{BYE, CHANNEL, NACK, SENDER, SOURCE, STOP};
 use crate::row::Given::{Asks, Heard, Next, Start, Tick};
-use crate::row::{Row, expect_all};
+use crate::row::{Case, Row, expect_all};
 use rams_model::Info;
 use std::test::Fail;
 
 /// A repair is sent behind the burst; what the burst will send isn't repaired.
-const EVENTS: [Row; 7] = [
+const EVENTS: &[Row] = &[
     (Start(65534, 0, 4), "[Live(Took(131070))]", 0, None),
     (Next(65535, 900, 4), "[Live(Took(131071))]", 0, None),
     (
@@ -48,7 +48,9 @@ const EVENTS: [Row; 7] = [
     ),
 ];
 
+const CASES: &[Case] = &[(CHANNEL, EVENTS)];
+
 #[test]
 fn a_channel_answers(rt: HostRuntime) -> Result<(), Fail> {
-    expect_all(&rt, rt.alloc(), CHANNEL, &EVENTS)
+    expect_all(&rt, rt.alloc(), CASES)
 }

@@ -1,7 +1,7 @@
 //! Ticks of a channel, worked out by hand.
-use crate::fixtures::{CHANNEL, NACK, SENDER, SOURCE, STOP};
+use crate::fixtures::{CHANNEL, NACK, SENDER, SOURCE, STOP, same};
 use crate::row::Given::{Asks, Heard, Next, Start, Tick};
-use crate::row::{Row, expect_all};
+use crate::row::{Case, Row, expect_all};
 use channel_config::{Channel, Config};
 use rams_model::Info;
 use std::test::Fail;
@@ -28,7 +28,7 @@ const COMPLETED: Info = Info {
 };
 
 /// A burst sends what fits, and ends at its stop.
-const STOPPED: [Row; 7] = [
+const STOPPED: &[Row] = &[
     (Start(65534, 0, 4), "[Live(Took(131070))]", 0, None),
     (Next(65535, 900, 4), "[Live(Took(131071))]", 0, None),
     (Next(0, 1800, 4), "[Live(Took(131072))]", 0, None),
@@ -63,7 +63,7 @@ const KEEPING: Channel = Channel {
 
 /// Packets of 1,500 bytes. Each tick gives the burst 2,999 bytes beside what it kept: it has 2,999, 4,498
 /// and 4,497. Then it has caught up.
-const KEPT: [Row; 10] = [
+const KEPT: &[Row] = &[
     (Start(10, 0, 1458), "[Live(Took(65546))]", 0, None),
     (Next(11, 900, 1458), "[Live(Took(65547))]", 0, None),
     (Next(12, 1800, 1458), "[Live(Took(65548))]", 0, None),
@@ -102,7 +102,7 @@ const SHORT: Channel = Channel {
 };
 
 /// A ring of four packets: of six the first two are gone.
-const LOST: [Row; 9] = [
+const LOST: &[Row] = &[
     (Start(10, 0, 4), "[Live(Took(65546))]", 0, None),
     (Next(11, 900, 4), "[Live(Took(65547))]", 0, None),
     (
@@ -138,7 +138,7 @@ const BRIEF: Channel = Channel {
 };
 
 /// Bursts of one tick, which are served by rising client.
-const LAST_TICK: [Row; 4] = [
+const LAST_TICK: &[Row] = &[
     (Start(10, 0, 4), "[Live(Took(65546))]", 0, None),
     (
         Asks(6, &[]),
@@ -174,7 +174,7 @@ const SLOW: Channel = Channel {
 
 /// Of 1,600 bytes a tick 1,500 are taken; the second packet waits, and the small one behind it doesn't.
 /// A client is forgotten in its second tick without a pending repair.
-const REPAIRED: [Row; 8] = [
+const REPAIRED: &[Row] = &[
     (Start(10, 0, 1458), "[Live(Took(65546))]", 0, None),
     (Next(11, 900, 1458), "[Live(Took(65547))]", 0, None),
     (Next(12, 1800, 4), "[Live(Took(65548))]", 0, None),
@@ -200,13 +200,17 @@ const SWELLING: Channel = Channel {
     ..CHANNEL
 };
 
+const CASES: &[Case] = &[
+    (CHANNEL, STOPPED),
+    (KEEPING, KEPT),
+    (SHORT, LOST),
+    (BRIEF, LAST_TICK),
+    (SLOW, REPAIRED),
+];
+
 #[test]
 fn bursts_and_repairs_are_sent(rt: HostRuntime) -> Result<(), Fail> {
-    expect_all(&rt, rt.alloc(), CHANNEL, &STOPPED)?;
-    expect_all(&rt, rt.alloc(), KEEPING, &KEPT)?;
-    expect_all(&rt, rt.alloc(), SHORT, &LOST)?;
-    expect_all(&rt, rt.alloc(), BRIEF, &LAST_TICK)?;
-    expect_all(&rt, rt.alloc(), SLOW, &REPAIRED)
+    expect_all(&rt, rt.alloc(), CASES)
 }
 
 // Ticks of a channel to which nothing came: its budget keeps up to the swell.
@@ -214,11 +218,16 @@ fn bursts_and_repairs_are_sent(rt: HostRuntime) -> Result<(), Fail> {
 fn quiet_ticks(rt: HostRuntime) -> Result<(), Fail> {
     let mut parts = Parts::new(rt.alloc(), &Config::check(SWELLING, 10)?)?;
     let first = plan_tick(rt.alloc(), &parts)?;
-    assert_eq!(rt; (first.answer.notes.len(), first.done.len()), (0, 0));
+    same(
+        &rt,
+        &(first.answer.notes.len(), first.done.len()),
+        &(0, 0),
+        &"the first tick",
+    );
     commit_tick(&mut parts, &first);
-    assert_eq!(rt; parts.budget.left(), 10000);
+    same(&rt, &parts.budget.left(), &10000, &"the first tick");
     let second = plan_tick(rt.alloc(), &parts)?;
     commit_tick(&mut parts, &second);
-    assert_eq!(rt; parts.budget.left(), 11400);
+    same(&rt, &parts.budget.left(), &11400, &"the second tick");
     Ok(())
 }
