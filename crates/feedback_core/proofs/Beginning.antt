@@ -1,16 +1,14 @@
 -- What the parts say as a datagram that frames begins.
-use Rattle.std.proofs.Common.{◌≡◌, ℕ, ◌+◌, ◌≤◌, true, false, List, [], ◌∷◌, length, Option, Some, None, refl, ap, sym, ◌∙◌, subst, arith, eqb, ltb, ◌-◌, length-drop}
+use Rattle.std.proofs.Common.{◌≡◌, ℕ, ◌+◌, ◌≤◌, true, false, List, [], ◌∷◌, length, Option, Some, None, refl, ap, sym, ◌∙◌, subst, arith, eqb, ltb}
 use Rattle.std.specs.Prelude.{is_some, option_map, option_to_list, IfSome, IsSome, All}
 use Rattle.std.specs.List.{list_any, AllByRecursion as Each}
 use Rattle.std.proofs.lemmas.Bool.{cond-true, or_from, both_ways, eq-eqb, ne_eqb}
 use Rattle.std.proofs.lemmas.List.Elements.{recursion_from_All}
 use Rattle.rams_model.specs.declared.event.Event.{Event}
-use Rattle.rams_model.specs.declared.held.Held.{Held}
 use Rattle.rams_model.specs.declared.message.Info.{Info}
-use Rattle.rams_model.specs.Service.{Settings, Message, feedback, began, History, arrivals, hold, known, is_among, without, sendings, ssrc, bursts, open_burst, Wanted, pending, quiet_ticks, reserved, channel_left, info_order, newest_notes, newest_orders, history_of}
-use Rattle.rams_model.specs.Packets.{lo, hi, last_of, Follows, consecutive_end, source, stream_of}
-use Rattle.rams_model.specs.Packets.Source as sources
+use Rattle.rams_model.specs.Service.{Settings, Message, feedback, began, History, known, is_among, without, sendings, ssrc, bursts, open_burst, Wanted, pending, quiet_ticks, reserved, channel_left, info_order, newest_notes, newest_orders, history_of}
 use Rattle.rams_model.specs.Service.Bursts as model
+use Rattle.rams_model.proofs.Holding.{ends_at, few_held}
 use Rattle.link_budget.specs.Amounts.{Amounts}
 use Rattle.client_table.specs.declared.entry.Burst.{Burst}
 use Rattle.client_table.specs.declared.entry.Entry.{Entry}
@@ -103,24 +101,6 @@ visit_begun p events k ms v st ke ee pe be =
 pub page_begun : (s : Settings) (k j : ℕ) (ms : List Message) (history : History) (page : Page) → page.notes.items ≡ [] → page.info ≡ None → IsPage s j (at_datagram k ms history) page
 unfolding newest_notes newest_orders
 page_begun s k j ms history page ne ie = record { notes = sym ne; orders = ap (λ (o : Option Info). option_to_list (option_map (info_order j) o)) (sym ie) }
-
--- what is held
-ends_from : (n : ℕ) (h : Held) (hs : List Held) → Follows n (h ∷ hs) → hi (h ∷ hs) ≡ n + length (h ∷ hs)
-unfolding hi
-ends_from n h [] f = omega (arith, f.0)
-ends_from n h (k ∷ hs) f = let rest = ends_from (n + 1) k hs f.1 in omega (arith, rest)
-
-ends_at : (hs : List Held) → Follows (lo hs) hs → hi hs ≡ lo hs + length hs
-unfolding hi
-ends_at [] f = omega arith
-ends_at (h ∷ hs) f = ends_from h.n h hs f
-
-few_last : (ring : ℕ) (hs : List Held) → length (last_of ring hs) ≤ ring
-few_last ring hs = omega (arith, length-drop (length hs - ring) hs)
-
-few_held : (s : Settings) (history : History) → length (hold s history) ≤ s.channel.ring
-unfolding sources.hold
-few_held s history = few_last s.channel.ring (consecutive_end (source s.channel.window (stream_of s.channel.window (arrivals history))))
 
 pub ready_is : (p : Parts) (events : List Event) → StandsFor p events → IsReady p.config p.cache
 ready_is p events st =

@@ -10,13 +10,13 @@ use Rattle.rams_model.specs.declared.note.Note.TheVariants as notes
 use Rattle.rams_model.specs.Service.{Settings, noted, History, hold, sequence, accept_info, refuse_info, info_order, update_order, again_order, order_of, Burst, begun, after_note, bursts, open_burst, reserved, Wanted, asked_rate, is_slow, is_too_much, is_full, begins, on_burst, on_request, verdict}
 use Rattle.rams_model.specs.Formats.{Request, names}
 use Rattle.rams_model.specs.Packets.{chosen}
+use Rattle.rams_model.proofs.OpenBurst.{open_updated}
 use Rattle.client_table.specs.declared.entry.Entry.{Entry}
 use Rattle.channel_parts.specs.{WasTold}
 use Rattle.feedback_core.specs.declared.visitor.Visitor.{Visitor}
 use Rattle.feedback_core.specs.{IsClient, IsVisit, IsSaid, last_of, info_for}
 use Rattle.feedback_core.proofs.Sayings.{said_one}
 use Rattle.feedback_core.proofs.Visiting.{open_accepted}
-use Rattle.feedback_core.proofs.Turning.{open_updated}
 
 -- what a request gets: a burst, or, where one is open, another rate or the same again, or a refusal
 abbrev IsReply : Settings → ℕ → History → Note → Type 0

@@ -7,57 +7,22 @@ use Rattle.rams_model.specs.declared.message.Info.{Info}
 use Rattle.rams_model.specs.declared.note.Cause.{Cause}
 use Rattle.rams_model.specs.declared.note.Cause.TheVariants as cause
 use Rattle.rams_model.specs.declared.note.Note.TheVariants as note
-use Rattle.rams_model.specs.Service.{Settings, noted, History, arrivals, known, is_among, sendings, ssrc, newest_sender, or_sender, update_info, bursts, kept, newest_changed, after_note, if_open, newest_open, open_burst, Wanted, wanted, pending, quiet_ticks, reserved}
+use Rattle.rams_model.specs.Service.{Settings, noted, History, arrivals, known, is_among, sendings, ssrc, newest_sender, or_sender, update_info, bursts, kept, open_burst, Wanted, wanted, pending, quiet_ticks, reserved}
 use Rattle.rams_model.specs.Service.Bursts as model
+use Rattle.rams_model.proofs.OpenBurst.{open_updated, open_stopped, end_closes}
+use Rattle.rams_model.proofs.Since.{known_step}
 use Rattle.link_budget.specs.Amounts.{Amounts}
 use Rattle.client_table.specs.declared.entry.Burst.{Burst}
 use Rattle.client_table.specs.declared.entry.Entry.{Entry}
 use Rattle.repair_queue.specs.Queue as queues
 use Rattle.channel_parts.specs.{WasTold, IsBudget, burst_kept}
-use Rattle.channel_parts.proofs.Knowing.{known_step, made_known}
+use Rattle.channel_parts.proofs.Knowing.{made_known}
 use Rattle.feedback_core.specs.declared.visitor.Open.{Open}
 use Rattle.feedback_core.specs.declared.visitor.Visitor.{Visitor}
 use Rattle.feedback_core.specs.{entry_under, IsUnknown, IsKnown, IsClient, IsVisit}
 use Rattle.feedback_core.proofs.Others.{others_noted, rest_noted, left_noted, quiet_noted}
 use Rattle.channel_parts.proofs.Facts.{updates_reserve, ends_release, other_notes_reserve_nothing}
 use Rattle.feedback_core.proofs.Visiting.{noted_visit, budget_changed, budget_same, idle_none, seq_of, idle_of, IsOpen}
-
--- a note that changes the open burst of its client
-burst_changed : (change : model.Burst → model.Burst) → ((b : model.Burst) → (change b).ended ≡ b.ended) → (bs : List model.Burst) (b : model.Burst) → newest_open bs ≡ Some b
-    → newest_open (newest_changed change bs) ≡ Some (change b)
-burst_changed change same [] b e = absurd cc
-burst_changed change same (a ∷ bs) b e = if_changed a b a.ended refl e
-  where
-    if_changed : (a b : model.Burst) (o : Option Cause) → a.ended ≡ o → if_open o a ≡ Some b → if_open (change a).ended (change a) ≡ Some (change b)
-    if_changed a b None ended e =
-        subst (λ (x : Option Cause). if_open x (change a) ≡ Some (change b)) (sym (same a ∙ ended)) (ap (λ (x : model.Burst). Some (change x)) (cc))
-    if_changed a b (Some why) ended e = absurd cc
-
-pub open_updated : (s : Settings) (k rate join : ℕ) (history : History) (b : model.Burst) → open_burst s k history ≡ Some b
-    → open_burst s k (noted (note.Update k rate join) None ∷ history) ≡ Some (after_note s (note.Update k rate join) 0 b)
-unfolding bursts
-open_updated s k rate join history b e =
-    let change = after_note s (note.Update k rate join) 0 in
-    ap newest_open (cond-true (eqb k k) (newest_changed change (bursts s k history)) (bursts s k history) (eq-eqb k k refl))
-    ∙ burst_changed change (λ a. refl) (bursts s k history) b e
-
-pub open_stop : (s : Settings) (k n : ℕ) (history : History) (b : model.Burst) → open_burst s k history ≡ Some b
-    → open_burst s k (noted (note.StopAt k n) None ∷ history) ≡ Some (after_note s (note.StopAt k n) 0 b)
-unfolding bursts
-open_stop s k n history b e =
-    let change = after_note s (note.StopAt k n) 0 in
-    ap newest_open (cond-true (eqb k k) (newest_changed change (bursts s k history)) (bursts s k history) (eq-eqb k k refl))
-    ∙ burst_changed change (λ a. refl) (bursts s k history) b e
-
-none_open : (s : Settings) (k : ℕ) (why : Cause) (bs : List model.Burst) → newest_open (newest_changed (after_note s (note.End k why) 0) bs) ≡ None
-none_open s k why [] = refl
-none_open s k why (b ∷ bs) = refl
-
-pub open_ended : (s : Settings) (k : ℕ) (why : Cause) (history : History) → open_burst s k (noted (note.End k why) None ∷ history) ≡ None
-unfolding bursts
-open_ended s k why history =
-    let change = after_note s (note.End k why) 0 in
-    ap newest_open (cond-true (eqb k k) (newest_changed change (bursts s k history)) (bursts s k history) (eq-eqb k k refl)) ∙ none_open s k why (bursts s k history)
 
 reserved_of : (s : Settings) (history : History) (budget : Amounts) → IsBudget s history budget → budget.reserved ≡ reserved s history
 reserved_of s history budget is = ap (λ (a : Amounts). a.reserved) is
@@ -102,7 +67,7 @@ stop_at s n before history v queue o is w =
     let m = note.StopAt v.client n in
     let b = is.burst in
     let e : Entry = record o.entry { burst = Some (record o.burst { stop = Some n }) } in
-    let is_open = open_stop s v.client n history b is.is_open in
+    let is_open = open_stopped s v.client n history b is.is_open in
     let client : IsKnown s v.client (noted m None ∷ history) e = record {
       is_known = is.known.is_known;
       entry_is = record {
@@ -134,7 +99,7 @@ unfolding ssrc sendings known pending
 ended s why before history v queue o budget is taken w =
     let n = note.End v.client why in
     let e : Entry = record o.entry { burst = None } in
-    let is_open = open_ended s v.client why history in
+    let is_open = end_closes s v.client why None history in
     let client : IsKnown s v.client (noted n None ∷ history) e = record {
       is_known = is.known.is_known;
       entry_is = record {
@@ -201,7 +166,7 @@ left_open s before history v queue later o budget is taken kept w =
         unknown = gone v.client history;
         unnamed = cond-true (eqb v.client v.client) None (ssrc v.client history) (eq-eqb v.client v.client refl);
         unsent = cond-true (eqb v.client v.client) 0 (sendings v.client history) (eq-eqb v.client v.client refl);
-        closed = open_ended s v.client cause.Bye middle;
+        closed = end_closes s v.client cause.Bye None middle;
         unasked = none_waits v.client history;
       };
       quiet = quiet_noted s m v.client None middle (quiet_noted s n v.client None history w.quiet);

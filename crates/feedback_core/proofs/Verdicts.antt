@@ -24,10 +24,10 @@ use Rattle.access_index.specs.declared.choice.Choice.TheVariants.{Start, NoStart
 use Rattle.client_table.specs.declared.entry.Burst.{Burst}
 use Rattle.client_table.specs.declared.entry.Entry.{Entry}
 use Rattle.channel_parts.specs.{IsBudget, burst_kept}
+use Rattle.channel_parts.proofs.Tables.{without_none}
 use Rattle.feedback_core.specs.declared.visitor.Open.{Open}
 use Rattle.feedback_core.specs.declared.visitor.Visitor.{Visitor}
 use Rattle.feedback_core.specs.{open_of, entry_under, begun_burst, IsClient, IsVisit, IsHeldRun, rate_for, IsAnswered}
-use Rattle.feedback_core.proofs.Others.{without_none}
 use Rattle.feedback_core.proofs.Visiting.{idle_visit, accepted, is_closed, is_opened}
 use Rattle.feedback_core.proofs.Turning.{updated}
 
@@ -246,15 +246,11 @@ starts_at held c n size r e (none is) = absurd cc
 starts_at held c n size r e (young is) = absurd cc
 starts_at held c n size r e (old is) = absurd cc
 
-codes : (held : List Held) (c : Choice) (r : Result Held ℕ) → IsChoice held c r → (c ≡ NoStart → r ≡ Err 507) × (c ≡ MinUnmet → r ≡ Err 401) × (c ≡ MaxUnmet → r ≡ Err 402)
-codes held c r (starts h is) = (λ e. absurd cc, λ e. absurd cc, λ e. absurd cc)
-codes held c r (none is) = (λ e. refl, λ e. absurd cc, λ e. absurd cc)
-codes held c r (young is) = (λ e. absurd cc, λ e. refl, λ e. absurd cc)
-codes held c r (old is) = (λ e. absurd cc, λ e. absurd cc, λ e. refl)
-
-pub refused_choice : (held : List Held) (c : Choice) (r : Result Held ℕ) → IsChoice held c r
-    → (c ≡ NoStart → r ≡ Err 507) × (c ≡ MinUnmet → r ≡ Err 401) × (c ≡ MaxUnmet → r ≡ Err 402)
-refused_choice held c r is = codes held c r is
+pub refused_choice : (held : List Held) (c : Choice) (r : Result Held ℕ) → IsChoice held c r → (c ≡ NoStart → r ≡ Err 507) × (c ≡ MinUnmet → r ≡ Err 401) × (c ≡ MaxUnmet → r ≡ Err 402)
+refused_choice held c r (starts h is) = (λ e. absurd cc, λ e. absurd cc, λ e. absurd cc)
+refused_choice held c r (none is) = (λ e. refl, λ e. absurd cc, λ e. absurd cc)
+refused_choice held c r (young is) = (λ e. absurd cc, λ e. refl, λ e. absurd cc)
+refused_choice held c r (old is) = (λ e. absurd cc, λ e. absurd cc, λ e. refl)
 
 among_below : (m : ℕ) (hs : List Held) (h : Held) → Follows m hs → IsAmong h hs → h.n < m + length hs
 among_below m [] h f a = absurd a

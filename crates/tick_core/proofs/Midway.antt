@@ -6,7 +6,7 @@ use Rattle.rams_model.specs.declared.held.Held.{Held}
 use Rattle.rams_model.specs.declared.note.Cause.{Cause}
 use Rattle.rams_model.specs.declared.note.Note.{Note}
 use Rattle.rams_model.specs.declared.note.Note.TheVariants.{Burst as BurstNote, Repair, Gone, End, Forgot}
-use Rattle.rams_model.specs.Service.{Settings, noted, History, hold, known, is_among, without, sendings, sequence, ssrc, next, kept, after_note, newest_open, size_of, bursts, open_burst, reserved, channel_left}
+use Rattle.rams_model.specs.Service.{Settings, noted, History, hold, known, is_among, without, sendings, sequence, ssrc, next, after_note, newest_open, size_of, bursts, open_burst, reserved, channel_left}
 use Rattle.rams_model.specs.Packets.{hi, following}
 use Rattle.rams_model.specs.Service.Bursts as model
 use Rattle.book_laws.specs.{IsMoment}
@@ -15,7 +15,7 @@ use Rattle.link_budget.specs.{amounts}
 use Rattle.link_budget.specs.Amounts.{Amounts}
 use Rattle.client_table.specs.declared.entry.Burst.{Burst}
 use Rattle.client_table.specs.declared.entry.Entry.{Entry}
-use Rattle.client_table.specs.{clients_of, entry_of, with_entry}
+use Rattle.client_table.specs.{clients_of, entry_of}
 use Rattle.client_table.specs.Clients.{Clients}
 use Rattle.client_table.specs.Clients as tables
 use Rattle.packet_ring.specs.{packet_of}
@@ -68,7 +68,7 @@ is_change f k t = change_by (entry_of t k) refl
       away = λ j differ. others-with_entry t k (f e) j differ;
     }
 
-mapped_some : (f : Entry → Entry) (o : Option Entry) (e : Entry) → option_map f o ≡ Some e → (x : Entry) × (o ≡ Some x) × (f x ≡ e)
+pub mapped_some : (f : Entry → Entry) (o : Option Entry) (e : Entry) → option_map f o ≡ Some e → (x : Entry) × (o ≡ Some x) × (f x ≡ e)
 mapped_some f None e is = absurd cc
 mapped_some f (Some x) e is = (x, refl, cc)
 

@@ -11,6 +11,7 @@ use Rattle.rams_model.specs.Service.{Settings, tick, began, noted, History, as_t
 use Rattle.rams_model.specs.Packets.{hi, from_number, following}
 use Rattle.rams_model.specs.Service.Bursts as model
 use Rattle.rams_model.specs.Service.Tick as ticks
+use Rattle.rams_model.proofs.OpenBurst.{changed_open}
 use Rattle.client_table.specs.declared.entry.Burst.{Burst}
 use Rattle.client_table.specs.declared.entry.Entry.{Entry}
 use Rattle.tick_core.specs.declared.allowance.Allowance.{Allowance}
@@ -19,15 +20,6 @@ use Rattle.tick_core.specs.{Drafted, with_packet, with_end, unsent, after_packet
 use Rattle.tick_core.proofs.Shown.{Shows, shows_burst, shows_end}
 
 -- ---- the open burst after a note of its client
-map_open : (o : Option Cause) (f : model.Burst → model.Burst) (b : model.Burst) → if_open o (f b) ≡ option_map f (if_open o b)
-map_open None f b = refl
-map_open (Some cause) f b = refl
-
--- a change that ends no burst
-pub changed_open : (f : model.Burst → model.Burst) → ((b : model.Burst) → (f b).ended ≡ b.ended) → (bs : List model.Burst) → newest_open (newest_changed f bs) ≡ option_map f (newest_open bs)
-changed_open f same [] = refl
-changed_open f same (b ∷ bs) = ap (λ (o : Option Cause). if_open o (f b)) (same b) ∙ map_open b.ended f b
-
 -- a change that ends the open one
 changed_ended : (f : model.Burst → model.Burst) (cause : Cause) → ((b : model.Burst) → (f b).ended ≡ Some cause) → (bs : List model.Burst) → newest_open (newest_changed f bs) ≡ None
 changed_ended f cause ends [] = refl
