@@ -14,7 +14,7 @@ use Rattle.client_table.specs.declared.entry.Burst.{Burst}
 use Rattle.client_table.specs.declared.entry.Entry.{Entry}
 use Rattle.client_table.specs.{entry_of}
 use Rattle.channel_parts.specs.declared.parts.Parts.{Parts}
-use Rattle.channel_parts.specs.{IsEntry, WasTold, StandsFor, burst_kept, IsBurstInBounds}
+use Rattle.channel_parts.specs.{IsEntry, StandsFor, burst_kept, IsBurstInBounds}
 use Rattle.channel_parts.proofs.Facts.{events_reserve_nothing, each_burst_is_reserved}
 use Rattle.channel_parts.proofs.Given.{held_packets_are_in_order, entries_are_in_bounds}
 use Rattle.channel_parts.proofs.Tables.{has_entry, entry_among}
@@ -49,12 +49,7 @@ woken_entry s k ms history e is = record {
   seq_is = is.seq_is;
   idle_is = sym (idle_none s k (at_datagram k ms history) (quiet_begun s k ms history));
   burst_is = is.burst_is;
-  told = told_woken (open_burst s k history) is.told;
 }
-  where
-    told_woken : (o : Option model.Burst) → WasTold o e → WasTold o (record e { idle = 0 })
-    told_woken None t = tt
-    told_woken (Some b) t = t
 
 client_begun : (p : Parts) (events : List Event) (k : ℕ) (ms : List Message) (o : Option Entry) → StandsFor p events → entry_of p.table k ≡ o
     → IsClient p.config k (at_datagram k ms (history_of p.config events)) (woken o)
@@ -124,9 +119,9 @@ kept_amount s k history b (Some m) oe e =
     let amount = each_burst_is_reserved s k m history oe in
     subst (λ (x : Burst). x.rate + s.channel.depth ≤ reserved s history) (sym same) amount
 
-burst_safe : (p : Parts) (events : List Event) (k : ℕ) (e : Entry) (b : Burst) (i : Info) (budget : Amounts) → StandsFor p events → entry_of p.table k ≡ Some e → budget ≡ p.budget
-    → e.burst ≡ Some b → IsSafeBurst p.config budget (record { entry = record e { idle = 0 }; burst = b; last = i })
-burst_safe p events k e b i budget st found be eb =
+burst_safe : (p : Parts) (events : List Event) (k : ℕ) (e : Entry) (b : Burst) (budget : Amounts) → StandsFor p events → entry_of p.table k ≡ Some e → budget ≡ p.budget
+    → e.burst ≡ Some b → IsSafeBurst p.config budget (record { entry = record e { idle = 0 }; burst = b })
+burst_safe p events k e b budget st found be eb =
     let s = p.config in
     let history = history_of s events in
     let bounds = subst (λ (x : Option Burst). IfSome x (IsBurstInBounds s p.cache.held)) eb (entries_are_in_bounds p events st k e found).burst in
@@ -141,15 +136,14 @@ burst_safe p events k e b i budget st found be eb =
     }
 
 safe_open : (p : Parts) (events : List Event) (k : ℕ) (e : Entry) (budget : Amounts) → StandsFor p events → entry_of p.table k ≡ Some e → budget ≡ p.budget
-    → (b : Option Burst) → e.burst ≡ b → (i : Option Info) → IfSome (open_in (record e { idle = 0 }) b i) (IsSafeBurst p.config budget)
-safe_open p events k e budget st found be None eb i = tt
-safe_open p events k e budget st found be (Some b) eb None = tt
-safe_open p events k e budget st found be (Some b) eb (Some i) = burst_safe p events k e b i budget st found be eb
+    → (b : Option Burst) → e.burst ≡ b → IfSome (open_in (record e { idle = 0 }) b) (IsSafeBurst p.config budget)
+safe_open p events k e budget st found be None eb = tt
+safe_open p events k e budget st found be (Some b) eb = burst_safe p events k e b budget st found be eb
 
 safe_of : (p : Parts) (events : List Event) (k : ℕ) (o : Option Entry) (budget : Amounts) → StandsFor p events → entry_of p.table k ≡ o → budget ≡ p.budget
     → IfSome (open_of (woken o)) (IsSafeBurst p.config budget)
 safe_of p events k None budget st found be = tt
-safe_of p events k (Some e) budget st found be = safe_open p events k e budget st found be e.burst refl e.last
+safe_of p events k (Some e) budget st found be = safe_open p events k e budget st found be e.burst refl
 
 pub safe_begun : (p : Parts) (events : List Event) (k : ℕ) (v : Visitor) → StandsFor p events → v.entry ≡ woken (entry_of p.table k) → v.budget ≡ p.budget
     → (IsSome v.entry → v.has_place ≡ true) → IsSafe p.config v

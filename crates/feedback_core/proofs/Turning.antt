@@ -1,21 +1,19 @@
 -- What an Update, a StopAt, an End, a Bye and a Queued make of what is kept of their client.
-use Rattle.std.proofs.Common.{◌≡◌, ℕ, ◌+◌, ◌-◌, ◌≤◌, Bool, false, not, ◌&&◌, List, [], ◌∷◌, ◌++◌, Option, Some, None, refl, ap, sym, ◌∙◌, subst, eqb, ltb}
+use Rattle.std.proofs.Common.{◌≡◌, ℕ, ◌+◌, ◌-◌, ◌≤◌, Bool, false, not, ◌&&◌, List, [], ◌∷◌, ◌++◌, Option, Some, None, refl, ap, sym, ◌∙◌, eqb, ltb}
 use Rattle.std.specs.Prelude.{◌==◌, filter, length, option_map}
 use Rattle.std.specs.List.{list_any}
 use Rattle.std.proofs.lemmas.Bool.{cond_both, cond-true, eq-eqb, or_from, not-true}
-use Rattle.rams_model.specs.declared.message.Info.{Info}
 use Rattle.rams_model.specs.declared.note.Cause.{Cause}
 use Rattle.rams_model.specs.declared.note.Cause.TheVariants as cause
 use Rattle.rams_model.specs.declared.note.Note.TheVariants as note
 use Rattle.rams_model.specs.Service.{Settings, noted, History, arrivals, known, is_among, sendings, ssrc, newest_sender, or_sender, update_info, bursts, kept, open_burst, Wanted, wanted, pending, quiet_ticks, reserved}
-use Rattle.rams_model.specs.Service.Bursts as model
 use Rattle.rams_model.proofs.OpenBurst.{open_updated, open_stopped, end_closes}
 use Rattle.rams_model.proofs.Since.{known_step}
 use Rattle.link_budget.specs.Amounts.{Amounts}
 use Rattle.client_table.specs.declared.entry.Burst.{Burst}
 use Rattle.client_table.specs.declared.entry.Entry.{Entry}
 use Rattle.repair_queue.specs.Queue as queues
-use Rattle.channel_parts.specs.{WasTold, IsBudget, burst_kept}
+use Rattle.channel_parts.specs.{IsBudget, burst_kept}
 use Rattle.channel_parts.proofs.Knowing.{made_known}
 use Rattle.feedback_core.specs.declared.visitor.Open.{Open}
 use Rattle.feedback_core.specs.declared.visitor.Visitor.{Visitor}
@@ -31,14 +29,14 @@ reserved_of s history budget is = ap (λ (a : Amounts). a.reserved) is
 pub updated : (s : Settings) (rate join : ℕ) (before history : History) (v : Visitor) (queue : List Wanted) (o : Open) (budget : Amounts) → IsOpen s history v o
     → budget ≡ record v.budget { reserved = v.budget.reserved - o.burst.rate + rate } → IsVisit s before history v queue
     → IsVisit s before (noted (note.Update v.client rate join) None ∷ history) (record v {
-      entry = Some (record o.entry { last = Some (update_info s o.last o.burst.ticks rate join); burst = Some (record o.burst { rate = rate }) });
+      entry = Some (record o.entry { burst = Some (record o.burst { rate = rate; last = update_info s o.burst.last o.burst.ticks rate join }) });
       budget = budget;
     }) queue
 unfolding ssrc sendings quiet_ticks known pending
 updated s rate join before history v queue o budget is taken w =
     let n = note.Update v.client rate join in
     let b = is.burst in
-    let e : Entry = record o.entry { last = Some (update_info s o.last o.burst.ticks rate join); burst = Some (record o.burst { rate = rate }) } in
+    let e : Entry = record o.entry { burst = Some (record o.burst { rate = rate; last = update_info s o.burst.last o.burst.ticks rate join }) } in
     let is_open = open_updated s v.client rate join history b is.is_open in
     let more : v.budget.reserved - o.burst.rate + rate ≡ reserved s (noted n None ∷ history) =
     ap (λ (a : ℕ). a - o.burst.rate + rate) (reserved_of s history v.budget w.budget_is)
@@ -52,9 +50,7 @@ updated s rate join before history v queue o budget is taken w =
         ssrc_is = is.known.entry_is.ssrc_is;
         seq_is = is.known.entry_is.seq_is;
         idle_is = is.known.entry_is.idle_is ∙ idle_none s v.client history w.quiet ∙ sym (idle_none s v.client (noted n None ∷ history) w.quiet);
-        burst_is = ap (λ (c : Burst). Some (record c { rate = rate })) is.burst_is ∙ ap (option_map (burst_kept s)) (sym is_open);
-        told = subst (λ (x : Option model.Burst). WasTold x e) (sym is_open)
-            (ap (λ (i : Info). Some (update_info s i o.burst.ticks rate join)) is.last_is ∙ ap (λ (c : Burst). Some (update_info s b.last c.ticks rate join)) is.burst_is);
+        burst_is = ap (λ (c : Burst). Some (record c { rate = rate; last = update_info s c.last c.ticks rate join })) is.burst_is ∙ ap (option_map (burst_kept s)) (sym is_open);
       };
     } in
     noted_visit s n before history v queue (Some e) budget queue refl w client is_budget w.queue_is
@@ -75,7 +71,6 @@ stop_at s n before history v queue o is w =
         seq_is = is.known.entry_is.seq_is;
         idle_is = is.known.entry_is.idle_is ∙ idle_none s v.client history w.quiet ∙ sym (idle_none s v.client (noted m None ∷ history) w.quiet);
         burst_is = ap (λ (c : Burst). Some (record c { stop = Some n })) is.burst_is ∙ ap (option_map (burst_kept s)) (sym is_open);
-        told = subst (λ (x : Option model.Burst). WasTold x e) (sym is_open) (subst (λ (x : Option model.Burst). WasTold x o.entry) is.is_open is.known.entry_is.told);
       };
     } in
     noted_visit s m before history v queue (Some e) v.budget queue refl w client
@@ -108,7 +103,6 @@ ended s why before history v queue o budget is taken w =
         idle_is = is.known.entry_is.idle_is ∙ idle_none s v.client history w.quiet
             ∙ sym (idle_none s v.client (noted n None ∷ history) (quiet_noted s n v.client None history w.quiet));
         burst_is = ap (option_map (burst_kept s)) (sym is_open);
-        told = subst (λ (x : Option model.Burst). WasTold x e) (sym is_open) tt;
       };
     } in
     noted_visit s n before history v queue (Some e) budget queue refl w client (released s why history v o budget is w.budget_is taken) w.queue_is
@@ -194,13 +188,6 @@ unfolding bursts
 bursts_queued s k n sender history None c = ap (option_map (burst_kept s)) (sym c.closed)
 bursts_queued s k n sender history (Some e) c = c.entry_is.burst_is
 
-told_queued : (s : Settings) (k n sender : ℕ) (history : History) (o : Option Entry) → IsClient s k history o
-    → WasTold (open_burst s k (noted (note.Queued k n) None ∷ history)) (entry_under o sender s.channel.seq0)
-unfolding bursts
-told_queued s k n sender history None c =
-    subst (λ (x : Option model.Burst). WasTold x (entry_under None sender s.channel.seq0)) (sym c.closed) tt
-told_queued s k n sender history (Some e) c = c.entry_is.told
-
 pub queued : (s : Settings) (n sender : ℕ) (before history : History) (v : Visitor) (queue : List Wanted) → s.channel.seq0 ≤ 65535 → newest_sender history ≡ Some sender
     → IsVisit s before history v queue
     → IsVisit s before (noted (note.Queued v.client n) None ∷ history) (record v { entry = Some (entry_under v.entry sender s.channel.seq0) }) (queue ++ wanted v.client n ∷ [])
@@ -214,7 +201,6 @@ queued s n sender before history v queue le from w =
         seq_is = seq_of s v.client history v.entry sender le w.client_is;
         idle_is = idle_of s v.client history v.entry sender w.quiet w.client_is ∙ sym (idle_none s v.client (noted m None ∷ history) w.quiet);
         burst_is = bursts_queued s v.client n sender history v.entry w.client_is;
-        told = told_queued s v.client n sender history v.entry w.client_is;
       };
     } in
     noted_visit s m before history v queue (Some (entry_under v.entry sender s.channel.seq0)) v.budget (queue ++ wanted v.client n ∷ []) refl w client

@@ -23,7 +23,7 @@ use Rattle.client_table.specs.Clients.{Clients}
 use Rattle.repair_queue.specs.{unmarked}
 use Rattle.channel_cache.specs.Seen as caches
 use Rattle.channel_parts.specs.declared.parts.Parts.{Parts}
-use Rattle.channel_parts.specs.{HaveLowNumbers, burst_kept, WasTold, IsEntry, IsTable, StandsFor}
+use Rattle.channel_parts.specs.{HaveLowNumbers, burst_kept, IsEntry, IsTable, StandsFor}
 use Rattle.channel_parts.proofs.Facts.{opened_are_the_known_with_bursts, only_known_clients_have_bursts, repairs_are_of_known_clients, held_numbers_are_small, events_reserve_nothing}
 use Rattle.channel_parts.proofs.Ordered.{known_rise}
 use Rattle.channel_parts.proofs.Given.{held_is, moment}
@@ -42,10 +42,6 @@ begun_shown : (s : Settings) (burst : Option Burst) (o : Option model.Burst) →
 begun_shown s burst None is = ap (option_map opened_for_tick) is
 begun_shown s burst (Some b) is = ap (option_map opened_for_tick) is
 
-begun_told : (s : Settings) (o : Option model.Burst) (e e2 : Entry) → e2.last ≡ e.last → WasTold o e → WasTold (option_map (in_tick s) o) e2
-begun_told s None e e2 same told = tt
-begun_told s (Some b) e e2 same told = same ∙ told
-
 entry_begins : (s : Settings) (counts : ℕ → ℕ) (k : ℕ) (ws : List Wanted) (before : History) (e : Entry) → IsEntry s k before e → idle_after ws k e ≡ counts k → IsMidEntry s counts k (began tick ∷ before) (entry_begun ws k e)
 unfolding ssrc sendings
 entry_begins s counts k ws before e is count = record {
@@ -53,7 +49,6 @@ entry_begins s counts k ws before e is count = record {
   seq_is = is.seq_is;
   idle_is = count;
   burst_is = begun_shown s e.burst (open_burst s k before) is.burst_is ∙ ap (option_map shown) (sym (tick_open s k before));
-  told = subst (λ (o : Option model.Burst). WasTold o (entry_begun ws k e)) (sym (tick_open s k before)) (begun_told s (open_burst s k before) e (entry_begun ws k e) refl is.told);
 }
 
 mid_begins : (p : Parts) (events : List Event) (counts : ℕ → ℕ) (c : Committed) → StandsFor p events → ((k : ℕ) (e : Entry) → entry_of p.table k ≡ Some e → idle_after p.queue k e ≡ counts k)
@@ -78,10 +73,6 @@ ended_shown : (s : Settings) (burst : Option Burst) (o : Option model.Burst) →
 ended_shown s burst None is = ap (option_map (burst_ended s.channel.depth)) is
 ended_shown s burst (Some b) is = ap (option_map (burst_ended s.channel.depth)) is
 
-told_still : (o : Option model.Burst) (e e2 : Entry) → e2.last ≡ e.last → WasTold o e → WasTold o e2
-told_still None e e2 same told = tt
-told_still (Some b) e e2 same told = same ∙ told
-
 table_ends : (s : Settings) (end : History) (c : Committed) (table : Clients) → IsMid s (λ k. idle s k end) end c → ((k : ℕ) → is_among k (known end) ≡ false → open_burst s k end ≡ None)
     → AreAllChanged (λ k. entry_ended s.channel.depth) c.table table → IsTable s end table
 table_ends s end c table mid others change = record {
@@ -95,7 +86,6 @@ table_ends s end c table mid others change = record {
         seq_is = is.seq_is;
         idle_is = is.idle_is;
         burst_is = ended_shown s x.0.burst (open_burst s k end) is.burst_is;
-        told = told_still (open_burst s k end) x.0 (entry_ended s.channel.depth x.0) refl is.told;
       });
   others = others;
 }

@@ -25,7 +25,7 @@ use Rattle.client_table.proofs.ChangedAll.{same_key}
 use Rattle.link_budget.specs.Amounts.{Amounts}
 use Rattle.repair_queue.specs.{IsWithinLimits}
 use Rattle.channel_parts.specs.declared.parts.Parts.{Parts}
-use Rattle.channel_parts.specs.{burst_kept, WasTold, IsEntry, StandsFor}
+use Rattle.channel_parts.specs.{burst_kept, IsEntry, StandsFor}
 use Rattle.channel_parts.proofs.Given.{held_is as held_are}
 use Rattle.tick_core.specs.{new_draft, allowances_of, Repaired, Rise, clients_of, idle_after, begun_left, drafted_runs, drafted_repairs, drafted_tick, planned_answer, planned_flags, is_over}
 use Rattle.tick_core.proofs.Sparing.{GoesOn, then, kept as kept_by, spares, serves, known_kept, arrivals_kept}
@@ -38,13 +38,13 @@ use Rattle.tick_core.proofs.Idling.{IsServedIn, none_runs, none_repairs, idle_is
 use Rattle.tick_core.proofs.Flags.{all_served_end_none, forgotten_end_none, flags_say, limits_differ}
 
 -- ---- what is kept of a client as a tick begins
-alike : (s : Settings) (e : Entry) (burst : Option Burst) (o : Option model.Burst) → burst ≡ option_map (burst_kept s) o → WasTold o e → AreBothAlike e.last burst (option_map (in_tick s) o)
-alike s e None None is told = tt
-alike s e None (Some b) is told = absurd cc
-alike s e (Some eb) None is told = absurd cc
-alike s e (Some eb) (Some b) is told =
+alike : (s : Settings) (burst : Option Burst) (o : Option model.Burst) → burst ≡ option_map (burst_kept s) o → AreBothAlike burst (option_map (in_tick s) o)
+alike s None None is = tt
+alike s None (Some b) is = absurd cc
+alike s (Some eb) None is = absurd cc
+alike s (Some eb) (Some b) is =
     let same : eb ≡ burst_kept s b = cc in
-    subst (λ (x : Burst). AreAlike e.last x (in_tick s b)) (sym same) (record { next_is = refl; stop_is = refl; ticks_is = refl; left_is = refl; last_is = told })
+    subst (λ (x : Burst). AreAlike x (in_tick s b)) (sym same) (record { next_is = refl; stop_is = refl; ticks_is = refl; left_is = refl; last_is = refl })
 
 cap_alike : (s : Settings) (burst : Option Burst) (o : Option model.Burst) → burst ≡ option_map (burst_kept s) o → budget_of s (option_map (in_tick s) o) ≡ cap_by s burst
 cap_alike s burst None is = ap (cap_by s) (sym is)
@@ -54,7 +54,7 @@ ready : (s : Settings) (k : ℕ) (history : History) (e : Entry) → IsEntry s k
 unfolding sendings as_tick_began sent_now
 ready s k history e is = record {
   seq_is = sym is.seq_is;
-  burst_is = subst (AreBothAlike e.last e.burst) (sym (tick_open s k history)) (alike s e e.burst (open_burst s k history) is.burst_is is.told);
+  burst_is = subst (AreBothAlike e.burst) (sym (tick_open s k history)) (alike s e.burst (open_burst s k history) is.burst_is);
   cap_is = ap (budget_of s) (tick_open s k history) ∙ cap_alike s e.burst (open_burst s k history) is.burst_is;
   no_run = refl;
   no_repair = refl;

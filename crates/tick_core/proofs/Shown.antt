@@ -61,7 +61,7 @@ pub shows_forgot : (s : Settings) (history : History) (k : ℕ) (d : Drafted) �
 unfolding order_of
 shows_forgot s history k d shows = no_order s history (Forgot k) d refl refl shows
 
-pub shows_end : (s : Settings) (history : History) (k : ℕ) (cause : Cause) (b : model.Burst) (last : Option Info) (d : Drafted) → open_burst s k history ≡ Some b → last ≡ Some b.last → Shows s history d
+pub shows_end : (s : Settings) (history : History) (k : ℕ) (cause : Cause) (b : model.Burst) (last : Info) (d : Drafted) → open_burst s k history ≡ Some b → last ≡ b.last → Shows s history d
     → Shows s (noted (End k cause) None ∷ history) (with_end d k last (Some cause))
 unfolding order_of
 shows_end s history k cause b last d open_is last_is shows =
