@@ -1,20 +1,15 @@
 -- How notes change what is read off the open bursts.
-use Rattle.std.proofs.Common.{◌≡◌, ℕ, ◌+◌, ◌-◌, ◌≤◌, Bool, true, false, cond, List, [], ◌∷◌, Option, Some, None, refl, ap, sym, ◌∙◌, arith, eqb}
+use Rattle.std.proofs.Common.{◌≡◌, ℕ, ◌+◌, ◌-◌, ◌≤◌, Bool, true, false, cond, List, [], ◌∷◌, Option, Some, None, refl, ap, ◌∙◌, arith, eqb}
 use Rattle.std.specs.Prelude.{is_some}
 use Rattle.std.proofs.lemmas.Bool.{cond_both, cond-true, cond-false, eq-eqb}
 use Rattle.rams_model.specs.declared.held.Held.{Held}
 use Rattle.rams_model.specs.declared.note.Cause.{Cause}
 use Rattle.rams_model.specs.declared.note.Note.{Note}
 use Rattle.rams_model.specs.declared.note.Note.TheVariants as note
-use Rattle.rams_model.specs.Service.{Settings, tick, began, noted, History, opened, is_among, sequence, Burst, begun, in_tick, after_note, newest_changed, bursts_after, size_of, bursts, is_of, if_open, newest_open, open_burst, has_open, most_of}
+use Rattle.rams_model.specs.Service.{Settings, tick, began, noted, History, opened, is_among, sequence, Burst, begun, in_tick, after_note, newest_changed, bursts_after, size_of, bursts, is_of, if_open, newest_open, open_burst, most_of}
 use Rattle.rams_model.specs.Laws.{is_sending_to}
-use Rattle.rams_model.proofs.Since.{opened_stands}
-use Rattle.rams_model.proofs.LastAccept.{open_stands}
+use Rattle.rams_model.proofs.LastAccept.{opened_open}
 use Rattle.book_laws.specs.{left_of}
-
--- the clients over whom is summed are those with an open burst
-pub opened_open : (s : Settings) (k : ℕ) (history : History) → is_among k (opened history) ≡ has_open s k history
-opened_open s k history = opened_stands k history ∙ sym (open_stands s k history)
 
 pub open_among : (s : Settings) (k : ℕ) (history : History) (b : Burst) → open_burst s k history ≡ Some b → is_among k (opened history) ≡ true
 open_among s k history b e = opened_open s k history ∙ ap is_some e

@@ -10,7 +10,7 @@ use Rattle.rams_model.specs.declared.note.Cause.{Cause}
 use Rattle.rams_model.specs.declared.note.Note.{Note}
 use Rattle.rams_model.specs.declared.note.Cause.TheVariants as cause
 use Rattle.rams_model.specs.declared.note.Note.TheVariants as note
-use Rattle.rams_model.specs.Service.{Settings, stop_of, Message, bye, nack, asks, stops, Heard, live, dropped, feedback, unframed, tick, heard_of, began, told, noted, History, arrivals, hold, known, opened, is_among, sendings, sequence, ssrc, Burst, next, after_note, newest_changed, bursts, newest_open, open_burst, has_open, pending, is_before, stop_set, on_stop, stop_burst, after_stop, is_bye_of, after_bye, after_message, run, send, is_lost, is_stop, after_run, burst_served, all_served, bursts_served, repairs_sent, idle_forgotten, after_tick, after_hearing, history_of}
+use Rattle.rams_model.specs.Service.{Settings, stop_of, Message, bye, nack, asks, stops, Heard, live, tick, heard_of, began, told, noted, History, arrivals, hold, known, opened, is_among, sendings, sequence, ssrc, Burst, next, after_note, newest_changed, bursts, newest_open, open_burst, has_open, pending, is_before, stop_set, on_stop, stop_burst, after_stop, is_bye_of, after_bye, after_message, run, send, is_lost, is_stop, after_run, burst_served, all_served, bursts_served, repairs_sent, idle_forgotten, after_tick, history_of}
 use Rattle.rams_model.specs.Formats.{Framed}
 use Rattle.rams_model.specs.Packets.{lo, hi, from_number, has_number, Follows}
 use Rattle.rams_model.proofs.Since.{opened_stands}
@@ -22,8 +22,9 @@ use Rattle.rams_model.proofs.Legality.{in_tick_from_runs}
 use Rattle.rams_model.proofs.Items.{is_run_of, is_repair, is_forgotten, served_puts, all_repaired_put, all_forgotten_put}
 use Rattle.rams_model.proofs.Granting.{accept_grants, update_grants, accepted_below}
 use Rattle.book_laws.specs.{IsMoment}
-use Rattle.rams_model.proofs.Induction.{through, in_answer, no_tick_answers, is_at_once, between, arrivals_of_event}
-use Rattle.book_laws.proofs.HeldPackets.{AreSmall, ArriveSmall, HearsSmall, small_from, small_held, heard_small, hi_grows}
+use Rattle.rams_model.proofs.Induction.{through, in_answer, no_tick_answers, is_at_once, between}
+use Rattle.rams_model.proofs.Stopping.{stop_from_next}
+use Rattle.book_laws.proofs.HeldPackets.{AreSmall, small_from, small_held, hi_grows, all_small}
 
 -- The burst has sent nothing; its first packet is below the end of what is held and before the stop, and this number was told to its client.
 record Fresh (top number : ℕ) (b : Burst) : Type 0 where
@@ -108,10 +109,6 @@ note_sound s k c m p (note.Forgot client) packet history a answers w = absurd (n
 note_sound s k c m p n packet history a answers w = (at_note s k (GoodBurst (hi (hold s history)) (sequence s k history)) n packet history (keeps_good s k n packet history a refl) w.0, w.1)
 
 -- the answers to RAMS-Ts
-at_least_next : (first next : ℕ) (named : Option ℕ) → next ≤ stop_of first next named
-at_least_next first next None = omega arith
-at_least_next first next (Some low) = omega arith
-
 some_is : (b d : Burst) → Some b ≡ Some d → b ≡ d
 some_is b d e = cc
 
@@ -146,7 +143,7 @@ on_stop_sound : (s : Settings) (k c : ℕ) (b : Burst) (named : Option ℕ) (o :
 unfolding bursts sendings arrivals
 on_stop_sound s k c b named (Some stop) history e w = w
 on_stop_sound s k c b named None history e w =
-    set_sound s k c b (stop_of b.first (next b) named) history e (at_least_next b.first (next b) named) w
+    set_sound s k c b (stop_of b.first (next b) named) history e (stop_from_next b.first (next b) named) w
 
 stop_burst_sound : (s : Settings) (k c : ℕ) (named : Option ℕ) (o : Option Burst) (history : History) → open_burst s c history ≡ o → Sound s k history
     → Sound s k (stop_burst c named o history)
@@ -460,22 +457,6 @@ tick_sound s k history small w =
 higher : (low top number : ℕ) (o : Option Burst) → low ≤ top → GoodOf low number o → GoodOf top number o
 higher low top number None le g = tt
 higher low top number (Some b) le g = (g.0, λ none. let f = g.1 none in record { reached = omega (arith, f.reached, le); before = f.before; named = f.named })
-
-arrive_small : (s : Settings) (heard : Heard) (history : History) → HearsSmall heard → ArriveSmall (arrivals history) → ArriveSmall (arrivals (after_hearing s heard history))
-unfolding arrivals
-arrive_small s heard history h small = subst ArriveSmall (sym (arrivals_of_event s heard history)) (begun heard h)
-  where
-    begun : (heard : Heard) → HearsSmall heard → ArriveSmall (arrivals (began heard ∷ history))
-    begun (live a) h = (h, small)
-    begun (dropped note) h = small
-    begun (feedback c ms) h = small
-    begun (unframed c fault) h = small
-    begun tick h = small
-
-all_small : (s : Settings) (events : List Event) → ArriveSmall (arrivals (history_of s events))
-unfolding history_of arrivals
-all_small s [] = tt
-all_small s (event ∷ events) = arrive_small s (heard_of s.channel event) (history_of s events) (heard_small s.channel event) (all_small s events)
 
 begun_sound : (s : Settings) (k : ℕ) (heard : Heard) (history : History) → is_tick heard ≡ false → Sound s k history → Sound s k (began heard ∷ history)
 unfolding bursts sendings arrivals

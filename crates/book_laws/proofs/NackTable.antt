@@ -11,9 +11,11 @@ use Rattle.rams_model.specs.Laws.{Rises, IsAmong}
 use Rattle.book_laws.specs.{AreNotes, items_of, IsFirst, Line, unheld, early, already, table_full, client_full, queue_full, queued, table, IsNamed, Names, WillSend, Applies, Gives, line_of, IsByTable, IsNumberAnswer, IsForeignNack, AreAnswers, IsNackAnswered}
 use Rattle.rams_model.proofs.Legal as legal
 use Rattle.rams_model.proofs.Legal.{Allows, IsForeign}
+use Rattle.rams_model.proofs.Rising.{at_least}
+use Rattle.rams_model.proofs.Granting.{held_rises}
 use Rattle.book_laws.proofs.FirstLines.{first_here, first_later}
 use Rattle.book_laws.proofs.Answering.{is_answered, are_whole}
-use Rattle.book_laws.proofs.RequestTable.{is_full_so, isn't_full_so, at_least, held_rises}
+use Rattle.book_laws.proofs.RequestTable.{is_full_so, isn't_full_so}
 use Rattle.book_laws.proofs.RequestAnswers.{answered_by}
 
 -- the first of these lines that applies gives the note

@@ -1,10 +1,9 @@
 -- The verdict on a request is the note of the first line of the table that applies.
 use Rattle.std.proofs.Common.{◌≡◌, ℕ, ◌+◌, ◌-◌, ◌≤◌, Bool, true, false, not, inl, inr, ⊎_elim, List, [], ◌∷◌, length, Option, Some, None, refl, ap, sym, ◌∙◌, subst, arith, eqb, leb}
-use Rattle.std.specs.Prelude.{Contains, sum_by, is_some, IsSomeAnd, Result, Ok, Err}
+use Rattle.std.specs.Prelude.{Contains, is_some, IsSomeAnd, Result, Ok, Err}
 use Rattle.std.specs.List.{list_any}
 use Rattle.std.proofs.lemmas.Bool.{cond_both, both_ways, and_parts, and_from, or_cases, not-true, not-false, not_from_false, eqb-true, eqb-false, eq-eqb, ltb-true, ltb-false, leb-true, leb-false, le-leb, true≢false}
 use Rattle.std.proofs.lemmas.List.Elements.{Contains-append_right}
-use Rattle.std.proofs.lemmas.List.Sums.{sum_by-cons}
 use Rattle.std.proofs.lemmas.List.Folds.{list_any_at}
 use Rattle.rams_model.specs.declared.fault.TlvFault.{TlvFault}
 use Rattle.rams_model.specs.declared.held.Held.{Held}
@@ -17,12 +16,13 @@ use Rattle.rams_model.specs.Laws.{Rises, IsAmong, IsNewest, is_old_enough, IsRef
 use Rattle.rams_model.specs.Laws.Meaning as laws
 use Rattle.rams_model.proofs.Since.{opened_stands}
 use Rattle.rams_model.proofs.LastAccept.{open_stands}
-use Rattle.rams_model.proofs.Holding.{held_follow, rises_from}
-use Rattle.rams_model.proofs.Rising.{lower}
+use Rattle.rams_model.proofs.Rising.{at_least}
 use Rattle.rams_model.proofs.Choosing.{newest_chosen}
+use Rattle.rams_model.proofs.Granting.{held_rises}
 use Rattle.book_laws.specs.{IsFirst}
 use Rattle.book_laws.specs.Refusals.{Line, unread, preamble, foreign, again, slow_update, large_update, update, full, no_start, young, old, slow, large, accept, table, asked, NamesOthers, IsSlow, AsksNoOther, IsLargeInPlace, HasBurst, IsFull, least_age, IsTooOld, Applies, joins_in, Gives}
 use Rattle.book_laws.proofs.FirstLines.{first_here, first_later}
+use Rattle.book_laws.proofs.Sums.{part_of_sum}
 
 -- the first of these lines that applies gives the note
 pub record ByLines (s : Settings) (k : ℕ) (history : History) (request : Result Request TlvFault) (lines : List Line) (note : Note) : Type 0 where
@@ -65,14 +65,6 @@ same_rate : (s : Settings) (bps : Option ℕ) → rate_of bps s.tick s.channel.b
 same_rate s None = refl
 same_rate s (Some bps) = refl
 
--- a term of a sum is at most the sum
-part_of_sum : (f : ℕ → ℕ) (k : ℕ) (ks : List ℕ) → is_among k ks ≡ true → f k ≤ sum_by f ks
-part_of_sum f k [] e = absurd (true≢false (sym e))
-part_of_sum f k (j ∷ js) e =
-    ⊎_elim (λ t. let same : f j ≡ f k = ap f (eqb-true j k t) in omega (arith, sum_by-cons f j js, same))
-    (λ t. omega (arith, sum_by-cons f j js, part_of_sum f k js t))
-    (or_cases (eqb j k) (is_among k js) e)
-
 -- what an open burst reserves is part of what is reserved
 pub burst_reserved : (s : Settings) (k : ℕ) (history : History) (b : Burst) → open_burst s k history ≡ Some b → b.rate + s.channel.depth ≤ reserved s history
 burst_reserved s k history b e =
@@ -92,11 +84,6 @@ no_burst : (s : Settings) (k : ℕ) (history : History) (P : Burst → Type 0) �
 no_burst s k history P e p = subst (λ (o : Option Burst). IsSomeAnd o P) e p
 
 -- packets of one number are one
-pub at_least : (n : ℕ) (h : Held) (hs : List Held) → Rises n hs → IsAmong h hs → n ≤ h.n
-at_least n h [] r a = absurd a
-at_least n h (k ∷ ks) r a =
-    ⊎_elim (λ (same : k ≡ h). subst (λ (x : Held). n ≤ x.n) same r.0) (λ later. let le = at_least (k.n + 1) h ks r.1 later in omega (arith, le, r.0)) a
-
 pub one_packet : (n : ℕ) (one other : Held) (hs : List Held) → Rises n hs → IsAmong one hs → IsAmong other hs → one.n ≡ other.n → one ≡ other
 one_packet n one other [] r a b same = absurd a
 one_packet n one other (k ∷ ks) r a b same =
@@ -107,10 +94,6 @@ one_packet n one other (k ∷ ks) r a b same =
     (λ (j : k ≡ other). absurd (let le = at_least (k.n + 1) one ks r.1 earlier in let e : k.n ≡ other.n = ap (λ (h : Held). h.n) j in omega (arith, le, e, same)))
     (λ later. one_packet (k.n + 1) one other ks r.1 earlier later same) b)
     a
-
-pub held_rises : (s : Settings) (history : History) → Rises 0 (hold s history)
-held_rises s history =
-    let from = (rises_from _ (hold s history) (held_follow s history)) in lower 0 _ (hold s history) (omega arith) from
 
 -- there is one newest packet that passes
 one_newest : (held : List Held) (test : Held → Bool) (one other : Held) → Rises 0 held → IsNewest held test one → IsNewest held test other → one ≡ other

@@ -1,21 +1,20 @@
 -- What the open bursts reserve fits the share.
 use Rattle.std.proofs.Common.{◌≡◌, ℕ, ◌+◌, ◌-◌, ◌≤◌, true, false, cond, ⊎_elim, List, [], ◌∷◌, Option, Some, None, refl, ap, sym, ◌∙◌, subst, arith, eqb}
 use Rattle.std.specs.List.{sum_by}
-use Rattle.std.proofs.lemmas.Bool.{cond_both, cond-true, cond-false, cases_Bool, eqb-true, eqb-false, ne_eqb, eq-eqb, or_left}
+use Rattle.std.proofs.lemmas.Bool.{cond_both, cond-true, cond-false, cases_Bool, eqb-true, eq-eqb, or_left}
 use Rattle.rams_model.specs.declared.held.Held.{Held}
 use Rattle.rams_model.specs.declared.note.Note.TheVariants as note
 use Rattle.rams_model.specs.Service.{Settings, tick, began, told, noted, History, opened, is_among, placed, with_client, without, Burst, bursts, open_burst, has_open, most_of, reserved}
 use Rattle.rams_model.proofs.Legal.{IsLegal}
 use Rattle.rams_model.proofs.Granting.{accept_grants, update_grants}
+use Rattle.rams_model.proofs.LastAccept.{opened_open}
+use Rattle.rams_model.proofs.ListFacts.{apart}
 use Rattle.book_laws.proofs.Sums.{one_at, times, all_sum, sum_without, sum_placed, times-none, times-among, others_sum, one_changed, part_of_sum}
-use Rattle.book_laws.proofs.BurstAmounts.{opened_open, open_among, closed_among, most_falls, most_begun, most_changed, most_at_tick, of_others}
+use Rattle.book_laws.proofs.BurstAmounts.{open_among, closed_among, most_falls, most_begun, most_changed, most_at_tick, of_others}
 
 -- a client's burst in a sum over clients
 abbrev most_at : Settings → History → ℕ → ℕ
 most_at s history k = most_of s (open_burst s k history)
-
-apart : (j k : ℕ) → eqb j k ≡ false → eqb k j ≡ false
-apart j k f = ne_eqb k j (λ e. eqb-false j k f (sym e))
 
 -- a new burst
 more_reserved : (s : Settings) (history : History) (k first rate join : ℕ) (packet : Option Held) → open_burst s k history ≡ None

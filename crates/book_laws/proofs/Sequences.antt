@@ -4,11 +4,12 @@ use Rattle.std.proofs.lemmas.Bool.{cond_both, cond-true, cond-false, both_ways, 
 use Rattle.rams_model.specs.declared.held.Held.{Held}
 use Rattle.rams_model.specs.declared.note.Cause.{Cause}
 use Rattle.rams_model.specs.declared.note.Note.TheVariants as note
-use Rattle.rams_model.specs.Service.{Settings, tick, Item, began, told, noted, History, sendings, sequence, Burst, begun, in_tick, after_note, newest_changed, size_of, bursts, if_open, newest_open}
+use Rattle.rams_model.specs.Service.{Settings, tick, began, told, noted, History, sendings, sequence, Burst, begun, in_tick, after_note, newest_changed, size_of, bursts, if_open, newest_open}
 use Rattle.rams_model.specs.Laws.{NoneIs, is_accept_of, ends_known, numbers_sent}
 use Rattle.rams_model.proofs.LastAccept.{last_accept}
 use Rattle.book_laws.specs.{is_burst_of, numbers_to, AreSequencedFrom, FirstSendingHas}
 use Rattle.rams_model.proofs.Legal.{IsLegal, legal_part}
+use Rattle.rams_model.proofs.Since.{none_older}
 use Rattle.book_laws.proofs.FreshBursts.{Numbered, numbered_part}
 
 -- the client of the newest burst was told this number
@@ -74,10 +75,6 @@ newest_is bs burst b others e o = at burst.ended (sym (ap newest_open e) ∙ o)
     at None o = cc
     at (Some why) o = absurd cc
 
-none_later : (kind : Item → Bool) (newer older : History) → NoneIs kind (newer ++ older) → NoneIs kind older
-none_later kind [] older none = none
-none_later kind (i ∷ newer) older none = none_later kind newer older none.1
-
 pub first_sending : (s : Settings) (k first rate join : ℕ) (packet : Option Held) (since before : History) → NoneIs (is_accept_of k) since
     → IsLegal s (since ++ noted (note.Accept k first rate join) packet ∷ before) → Numbered s k (since ++ noted (note.Accept k first rate join) packet ∷ before)
     → FirstSendingHas k since (sequence s k before)
@@ -89,7 +86,7 @@ first_sending s k first rate join packet since before none l numbered n number s
     in
     let sends = (legal_part s newer (burst ∷ (older ++ accept ∷ before)) (subst (IsLegal s) splits l)).0 in
     let mine = numbered_part s k newer (burst ∷ (older ++ accept ∷ before)) (subst (Numbered s k) splits numbered) in
-    let later : NoneIs (is_accept_of k) older = (none_later (is_accept_of k) newer (burst ∷ older) (subst (NoneIs (is_accept_of k)) e none)).1 in
+    let later : NoneIs (is_accept_of k) older = (none_older (is_accept_of k) newer (burst ∷ older) (subst (NoneIs (is_accept_of k)) e none)).1 in
     let is = last_accept s k first rate join packet older before later in
     let same = newest_is (bursts s k (older ++ accept ∷ before)) is.burst sends.opened.burst is.others is.is_newest sends.opened.is_open in
     let none_of_it : sends.opened.burst.sent ≡ [] = ap (λ (b : Burst). b.sent) (sym same) ∙ is.is_sent ∙ none_sent k older unsent in

@@ -1,16 +1,18 @@
 -- What is true of a burst since its Accept: of what was sent, of its stop, and of its end.
-use Rattle.std.proofs.Common.{◌≡◌, ℕ, zero, suc, add-zero, ◌+◌, ◌≤◌, Bool, true, false, cond, List, [], ◌∷◌, ◌++◌, length, Option, Some, None, refl, ap, sym, ◌∙◌, subst, arith, eqb}
+use Rattle.std.proofs.Common.{◌≡◌, ℕ, zero, suc, add-zero, ◌+◌, Bool, true, false, cond, List, [], ◌∷◌, ◌++◌, length, Option, Some, None, refl, ap, sym, ◌∙◌, subst, arith, eqb}
 use Rattle.std.specs.List.{range_with_len}
-use Rattle.std.proofs.lemmas.Bool.{both_ways, cond-true, eqb-true, eq-eqb, ltb-true}
+use Rattle.std.proofs.lemmas.Bool.{both_ways, cond-true, eqb-true, eq-eqb}
 use Rattle.std.proofs.lemmas.List.{map-append, length_push}
 use Rattle.rams_model.specs.declared.held.Held.{Held}
 use Rattle.rams_model.specs.declared.note.Cause.{Cause}
 use Rattle.rams_model.specs.declared.note.Cause.TheVariants as cause
 use Rattle.rams_model.specs.declared.note.Note.TheVariants as note
-use Rattle.rams_model.specs.Service.{Settings, stop_of, tick, began, told, noted, History, sequence, Burst, next, begun, in_tick, after_note, newest_changed, size_of, bursts, if_open, newest_open, is_before}
+use Rattle.rams_model.specs.Service.{Settings, tick, began, told, noted, History, sequence, Burst, next, begun, in_tick, after_note, newest_changed, size_of, bursts, if_open, newest_open, is_before}
 use Rattle.rams_model.specs.Laws.{NoneIs, is_accept_of, IsByStop}
 use Rattle.book_laws.specs.{Sending, sending, first_sendings, AreNumberedFrom}
 use Rattle.rams_model.proofs.Legal.{IsLegal, Sends, Stops, Ends, EndsFor}
+use Rattle.rams_model.proofs.Stopping.{stop_from_next}
+use Rattle.rams_model.proofs.Running.{after_before}
 
 -- the number of the newest StopAt of the client
 unfoldable pub stop_since : ℕ → History → Option ℕ
@@ -165,16 +167,6 @@ numbered_push first n packet sent e is =
     ∙ sym (range_push first (length sent))
     ∙ ap (range_with_len first) long
 
--- a packet before the stop leaves the next one by it
-still_below : (stop : Option ℕ) (n : ℕ) → is_before stop n ≡ true → IsByStop stop (n + 1)
-still_below None n e = tt
-still_below (Some stop) n e = let lt = ltb-true n stop e in omega (arith, lt)
-
--- a stop is no lower than the packet that is sent next
-stop_is_next_or_above : (first next : ℕ) (named : Option ℕ) → next ≤ stop_of first next named
-stop_is_next_or_above first next None = omega arith
-stop_is_next_or_above first next (Some named) = omega arith
-
 fair_sent : (s : Settings) (k first n number : ℕ) (packet : Option Held) (history : History) (sent : List Sending) (stop : Option ℕ) (ended : Option Cause)
     → IsNewestOf (bursts s k history) first (length sent) stop ended → Sends s history k n number packet → IsFair first sent stop ended
     → IsFair first (sent ++ sending n packet ∷ []) stop ended
@@ -184,7 +176,7 @@ fair_sent s k first n number packet history sent stop ended newest a f =
     let more : n + 1 ≡ first + length (sent ++ sending n packet ∷ []) = omega (arith, is, length_push sent (sending n packet)) in
     record {
       numbered = numbered_push first n packet sent f.numbered is;
-      below = subst (IsByStop stop) more (still_below stop n (subst (λ (t : Option ℕ). is_before t n ≡ true) o.stop_is a.before));
+      below = subst (IsByStop stop) more (after_before stop n (subst (λ (t : Option ℕ). is_before t n ≡ true) o.stop_is a.before));
       whole = λ e. absurd (not_both ended o.not_ended e);
     }
   where
@@ -198,7 +190,7 @@ fair_stop s k first n history sent stop ended newest a f =
     let o = open_of (bursts s k history) b first (length sent) stop ended a.opened.is_open newest in
     record {
       numbered = f.numbered;
-      below = omega (arith, a.n_is, o.first_is, o.count_is, stop_is_next_or_above b.first (next b) a.stop.first_multicast);
+      below = omega (arith, a.n_is, o.first_is, o.count_is, stop_from_next b.first (next b) a.stop.first_multicast);
       whole = λ (e : ended ≡ Some cause.Stopped). let both : None ≡ Some cause.Stopped = sym o.not_ended ∙ e in absurd cc;
     }
 

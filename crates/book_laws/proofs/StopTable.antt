@@ -10,12 +10,11 @@ use Rattle.rams_model.specs.declared.note.Cause.TheVariants as cause
 use Rattle.rams_model.specs.declared.note.Note.TheVariants as note
 use Rattle.rams_model.specs.Service.{Settings, stop_of, bye, stops, told, noted, History, known, is_among, ssrc, Burst, next, open_burst, has_open, stop_set, on_stop, stop_burst, after_stop, is_bye_of, after_bye, history_of}
 use Rattle.rams_model.specs.Formats.{Framed, bye_names}
-use Rattle.rams_model.specs.Packets.{least_from}
-use Rattle.rams_model.proofs.Stopping.{least_named}
 use Rattle.book_laws.specs.{AreNotes, items_of, AnsweredBy, AnswersStop, unread, idle, kept, set, passed, Leaves, AnswersBye, other, left, ended}
 use Rattle.book_laws.specs.Stops.{IsStopFor}
 use Rattle.book_laws.proofs.Answering.{are_whole}
 use Rattle.book_laws.proofs.RequestAnswers.{answered_by}
+use Rattle.book_laws.proofs.Stopping.{stop_for}
 
 -- some notes of which this is true give the history that follows
 record Gives (Answers : List Note → Type 0) (history after : History) : Type 0 where
@@ -23,10 +22,6 @@ record Gives (Answers : List Note → Type 0) (history after : History) : Type 0
   items : AreNotes (items_of notes)
   are : items_of notes ++ history ≡ after
   answers : Answers notes
-
-means : (first next : ℕ) (named : Option ℕ) → IsStopFor first next named (stop_of first next named)
-means first next None = refl
-means first next (Some low) = (least_from first low, least_named first low, refl)
 
 set_gives : (s : Settings) (k : ℕ) (history : History) (stop : Stop) (b : Burst) (n : ℕ) → open_burst s k history ≡ Some b → b.stop ≡ None
     → IsStopFor b.first (next b) stop.first_multicast n → Gives (AnswersStop s k history (Ok stop)) history (stop_set k (next b) n history)
@@ -40,7 +35,7 @@ on_gives : (s : Settings) (k : ℕ) (history : History) (stop : Stop) (b : Burst
     → Gives (AnswersStop s k history (Ok stop)) history (on_stop k b stop.first_multicast o history)
 on_gives s k history stop b (Some n) e is = record { notes = note.StopKept k n ∷ []; items = tt; are = refl; answers = kept stop b n e is }
 on_gives s k history stop b None e is =
-    set_gives s k history stop b (stop_of b.first (next b) stop.first_multicast) e is (means b.first (next b) stop.first_multicast)
+    set_gives s k history stop b (stop_of b.first (next b) stop.first_multicast) e is (stop_for b.first (next b) stop.first_multicast)
 
 burst_gives : (s : Settings) (k : ℕ) (history : History) (stop : Stop) (o : Option Burst) → open_burst s k history ≡ o
     → Gives (AnswersStop s k history (Ok stop)) history (stop_burst k stop.first_multicast o history)

@@ -12,8 +12,8 @@ use Rattle.rams_model.specs.declared.note.Note.TheVariants as note
 use Rattle.rams_model.specs.Service.{Settings, stop_of, stops, Item, began, told, noted, History, Burst, next, bursts, if_open, newest_open, open_burst, has_open}
 use Rattle.rams_model.specs.Packets.{least_from}
 use Rattle.rams_model.specs.Laws.{NoneIs, is_accept_of, is_end_of, IsByStop}
-use Rattle.rams_model.proofs.Since.{stands, stands_from, stands_to}
-use Rattle.rams_model.proofs.LastAccept.{open_stands}
+use Rattle.rams_model.proofs.Since.{stands, stands_from, stands_to, none_older}
+use Rattle.rams_model.proofs.LastAccept.{open_stands, open_step}
 use Rattle.rams_model.proofs.Stopping.{least_named}
 use Rattle.book_laws.specs.{LastAccept, Sending, sending, first_sendings, AreNumberedFrom}
 use Rattle.book_laws.specs.Stops.{Stands, next_number, EndsAtItsStop, HasEnded, IsStopFor, is_any_stop, StopsAsNamed}
@@ -117,10 +117,6 @@ stop_is_one s k first rate join n packet (noted m p ∷ since) before none l w =
     ⊎_elim (λ e. absurd cc) (λ v. stop_is_one s k first rate join n packet since before none.1 l.1 v) (newest_or_before (noted m p) since (note.StopAt k n) w)
 
 -- whether a client has an open burst, item by item
-open_step : (s : Settings) (k : ℕ) (i : Item) (history : History) → has_open s k (i ∷ history) ≡ (is_accept_of k i || (not (is_end_of k i) && has_open s k history))
-unfolding stands
-open_step s k i history = open_stands s k (i ∷ history) ∙ ap (λ (b : Bool). is_accept_of k i || (not (is_end_of k i) && b)) (sym (open_stands s k history))
-
 -- nothing is open where none was and none is accepted
 stays_closed : (s : Settings) (k : ℕ) (i : Item) (history : History) → is_accept_of k i ≡ false → has_open s k history ≡ false → has_open s k (i ∷ history) ≡ false
 stays_closed s k i history none closed =
@@ -183,10 +179,6 @@ pub none_in_front : (kind : Item → Bool) (later history : History) → NoneIs 
 none_in_front kind [] history none = tt
 none_in_front kind (i ∷ later) history none = (none.0, none_in_front kind later history none.1)
 
-pub none_behind : (kind : Item → Bool) (later history : History) → NoneIs kind (later ++ history) → NoneIs kind history
-none_behind kind [] history none = none
-none_behind kind (i ∷ later) history none = none_behind kind later history none.1
-
 -- A burst ends once, and nothing of it is sent after that.
 pub over : (s : Settings) (k first rate join : ℕ) (packet : Option Held) (since before : History) → NoneIs (is_accept_of k) since
     → IsLegal s (since ++ noted (note.Accept k first rate join) packet ∷ before) → (why : Cause) (end : Stands since (note.End k why))
@@ -202,7 +194,7 @@ over s k first rate join packet since before none l why end =
     (none_in_front (is_accept_of k) end.later rest quiet) legal in
     let own : IsLegal s (rest ++ accept ∷ before) = legal_part s end.later (rest ++ accept ∷ before) legal in
     let a : Ends s (end.before ++ accept ∷ before) k why = own.0 in
-    let newest = newest_since s k first rate join packet end.before before (none_behind (is_accept_of k) end.later rest quiet).1 in
+    let newest = newest_since s k first rate join packet end.before before (none_older (is_accept_of k) end.later rest quiet).1 in
     let o = open_of (bursts s k (end.before ++ accept ∷ before)) a.opened.burst first (length (first_sendings k end.before)) (stop_since k end.before) (end_since k end.before)
     a.opened.is_open newest in
     (closed.none_sent, closed.none_ends, none_ends k end.before o.not_ended)
@@ -326,7 +318,7 @@ last_accept_of k (noted (note.Accept client first rate join) p ∷ history) e =
 last_accept_of k (i ∷ history) e = earlier_accept k i history refl (last_accept_of k history e)
 
 -- what a RAMS-T means is what its StopAt says
-stop_for : (first next : ℕ) (named : Option ℕ) → IsStopFor first next named (stop_of first next named)
+pub stop_for : (first next : ℕ) (named : Option ℕ) → IsStopFor first next named (stop_of first next named)
 stop_for first next None = refl
 stop_for first next (Some named) = (least_from first named, least_named first named, refl)
 

@@ -44,10 +44,10 @@ one_at k j = cond (eqb j k) 1 0
 abbrev pub times : ℕ → List ℕ → ℕ
 times k ks = count_by (λ j. eqb j k) ks
 
-times-same : (k j : ℕ) (js : List ℕ) → eqb j k ≡ true → times k (j ∷ js) ≡ times k js + 1
+pub times-same : (k j : ℕ) (js : List ℕ) → eqb j k ≡ true → times k (j ∷ js) ≡ times k js + 1
 times-same k j js t = omega (arith, sum_by-cons (one_at k) j js, cond-true {A = ℕ} (eqb j k) 1 0 t)
 
-times-other : (k j : ℕ) (js : List ℕ) → eqb j k ≡ false → times k (j ∷ js) ≡ times k js
+pub times-other : (k j : ℕ) (js : List ℕ) → eqb j k ≡ false → times k (j ∷ js) ≡ times k js
 times-other k j js t = omega (arith, sum_by-cons (one_at k) j js, cond-false {A = ℕ} (eqb j k) 1 0 t)
 
 pub times-none : (k : ℕ) (ks : List ℕ) → is_among k ks ≡ false → times k ks ≡ 0

@@ -1,17 +1,15 @@
 -- What the run of a tick leaves, and that quiet ticks come nearer.
 use Rattle.std.proofs.Common.{◌≡◌, ℕ, ◌+◌, ◌-◌, ◌<◌, ◌≤◌, min, ◌⊎◌, inl, inr, Bool, true, false, ◌&&◌, List, [], ◌∷◌, ◌++◌, length, drop, Option, Some, None, refl, subst, arith, eqb, leb}
-use Rattle.std.proofs.lemmas.List.Sums.{sum_by-cons, sum_by-append}
-use Rattle.std.proofs.lemmas.Bool.{cond_both, both_ways, lt-ltb, ltb-true, leb-true, eq-eqb, eqb-false, and_parts, and_from}
+use Rattle.std.proofs.lemmas.List.Sums.{sum_by-append}
+use Rattle.std.proofs.lemmas.Bool.{cond_both, both_ways, lt-ltb, leb-true, eq-eqb, eqb-false, and_parts, and_from}
 use Rattle.std.proofs.lemmas.Bool.Decides.{leb_tells}
 use Rattle.rams_model.specs.declared.held.Held.{Held}
 use Rattle.rams_model.specs.Packets.{wires, Follows}
 use Rattle.rams_model.specs.Service.{is_before, waste, run, is_stop}
 use Rattle.rams_model.specs.Laws.{IsByStop, ComesNearer, CatchesUp}
+use Rattle.rams_model.proofs.Running.{wires-cons, after_before}
 use Rattle.burst_plan.specs.{gain, Burst, Tick, AreAtMost, sent, unsent, after, IsLawful, AreQuiet, pair, pairs_after, AreWithin, QuietTicksComeNearer, QuietBurstsKeepTheirJoinTime, QuietBurstsFallBackNoFurther}
 use Rattle.burst_plan.proofs.JoinTimes.{kept_join}
-
-wires-cons : (h : Held) (hs : List Held) → wires (h ∷ hs) ≡ h.wire + wires hs
-wires-cons h hs = sum_by-cons (λ (x : Held). x.wire) h hs
 
 -- What a run leaves of what it may send, and of the packets: all is sent, or the next one doesn't fit.
 record Leaves (left : ℕ) (packets r : List Held) : Type 0 where
@@ -27,10 +25,6 @@ before : (stop : Option ℕ) (n : ℕ) → IsByStop stop n → is_stop stop n �
 before None n by e = refl
 before (Some m) n by e = let other : n ≡ m → ⊥ = eqb-false n m e in lt-ltb n m (omega (arith, by, other))
 
-by_after : (stop : Option ℕ) (n : ℕ) → is_before stop n ≡ true → IsByStop stop (n + 1)
-by_after None n e = tt
-by_after (Some m) n e = let lt = ltb-true n m e in omega (arith, lt)
-
 at_end : (stop : Option ℕ) (n m : ℕ) → n ≡ m → is_stop stop n ≡ false → is_stop stop m ≡ false
 at_end stop n m e = subst (λ k. is_stop stop k ≡ false) e
 
@@ -44,7 +38,7 @@ leaves stop n left (h ∷ hs) follows sizes by end =
     let tests = and_parts (eqb h.n n && is_before stop n) (leb h.wire left) t in
     let on = and_parts (eqb h.n n) (is_before stop n) tests.0 in
     one_more (run stop (n + 1) (left - h.wire) hs) (leb-true h.wire left tests.1)
-    (leaves stop (n + 1) (left - h.wire) hs follows.1 sizes.1 (by_after stop n on.1) (at_end stop _ _ (omega arith) end)))
+    (leaves stop (n + 1) (left - h.wire) hs follows.1 sizes.1 (after_before stop n on.1) (at_end stop _ _ (omega arith) end)))
     (λ f end. none f (at_end stop (n + 0) n (omega arith) end))
     end
   where

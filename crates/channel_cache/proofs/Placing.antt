@@ -5,7 +5,7 @@ use Rattle.rams_model.specs.declared.held.Held.{Held}
 use Rattle.rams_model.specs.Packets.{hi}
 use Rattle.packet_ring.specs.Seen as rings
 use Rattle.reorder_window.specs.declared.window.Came.TheVariants.{Kept, Late, Twice}
-use Rattle.reorder_window.specs.{Start, has_number, with_item, released, next_missing, keeping, came_of, arrived, first_free, RisesIn}
+use Rattle.reorder_window.specs.{Start, has_number, with_item, released, keeping, came_of, RisesIn}
 use Rattle.reorder_window.specs.Seen as windows
 use Rattle.reorder_window.proofs.Rising.{rises-wider, rises-with_item, length-with_item}
 use Rattle.reorder_window.proofs.Searches.{next-from, next-end}

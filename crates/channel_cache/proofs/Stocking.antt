@@ -4,7 +4,7 @@ use Rattle.std.proofs.lemmas.List.{length-append}
 use Rattle.std.proofs.lemmas.Bool.Decides.{nat_tests}
 use Rattle.rams_model.specs.declared.held.Held.{Held}
 use Rattle.rams_model.specs.Packets.{lo, hi, last_of, from_number, Follows}
-use Rattle.rams_model.proofs.Holding.{all_from}
+use Rattle.rams_model.proofs.Holding.{all_from, one_behind}
 use Rattle.packet_ring.specs.{with_next, pushed, IsRing}
 use Rattle.packet_ring.specs.Seen as rings
 use Rattle.access_index.specs.{StandsFor}
@@ -37,10 +37,6 @@ pub last_number : (m : ℕ) (hs : List Held) (h : Held) → Follows m (hs ++ h �
 last_number m [] h follows = follows.0 ∙ omega arith
 last_number m (k ∷ hs) h follows = last_number (m + 1) hs h follows.1 ∙ omega arith
 
-and_next : (m : ℕ) (hs : List Held) (h : Held) → Follows m hs → h.n ≡ m + length hs → Follows m (hs ++ h ∷ [])
-and_next m [] h follows is = (is ∙ omega arith, tt)
-and_next m (k ∷ hs) h follows is = (follows.0, and_next (m + 1) hs h follows.1 (is ∙ omega arith))
-
 -- the first behind the first so many
 lo_later : (m d : ℕ) (hs : List Held) (h : Held) → Follows m (hs ++ h ∷ []) → d ≤ length hs → lo (drop d (hs ++ h ∷ [])) ≡ m + d
 lo_later m zero [] h follows few = follows.0 ∙ omega arith
@@ -60,7 +56,7 @@ next_left capacity k ks h some fits follows next =
     let held = k ∷ ks in
     let d : ℕ = length (held ++ h ∷ []) - capacity in
     let few : d ≤ length held = omega (arith, length-append held (h ∷ [])) in
-    let first = lo_later k.n d held h (and_next k.n held h follows next) few in
+    let first = lo_later k.n d held h (one_behind k.n held h follows next) few in
     ap (λ n. from_number n held ++ h ∷ []) first ∙ (ap (λ (l : List Held). l ++ h ∷ []) (from_later k.n d held follows few) ∙ sym (drop_end d held h few))
 
 -- where it is greater

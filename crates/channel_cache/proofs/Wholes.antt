@@ -31,12 +31,9 @@ AreWhole-push : (hs : List Held) (h : Held) → AreWhole hs → IsWhole h → Ar
 AreWhole-push [] h all one = (one, tt)
 AreWhole-push (k ∷ hs) h all one = (all.0, AreWhole-push hs h all.1 one)
 
-with_step : (capacity : ℕ) (held : List Held) (h : Held) (b : Bool) → AreWhole held → IsWhole h → AreWhole (if b then last_of capacity (held ++ h ∷ []) else h ∷ [])
-with_step capacity held h true all one = AreWhole-drop (length (held ++ h ∷ []) - capacity) (held ++ h ∷ []) (AreWhole-push held h all one)
-with_step capacity held h false all one = (one, tt)
-
 pub AreWhole-with : (capacity : ℕ) (held : List Held) (h : Held) (b : Bool) → AreWhole held → IsWhole h → AreWhole (if b then last_of capacity (held ++ h ∷ []) else h ∷ [])
-AreWhole-with = with_step
+AreWhole-with capacity held h true all one = AreWhole-drop (length (held ++ h ∷ []) - capacity) (held ++ h ∷ []) (AreWhole-push held h all one)
+AreWhole-with capacity held h false all one = (one, tt)
 
 -- and so is one that is found
 find_step : (test : Held → Bool) (h : Held) (hs : List Held) (b : Bool) → IsWhole h → IfSome (find test hs) IsWhole → IfSome (if b then Some h else find test hs) IsWhole

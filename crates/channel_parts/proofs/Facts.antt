@@ -3,13 +3,13 @@ use Rattle.std.proofs.Common.{refl, arith}
 use Rattle.std.proofs.lemmas.List.Elements.{All-from_recursion}
 use Rattle.rams_model.specs.Service.{hold, known, opened, bursts, open_burst, pending}
 use Rattle.book_laws.proofs.Moments.{legal_moment}
-use Rattle.book_laws.proofs.BurstAmounts.{opened_open}
 use Rattle.channel_parts.specs.{KnownClientsRise, OpenedClientsRise, OpenedHaveBursts, KnownClientsAreFew, OnlyKnownClientsHaveBursts, OpenedAreTheKnownWithBursts, RepairsAreOfKnownClients, RepairsAreWithinLimits, IsWithinBounds, OpenBurstsAreWithinBounds, OpenBurstsHaveATickLeft, KnownClientsAreIdleForLess, ReservedLeavesTheReserve, EachBurstIsReserved, AcceptsReserve, UpdatesReserve, EndsRelease, OtherNotesReserveNothing, EventsReserveNothing, MessagesReserveNothing, LeftIsWithinShareAndSwell, TheEndOfTheHeldNeverFalls, HeldNumbersAreSmall, ReadPacketsHaveLowNumbers, SequencesHave16Bits}
 use Rattle.channel_parts.proofs.Ordered.{sorted, known_rise, opened_rise}
 use Rattle.channel_parts.proofs.Waiting.{known_few, pending_within}
 use Rattle.channel_parts.proofs.Knowing.{OfKnown, pending_known}
 use Rattle.channel_parts.proofs.Opening.{unknown_closed, opened_filter}
 use Rattle.rams_model.proofs.OpenBurst.{holds_of}
+use Rattle.rams_model.proofs.LastAccept.{opened_open}
 use Rattle.channel_parts.proofs.Bounding.{bounded}
 use Rattle.channel_parts.proofs.Lasting.{ticks_left}
 use Rattle.channel_parts.proofs.Idling.{idle_less}

@@ -10,10 +10,11 @@ use Rattle.rams_model.specs.declared.note.Note.{Note}
 use Rattle.rams_model.specs.declared.note.Note.TheVariants as note
 use Rattle.rams_model.specs.Service.{Settings, Message, Heard, feedback, tick, heard_of, began, noted, History, known, is_among, bursts, has_open, Wanted, wanted, is_wanted, pending, is_busy, is_served, quiet_ticks, idle, all_forgotten, bursts_served, repairs_sent, after_tick, history_of, hold, told, after_message, opened}
 use Rattle.rams_model.specs.Laws.{makes_known, ends_known, is_accept_of, is_end_of}
-use Rattle.channel_parts.proofs.Knowing.{known_step, open_step}
 use Rattle.rams_model.proofs.Legal.{is_tick, is_of_runs}
 use Rattle.rams_model.proofs.Items.{is_note, is_repair, Puts, message_puts, all_served_put, all_repaired_put}
 use Rattle.rams_model.proofs.Induction.{through, between}
+use Rattle.rams_model.proofs.LastAccept.{open_step}
+use Rattle.rams_model.proofs.Since.{known_step}
 
 -- a repair waits for the client
 abbrev waits : ℕ → History → Bool

@@ -1,25 +1,15 @@
 -- Who is known and who has an open burst, item by item; pending repairs are of known clients.
-use Rattle.std.proofs.Common.{◌≡◌, ℕ, ◌≤◌, Bool, true, false, not, ◌&&◌, ◌||◌, ⊎_elim, List, [], ◌∷◌, ◌++◌, refl, ap, sym, ◌∙◌, arith, eqb}
+use Rattle.std.proofs.Common.{◌≡◌, ℕ, ◌≤◌, Bool, true, false, not, ◌&&◌, ⊎_elim, List, [], ◌∷◌, ◌++◌, refl, sym, ◌∙◌, arith, eqb}
 use Rattle.std.specs.Prelude.{filter}
 use Rattle.std.specs.List.{list_any, AllByRecursion as Each}
 use Rattle.std.proofs.lemmas.Bool.{cond_both, cond-true, cases_Bool, or_left, or_right, or_parts, and_from, not_from_false, not-true, eqb-false, eq-eqb, ne_eqb}
 use Rattle.rams_model.specs.declared.note.Note.TheVariants as note
 use Rattle.rams_model.specs.Service.{Settings, Item, began, told, noted, History, known, is_among, has_open, Wanted, wanted, is_wanted, pending, is_busy, quiet_ticks, idle}
-use Rattle.rams_model.specs.Laws.{makes_known, ends_known, is_accept_of, is_end_of}
-use Rattle.rams_model.proofs.Since.{stands, known_stands}
-use Rattle.rams_model.proofs.LastAccept.{open_stands}
+use Rattle.rams_model.specs.Laws.{makes_known, ends_known}
+use Rattle.rams_model.proofs.Since.{known_step}
 use Rattle.rams_model.proofs.Legal.{IsForgotten, IsLegal}
-use Rattle.rams_model.proofs.Legality.{each_other, each_weaker}
-
--- an item makes a client known, or doesn't end that and it was known
-pub known_step : (k : ℕ) (i : Item) (history : History) → is_among k (known (i ∷ history)) ≡ (makes_known k i || (not (ends_known k i) && is_among k (known history)))
-unfolding stands
-known_step k i history = known_stands k (i ∷ history) ∙ ap (λ (b : Bool). makes_known k i || (not (ends_known k i) && b)) (sym (known_stands k history))
-
--- and so with its open burst
-pub open_step : (s : Settings) (k : ℕ) (i : Item) (history : History) → has_open s k (i ∷ history) ≡ (is_accept_of k i || (not (is_end_of k i) && has_open s k history))
-unfolding stands
-open_step s k i history = open_stands s k (i ∷ history) ∙ ap (λ (b : Bool). is_accept_of k i || (not (is_end_of k i) && b)) (sym (open_stands s k history))
+use Rattle.rams_model.proofs.Legality.{each_other}
+use Rattle.rams_model.proofs.ListFacts.{each_weaker}
 
 pub still_known : (k : ℕ) (i : Item) (history : History) → ends_known k i ≡ false → is_among k (known history) ≡ true → is_among k (known (i ∷ history)) ≡ true
 still_known k i history stays e =

@@ -10,12 +10,12 @@ use Rattle.rams_model.specs.declared.note.Cause.TheVariants as cause
 use Rattle.rams_model.specs.declared.note.Note.TheVariants as note
 use Rattle.rams_model.specs.Service.{Settings, Heard, tick, heard_of, began, noted, History, hold, known, opened, is_among, Burst, next, after_note, size_of, bursts, open_burst, pending, run, send, is_lost, is_stop, after_run, run_sent, burst_served, all_served, bursts_served, repairs_sent, after_tick, history_of, idle_forgotten, told, after_message}
 use Rattle.rams_model.specs.Packets.{from_number}
-use Rattle.book_laws.proofs.BurstAmounts.{opened_open}
 use Rattle.channel_parts.proofs.Opening.{none_of}
 use Rattle.rams_model.proofs.Legal.{is_tick}
 use Rattle.rams_model.proofs.Items.{is_note, is_run_of, is_repair, is_forgotten, Puts, message_puts, send_puts, served_puts, all_repaired_put, all_forgotten_put}
 use Rattle.rams_model.proofs.Induction.{through, between}
 use Rattle.rams_model.proofs.OpenBurst.{Holds, holds_of, end_closes, at_note, at_tick}
+use Rattle.rams_model.proofs.LastAccept.{opened_open}
 
 -- it has lasted at most so many ticks
 abbrev Within : ℕ → Burst → Type 0

@@ -14,9 +14,9 @@ use Rattle.rams_model.specs.Laws.{makes_known, ends_known, is_accept_of, is_end_
 use Rattle.rams_model.proofs.Legal.{is_tick, Answers, Allows, IsLegal}
 use Rattle.rams_model.proofs.Items.{is_of_tick, tick_puts}
 use Rattle.rams_model.proofs.Induction.{onwards, in_answer, is_at_once, between}
-use Rattle.book_laws.proofs.BurstAmounts.{opened_open}
+use Rattle.rams_model.proofs.LastAccept.{open_step, opened_open}
 use Rattle.channel_parts.proofs.Ordered.{rise_passed, known_rise, opened_rise, same_rise}
-use Rattle.channel_parts.proofs.Knowing.{open_step, still_known, made_known, forgotten_rests}
+use Rattle.channel_parts.proofs.Knowing.{still_known, made_known, forgotten_rests}
 
 -- each client with an open burst is known
 abbrev pub AreKnown : Settings → History → Type 0

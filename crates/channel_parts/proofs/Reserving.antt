@@ -1,7 +1,7 @@
 -- What notes do to what the open bursts reserve together.
 use Rattle.std.proofs.Common.{◌≡◌, ℕ, ◌+◌, ◌-◌, ◌≤◌, Bool, true, false, cond, not, ⊎_elim, List, [], ◌∷◌, Option, Some, None, refl, ap, sym, ◌∙◌, subst, arith, eqb}
 use Rattle.std.specs.List.{sum_by}
-use Rattle.std.proofs.lemmas.Bool.{cond_both, cond-false, or_left, or_right, or_cases, or_parts, both_ways, not-true, not-false, eqb-true, eqb-false, eq-eqb, ne_eqb}
+use Rattle.std.proofs.lemmas.Bool.{cond_both, cond-false, or_left, or_right, or_cases, or_parts, both_ways, not-true, not-false, eqb-true, eq-eqb, ne_eqb}
 use Rattle.std.proofs.lemmas.List.Sums.{sum_by-cons}
 use Rattle.rams_model.specs.declared.held.Held.{Held}
 use Rattle.rams_model.specs.declared.note.Cause.{Cause}
@@ -9,6 +9,7 @@ use Rattle.rams_model.specs.declared.note.Note.{Note}
 use Rattle.rams_model.specs.declared.note.Note.TheVariants as note
 use Rattle.rams_model.specs.Service.{Settings, Heard, tick, began, told, noted, History, opened, is_among, placed, with_client, without, Burst, after_note, newest_changed, size_of, bursts, in_tick, if_open, newest_open, open_burst, most_of, reserved, channel_left}
 use Rattle.rams_model.proofs.Legal.{IsLegal}
+use Rattle.rams_model.proofs.ListFacts.{apart}
 use Rattle.book_laws.proofs.Sums.{sum_placed, one_changed, part_of_sum}
 use Rattle.book_laws.proofs.BurstAmounts.{open_among, closed_among, most_begun, most_changed, of_others}
 use Rattle.book_laws.proofs.Reserved.{times-opened, fits}
@@ -24,9 +25,6 @@ same_sum : (f g : ℕ → ℕ) (ks : List ℕ) → ((j : ℕ) → is_among j ks 
 same_sum f g [] same = refl
 same_sum f g (k ∷ ks) same =
     omega (arith, sum_by-cons f k ks, sum_by-cons g k ks, same k (or_left (eqb k k) (is_among k ks) (eq-eqb k k refl)), same_sum f g ks (λ j t. same j (or_right (eqb k j) (is_among j ks) t)))
-
-apart : (j k : ℕ) → eqb j k ≡ false → eqb k j ≡ false
-apart j k f = ne_eqb k j (λ e. eqb-false j k f (sym e))
 
 -- a client that is among some where another is not
 others : (j k : ℕ) (ks : List ℕ) → is_among k ks ≡ false → is_among j ks ≡ true → eqb k j ≡ false

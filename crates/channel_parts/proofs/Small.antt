@@ -16,9 +16,10 @@ use Rattle.rams_model.specs.Packets.Source as sources
 use Rattle.rams_model.proofs.PlainPackets.{below_at}
 use Rattle.rams_model.proofs.RtpPackets.{spelled_so}
 use Rattle.channel_cache.specs.{arrivals_heard, arrivals_after}
-use Rattle.rams_model.proofs.Legality.{each_passed, each_weaker}
+use Rattle.rams_model.proofs.Legality.{each_passed}
+use Rattle.rams_model.proofs.HeldEnds.{hi-hold, hi-hold_none}
+use Rattle.rams_model.proofs.ListFacts.{each_weaker}
 use Rattle.channel_parts.specs.{HaveLowNumbers}
-use Rattle.channel_parts.proofs.Numbers.{hi-hold, hi-hold_none}
 
 -- their numbers are below a bound
 abbrev Below : ℕ → List Held → Type 0

@@ -114,13 +114,13 @@ unfolding known bursts sendings ssrc pending quiet_ticks
 live_table s note (live a) history t of' is = record {
   most = is.most;
   clients = is.clients;
-  entries = λ k e found. let x = is.entries k e found in record { ssrc_is = x.ssrc_is; seq_is = x.seq_is; idle_is = x.idle_is; burst_is = x.burst_is; told = x.told };
+  entries = λ k e found. let x = is.entries k e found in record { ssrc_is = x.ssrc_is; seq_is = x.seq_is; idle_is = x.idle_is; burst_is = x.burst_is };
   others = is.others;
 }
 live_table s note (dropped other) history t of' is = record {
   most = is.most;
   clients = is.clients;
-  entries = λ k e found. let x = is.entries k e found in record { ssrc_is = x.ssrc_is; seq_is = x.seq_is; idle_is = x.idle_is; burst_is = x.burst_is; told = x.told };
+  entries = λ k e found. let x = is.entries k e found in record { ssrc_is = x.ssrc_is; seq_is = x.seq_is; idle_is = x.idle_is; burst_is = x.burst_is };
   others = is.others;
 }
 live_table s note heard history t of' is = absurd of'

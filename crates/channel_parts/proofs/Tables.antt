@@ -100,7 +100,7 @@ lookup_removed test other differ (e ∷ es) =
     (λ t. sym (cond-false (other e.0) (Some e.1) (lookup other es) (differ e.0 t)))
     (λ f. ap (λ (o : Option Entry). cond (other e.0) (Some e.1) o) (lookup_removed test other differ es))
 
-without_none : (k : ℕ) (ks : List ℕ) → is_among k ks ≡ false → without k ks ≡ ks
+pub without_none : (k : ℕ) (ks : List ℕ) → is_among k ks ≡ false → without k ks ≡ ks
 without_none k [] out = refl
 without_none k (j ∷ js) out =
     let parts = or_parts (eqb j k) (is_among k js) out in

@@ -1,5 +1,5 @@
 -- What the parts of a channel keep between events, and the history that they stand for.
-use Rattle.std.specs.Prelude.{◌≡◌, ℕ, ◌^◌, ◌≤◌, false, true, List, [], length, All, Option, Some, None, option_map}
+use Rattle.std.specs.Prelude.{◌≡◌, ℕ, ◌^◌, ◌≤◌, false, true, List, [], length, All, Some, None, option_map}
 use Rattle.rams_model.specs.declared.event.Event.{Event}
 use Rattle.rams_model.specs.Service.{Settings, History, arrivals, known, is_among, sequence, ssrc, next, kept, open_burst, Wanted, pending, idle, reserved, channel_left, history_of}
 use Rattle.rams_model.specs.Service.Bursts as model
@@ -17,12 +17,7 @@ use Rattle.channel_parts.specs.Facts.{HaveLowNumbers}
 
 -- what an entry keeps of an open burst
 abbrev pub burst_kept : Settings → model.Burst → Burst
-burst_kept s b = record { first = b.first; next = next b; stop = b.stop; rate = b.rate; ticks = b.ticks; kept = kept s b }
-
--- the client of an open burst was told this last
-abbrev pub WasTold : Option model.Burst → Entry → Type 0
-WasTold None e = Unit {0}
-WasTold (Some b) e = e.last ≡ Some b.last
+burst_kept s b = record { first = b.first; next = next b; stop = b.stop; rate = b.rate; ticks = b.ticks; kept = kept s b; last = b.last }
 
 -- A known client's entry, between two events, is what the history says of it.
 pub record IsEntry (s : Settings) (k : ℕ) (history : History) (e : Entry) : Type 0 where
@@ -30,7 +25,6 @@ pub record IsEntry (s : Settings) (k : ℕ) (history : History) (e : Entry) : Ty
   pub seq_is : e.seq ≡ sequence s k history
   pub idle_is : e.idle ≡ idle s k history
   pub burst_is : e.burst ≡ option_map (burst_kept s) (open_burst s k history)
-  pub told : WasTold (open_burst s k history) e
 
 -- The table has exactly the known clients, each with its entry; only known clients have open bursts.
 pub record IsTable (s : Settings) (history : History) (table : Clients) : Type 0 where

@@ -19,8 +19,8 @@ use Rattle.client_table.proofs.Shown.{shown_entry, shown_clients, shown_rising}
 same_client : (client k : ℕ) → is_at (nat_cmp client) k ≡ true → k ≡ client
 same_client client k h = grind (arith, nat_tests)
 
-itself : (k : ℕ) → is_at (nat_cmp k) k ≡ true
-itself k = grind (arith, nat_tests)
+pub same_key : (k : ℕ) → is_at (nat_cmp k) k ≡ true
+same_key k = grind (arith, nat_tests)
 
 not_below : (k client : ℕ) → nat_cmp k client ≡ Less → is_at (nat_cmp client) k ≡ false
 not_below k client h = grind (arith, nat_tests)
@@ -41,7 +41,7 @@ found_behind client x e es above is =
     cond-false (is_at (nat_cmp client) e.0) (Some e.1) (lookup (is_at (nat_cmp client)) es) (not_below e.0 client (found_above e.0 client x es above is)) ∙ is
 
 found_here : {X : Type 0} (e : ℕ × X) (es : List (ℕ × X)) → lookup (is_at (nat_cmp e.0)) (e ∷ es) ≡ Some e.1
-found_here e es = cond-true (is_at (nat_cmp e.0) e.0) (Some e.1) (lookup (is_at (nat_cmp e.0)) es) (itself e.0)
+found_here e es = cond-true (is_at (nat_cmp e.0) e.0) (Some e.1) (lookup (is_at (nat_cmp e.0)) es) (same_key e.0)
 
 -- where the clients rise, each is found
 pub each_found : {X : Type 0} (es : List (ℕ × X)) → IsStrictlySortedBy nat_cmp (keys_of es) → All (λ e. lookup (is_at (nat_cmp e.0)) es ≡ Some e.1) es

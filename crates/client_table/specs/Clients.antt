@@ -29,7 +29,7 @@ entry_of t client = lookup (is_at (nat_cmp client)) t.known
 
 -- of a client that just became known: its SSRC, and the first number of its retransmission stream
 abbrev pub new_entry : ℕ → ℕ → Entry
-new_entry ssrc seq0 = record { ssrc = ssrc; seq = seq0; idle = 0; last = None; burst = None }
+new_entry ssrc seq0 = record { ssrc = ssrc; seq = seq0; idle = 0; burst = None }
 
 -- a client more, in its place
 abbrev pub with_client : Clients → ℕ → Entry → Clients

@@ -21,6 +21,8 @@ pub struct Burst {
     pub ticks: u32,
     /// Bytes that the last tick left for the next one.
     pub kept: u64,
+    /// What its client was told by the last RAMS-I (RFC 6285, 7.3).
+    pub last: Info,
 }
 
 /// What the server keeps of a client.
@@ -32,8 +34,6 @@ pub struct Entry {
     pub seq: u16,
     /// The ticks for which it has been idle.
     pub idle: u32,
-    /// What it was told by the last RAMS-I of its burst (RFC 6285, 7.3).
-    pub last: Option<Info>,
     /// Its open burst.
     pub burst: Option<Burst>,
 }
@@ -47,7 +47,6 @@ impl Entry {
             ssrc,
             seq: seq0,
             idle: 0,
-            last: None,
             burst: None,
         }
     }

@@ -3,6 +3,7 @@ use Rattle.std.proofs.Common.{◌≡◌, ℕ, zero, suc, ◌+◌, ◌-◌, ◌<�
 use Rattle.std.proofs.lemmas.Bool.Decides.{nat_tests}
 use Rattle.rams_model.specs.declared.held.Held.{Held}
 use Rattle.rams_model.specs.Packets.{hi, has_number, with_packet, least, is_missing, awaited}
+use Rattle.rams_model.proofs.Rising.{hi_of_end}
 
 -- each number is below the bound
 abbrev pub AreBelow : ℕ → List Held → Type 0
@@ -24,9 +25,7 @@ hi_one h = refl
 
 -- a list with a packet behind it ends with that packet
 pub hi_end : (new : Held) (hs : List Held) → hi (hs ++ new ∷ []) ≡ new.n + 1
-hi_end new [] = hi_one new
-hi_end new (h ∷ []) = hi_last h new [] ∙ hi_one new
-hi_end new (h ∷ k ∷ ks) = hi_last h k (ks ++ new ∷ []) ∙ hi_end new (k ∷ ks)
+hi_end new hs = hi_of_end hs new [] ∙ hi_one new
 
 pub placed_last_step : (new h : Held) (hs : List Held) (b : Bool) → b ≡ false → with_packet new hs ≡ hs ++ new ∷ [] → (if b then new ∷ h ∷ hs else h ∷ with_packet new hs) ≡ h ∷ (hs ++ new ∷ [])
 placed_last_step new h hs true absurdly e = cc

@@ -1,22 +1,20 @@
 -- What the parts say as a datagram that frames begins.
-use Rattle.std.proofs.Common.{◌≡◌, ℕ, ◌+◌, ◌≤◌, true, false, List, [], ◌∷◌, length, Option, Some, None, refl, ap, sym, ◌∙◌, subst, arith, eqb, ltb, ◌-◌, length-drop}
+use Rattle.std.proofs.Common.{◌≡◌, ℕ, ◌+◌, ◌≤◌, true, false, List, [], ◌∷◌, length, Option, Some, None, refl, ap, sym, ◌∙◌, subst, arith, eqb, ltb}
 use Rattle.std.specs.Prelude.{is_some, option_map, option_to_list, IfSome, IsSome, All}
 use Rattle.std.specs.List.{list_any, AllByRecursion as Each}
 use Rattle.std.proofs.lemmas.Bool.{cond-true, or_from, both_ways, eq-eqb, ne_eqb}
 use Rattle.std.proofs.lemmas.List.Elements.{recursion_from_All}
 use Rattle.rams_model.specs.declared.event.Event.{Event}
-use Rattle.rams_model.specs.declared.held.Held.{Held}
 use Rattle.rams_model.specs.declared.message.Info.{Info}
-use Rattle.rams_model.specs.Service.{Settings, Message, feedback, began, History, arrivals, hold, known, is_among, without, sendings, ssrc, bursts, open_burst, Wanted, pending, quiet_ticks, reserved, channel_left, info_order, newest_notes, newest_orders, history_of}
-use Rattle.rams_model.specs.Packets.{lo, hi, last_of, Follows, consecutive_end, source, stream_of}
-use Rattle.rams_model.specs.Packets.Source as sources
+use Rattle.rams_model.specs.Service.{Settings, Message, feedback, began, History, known, is_among, without, sendings, ssrc, bursts, open_burst, Wanted, pending, quiet_ticks, reserved, channel_left, info_order, newest_notes, newest_orders, history_of}
 use Rattle.rams_model.specs.Service.Bursts as model
+use Rattle.rams_model.proofs.Holding.{ends_at, few_held}
 use Rattle.link_budget.specs.Amounts.{Amounts}
 use Rattle.client_table.specs.declared.entry.Burst.{Burst}
 use Rattle.client_table.specs.declared.entry.Entry.{Entry}
 use Rattle.client_table.specs.{entry_of}
 use Rattle.channel_parts.specs.declared.parts.Parts.{Parts}
-use Rattle.channel_parts.specs.{IsEntry, WasTold, StandsFor, burst_kept, IsBurstInBounds}
+use Rattle.channel_parts.specs.{IsEntry, StandsFor, burst_kept, IsBurstInBounds}
 use Rattle.channel_parts.proofs.Facts.{events_reserve_nothing, each_burst_is_reserved}
 use Rattle.channel_parts.proofs.Given.{held_packets_are_in_order, entries_are_in_bounds}
 use Rattle.channel_parts.proofs.Tables.{has_entry, entry_among}
@@ -51,12 +49,7 @@ woken_entry s k ms history e is = record {
   seq_is = is.seq_is;
   idle_is = sym (idle_none s k (at_datagram k ms history) (quiet_begun s k ms history));
   burst_is = is.burst_is;
-  told = told_woken (open_burst s k history) is.told;
 }
-  where
-    told_woken : (o : Option model.Burst) → WasTold o e → WasTold o (record e { idle = 0 })
-    told_woken None t = tt
-    told_woken (Some b) t = t
 
 client_begun : (p : Parts) (events : List Event) (k : ℕ) (ms : List Message) (o : Option Entry) → StandsFor p events → entry_of p.table k ≡ o
     → IsClient p.config k (at_datagram k ms (history_of p.config events)) (woken o)
@@ -104,24 +97,6 @@ pub page_begun : (s : Settings) (k j : ℕ) (ms : List Message) (history : Histo
 unfolding newest_notes newest_orders
 page_begun s k j ms history page ne ie = record { notes = sym ne; orders = ap (λ (o : Option Info). option_to_list (option_map (info_order j) o)) (sym ie) }
 
--- what is held
-ends_from : (n : ℕ) (h : Held) (hs : List Held) → Follows n (h ∷ hs) → hi (h ∷ hs) ≡ n + length (h ∷ hs)
-unfolding hi
-ends_from n h [] f = omega (arith, f.0)
-ends_from n h (k ∷ hs) f = let rest = ends_from (n + 1) k hs f.1 in omega (arith, rest)
-
-ends_at : (hs : List Held) → Follows (lo hs) hs → hi hs ≡ lo hs + length hs
-unfolding hi
-ends_at [] f = omega arith
-ends_at (h ∷ hs) f = ends_from h.n h hs f
-
-few_last : (ring : ℕ) (hs : List Held) → length (last_of ring hs) ≤ ring
-few_last ring hs = omega (arith, length-drop (length hs - ring) hs)
-
-few_held : (s : Settings) (history : History) → length (hold s history) ≤ s.channel.ring
-unfolding sources.hold
-few_held s history = few_last s.channel.ring (consecutive_end (source s.channel.window (stream_of s.channel.window (arrivals history))))
-
 pub ready_is : (p : Parts) (events : List Event) → StandsFor p events → IsReady p.config p.cache
 ready_is p events st =
     let order = held_packets_are_in_order p events st in
@@ -144,9 +119,9 @@ kept_amount s k history b (Some m) oe e =
     let amount = each_burst_is_reserved s k m history oe in
     subst (λ (x : Burst). x.rate + s.channel.depth ≤ reserved s history) (sym same) amount
 
-burst_safe : (p : Parts) (events : List Event) (k : ℕ) (e : Entry) (b : Burst) (i : Info) (budget : Amounts) → StandsFor p events → entry_of p.table k ≡ Some e → budget ≡ p.budget
-    → e.burst ≡ Some b → IsSafeBurst p.config budget (record { entry = record e { idle = 0 }; burst = b; last = i })
-burst_safe p events k e b i budget st found be eb =
+burst_safe : (p : Parts) (events : List Event) (k : ℕ) (e : Entry) (b : Burst) (budget : Amounts) → StandsFor p events → entry_of p.table k ≡ Some e → budget ≡ p.budget
+    → e.burst ≡ Some b → IsSafeBurst p.config budget (record { entry = record e { idle = 0 }; burst = b })
+burst_safe p events k e b budget st found be eb =
     let s = p.config in
     let history = history_of s events in
     let bounds = subst (λ (x : Option Burst). IfSome x (IsBurstInBounds s p.cache.held)) eb (entries_are_in_bounds p events st k e found).burst in
@@ -161,15 +136,14 @@ burst_safe p events k e b i budget st found be eb =
     }
 
 safe_open : (p : Parts) (events : List Event) (k : ℕ) (e : Entry) (budget : Amounts) → StandsFor p events → entry_of p.table k ≡ Some e → budget ≡ p.budget
-    → (b : Option Burst) → e.burst ≡ b → (i : Option Info) → IfSome (open_in (record e { idle = 0 }) b i) (IsSafeBurst p.config budget)
-safe_open p events k e budget st found be None eb i = tt
-safe_open p events k e budget st found be (Some b) eb None = tt
-safe_open p events k e budget st found be (Some b) eb (Some i) = burst_safe p events k e b i budget st found be eb
+    → (b : Option Burst) → e.burst ≡ b → IfSome (open_in (record e { idle = 0 }) b) (IsSafeBurst p.config budget)
+safe_open p events k e budget st found be None eb = tt
+safe_open p events k e budget st found be (Some b) eb = burst_safe p events k e b budget st found be eb
 
 safe_of : (p : Parts) (events : List Event) (k : ℕ) (o : Option Entry) (budget : Amounts) → StandsFor p events → entry_of p.table k ≡ o → budget ≡ p.budget
     → IfSome (open_of (woken o)) (IsSafeBurst p.config budget)
 safe_of p events k None budget st found be = tt
-safe_of p events k (Some e) budget st found be = safe_open p events k e budget st found be e.burst refl e.last
+safe_of p events k (Some e) budget st found be = safe_open p events k e budget st found be e.burst refl
 
 pub safe_begun : (p : Parts) (events : List Event) (k : ℕ) (v : Visitor) → StandsFor p events → v.entry ≡ woken (entry_of p.table k) → v.budget ≡ p.budget
     → (IsSome v.entry → v.has_place ≡ true) → IsSafe p.config v

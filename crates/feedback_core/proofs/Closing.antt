@@ -1,5 +1,5 @@
 -- What the parts stand for as a datagram ends.
-use Rattle.std.proofs.Common.{◌≡◌, ◌≢◌, ℕ, ◌≤◌, true, List, [], ◌∷◌, length, None, Result, Ok, Err, refl, ap, sym, ◌∙◌, subst, arith, eqb}
+use Rattle.std.proofs.Common.{◌≡◌, ◌≢◌, ℕ, true, List, [], ◌∷◌, None, Result, Ok, Err, refl, ap, sym, ◌∙◌, subst, arith, eqb}
 use Rattle.std.specs.Prelude.{IsSome, All, option_map, option_to_list}
 use Rattle.std.proofs.lemmas.Bool.{cond-false, ne_eqb}
 use Rattle.rams_model.specs.declared.answer.Order.{Order}
@@ -9,14 +9,13 @@ use Rattle.rams_model.specs.declared.note.Note.{Note}
 use Rattle.rams_model.specs.declared.event.Event.TheVariants.{Feedback}
 use Rattle.rams_model.specs.declared.note.Note.TheVariants.{BadFeedback}
 use Rattle.rams_model.specs.Service.{answered, Settings, Message, messages, unframed, heard_feedback, heard_of, began, noted, History, arrivals, known, is_among, without, sendings, ssrc, bursts, Wanted, pending, quiet_ticks, channel_left, info_order, order_of, newest_notes, newest_orders, newest_answer, after_messages, after_hearing, history_of, answer}
-use Rattle.rams_model.specs.Packets.{Arrival}
 use Rattle.rams_model.specs.Formats.{Framed, framed}
-use Rattle.channel_cache.specs.Seen as caches
 use Rattle.channel_parts.specs.declared.parts.Parts.{Parts}
-use Rattle.channel_parts.specs.{IsTable, IsQueue, IsBudget, IsCache, StandsFor, HaveLowNumbers}
+use Rattle.channel_parts.specs.{IsTable, IsQueue, IsBudget, IsCache, StandsFor}
 use Rattle.channel_parts.proofs.Facts.{events_reserve_nothing, other_notes_reserve_nothing, only_known_clients_have_bursts, repairs_are_of_known_clients}
 use Rattle.channel_parts.proofs.Given.{moment}
 use Rattle.channel_parts.proofs.Turning.{OthersAreClosed}
+use Rattle.channel_parts.proofs.Staying.{cache_stays}
 use Rattle.feedback_core.specs.declared.page.Page.{Page}
 use Rattle.feedback_core.specs.declared.visitor.Visitor.{Visitor}
 use Rattle.feedback_core.specs.{IsAsBefore, IsClient, IsVisit, answered_of, IsTurned, has_place, with_place, with_kept}
@@ -41,12 +40,6 @@ begun_as_before s j k ms history after ne was = record {
   quiet_is = was.quiet_is ∙ cond-false (eqb k j) 0 (quiet_ticks s j history) (ne_eqb k j (λ e. ne (sym e)));
   waits_is = was.waits_is;
 }
-
-cache_same : (s : Settings) (before after : History) (cache : caches.Seen) → arrivals after ≡ arrivals before → IsCache s before cache → IsCache s after cache
-cache_same s before after cache e is =
-    let same : (packets : List Arrival) → Type 0 = λ packets. (caches.StandsFor cache packets) × (HaveLowNumbers packets) × (length packets ≤ cache.calls) in
-    let moved = subst same (sym e) (is.stands, is.low, is.counted) in
-    record { settings_are = is.settings_are; stands = moved.0; low = moved.1; counted = moved.2; few = is.few }
 
 begun_arrivals : (k : ℕ) (ms : List Message) (history : History) → arrivals (at_datagram k ms history) ≡ arrivals history
 unfolding arrivals
@@ -76,7 +69,7 @@ stands_after p new events k seq0 bytes ps queue v page st e ke pe placed t ne =
     let whole : StandsFor (record { config = p.config; cache = p.cache; budget = v.budget; queue = queue; table = with_kept (with_place p.table k seq0) k v.entry }) (Feedback k bytes ∷ events) =
     record {
       lawful = st.lawful;
-      packets = cache_same s history after p.cache (w.arrivals_are ∙ begun_arrivals k ms history) st.packets;
+      packets = cache_stays s history after p.cache (w.arrivals_are ∙ begun_arrivals k ms history) st.packets;
       table = table;
       queue = record {
         pending_is = w.queue_is;
@@ -116,7 +109,7 @@ unframed_stands p events k fault st =
     let history = history_of s events in
     let middle = began (unframed k fault) ∷ history in
     let after = noted (BadFeedback k fault) None ∷ middle in (
-      cache_same s history after p.cache refl st.packets,
+      cache_stays s history after p.cache refl st.packets,
       record {
         most = st.table.most;
         clients = st.table.clients;

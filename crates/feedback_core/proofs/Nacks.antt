@@ -1,5 +1,5 @@
 -- What a NACK gets, and how many numbers it names.
-use Rattle.std.proofs.Common.{◌≡◌, ◌≢◌, ℕ, ◌+◌, ◌*◌, ◌/◌, ◌≤◌, ◌%◌, ◌-◌, Bool, List, [], ◌∷◌, ◌++◌, length, Result, Ok, Err, refl, ap, sym, ◌∙◌, subst, arith, eqb, length-append}
+use Rattle.std.proofs.Common.{◌≡◌, ◌≢◌, ℕ, ◌+◌, ◌*◌, ◌/◌, ◌≤◌, ◌%◌, ◌-◌, List, [], ◌∷◌, ◌++◌, length, Result, Ok, Err, refl, ap, sym, ◌∙◌, subst, arith, eqb, length-append}
 use Rattle.std.specs.Prelude.{filter, ◌==◌}
 use Rattle.std.specs.Int.{w16, from_be_bytes, bit_at}
 use Rattle.std.proofs.lemmas.Bool.{cond_both, cond-true, cond-false, eq-eqb, ne_eqb}
@@ -11,16 +11,12 @@ use Rattle.rams_model.specs.declared.note.Note.{Note}
 use Rattle.rams_model.specs.declared.note.Note.TheVariants as notes
 use Rattle.rams_model.specs.Service.{Settings, named, History, hold, order_of, after_numbers, after_nack, Wanted}
 use Rattle.rams_model.specs.Formats.{counted_from, word_numbers, numbers_of, nack_numbers}
+use Rattle.rams_model.proofs.ListFacts.{few_passed}
 use Rattle.feedback_core.specs.declared.visitor.Visitor.{Visitor}
 use Rattle.feedback_core.specs.{IsVisit, AreNoted, most_of_nack}
 use Rattle.feedback_core.proofs.Writing.{none_noted, idle_noted}
 
 -- a word names at most 17 numbers
-few_passed : {A : Type 0} (test : A → Bool) (xs : List A) → length (filter test xs) ≤ length xs
-few_passed test [] = omega arith
-few_passed test (x ∷ xs) =
-    cond_both (test x) (x ∷ filter test xs) (filter test xs) (λ l. length l ≤ length (x ∷ xs)) (λ t. omega (arith, few_passed test xs)) (λ f. omega (arith, few_passed test xs))
-
 few_in_word : (pid blp : ℕ) → length (word_numbers pid blp) ≤ 17
 unfolding word_numbers
 few_in_word pid blp =

@@ -2,12 +2,12 @@
 use Rattle.std.proofs.Common.{◌≡◌, ℕ, Bool, true, false, cond, not, ◌&&◌, ◌||◌, List, [], ◌∷◌, ◌++◌, Option, refl, ap, sym, ◌∙◌, subst, eqb, ltb}
 use Rattle.std.specs.Prelude.{◌≢◌, ◌==◌, filter}
 use Rattle.std.specs.List.{list_any}
-use Rattle.std.proofs.lemmas.Bool.{cond_both, cond-true, cond-false, eqb-true, eq-eqb, ne_eqb, not-false, or_parts}
+use Rattle.std.proofs.lemmas.Bool.{cond_both, cond-true, cond-false, eqb-true, eq-eqb, ne_eqb, not-false}
 use Rattle.rams_model.specs.declared.held.Held.{Held}
 use Rattle.rams_model.specs.declared.note.Note.{Note}
 use Rattle.rams_model.specs.declared.note.Note.TheVariants as note
 use Rattle.rams_model.specs.Service.{Settings, noted, History, known, is_among, placed, with_client, without, sendings, ssrc, sequence, bursts, Wanted, wanted, pending, quiet_ticks, is_served, channel_left}
-use Rattle.channel_parts.proofs.Knowing.{known_step}
+use Rattle.rams_model.proofs.Since.{known_step}
 use Rattle.feedback_core.specs.{IsAsBefore}
 
 -- a note of a datagram of this client
@@ -133,12 +133,6 @@ without_twice k (j ∷ js) =
     cond_both (not (eqb j k)) (j ∷ without k js) (without k js) (λ l. without k l ≡ l)
     (λ t. cond-true (not (eqb j k)) (j ∷ without k (without k js)) (without k (without k js)) t ∙ ap (λ (l : List ℕ). j ∷ l) (without_twice k js))
     (λ f. without_twice k js)
-
-pub without_none : (k : ℕ) (ks : List ℕ) → is_among k ks ≡ false → without k ks ≡ ks
-without_none k [] out = refl
-without_none k (j ∷ js) out =
-    let parts : (eqb j k ≡ false) × (is_among k js ≡ false) = or_parts (eqb j k) (is_among k js) out in
-    cond-true (not (eqb j k)) (j ∷ without k js) (without k js) (ap not parts.0) ∙ ap (λ (l : List ℕ). j ∷ l) (without_none k js parts.1)
 
 pub rest_noted : (n : Note) (k : ℕ) (packet : Option Held) (history : History) → IsOf k n → without k (known (noted n packet ∷ history)) ≡ without k (known history)
 unfolding known

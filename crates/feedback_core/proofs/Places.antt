@@ -11,10 +11,10 @@ use Rattle.client_table.specs.Clients.{Clients}
 use Rattle.client_table.specs.Clients as tables
 use Rattle.channel_parts.specs.{IsEntry, IsTable}
 use Rattle.channel_parts.proofs.Ordered.{Rise, known_rise, same_rise}
-use Rattle.channel_parts.proofs.Tables.{has_entry, entry_among, no_entry, clients-with_entry, entry-with_entry, others-with_entry, clients-with_client, entry-with_client, others-with_client, clients-without, others-without}
+use Rattle.channel_parts.proofs.Tables.{has_entry, entry_among, no_entry, clients-with_entry, entry-with_entry, others-with_entry, clients-with_client, entry-with_client, others-with_client, clients-without, others-without, without_none}
 use Rattle.channel_parts.proofs.Turning.{OthersAreClosed}
 use Rattle.feedback_core.specs.{IsAsBefore, IsClient, is_full_table, has_place, with_place, with_kept}
-use Rattle.feedback_core.proofs.Others.{without_none, rest_noted, any_left}
+use Rattle.feedback_core.proofs.Others.{rest_noted, any_left}
 use Rattle.feedback_core.proofs.Visiting.{entry_as_before}
 
 -- A table with a place for a client, or without one: its others are as they were.

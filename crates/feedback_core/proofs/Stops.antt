@@ -13,7 +13,7 @@ use Rattle.link_budget.specs.Amounts.{Amounts}
 use Rattle.client_table.specs.declared.entry.Burst.{Burst}
 use Rattle.feedback_core.specs.declared.visitor.Open.{Open}
 use Rattle.feedback_core.specs.declared.visitor.Visitor.{Visitor}
-use Rattle.feedback_core.specs.{open_in, open_of, IsVisit, only, IsSaid}
+use Rattle.feedback_core.specs.{open_of, IsVisit, only, IsSaid}
 use Rattle.feedback_core.proofs.Sayings.{said_one, said_idle, said_two}
 use Rattle.feedback_core.proofs.Visiting.{IsOpen, is_opened, is_closed, idle_visit}
 use Rattle.feedback_core.proofs.Turning.{stop_at, ended}
@@ -74,7 +74,7 @@ stop_set_at s before history queue v o named n opened unset e ne w =
 -- the burst has ended
 pub stop_ends : (s : Settings) (before history : History) (queue : List Wanted) (v : Visitor) (o : Open) (named : Option ℕ) (n : ℕ) (channel : Channel) (budget : Amounts) (info : Option Info)
     → open_of v.entry ≡ Some o → o.burst.stop ≡ None → n ≡ stop_of o.burst.first o.burst.next named → n ≡ o.burst.next → channel ≡ s.channel
-    → budget ≡ record v.budget { reserved = v.budget.reserved - (o.burst.rate + channel.depth) } → info ≡ end_info o.last causes.Stopped → IsVisit s before history v queue
+    → budget ≡ record v.budget { reserved = v.budget.reserved - (o.burst.rate + channel.depth) } → info ≡ end_info o.burst.last causes.Stopped → IsVisit s before history v queue
     → IsSaid s before history (stop_burst v.client named (open_burst s v.client history) history) queue
     (record v { entry = Some (record o.entry { burst = None }); budget = budget })
     (record { note = notes.StopAt v.client n; end = Some causes.Stopped; info = info })
@@ -85,10 +85,9 @@ stop_ends s before history queue v o named n channel budget info opened unset e 
     let last : n ≡ next is.burst = ends ∙ ap (λ (b : Burst). b.next) is.burst_is in
     let middle = noted (notes.StopAt v.client n) None ∷ history in
     let v' : Visitor = record v { entry = Some (record o.entry { burst = Some (record o.burst { stop = Some n }) }) } in
-    let o' : Open = record { entry = record o.entry { burst = Some (record o.burst { stop = Some n }) }; burst = record o.burst { stop = Some n }; last = o.last } in
+    let o' : Open = record { entry = record o.entry { burst = Some (record o.burst { stop = Some n }) }; burst = record o.burst { stop = Some n } } in
     let stopped = stop_at s n before history v queue o is w in
-    let opened' : open_of v'.entry ≡ Some o' = ap (open_in (record o.entry { burst = Some (record o.burst { stop = Some n }) }) (Some (record o.burst { stop = Some n }))) is.entry_last in
-    let is' = is_opened s before middle v' queue o' stopped opened' in
+    let is' = is_opened s before middle v' queue o' stopped refl in
     let taken' : budget ≡ record v.budget { reserved = v.budget.reserved - (o.burst.rate + s.channel.depth) } =
     taken ∙ ap (λ (c : Channel). record v.budget { reserved = v.budget.reserved - (o.burst.rate + c.depth) }) ce in
     let after : Visitor = record v { entry = Some (record o.entry { burst = None }); budget = budget } in
@@ -96,7 +95,7 @@ stop_ends s before history queue v o named n channel budget info opened unset e 
     (stops_by s history v o named None is unset ∙ ap (λ (m : ℕ). stop_set v.client (next is.burst) m history) (sym n')
     ∙ cond-true (eqb n (next is.burst)) _ _ (eq-eqb n (next is.burst) last))
     refl
-    (ap (option_map (info_order v.client)) (ie ∙ ap (λ (i : Info). end_info i causes.Stopped) is'.last_is)
+    (ap (option_map (info_order v.client)) (ie ∙ ap (λ (b : Burst). end_info b.last causes.Stopped) is'.burst_is)
     ∙ ap (end_order v.client causes.Stopped) (sym is'.is_open))
     (ended s causes.Stopped before middle v' queue o' budget is' taken' stopped)
 

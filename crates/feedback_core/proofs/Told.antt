@@ -10,13 +10,14 @@ use Rattle.rams_model.specs.declared.note.Note.TheVariants as notes
 use Rattle.rams_model.specs.Service.{Settings, noted, History, hold, sequence, accept_info, refuse_info, info_order, update_order, again_order, order_of, Burst, begun, after_note, bursts, open_burst, reserved, Wanted, asked_rate, is_slow, is_too_much, is_full, begins, on_burst, on_request, verdict}
 use Rattle.rams_model.specs.Formats.{Request, names}
 use Rattle.rams_model.specs.Packets.{chosen}
+use Rattle.rams_model.proofs.OpenBurst.{open_updated}
+use Rattle.client_table.specs.declared.entry.Burst.{Burst as Kept}
 use Rattle.client_table.specs.declared.entry.Entry.{Entry}
-use Rattle.channel_parts.specs.{WasTold}
+use Rattle.channel_parts.specs.{burst_kept}
 use Rattle.feedback_core.specs.declared.visitor.Visitor.{Visitor}
 use Rattle.feedback_core.specs.{IsClient, IsVisit, IsSaid, last_of, info_for}
 use Rattle.feedback_core.proofs.Sayings.{said_one}
 use Rattle.feedback_core.proofs.Visiting.{open_accepted}
-use Rattle.feedback_core.proofs.Turning.{open_updated}
 
 -- what a request gets: a burst, or, where one is open, another rate or the same again, or a refusal
 abbrev IsReply : Settings → ℕ → History → Note → Type 0
@@ -58,7 +59,8 @@ reply_of s k history (Ok r) =
 -- where a burst is open, its client was told of it last
 last_told : (s : Settings) (k : ℕ) (history : History) (b : Burst) (o : Option Entry) → open_burst s k history ≡ Some b → IsClient s k history o → last_of o ≡ Some b.last
 last_told s k history b None e c = let none : None ≡ Some b = sym c.closed ∙ e in absurd cc
-last_told s k history b (Some x) e c = subst (λ (o : Option Burst). WasTold o x) e c.entry_is.told
+last_told s k history b (Some x) e c =
+    ap (option_map (λ (kept : Kept). kept.last)) c.entry_is.burst_is ∙ ap (λ (o : Option Burst). option_map (λ (kept : Kept). kept.last) (option_map (burst_kept s) o)) e
 
 told_reply : (s : Settings) (k : ℕ) (history : History) (n : Note) (o : Option Entry) → IsReply s k history n → IsClient s k (noted n None ∷ history) o
     → option_map (info_order k) (info_for o n) ≡ order_of s history n None

@@ -1,63 +1,26 @@
 -- What an Update, a StopAt, an End, a Bye and a Queued make of what is kept of their client.
-use Rattle.std.proofs.Common.{◌≡◌, ℕ, ◌+◌, ◌-◌, ◌≤◌, Bool, false, not, ◌&&◌, List, [], ◌∷◌, ◌++◌, Option, Some, None, refl, ap, sym, ◌∙◌, subst, eqb, ltb}
+use Rattle.std.proofs.Common.{◌≡◌, ℕ, ◌+◌, ◌-◌, ◌≤◌, Bool, false, not, ◌&&◌, List, [], ◌∷◌, ◌++◌, Option, Some, None, refl, ap, sym, ◌∙◌, eqb, ltb}
 use Rattle.std.specs.Prelude.{◌==◌, filter, length, option_map}
 use Rattle.std.specs.List.{list_any}
 use Rattle.std.proofs.lemmas.Bool.{cond_both, cond-true, eq-eqb, or_from, not-true}
-use Rattle.rams_model.specs.declared.message.Info.{Info}
 use Rattle.rams_model.specs.declared.note.Cause.{Cause}
 use Rattle.rams_model.specs.declared.note.Cause.TheVariants as cause
 use Rattle.rams_model.specs.declared.note.Note.TheVariants as note
-use Rattle.rams_model.specs.Service.{Settings, noted, History, arrivals, known, is_among, sendings, ssrc, newest_sender, or_sender, update_info, bursts, kept, newest_changed, after_note, if_open, newest_open, open_burst, Wanted, wanted, pending, quiet_ticks, reserved}
-use Rattle.rams_model.specs.Service.Bursts as model
+use Rattle.rams_model.specs.Service.{Settings, noted, History, arrivals, known, is_among, sendings, ssrc, newest_sender, or_sender, update_info, bursts, kept, open_burst, Wanted, wanted, pending, quiet_ticks, reserved}
+use Rattle.rams_model.proofs.OpenBurst.{open_updated, open_stopped, end_closes}
+use Rattle.rams_model.proofs.Since.{known_step}
 use Rattle.link_budget.specs.Amounts.{Amounts}
 use Rattle.client_table.specs.declared.entry.Burst.{Burst}
 use Rattle.client_table.specs.declared.entry.Entry.{Entry}
 use Rattle.repair_queue.specs.Queue as queues
-use Rattle.channel_parts.specs.{WasTold, IsBudget, burst_kept}
-use Rattle.channel_parts.proofs.Knowing.{known_step, made_known}
+use Rattle.channel_parts.specs.{IsBudget, burst_kept}
+use Rattle.channel_parts.proofs.Knowing.{made_known}
 use Rattle.feedback_core.specs.declared.visitor.Open.{Open}
 use Rattle.feedback_core.specs.declared.visitor.Visitor.{Visitor}
 use Rattle.feedback_core.specs.{entry_under, IsUnknown, IsKnown, IsClient, IsVisit}
 use Rattle.feedback_core.proofs.Others.{others_noted, rest_noted, left_noted, quiet_noted}
 use Rattle.channel_parts.proofs.Facts.{updates_reserve, ends_release, other_notes_reserve_nothing}
 use Rattle.feedback_core.proofs.Visiting.{noted_visit, budget_changed, budget_same, idle_none, seq_of, idle_of, IsOpen}
-
--- a note that changes the open burst of its client
-burst_changed : (change : model.Burst → model.Burst) → ((b : model.Burst) → (change b).ended ≡ b.ended) → (bs : List model.Burst) (b : model.Burst) → newest_open bs ≡ Some b
-    → newest_open (newest_changed change bs) ≡ Some (change b)
-burst_changed change same [] b e = absurd cc
-burst_changed change same (a ∷ bs) b e = if_changed a b a.ended refl e
-  where
-    if_changed : (a b : model.Burst) (o : Option Cause) → a.ended ≡ o → if_open o a ≡ Some b → if_open (change a).ended (change a) ≡ Some (change b)
-    if_changed a b None ended e =
-        subst (λ (x : Option Cause). if_open x (change a) ≡ Some (change b)) (sym (same a ∙ ended)) (ap (λ (x : model.Burst). Some (change x)) (cc))
-    if_changed a b (Some why) ended e = absurd cc
-
-pub open_updated : (s : Settings) (k rate join : ℕ) (history : History) (b : model.Burst) → open_burst s k history ≡ Some b
-    → open_burst s k (noted (note.Update k rate join) None ∷ history) ≡ Some (after_note s (note.Update k rate join) 0 b)
-unfolding bursts
-open_updated s k rate join history b e =
-    let change = after_note s (note.Update k rate join) 0 in
-    ap newest_open (cond-true (eqb k k) (newest_changed change (bursts s k history)) (bursts s k history) (eq-eqb k k refl))
-    ∙ burst_changed change (λ a. refl) (bursts s k history) b e
-
-pub open_stop : (s : Settings) (k n : ℕ) (history : History) (b : model.Burst) → open_burst s k history ≡ Some b
-    → open_burst s k (noted (note.StopAt k n) None ∷ history) ≡ Some (after_note s (note.StopAt k n) 0 b)
-unfolding bursts
-open_stop s k n history b e =
-    let change = after_note s (note.StopAt k n) 0 in
-    ap newest_open (cond-true (eqb k k) (newest_changed change (bursts s k history)) (bursts s k history) (eq-eqb k k refl))
-    ∙ burst_changed change (λ a. refl) (bursts s k history) b e
-
-none_open : (s : Settings) (k : ℕ) (why : Cause) (bs : List model.Burst) → newest_open (newest_changed (after_note s (note.End k why) 0) bs) ≡ None
-none_open s k why [] = refl
-none_open s k why (b ∷ bs) = refl
-
-pub open_ended : (s : Settings) (k : ℕ) (why : Cause) (history : History) → open_burst s k (noted (note.End k why) None ∷ history) ≡ None
-unfolding bursts
-open_ended s k why history =
-    let change = after_note s (note.End k why) 0 in
-    ap newest_open (cond-true (eqb k k) (newest_changed change (bursts s k history)) (bursts s k history) (eq-eqb k k refl)) ∙ none_open s k why (bursts s k history)
 
 reserved_of : (s : Settings) (history : History) (budget : Amounts) → IsBudget s history budget → budget.reserved ≡ reserved s history
 reserved_of s history budget is = ap (λ (a : Amounts). a.reserved) is
@@ -66,14 +29,14 @@ reserved_of s history budget is = ap (λ (a : Amounts). a.reserved) is
 pub updated : (s : Settings) (rate join : ℕ) (before history : History) (v : Visitor) (queue : List Wanted) (o : Open) (budget : Amounts) → IsOpen s history v o
     → budget ≡ record v.budget { reserved = v.budget.reserved - o.burst.rate + rate } → IsVisit s before history v queue
     → IsVisit s before (noted (note.Update v.client rate join) None ∷ history) (record v {
-      entry = Some (record o.entry { last = Some (update_info s o.last o.burst.ticks rate join); burst = Some (record o.burst { rate = rate }) });
+      entry = Some (record o.entry { burst = Some (record o.burst { rate = rate; last = update_info s o.burst.last o.burst.ticks rate join }) });
       budget = budget;
     }) queue
 unfolding ssrc sendings quiet_ticks known pending
 updated s rate join before history v queue o budget is taken w =
     let n = note.Update v.client rate join in
     let b = is.burst in
-    let e : Entry = record o.entry { last = Some (update_info s o.last o.burst.ticks rate join); burst = Some (record o.burst { rate = rate }) } in
+    let e : Entry = record o.entry { burst = Some (record o.burst { rate = rate; last = update_info s o.burst.last o.burst.ticks rate join }) } in
     let is_open = open_updated s v.client rate join history b is.is_open in
     let more : v.budget.reserved - o.burst.rate + rate ≡ reserved s (noted n None ∷ history) =
     ap (λ (a : ℕ). a - o.burst.rate + rate) (reserved_of s history v.budget w.budget_is)
@@ -87,9 +50,7 @@ updated s rate join before history v queue o budget is taken w =
         ssrc_is = is.known.entry_is.ssrc_is;
         seq_is = is.known.entry_is.seq_is;
         idle_is = is.known.entry_is.idle_is ∙ idle_none s v.client history w.quiet ∙ sym (idle_none s v.client (noted n None ∷ history) w.quiet);
-        burst_is = ap (λ (c : Burst). Some (record c { rate = rate })) is.burst_is ∙ ap (option_map (burst_kept s)) (sym is_open);
-        told = subst (λ (x : Option model.Burst). WasTold x e) (sym is_open)
-            (ap (λ (i : Info). Some (update_info s i o.burst.ticks rate join)) is.last_is ∙ ap (λ (c : Burst). Some (update_info s b.last c.ticks rate join)) is.burst_is);
+        burst_is = ap (λ (c : Burst). Some (record c { rate = rate; last = update_info s c.last c.ticks rate join })) is.burst_is ∙ ap (option_map (burst_kept s)) (sym is_open);
       };
     } in
     noted_visit s n before history v queue (Some e) budget queue refl w client is_budget w.queue_is
@@ -102,7 +63,7 @@ stop_at s n before history v queue o is w =
     let m = note.StopAt v.client n in
     let b = is.burst in
     let e : Entry = record o.entry { burst = Some (record o.burst { stop = Some n }) } in
-    let is_open = open_stop s v.client n history b is.is_open in
+    let is_open = open_stopped s v.client n history b is.is_open in
     let client : IsKnown s v.client (noted m None ∷ history) e = record {
       is_known = is.known.is_known;
       entry_is = record {
@@ -110,7 +71,6 @@ stop_at s n before history v queue o is w =
         seq_is = is.known.entry_is.seq_is;
         idle_is = is.known.entry_is.idle_is ∙ idle_none s v.client history w.quiet ∙ sym (idle_none s v.client (noted m None ∷ history) w.quiet);
         burst_is = ap (λ (c : Burst). Some (record c { stop = Some n })) is.burst_is ∙ ap (option_map (burst_kept s)) (sym is_open);
-        told = subst (λ (x : Option model.Burst). WasTold x e) (sym is_open) (subst (λ (x : Option model.Burst). WasTold x o.entry) is.is_open is.known.entry_is.told);
       };
     } in
     noted_visit s m before history v queue (Some e) v.budget queue refl w client
@@ -134,7 +94,7 @@ unfolding ssrc sendings known pending
 ended s why before history v queue o budget is taken w =
     let n = note.End v.client why in
     let e : Entry = record o.entry { burst = None } in
-    let is_open = open_ended s v.client why history in
+    let is_open = end_closes s v.client why None history in
     let client : IsKnown s v.client (noted n None ∷ history) e = record {
       is_known = is.known.is_known;
       entry_is = record {
@@ -143,7 +103,6 @@ ended s why before history v queue o budget is taken w =
         idle_is = is.known.entry_is.idle_is ∙ idle_none s v.client history w.quiet
             ∙ sym (idle_none s v.client (noted n None ∷ history) (quiet_noted s n v.client None history w.quiet));
         burst_is = ap (option_map (burst_kept s)) (sym is_open);
-        told = subst (λ (x : Option model.Burst). WasTold x e) (sym is_open) tt;
       };
     } in
     noted_visit s n before history v queue (Some e) budget queue refl w client (released s why history v o budget is w.budget_is taken) w.queue_is
@@ -201,7 +160,7 @@ left_open s before history v queue later o budget is taken kept w =
         unknown = gone v.client history;
         unnamed = cond-true (eqb v.client v.client) None (ssrc v.client history) (eq-eqb v.client v.client refl);
         unsent = cond-true (eqb v.client v.client) 0 (sendings v.client history) (eq-eqb v.client v.client refl);
-        closed = open_ended s v.client cause.Bye middle;
+        closed = end_closes s v.client cause.Bye None middle;
         unasked = none_waits v.client history;
       };
       quiet = quiet_noted s m v.client None middle (quiet_noted s n v.client None history w.quiet);
@@ -229,13 +188,6 @@ unfolding bursts
 bursts_queued s k n sender history None c = ap (option_map (burst_kept s)) (sym c.closed)
 bursts_queued s k n sender history (Some e) c = c.entry_is.burst_is
 
-told_queued : (s : Settings) (k n sender : ℕ) (history : History) (o : Option Entry) → IsClient s k history o
-    → WasTold (open_burst s k (noted (note.Queued k n) None ∷ history)) (entry_under o sender s.channel.seq0)
-unfolding bursts
-told_queued s k n sender history None c =
-    subst (λ (x : Option model.Burst). WasTold x (entry_under None sender s.channel.seq0)) (sym c.closed) tt
-told_queued s k n sender history (Some e) c = c.entry_is.told
-
 pub queued : (s : Settings) (n sender : ℕ) (before history : History) (v : Visitor) (queue : List Wanted) → s.channel.seq0 ≤ 65535 → newest_sender history ≡ Some sender
     → IsVisit s before history v queue
     → IsVisit s before (noted (note.Queued v.client n) None ∷ history) (record v { entry = Some (entry_under v.entry sender s.channel.seq0) }) (queue ++ wanted v.client n ∷ [])
@@ -249,7 +201,6 @@ queued s n sender before history v queue le from w =
         seq_is = seq_of s v.client history v.entry sender le w.client_is;
         idle_is = idle_of s v.client history v.entry sender w.quiet w.client_is ∙ sym (idle_none s v.client (noted m None ∷ history) w.quiet);
         burst_is = bursts_queued s v.client n sender history v.entry w.client_is;
-        told = told_queued s v.client n sender history v.entry w.client_is;
       };
     } in
     noted_visit s m before history v queue (Some (entry_under v.entry sender s.channel.seq0)) v.budget (queue ++ wanted v.client n ∷ []) refl w client

@@ -10,11 +10,11 @@ use Rattle.rams_model.specs.Service.{Settings, Message, is_rams, message_of, wit
 use Rattle.rams_model.specs.Formats.{Framed}
 use Rattle.rams_model.specs.Packets.{Arrival, stream_of}
 use Rattle.rams_model.specs.Packets.Source as sources
+use Rattle.rams_model.proofs.Newest.{notes_behind, orders_behind}
 use Rattle.feedback_core.specs.declared.page.Page.{Page}
 use Rattle.feedback_core.specs.declared.said.Said.{Said}
 use Rattle.feedback_core.specs.declared.visitor.Visitor.{Visitor}
 use Rattle.feedback_core.specs.{IsVisit, said_notes, said_orders, IsSaid, AreNoted, or_info, IsPage, IsTurned, turn_of, due_after, answered_of}
-use Rattle.feedback_core.proofs.Writing.{notes_behind, orders_behind}
 use Rattle.feedback_core.proofs.Visiting.{told_visit}
 
 -- the message that is told changes neither notes nor orders

@@ -13,7 +13,9 @@ use Rattle.rams_model.proofs.Legal.{IsLegal, Allows, newest_told, in_tick}
 use Rattle.rams_model.proofs.Legality.{in_tick_from_runs}
 use Rattle.rams_model.proofs.Items.{is_note, is_of_tick, message_puts, tick_puts}
 use Rattle.rams_model.proofs.Induction.{onwards, is_at_once, between}
-use Rattle.channel_parts.proofs.Knowing.{known_step, open_step, still_known, made_known, forgotten_rests, OfKnown, pending_known}
+use Rattle.rams_model.proofs.LastAccept.{open_step}
+use Rattle.rams_model.proofs.Since.{known_step}
+use Rattle.channel_parts.proofs.Knowing.{still_known, made_known, forgotten_rests, OfKnown, pending_known}
 use Rattle.channel_parts.proofs.Opening.{AreKnown, open_known}
 
 -- what is true of a client that isn't known

@@ -24,10 +24,10 @@ use Rattle.access_index.specs.declared.choice.Choice.TheVariants.{Start, NoStart
 use Rattle.client_table.specs.declared.entry.Burst.{Burst}
 use Rattle.client_table.specs.declared.entry.Entry.{Entry}
 use Rattle.channel_parts.specs.{IsBudget, burst_kept}
+use Rattle.channel_parts.proofs.Tables.{without_none}
 use Rattle.feedback_core.specs.declared.visitor.Open.{Open}
 use Rattle.feedback_core.specs.declared.visitor.Visitor.{Visitor}
 use Rattle.feedback_core.specs.{open_of, entry_under, begun_burst, IsClient, IsVisit, IsHeldRun, rate_for, IsAnswered}
-use Rattle.feedback_core.proofs.Others.{without_none}
 use Rattle.feedback_core.proofs.Visiting.{idle_visit, accepted, is_closed, is_opened}
 use Rattle.feedback_core.proofs.Turning.{updated}
 
@@ -79,9 +79,9 @@ pub accepts : (s : Settings) (held : List Held) (sender : ℕ) (before history :
     (budget : Amounts) (under : Entry) (info : Info) (burst : Burst) → channel ≡ s.channel → s.channel.seq0 ≤ 65535 → h.n ≡ first → behind first held ≡ size
     → s.channel.declared + 1500 ≤ rate → HasRoom v.budget (rate + channel.depth) → budget ≡ record v.budget { reserved = v.budget.reserved + (rate + channel.depth) }
     → join ≡ join_ticks size rate channel.declared channel.depth → under ≡ entry_under v.entry sender channel.seq0 → info ≡ accept_info s under.seq rate join
-    → burst ≡ begun_burst first rate → open_of v.entry ≡ None → newest_sender history ≡ Some sender → IsVisit s before history v queue
+    → burst ≡ begun_burst first rate info → open_of v.entry ≡ None → newest_sender history ≡ Some sender → IsVisit s before history v queue
     → IsAnswered s before history queue
-    (record { client = v.client; entry = Some (record { ssrc = sender; seq = under.seq; idle = under.idle; last = Some info; burst = Some burst }); has_place = v.has_place; budget = budget })
+    (record { client = v.client; entry = Some (record { ssrc = sender; seq = under.seq; idle = under.idle; burst = Some burst }); has_place = v.has_place; budget = budget })
     (note.Accept v.client first rate join) (begins s held v.client rate history (Ok h))
 accepts s held sender before history queue v rate first size join h channel budget under info burst ce le ne be fast' room taken je ue ie bu none from w =
     let taken' : budget ≡ record v.budget { reserved = v.budget.reserved + (rate + s.channel.depth) } =
@@ -90,29 +90,26 @@ accepts s held sender before history queue v rate first size join h channel budg
     let under' : under ≡ entry_under v.entry sender s.channel.seq0 = ue ∙ ap (λ (c : Channel). entry_under v.entry sender c.seq0) ce in
     let visit = accepted s first rate join sender before history v queue budget le from (is_closed s before history v queue w none) taken' w in
     let made : Option Entry → Visitor = λ e. record { client = v.client; entry = e; has_place = v.has_place; budget = budget } in
-    let info' : info ≡ accept_info s (entry_under v.entry sender s.channel.seq0).seq rate join = ie ∙ ap (λ (e : Entry). accept_info s e.seq rate join) under' in
+    let burst' : burst ≡ begun_burst first rate (accept_info s (entry_under v.entry sender s.channel.seq0).seq rate join) =
+    bu ∙ ap (begun_burst first rate) (ie ∙ ap (λ (e : Entry). accept_info s e.seq rate join) under') in
     let join' : join ≡ join_from s held h.n rate =
     je ∙ ap (λ (c : Channel). join_ticks size rate c.declared c.depth) ce
     ∙ ap (λ (a : ℕ). join_ticks a rate s.channel.declared s.channel.depth) (sym be ∙ ap (λ (a : ℕ). behind a held) (sym ne)) in
     answered_by s before history queue
-    (made (Some (record { ssrc = sender; seq = under.seq; idle = under.idle; last = Some info; burst = Some burst })))
+    (made (Some (record { ssrc = sender; seq = under.seq; idle = under.idle; burst = Some burst })))
     (note.Accept v.client first rate join) (begins s held v.client rate history (Ok h)) (note.Accept v.client first rate join) refl
     (begins_accepts s held v.client rate history h v.budget fast' w.budget_is room' ∙ ap (λ (a : ℕ). note.Accept v.client a rate (join_from s held h.n rate)) ne
     ∙ ap (note.Accept v.client first rate) (sym join'))
-    (subst (λ (e : Entry). IsVisit s before (noted (note.Accept v.client first rate join) None ∷ history) (made (Some (record { ssrc = sender; seq = e.seq; idle = e.idle; last = Some info; burst = Some burst }))) queue)
+    (subst (λ (e : Entry). IsVisit s before (noted (note.Accept v.client first rate join) None ∷ history) (made (Some (record { ssrc = sender; seq = e.seq; idle = e.idle; burst = Some burst }))) queue)
     (sym under')
-    (subst (λ (i : Info). IsVisit s before (noted (note.Accept v.client first rate join) None ∷ history)
-    (made (Some (record { ssrc = sender; seq = (entry_under v.entry sender s.channel.seq0).seq; idle = (entry_under v.entry sender s.channel.seq0).idle; last = Some i; burst = Some burst }))) queue)
-    (sym info')
     (subst (λ (b : Burst). IsVisit s before (noted (note.Accept v.client first rate join) None ∷ history)
     (made (Some (record {
       ssrc = sender;
       seq = (entry_under v.entry sender s.channel.seq0).seq;
       idle = (entry_under v.entry sender s.channel.seq0).idle;
-      last = Some (accept_info s (entry_under v.entry sender s.channel.seq0).seq rate join);
       burst = Some b;
     }))) queue)
-    (sym bu) visit)))
+    (sym burst') visit))
 
 -- where a client can't be known
 full_of : (s : Settings) (k : ℕ) (history : History) (has_place : Bool) (o : Option Entry) → IsClient s k history o
@@ -199,10 +196,10 @@ changes_rate s held k rate history b budget o le is same room =
 pub updates : (s : Settings) (held : List Held) (before history : History) (queue : List Wanted) (v : Visitor) (rate size join : ℕ) (b : model.Burst) (o : Open) (channel : Channel)
     (less budget : Amounts) (info : Info) → channel ≡ s.channel → s.channel.declared + 1500 ≤ rate → less ≡ less_rate v.budget o.burst.rate → HasRoom less rate
     → budget ≡ record less { reserved = less.reserved + rate } → size ≡ behind o.burst.next held → join ≡ join_ticks size rate channel.declared channel.depth
-    → info ≡ update_info s o.last o.burst.ticks rate join → open_of v.entry ≡ Some o → open_burst s v.client history ≡ Some b → o.burst ≡ burst_kept s b
+    → info ≡ update_info s o.burst.last o.burst.ticks rate join → open_of v.entry ≡ Some o → open_burst s v.client history ≡ Some b → o.burst ≡ burst_kept s b
     → IsVisit s before history v queue
     → IsAnswered s before history queue
-    (record { client = v.client; entry = Some (record o.entry { last = Some info; burst = Some (record o.burst { rate = rate }) }); has_place = v.has_place; budget = budget })
+    (record { client = v.client; entry = Some (record o.entry { burst = Some (record o.burst { rate = rate; last = info }) }); has_place = v.has_place; budget = budget })
     (note.Update v.client rate join) (changes s held v.client rate history b)
 updates s held before history queue v rate size join b o channel less budget info ce fast' le room taken se je ie opened is_open same w =
     let is = is_opened s before history v queue o w opened in
@@ -213,7 +210,7 @@ updates s held before history queue v rate size join b o channel less budget inf
     ∙ ap (λ (a : ℕ). join_ticks a rate s.channel.declared s.channel.depth) (se ∙ ap (λ (x : Burst). behind x.next held) same) in
     let made : Info → Visitor = λ i. record {
       client = v.client;
-      entry = Some (record o.entry { last = Some i; burst = Some (record o.burst { rate = rate }) });
+      entry = Some (record o.entry { burst = Some (record o.burst { rate = rate; last = i }) });
       has_place = v.has_place;
       budget = budget;
     } in
@@ -246,15 +243,11 @@ starts_at held c n size r e (none is) = absurd cc
 starts_at held c n size r e (young is) = absurd cc
 starts_at held c n size r e (old is) = absurd cc
 
-codes : (held : List Held) (c : Choice) (r : Result Held ℕ) → IsChoice held c r → (c ≡ NoStart → r ≡ Err 507) × (c ≡ MinUnmet → r ≡ Err 401) × (c ≡ MaxUnmet → r ≡ Err 402)
-codes held c r (starts h is) = (λ e. absurd cc, λ e. absurd cc, λ e. absurd cc)
-codes held c r (none is) = (λ e. refl, λ e. absurd cc, λ e. absurd cc)
-codes held c r (young is) = (λ e. absurd cc, λ e. refl, λ e. absurd cc)
-codes held c r (old is) = (λ e. absurd cc, λ e. absurd cc, λ e. refl)
-
-pub refused_choice : (held : List Held) (c : Choice) (r : Result Held ℕ) → IsChoice held c r
-    → (c ≡ NoStart → r ≡ Err 507) × (c ≡ MinUnmet → r ≡ Err 401) × (c ≡ MaxUnmet → r ≡ Err 402)
-refused_choice held c r is = codes held c r is
+pub refused_choice : (held : List Held) (c : Choice) (r : Result Held ℕ) → IsChoice held c r → (c ≡ NoStart → r ≡ Err 507) × (c ≡ MinUnmet → r ≡ Err 401) × (c ≡ MaxUnmet → r ≡ Err 402)
+refused_choice held c r (starts h is) = (λ e. absurd cc, λ e. absurd cc, λ e. absurd cc)
+refused_choice held c r (none is) = (λ e. refl, λ e. absurd cc, λ e. absurd cc)
+refused_choice held c r (young is) = (λ e. absurd cc, λ e. refl, λ e. absurd cc)
+refused_choice held c r (old is) = (λ e. absurd cc, λ e. absurd cc, λ e. refl)
 
 among_below : (m : ℕ) (hs : List Held) (h : Held) → Follows m hs → IsAmong h hs → h.n < m + length hs
 among_below m [] h f a = absurd a

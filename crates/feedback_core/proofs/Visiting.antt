@@ -2,7 +2,6 @@
 use Rattle.std.proofs.Common.{◌≡◌, ℕ, ◌+◌, ◌%◌, ◌≤◌, Bool, false, cond, ◌||◌, List, ◌∷◌, Option, Some, None, refl, ap, sym, ◌∙◌, subst, arith, eqb, ltb}
 use Rattle.std.specs.Prelude.{length, min, option_map, is_some}
 use Rattle.std.proofs.lemmas.Bool.{cond_both, cond-true, eq-eqb}
-use Rattle.rams_model.specs.declared.message.Info.{Info}
 use Rattle.rams_model.specs.declared.note.Note.{Note}
 use Rattle.rams_model.specs.declared.note.Note.TheVariants as note
 use Rattle.rams_model.specs.Service.{Settings, Message, told, noted, History, arrivals, known, opened, sendings, ssrc, newest_sender, sequence, accept_info, bursts, begun, newest_open, open_burst, Wanted, pending, is_busy, quiet_ticks, idle, reserved, channel_left}
@@ -10,7 +9,7 @@ use Rattle.rams_model.specs.Service.Bursts as model
 use Rattle.link_budget.specs.Amounts.{Amounts}
 use Rattle.client_table.specs.declared.entry.Burst.{Burst}
 use Rattle.client_table.specs.declared.entry.Entry.{Entry}
-use Rattle.channel_parts.specs.{IsEntry, WasTold, IsBudget, burst_kept, is_of_reserved}
+use Rattle.channel_parts.specs.{IsEntry, IsBudget, burst_kept, is_of_reserved}
 use Rattle.channel_parts.proofs.Knowing.{made_known}
 use Rattle.feedback_core.specs.declared.visitor.Open.{Open}
 use Rattle.feedback_core.specs.declared.visitor.Visitor.{Visitor}
@@ -29,7 +28,6 @@ entry_as_before s k before history e same was = record {
   idle_is = was.idle_is
       ∙ idle_same _ _ _ _ _ _ (ap (λ (bs : List model.Burst). is_some (newest_open bs)) (sym same.bursts_is)) (sym same.waits_is) (sym same.quiet_is);
   burst_is = was.burst_is ∙ ap (λ (bs : List model.Burst). option_map (burst_kept s) (newest_open bs)) (sym same.bursts_is);
-  told = subst (λ (bs : List model.Burst). WasTold (newest_open bs) e) (sym same.bursts_is) was.told;
 }
 
 pub client_as_before : (s : Settings) (k : ℕ) (before history : History) (o : Option Entry) → IsAsBefore s k before history → IsClient s k before o → IsClient s k history o
@@ -154,51 +152,43 @@ pub record IsOpen (s : Settings) (history : History) (v : Visitor) (o : Open) : 
   pub burst : model.Burst
   pub is_open : open_burst s v.client history ≡ Some burst
   pub burst_is : o.burst ≡ burst_kept s burst
-  pub last_is : o.last ≡ burst.last
-  pub entry_last : o.entry.last ≡ Some o.last
   pub known : IsKnown s v.client history o.entry
 
 opened_in : (s : Settings) (history : History) (v : Visitor) (o : Open) (e : Entry) → v.entry ≡ Some e → IsKnown s v.client history e → (b : Option Burst) → e.burst ≡ b
-    → (i : Option Info) → e.last ≡ i → open_in e b i ≡ Some o → (m : Option model.Burst) → open_burst s v.client history ≡ m → IsOpen s history v o
-opened_in s history v o e ve k None be i ie q m me = absurd cc
-opened_in s history v o e ve k (Some b) be None ie q m me = absurd cc
-opened_in s history v o e ve k (Some b) be (Some i) ie q None me =
+    → open_in e b ≡ Some o → (m : Option model.Burst) → open_burst s v.client history ≡ m → IsOpen s history v o
+opened_in s history v o e ve k None be q m me = absurd cc
+opened_in s history v o e ve k (Some b) be q None me =
     let mapped : option_map (burst_kept s) (open_burst s v.client history) ≡ None = ap (option_map (burst_kept s)) me in absurd cc
-opened_in s history v o e ve k (Some b) be (Some i) ie q (Some m) me =
+opened_in s history v o e ve k (Some b) be q (Some m) me =
     let mapped : option_map (burst_kept s) (open_burst s v.client history) ≡ Some (burst_kept s m) = ap (option_map (burst_kept s)) me in
-    let told' : e.last ≡ Some m.last = subst (λ (x : Option model.Burst). WasTold x e) me k.entry_is.told in
     let same : e ≡ o.entry = cc in
     record {
       entry_is = cc;
       burst = m;
       is_open = me;
       burst_is = cc;
-      last_is = cc;
-      entry_last = cc;
       known = subst (IsKnown s v.client history) same k;
     }
 
 opened_of : (s : Settings) (history : History) (v : Visitor) (o : Open) (x : Option Entry) → v.entry ≡ x → IsClient s v.client history x → open_of x ≡ Some o → IsOpen s history v o
 opened_of s history v o None ve c q = absurd cc
-opened_of s history v o (Some e) ve c q = opened_in s history v o e ve c e.burst refl e.last refl q (open_burst s v.client history) refl
+opened_of s history v o (Some e) ve c q = opened_in s history v o e ve c e.burst refl q (open_burst s v.client history) refl
 
 pub is_opened : (s : Settings) (before history : History) (v : Visitor) (queue : List Wanted) (o : Open) → IsVisit s before history v queue → open_of v.entry ≡ Some o → IsOpen s history v o
 is_opened s before history v queue o w q = opened_of s history v o v.entry refl w.client_is q
 
 -- where a visitor has none
-closed_in : (s : Settings) (k : ℕ) (history : History) (e : Entry) → IsKnown s k history e → (b : Option Burst) → e.burst ≡ b → (i : Option Info) → e.last ≡ i → open_in e b i ≡ None
+closed_in : (s : Settings) (k : ℕ) (history : History) (e : Entry) → IsKnown s k history e → (b : Option Burst) → e.burst ≡ b → open_in e b ≡ None
     → (m : Option model.Burst) → open_burst s k history ≡ m → m ≡ None
-closed_in s k history e known b be i ie q None me = refl
-closed_in s k history e known None be i ie q (Some m) me =
+closed_in s k history e known b be q None me = refl
+closed_in s k history e known None be q (Some m) me =
     let mapped : option_map (burst_kept s) (open_burst s k history) ≡ Some (burst_kept s m) = ap (option_map (burst_kept s)) me in
     let was : e.burst ≡ option_map (burst_kept s) (open_burst s k history) = known.entry_is.burst_is in absurd cc
-closed_in s k history e known (Some b) be None ie q (Some m) me =
-    let told' : e.last ≡ Some m.last = subst (λ (x : Option model.Burst). WasTold x e) me known.entry_is.told in absurd cc
-closed_in s k history e known (Some b) be (Some i) ie q (Some m) me = absurd cc
+closed_in s k history e known (Some b) be q (Some m) me = absurd cc
 
 closed_of : (s : Settings) (k : ℕ) (history : History) (x : Option Entry) → IsClient s k history x → open_of x ≡ None → open_burst s k history ≡ None
 closed_of s k history None c q = c.closed
-closed_of s k history (Some e) c q = closed_in s k history e c e.burst refl e.last refl q (open_burst s k history) refl
+closed_of s k history (Some e) c q = closed_in s k history e c e.burst refl q (open_burst s k history) refl
 
 pub is_closed : (s : Settings) (before history : History) (v : Visitor) (queue : List Wanted) → IsVisit s before history v queue → open_of v.entry ≡ None
     → open_burst s v.client history ≡ None
@@ -229,7 +219,7 @@ unfolding bursts
 open_accepted s k first rate join history =
     ap newest_open (cond-true (eqb k k) (begun s first rate join (sequence s k history) ∷ bursts s k history) (bursts s k history) (eq-eqb k k refl))
 
-begun_kept : (s : Settings) (first rate join number : ℕ) → Some (begun_burst first rate) ≡ option_map (burst_kept s) (Some (begun s first rate join number))
+begun_kept : (s : Settings) (first rate join number : ℕ) → Some (begun_burst first rate (accept_info s number rate join)) ≡ option_map (burst_kept s) (Some (begun s first rate join number))
 begun_kept s first rate join number =
     let n : first ≡ first + 0 = omega arith in
     let m : 0 ≡ min s.channel.depth 0 = omega arith in
@@ -239,27 +229,21 @@ accepted_client : (s : Settings) (k first rate join sender : ℕ) (history : His
     → IsClient s k history o → newest_sender history ≡ Some sender
     → IsKnown s k (noted (note.Accept k first rate join) None ∷ history) (record (entry_under o sender s.channel.seq0) {
       ssrc = sender;
-      last = Some (accept_info s (entry_under o sender s.channel.seq0).seq rate join);
-      burst = Some (begun_burst first rate);
+      burst = Some (begun_burst first rate (accept_info s (entry_under o sender s.channel.seq0).seq rate join));
     })
 unfolding ssrc sendings quiet_ticks
 accepted_client s k first rate join sender history o le q c from =
     let seq = seq_of s k history o sender le c in
     let now = noted (note.Accept k first rate join) None ∷ history in
     let is_open = open_accepted s k first rate join history in
-    let e : Entry = record (entry_under o sender s.channel.seq0) {
-      ssrc = sender;
-      last = Some (accept_info s (entry_under o sender s.channel.seq0).seq rate join);
-      burst = Some (begun_burst first rate);
-    } in
     record {
       is_known = made_known k (noted (note.Accept k first rate join) None) history (eq-eqb k k refl);
       entry_is = record {
         ssrc_is = cond-true (eqb k k) (newest_sender history) (ssrc k history) (eq-eqb k k refl) ∙ from;
         seq_is = seq;
         idle_is = idle_of s k history o sender q c ∙ sym (idle_none s k now q);
-        burst_is = begun_kept s first rate join (sequence s k history) ∙ ap (option_map (burst_kept s)) (sym is_open);
-        told = subst (λ (x : Option model.Burst). WasTold x e) (sym is_open) (ap (λ (n : ℕ). Some (accept_info s n rate join)) seq);
+        burst_is = ap (λ (n : ℕ). Some (begun_burst first rate (accept_info s n rate join))) seq ∙ begun_kept s first rate join (sequence s k history)
+            ∙ ap (option_map (burst_kept s)) (sym is_open);
       };
     }
 
@@ -273,8 +257,7 @@ pub accepted : (s : Settings) (first rate join sender : ℕ) (before history : H
     → IsVisit s before (noted (note.Accept v.client first rate join) None ∷ history) (record v {
       entry = Some (record (entry_under v.entry sender s.channel.seq0) {
         ssrc = sender;
-        last = Some (accept_info s (entry_under v.entry sender s.channel.seq0).seq rate join);
-        burst = Some (begun_burst first rate);
+        burst = Some (begun_burst first rate (accept_info s (entry_under v.entry sender s.channel.seq0).seq rate join));
       });
       budget = budget;
     }) queue
@@ -288,6 +271,5 @@ accepted s first rate join sender before history v queue budget le from none tak
     taken ∙ budget_changed s history (noted n None ∷ history) v.budget (v.budget.reserved + (rate + s.channel.depth)) more (left_noted s n v.client None history refl) w.budget_is in
     noted_visit s n before history v queue (Some (record (entry_under v.entry sender s.channel.seq0) {
       ssrc = sender;
-      last = Some (accept_info s (entry_under v.entry sender s.channel.seq0).seq rate join);
-      burst = Some (begun_burst first rate);
+      burst = Some (begun_burst first rate (accept_info s (entry_under v.entry sender s.channel.seq0).seq rate join));
     })) budget queue refl w (accepted_client s v.client first rate join sender history v.entry le w.quiet w.client_is from) is_budget w.queue_is

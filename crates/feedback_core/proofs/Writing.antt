@@ -1,35 +1,16 @@
 -- The notes and orders of a datagram, as they grow.
-use Rattle.std.proofs.Common.{◌≡◌, ℕ, ◌%◌, List, [], ◌∷◌, ◌++◌, Option, Some, None, refl, ap, sym, ◌∙◌, subst, append_assoc, append-nil, length, leb}
+use Rattle.std.proofs.Common.{◌≡◌, ℕ, ◌%◌, List, [], ◌∷◌, ◌++◌, Option, Some, None, refl, ap, sym, ◌∙◌, subst, length, leb}
 use Rattle.std.specs.Prelude.{◌==◌, option_to_list, find}
 use Rattle.std.proofs.lemmas.Bool.{cond_both}
 use Rattle.rams_model.specs.declared.answer.Order.{Order}
 use Rattle.rams_model.specs.declared.held.Held.{Held}
 use Rattle.rams_model.specs.declared.note.Note.{Note}
-use Rattle.rams_model.specs.Service.{Settings, began, told, noted, History, arrivals, hold, newest_sender, order_of, newest_notes, newest_orders, Room, room, is_early, repair_note, held_answer, number_answer, after_numbers, open_burst, Wanted, pending, pending_of, is_pending, is_full}
+use Rattle.rams_model.specs.Service.{Settings, noted, History, arrivals, hold, newest_sender, order_of, newest_notes, newest_orders, Room, room, is_early, repair_note, held_answer, number_answer, after_numbers, open_burst, Wanted, pending, pending_of, is_pending, is_full}
+use Rattle.rams_model.proofs.Newest.{notes_behind}
 use Rattle.feedback_core.specs.declared.visitor.Visitor.{Visitor}
 use Rattle.feedback_core.specs.{IsVisit, IsAnswered, AreNoted}
 use Rattle.feedback_core.proofs.Others.{IsOf}
 use Rattle.feedback_core.proofs.Visiting.{IsIdle, idle_visit}
-
--- later notes stand behind
-pub notes_behind : (history : History) (later : List Note) → newest_notes history later ≡ newest_notes history [] ++ later
-unfolding newest_notes
-notes_behind [] later = refl
-notes_behind (began heard ∷ history) later = refl
-notes_behind (told client message ∷ history) later = notes_behind history later
-notes_behind (noted n packet ∷ history) later =
-    notes_behind history (n ∷ later) ∙ sym (append_assoc (newest_notes history []) (n ∷ []) later) ∙ ap (λ (ns : List Note). ns ++ later) (sym (notes_behind history (n ∷ [])))
-
-pub orders_behind : (s : Settings) (history : History) (later : List Order) → newest_orders s history later ≡ newest_orders s history [] ++ later
-unfolding newest_orders
-orders_behind s [] later = refl
-orders_behind s (began heard ∷ history) later = refl
-orders_behind s (told client message ∷ history) later = orders_behind s history later
-orders_behind s (noted n packet ∷ history) later =
-    let made = option_to_list (order_of s history n packet) in
-    orders_behind s history (made ++ later) ∙ sym (append_assoc (newest_orders s history []) made later)
-    ∙ ap (λ (os : List Order). os ++ later)
-    (sym (orders_behind s history made) ∙ ap (newest_orders s history) (sym (append-nil made)))
 
 -- the answer to a number has no order
 abbrev HasNoOrder : Settings → History → Note → Type 0

@@ -15,10 +15,10 @@ abbrev pub or_info : Option Info → Option Info → Option Info
 or_info (Some i) other = Some i
 or_info None other = other
 
--- what a client was told last
+-- what a client was told last of its open burst
 abbrev pub last_of : Option Entry → Option Info
 last_of None = None
-last_of (Some e) = e.last
+last_of (Some e) = option_map (λ b. b.last) e.burst
 
 -- what a client is told of the answer to its request, after which its entry is this
 abbrev pub info_for : Option Entry → Note → Option Info

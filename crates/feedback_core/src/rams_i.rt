@@ -44,7 +44,9 @@ pub(crate) fn request_info(visitor: &Visitor, note: Note) -> Option<Info>
     ensures { result ≡ info_for visitor.now.entry note }
 {
     match note {
-        Note::Accept { .. } | Note::Update { .. } | Note::Again { .. } => visitor.entry?.last,
+        Note::Accept { .. } | Note::Update { .. } | Note::Again { .. } => Some(
+            visitor.entry?.burst?.last,
+        ),
         Note::Refuse { code, .. } => Some(refuse_info(code)),
         _ => None,
     }

@@ -18,7 +18,7 @@ use channel_parts::response::{
     BITRATE_TOO_LOW, MAX_FILL_UNMET, MIN_FILL_UNMET, NO_ACCESS_POINT, NO_BANDWIDTH, ONLY_PREAMBLE,
     OTHER_SOURCE, TOO_MANY_CLIENTS, UNREADABLE_REQUEST,
 };
-use client_table::{Burst, Entry};
+use client_table::{Burst, Entry, Info};
 use rams_model::{MOST_ON_WIRE, Note};
 use rams_tlv::{Request, names, read_request};
 
@@ -134,12 +134,12 @@ fn change(config: &Config, cache: &Cache, visitor: &mut Visitor, current: &Open,
     }
     let behind = behind(cache, current.burst.next);
     let join = join_ticks(behind, rate, channel.declared, channel.depth);
-    let last = update_info(config, &current.last, current.burst.ticks, rate, join);
+    let last = update_info(config, &current.burst.last, current.burst.ticks, rate, join);
     visitor.budget = budget;
     visitor.entry = Some(Entry {
-        last: Some(last),
         burst: Some(Burst {
             rate,
+            last,
             ..current.burst
         }),
         ..current.entry
@@ -204,10 +204,10 @@ fn accept(
     }
     let join = join_ticks(behind, rate, channel.declared, channel.depth);
     let entry = visitor.entry_under(sender, channel.seq0);
+    let last = accept_info(config, entry.seq, rate, join);
     visitor.entry = Some(Entry {
         ssrc: sender,
-        last: Some(accept_info(config, entry.seq, rate, join)),
-        burst: Some(begun(first, rate)),
+        burst: Some(begun(first, rate, last)),
         ..entry
     });
     Note::Accept {
@@ -219,8 +219,8 @@ fn accept(
 }
 
 // A burst that begins.
-fn begun(first: u64, rate: u64) -> Burst
-    ensures { result ≡ begun_burst first rate }
+fn begun(first: u64, rate: u64, last: Info) -> Burst
+    ensures { result ≡ begun_burst first rate last }
 {
     Burst {
         first,
@@ -229,5 +229,6 @@ fn begun(first: u64, rate: u64) -> Burst
         rate,
         ticks: 0,
         kept: 0,
+        last,
     }
 }

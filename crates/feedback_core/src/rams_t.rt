@@ -62,7 +62,7 @@ fn stop_burst(config: &Config, visitor: &mut Visitor, named: Option<u32>) -> Sai
         return Said {
             note,
             end: Some(Cause::Stopped),
-            info: end_info(&open.last, Cause::Stopped),
+            info: end_info(&open.burst.last, Cause::Stopped),
         };
     }
     visitor.entry = Some(Entry {

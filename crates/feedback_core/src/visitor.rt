@@ -3,7 +3,7 @@ ghost use Rattle.std.specs.Prelude.{◌≡◌, ◌&&◌, not, is_some};
 ghost use Rattle.feedback_core.specs.{open_of, entry_under, is_sent_later, woken};
 
 use channel_parts::is_before_stop;
-use client_table::{Burst, Entry, Info};
+use client_table::{Burst, Entry};
 use link_budget::Budget;
 
 /// The client, and what the answers change of the channel beside the pending repairs.
@@ -23,8 +23,6 @@ pub(crate) struct Visitor {
 pub(crate) struct Open {
     pub entry: Entry,
     pub burst: Burst,
-    /// What the client was told of it last.
-    pub last: Info,
 }
 
 impl Visitor {
@@ -47,8 +45,7 @@ impl Visitor {
     {
         let entry = self.entry?;
         let burst = entry.burst?;
-        let last = entry.last?;
-        Some(Open { entry, burst, last })
+        Some(Open { entry, burst })
     }
 
     /// What is kept of the client, which becomes known under this SSRC where it isn't, with this first

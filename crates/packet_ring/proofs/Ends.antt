@@ -1,5 +1,5 @@
 -- The longest end of some packets whose numbers follow one another, as one more comes.
-use Rattle.std.proofs.Common.{◌≡◌, ℕ, zero, suc, ◌+◌, ◌-◌, ◌<◌, ◌≤◌, ◌≢◌, false, ◌&&◌, List, [], ◌∷◌, ◌++◌, length, drop, refl, ap, sym, ◌∙◌, arith, eqb, length-append}
+use Rattle.std.proofs.Common.{◌≡◌, ℕ, ◌+◌, ◌-◌, ◌≤◌, ◌≢◌, false, ◌&&◌, List, [], ◌∷◌, ◌++◌, length, drop, refl, ap, sym, ◌∙◌, arith, eqb, length-append}
 use Rattle.std.proofs.lemmas.Bool.{cond_both, cond-true, cond-false, eqb-true, eqb-false, eq-eqb, ne_eqb}
 use Rattle.std.proofs.lemmas.List.{length-drop, drop-drop, drop-append-le}
 use Rattle.std.proofs.Math.Seq.{drop-nil}
@@ -7,6 +7,8 @@ use Rattle.std.proofs.Math.Bool.{and-true, and-false, and_assoc}
 use Rattle.rams_model.specs.declared.held.Held.{Held}
 use Rattle.rams_model.specs.Packets.{hi, last_of, is_consecutive, consecutive_end}
 use Rattle.rams_model.specs.Laws.{Rises}
+use Rattle.rams_model.proofs.HeldEnds.{hi-consecutive_end, hi-last_of}
+use Rattle.rams_model.proofs.Rising.{hi_before}
 use Rattle.packet_ring.specs.{with_next, StandsFor}
 use Rattle.packet_ring.specs.Seen.{Seen}
 
@@ -40,24 +42,6 @@ end_begins (k ∷ []) h other = cond-false (is_consecutive (k ∷ h ∷ [])) (k 
 end_begins (k ∷ j ∷ hs) h other =
     cond-false (is_consecutive (k ∷ j ∷ hs ++ h ∷ [])) (k ∷ j ∷ hs ++ h ∷ []) (consecutive_end (j ∷ hs ++ h ∷ [])) (follows_no_more k (j ∷ hs) h other) ∙ end_begins (j ∷ hs) h other
 
--- ---- where it ends
-hi-end : (hs : List Held) → hi (consecutive_end hs) ≡ hi hs
-unfolding hi consecutive_end
-hi-end [] = refl
-hi-end (k ∷ []) = refl
-hi-end (k ∷ j ∷ hs) = cond_both (is_consecutive (k ∷ j ∷ hs)) (k ∷ j ∷ hs) (consecutive_end (j ∷ hs)) (λ l. hi l ≡ hi (j ∷ hs)) (λ t. refl) (λ f. hi-end (j ∷ hs))
-
-hi-drop : (k : ℕ) (hs : List Held) → k < length hs → hi (drop k hs) ≡ hi hs
-unfolding hi
-hi-drop zero hs some = refl
-hi-drop (suc k) [] some = absurd (omega arith)
-hi-drop (suc k) (h ∷ []) some = absurd (omega arith)
-hi-drop (suc k) (h ∷ j ∷ hs) some = hi-drop k (j ∷ hs) (omega arith)
-
-pub hi-last_of : (capacity : ℕ) (hs : List Held) → 1 ≤ capacity → hi (last_of capacity hs) ≡ hi hs
-hi-last_of capacity [] room = ap hi (drop-nil (0 - capacity))
-hi-last_of capacity (h ∷ hs) room = hi-drop (length (h ∷ hs) - capacity) (h ∷ hs) (omega arith)
-
 -- ---- the last packets
 -- what was cut away before makes no difference
 last_of-more : (capacity : ℕ) (hs : List Held) (h : Held) → last_of capacity (last_of capacity hs ++ h ∷ []) ≡ last_of capacity (hs ++ h ∷ [])
@@ -79,22 +63,16 @@ pub end_grows : (capacity : ℕ) (source : List Held) (h : Held) → 1 ≤ capac
 end_grows capacity source h room =
     let end = consecutive_end source in
     let held = last_of capacity end in
-    let ends : hi held ≡ hi source = hi-last_of capacity end room ∙ hi-end source in
+    let ends : hi held ≡ hi source = hi-last_of capacity end room ∙ hi-consecutive_end source in
     cond_both (eqb h.n (hi held)) (last_of capacity (held ++ h ∷ [])) (h ∷ []) (λ l. last_of capacity (consecutive_end (source ++ h ∷ [])) ≡ l)
     (λ t. ap (last_of capacity) (end_goes_on source h (eqb-true h.n (hi held) t ∙ ends)) ∙ sym (last_of-more capacity end h))
     (λ f. ap (last_of capacity) (end_begins source h (λ next. eqb-false h.n (hi held) f (next ∙ sym ends))) ∙ last_of_one capacity h room)
 
 pub ends_alike : (v : Seen) (source : List Held) → 1 ≤ v.capacity → StandsFor v source → hi v.held ≡ hi source
-ends_alike v source room stood = ap hi stood ∙ (hi-last_of v.capacity (consecutive_end source) room ∙ hi-end source)
-
-next_above : (n : ℕ) (source : List Held) (h : Held) (more : List Held) → Rises n (source ++ h ∷ more) → hi source ≤ h.n
-unfolding hi
-next_above n [] h more rises = omega arith
-next_above n (k ∷ []) h more rises = rises.1.0
-next_above n (k ∷ j ∷ source) h more rises = next_above (k.n + 1) (j ∷ source) h more rises.1
+ends_alike v source room stood = ap hi stood ∙ (hi-last_of v.capacity (consecutive_end source) room ∙ hi-consecutive_end source)
 
 pub next_is_above : (v : Seen) (source : List Held) (h : Held) (more : List Held) → 1 ≤ v.capacity → StandsFor v source → Rises 0 (source ++ h ∷ more) → hi v.held ≤ h.n
-next_is_above v source h more room stood rises = let ends = ends_alike v source room stood in let above = next_above 0 source h more rises in omega (arith, ends, above)
+next_is_above v source h more room stood rises = let ends = ends_alike v source room stood in let above = hi_before 0 source h more rises in omega (arith, ends, above)
 
 -- a ring stands for its source with one more packet
 pub pushed_stands : (v : Seen) (source : List Held) (h : Held) → 1 ≤ v.capacity → StandsFor v source → with_next v.capacity v.held h ≡ last_of v.capacity (consecutive_end (source ++ h ∷ []))

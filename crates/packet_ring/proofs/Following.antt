@@ -6,20 +6,11 @@ use Rattle.std.proofs.lemmas.Bool.{cond_both, eqb-true, eqb-false, le-leb, lt-le
 use Rattle.std.proofs.lemmas.List.{length-drop}
 use Rattle.rams_model.specs.declared.held.Held.{Held}
 use Rattle.rams_model.specs.Packets.{lo, hi, last_of, from_number, Follows}
-use Rattle.rams_model.proofs.Holding.{later_ones, all_from, hi_is}
+use Rattle.rams_model.proofs.Holding.{later_ones, all_from, one_behind, ends_at}
 use Rattle.rams_model.proofs.Rising.{hi_of_end}
+use Rattle.rams_model.proofs.HeldEnds.{hi-last_of}
 use Rattle.packet_ring.specs.{pushed, empty_ring, packet_of, IsRing}
 use Rattle.packet_ring.specs.Seen.{Seen}
-use Rattle.packet_ring.proofs.Ends.{hi-last_of}
-
-one_behind : (n : ℕ) (hs : List Held) (h : Held) → Follows n hs → h.n ≡ n + length hs → Follows n (hs ++ h ∷ [])
-one_behind n [] h f next = (omega (arith, next), tt)
-one_behind n (k ∷ hs) h f next = (f.0, one_behind (n + 1) hs h f.1 (omega (arith, next)))
-
-ends_at : (hs : List Held) → Follows (lo hs) hs → hi hs ≡ lo hs + length hs
-unfolding hi
-ends_at [] f = refl
-ends_at (h ∷ hs) f = hi_is h.n h hs f
 
 -- ---- the rings
 ring_of : (capacity : ℕ) (hs : List Held) → 1 ≤ capacity → length hs ≤ capacity → Follows (lo hs) hs → hi hs ≤ 2 ^ 62 → IsRing (record { capacity = capacity; held = hs })

@@ -6,7 +6,7 @@ use Rattle.rams_model.specs.declared.channel.Channel.{Channel}
 use Rattle.rams_model.specs.declared.held.Held.{Held}
 use Rattle.rams_model.specs.Packets.{age, is_eligible, eligible, of_age, newest, is_at_most, not_too_old, chosen_of, chosen}
 use Rattle.rams_model.specs.Laws.{Rises, IsAmong, IsNewest, NonePasses, is_old_enough, none, young, old, IsChoice}
-use Rattle.rams_model.proofs.Rising.{some_of}
+use Rattle.rams_model.proofs.Rising.{some_of, at_least}
 
 -- what is among the packets that pass is among all of them, and passes; and the other way round
 among_passed : (test : Held → Bool) (h : Held) (hs : List Held) → IsAmong h (filter test hs) → IsAmong h hs × (test h ≡ true)
@@ -22,12 +22,6 @@ passed_among test h (k ∷ ks) a t =
     cond_both (test k) (k ∷ filter test ks) (filter test ks) (IsAmong h)
     (λ e. ⊎_elim (λ same. inl same) (λ later. inr (passed_among test h ks later t)) a)
     (λ f. ⊎_elim (λ same. absurd (both_ways (test h) (subst (λ (x : Held). test x ≡ false) same f) t)) (λ later. passed_among test h ks later t) a)
-
--- the packets from a number on are at or above it
-at_least : (n : ℕ) (h : Held) (hs : List Held) → Rises n hs → IsAmong h hs → n ≤ h.n
-at_least n h [] r a = absurd a
-at_least n h (k ∷ ks) r a =
-    ⊎_elim (λ (same : k ≡ h). subst (λ (x : Held). n ≤ x.n) same r.0) (λ later. let le = at_least (k.n + 1) h ks r.1 later in omega (arith, le, r.0)) a
 
 -- the last of packets in order is one of them, and none has a greater number
 newest_is : (n : ℕ) (h : Held) (hs : List Held) → Rises n hs → newest hs ≡ Some h → IsAmong h hs × ((k : Held) → IsAmong k hs → k.n ≤ h.n)

@@ -1,6 +1,7 @@
 -- What is held are packets whose numbers follow one another.
 use Rattle.std.proofs.Common.{◌≡◌, ℕ, zero, suc, ◌+◌, ◌-◌, ◌≤◌, true, false, List, [], ◌∷◌, ◌++◌, length, drop, refl, ap, sym, ◌∙◌, subst, arith, eqb, leb}
 use Rattle.std.proofs.lemmas.Bool.{both_ways, cond_both, cond-true, and_parts, eqb-true, le-leb, leb-true, leb-false}
+use Rattle.std.proofs.lemmas.List.{length-drop}
 use Rattle.rams_model.specs.declared.held.Held.{Held}
 use Rattle.rams_model.specs.Packets.{lo, hi, from_number, is_consecutive, consecutive_end, source, Follows}
 use Rattle.rams_model.specs.Packets.Source as sources
@@ -35,6 +36,13 @@ held_follow s history =
     let all = consecutive_end (source s.channel.window (stream s history)) in
     later_ones (lo all) (length all - s.channel.ring) all (follows_from all (end_is_consecutive (source s.channel.window (stream s history))))
 
+-- there are no more than the ring has room for
+pub few_held : (s : Settings) (history : History) → length (hold s history) ≤ s.channel.ring
+unfolding sources.hold
+few_held s history =
+    let all = consecutive_end (source s.channel.window (stream s history)) in
+    omega (arith, length-drop (length all - s.channel.ring) all)
+
 -- all packets stand from a number on that is at most the first's
 pub all_from : (n m : ℕ) (hs : List Held) → Follows m hs → n ≤ m → from_number n hs ≡ hs
 all_from n m [] f le = refl
@@ -61,6 +69,16 @@ pub hi_is : (m : ℕ) (h : Held) (hs : List Held) → Follows m (h ∷ hs) → h
 unfolding hi
 hi_is m h [] f = omega (arith, f.0)
 hi_is m h (k ∷ hs) f = let rest = hi_is (m + 1) k hs f.1 in omega (arith, rest)
+
+pub ends_at : (hs : List Held) → Follows (lo hs) hs → hi hs ≡ lo hs + length hs
+unfolding hi
+ends_at [] f = refl
+ends_at (h ∷ hs) f = hi_is h.n h hs f
+
+-- one more with the next number
+pub one_behind : (m : ℕ) (hs : List Held) (h : Held) → Follows m hs → h.n ≡ m + length hs → Follows m (hs ++ h ∷ [])
+one_behind m [] h f next = (omega (arith, next), tt)
+one_behind m (k ∷ hs) h f next = (f.0, one_behind (m + 1) hs h f.1 (omega (arith, next)))
 
 pub held_from : (n : ℕ) (hs : List Held) → Follows (lo hs) hs → lo hs ≤ n → n ≤ hi hs → Follows n (from_number n hs) × (n + length (from_number n hs) ≡ hi hs)
 unfolding hi

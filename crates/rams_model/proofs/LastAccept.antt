@@ -1,13 +1,14 @@
 -- A client's newest burst is what the notes say since its last Accept.
-use Rattle.std.proofs.Common.{◌≡◌, ℕ, ◌+◌, Bool, true, false, cond, not, ◌&&◌, ◌||◌, List, [], ◌∷◌, ◌++◌, Option, Some, None, refl, ap, sym, ◌∙◌, subst, eqb}
+use Rattle.std.proofs.Common.{◌≡◌, ℕ, ◌+◌, Bool, true, false, cond, not, ◌&&◌, ◌||◌, List, [], ◌∷◌, ◌++◌, Option, Some, None, refl, ap, sym, ◌∙◌, eqb, option_map}
 use Rattle.std.specs.Prelude.{is_some}
 use Rattle.std.proofs.lemmas.Bool.{cond_both, both_ways, cond-true, eq-eqb}
 use Rattle.rams_model.specs.declared.held.Held.{Held}
 use Rattle.rams_model.specs.declared.note.Cause.{Cause}
 use Rattle.rams_model.specs.declared.note.Note.TheVariants as note
-use Rattle.rams_model.specs.Service.{Settings, tick, began, told, noted, History, sequence, Burst, begun, in_tick, after_note, newest_changed, size_of, bursts, if_open, newest_open, has_open}
+use Rattle.rams_model.specs.Service.{Settings, tick, began, told, noted, History, sequence, Burst, begun, in_tick, after_note, newest_changed, size_of, bursts, if_open, newest_open, has_open, Item, opened, is_among}
 use Rattle.rams_model.specs.Laws.{NoneIs, is_accept_of, is_end_of, numbers_sent, ticks_begun, latest_rate, IsBurst}
-use Rattle.rams_model.proofs.Since.{stands}
+use Rattle.rams_model.proofs.Since.{stands, opened_stands}
+use Rattle.rams_model.proofs.OpenBurst.{changed_open}
 
 -- a change of the newest burst changes its fields so
 changed : (change : Burst → Burst) (first rate new_rate : ℕ) (sent new_sent : List ℕ) (ticks new_ticks : ℕ)
@@ -98,15 +99,11 @@ is_open bs = is_some (newest_open bs)
 
 -- a change that ends nothing
 still_open : (change : Burst → Burst) → ((b : Burst) → (change b).ended ≡ b.ended) → (bs : List Burst) → is_open (newest_changed change bs) ≡ is_open bs
-still_open change same [] = refl
-still_open change same (b ∷ bs) = at b.ended (change b).ended b (change b) (same b)
+still_open change same bs = ap is_some (changed_open change same bs) ∙ kept (newest_open bs)
   where
-    at : (e f : Option Cause) (x y : Burst) → f ≡ e → is_some (if_open f y) ≡ is_some (if_open e x)
-    at e f x y same = subst (λ (g : Option Cause). is_some (if_open g y) ≡ is_some (if_open e x)) (sym same) (one e x y)
-      where
-        one : (e : Option Cause) (x y : Burst) → is_some (if_open e y) ≡ is_some (if_open e x)
-        one None x y = refl
-        one (Some cause) x y = refl
+    kept : (o : Option Burst) → is_some (option_map change o) ≡ is_some o
+    kept None = refl
+    kept (Some b) = refl
 
 at_still : (c : Bool) (change : Burst → Burst) → ((b : Burst) → (change b).ended ≡ b.ended) → (bs : List Burst) → is_open (cond c (newest_changed change bs) bs) ≡ is_open bs
 at_still true change same bs = still_open change same bs
@@ -142,3 +139,12 @@ open_stands s k (noted (note.Burst client n q) p ∷ history) =
 open_stands s k (noted (note.Repair client n q) p ∷ history) =
     at_still (eqb client k) (after_note s (note.Repair client n q) (size_of p)) (λ b. refl) (bursts s k history) ∙ open_stands s k history
 open_stands s k (noted note p ∷ history) = open_stands s k history
+
+-- item by item: an Accept of the client opens it, an End closes it
+pub open_step : (s : Settings) (k : ℕ) (i : Item) (history : History) → has_open s k (i ∷ history) ≡ (is_accept_of k i || (not (is_end_of k i) && has_open s k history))
+unfolding stands
+open_step s k i history = open_stands s k (i ∷ history) ∙ ap (λ (b : Bool). is_accept_of k i || (not (is_end_of k i) && b)) (sym (open_stands s k history))
+
+-- the clients over whom is summed are those with an open burst
+pub opened_open : (s : Settings) (k : ℕ) (history : History) → is_among k (opened history) ≡ has_open s k history
+opened_open s k history = opened_stands k history ∙ sym (open_stands s k history)

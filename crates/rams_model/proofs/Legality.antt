@@ -2,7 +2,7 @@
 use Rattle.std.proofs.Common.{◌≡◌, ℕ, ◌+◌, ◌-◌, ◌≤◌, Bool, true, false, cond, not, ◌&&◌, inl, inr, ⊎_elim, List, [], ◌∷◌, ◌++◌, length, Option, Some, None, refl, ap, ap₂, sym, ◌∙◌, subst, arith, eqb, leb, ltb}
 use Rattle.std.specs.Prelude.{◌==◌, filter, find, is_some, Result, Ok, Err, Contains}
 use Rattle.std.specs.List.{list_any, AllByRecursion as Each}
-use Rattle.std.proofs.lemmas.Bool.{cond_both, and_parts, and_from, or_parts, or_from, or_left, or_right, or_cases, not-true, not-false, not_from_false, eqb-true, eqb-false, eq-eqb, ne_eqb, leb-true, true≢false}
+use Rattle.std.proofs.lemmas.Bool.{cond_both, and_parts, and_from, or_parts, or_from, or_left, or_right, or_cases, not-true, not-false, not_from_false, eqb-true, eq-eqb, leb-true, true≢false}
 use Rattle.std.proofs.lemmas.List.Elements.{All-contains_itself, recursion_from_All, Contains-append_right}
 use Rattle.rams_model.specs.declared.event.Event.{Event}
 use Rattle.rams_model.specs.declared.fault.TlvFault.{TlvFault}
@@ -18,6 +18,7 @@ use Rattle.rams_model.specs.Laws.{makes_known, ends_known, is_queued, ends_pendi
 use Rattle.rams_model.proofs.Since.{stands, known_stands, pending_stands}
 use Rattle.rams_model.proofs.OpenBurst.{open_sent, open_stopped}
 use Rattle.rams_model.proofs.Legal.{Answers, in_tick, in_runs, is_of_runs, IsVerdict, IsNumberAnswer, Allows, IsLegal}
+use Rattle.rams_model.proofs.ListFacts.{each_weaker, apart}
 
 -- a note that answers a request of the client
 abbrev IsOfRequest : ℕ → Note → Type 0
@@ -186,10 +187,6 @@ legal_messages s k (m ∷ ms) history l = legal_messages s k ms (after_message s
 pub each_passed : {A : Type 0} (P : A → Type 0) (test : A → Bool) (xs : List A) → Each P xs → Each P (filter test xs)
 each_passed P test [] a = a
 each_passed P test (x ∷ xs) a = cond_both (test x) (x ∷ filter test xs) (filter test xs) (Each P) (λ t. (a.0, each_passed P test xs a.1)) (λ f. each_passed P test xs a.1)
-
-pub each_weaker : {A : Type 0} (P Q : A → Type 0) → ((x : A) → P x → Q x) → (xs : List A) → Each P xs → Each Q xs
-each_weaker P Q f [] a = tt
-each_weaker P Q f (x ∷ xs) a = (f x a.0, each_weaker P Q f xs a.1)
 
 -- the runs of a tick so far
 record Running (s : Settings) (held : List Held) (history : History) : Type 0 where
@@ -458,13 +455,10 @@ all_repairing s held (w ∷ ws) history o r =
     (repairing s held w ws (find (λ h. h.n == w.n) held) history refl o.0 r.1.0 (r.0, r.1.1))
 
 -- each client is known once
-other_way : (i j : ℕ) → eqb i j ≡ false → eqb j i ≡ false
-other_way i j f = ne_eqb j i (λ e. eqb-false i j f (sym e))
-
 none_sym : (k : ℕ) (ks : List ℕ) → list_any (λ j. eqb j k) ks ≡ false → list_any (eqb k) ks ≡ false
 none_sym k [] e = e
 none_sym k (j ∷ js) e =
-    let parts = or_parts (eqb j k) (is_among k js) e in or_from (eqb k j) (list_any (eqb k) js) (other_way j k parts.0) (none_sym k js parts.1)
+    let parts = or_parts (eqb j k) (is_among k js) e in or_from (eqb k j) (list_any (eqb k) js) (apart j k parts.0) (none_sym k js parts.1)
 
 none_placed : (i k : ℕ) (ks : List ℕ) → eqb i k ≡ false → list_any (eqb i) ks ≡ false → list_any (eqb i) (placed k ks) ≡ false
 none_placed i k [] e f = or_from (eqb i k) false e refl

@@ -1,3 +1,6 @@
+pub mod ListFacts
+pub mod HeldEnds
+pub mod Newest
 pub mod Budgets
 pub mod LastAccept
 pub mod Holding

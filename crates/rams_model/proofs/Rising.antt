@@ -1,10 +1,10 @@
 -- Packets whose numbers rise.
-use Rattle.std.proofs.Common.{◌≡◌, ℕ, ◌+◌, ◌<◌, ◌≤◌, ◌≢◌, Bool, false, cond, List, [], ◌∷◌, ◌++◌, refl, le_refl, ap, sym, ◌∙◌, arith, eqb, ltb}
+use Rattle.std.proofs.Common.{◌≡◌, ℕ, ◌+◌, ◌<◌, ◌≤◌, ◌≢◌, Bool, false, cond, List, [], ◌∷◌, ◌++◌, refl, le_refl, ap, sym, ◌∙◌, arith, eqb, ltb, ⊎_elim, subst}
 use Rattle.std.specs.Prelude.{filter}
 use Rattle.std.proofs.lemmas.Bool.{cond_both, cond-true, cond-false, ltb-true, ltb-false, eqb-false, lt-ltb, le-ltb, ne_eqb, or_parts, or_from}
 use Rattle.rams_model.specs.declared.held.Held.{Held}
 use Rattle.rams_model.specs.Packets.{hi, has_number, with_packet}
-use Rattle.rams_model.specs.Laws.{Rises}
+use Rattle.rams_model.specs.Laws.{Rises, IsAmong}
 
 -- what rises from one number on rises from a lower one on
 pub lower : (n m : ℕ) (hs : List Held) → n ≤ m → Rises m hs → Rises n hs
@@ -67,6 +67,19 @@ unfolding hi
 hi_of_end [] h hs = refl
 hi_of_end (k ∷ []) h hs = refl
 hi_of_end (k ∷ j ∷ ks) h hs = hi_of_end (j ∷ ks) h hs
+
+-- a packet behind some has a number at or above their end
+pub hi_before : (n : ℕ) (hs : List Held) (k : Held) (ks : List Held) → Rises n (hs ++ k ∷ ks) → hi hs ≤ k.n
+unfolding hi
+hi_before n [] k ks r = omega arith
+hi_before n (h ∷ []) k ks r = r.1.0
+hi_before n (h ∷ j ∷ hs) k ks r = hi_before (h.n + 1) (j ∷ hs) k ks r.1
+
+-- each of them has a number at or above that from which they rise
+pub at_least : (n : ℕ) (h : Held) (hs : List Held) → Rises n hs → IsAmong h hs → n ≤ h.n
+at_least n h [] r a = absurd a
+at_least n h (k ∷ ks) r a =
+    ⊎_elim (λ (same : k ≡ h). subst (λ (x : Held). n ≤ x.n) same r.0) (λ later. let le = at_least (k.n + 1) h ks r.1 later in omega (arith, le, r.0)) a
 
 -- a packet above all others is put at their end
 pub one_at_end : (n : ℕ) (hs : List Held) (new : Held) → n ≤ new.n → hi hs ≤ new.n → Rises n hs → Rises n (hs ++ new ∷ [])

@@ -7,7 +7,7 @@ use Rattle.rams_model.specs.Packets.{wires, Follows}
 use Rattle.rams_model.specs.Service.{is_before, run}
 use Rattle.rams_model.specs.Laws.{IsByStop, MayBeSent}
 
-wires-cons : (h : Held) (hs : List Held) → wires (h ∷ hs) ≡ h.wire + wires hs
+pub wires-cons : (h : Held) (hs : List Held) → wires (h ∷ hs) ≡ h.wire + wires hs
 wires-cons h hs = sum_by-cons (λ (x : Held). x.wire) h hs
 
 -- a number is before a stop by which an end after it is
@@ -15,7 +15,7 @@ before_from : (stop : Option ℕ) (n count : ℕ) → IsByStop stop (n + suc cou
 before_from None n count by = refl
 before_from (Some m) n count by = lt-ltb n m (omega (arith, by))
 
-after_before : (stop : Option ℕ) (n : ℕ) → is_before stop n ≡ true → IsByStop stop (n + 1)
+pub after_before : (stop : Option ℕ) (n : ℕ) → is_before stop n ≡ true → IsByStop stop (n + 1)
 after_before None n e = tt
 after_before (Some m) n e = let lt = ltb-true n m e in omega (arith, lt)
 

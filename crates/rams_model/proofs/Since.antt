@@ -2,10 +2,11 @@
 use Rattle.std.proofs.Common.{◌≡◌, ℕ, Bool, true, false, not, ◌&&◌, ◌||◌, ◌↔◌, ⊎_elim, List, [], ◌∷◌, ◌++◌, refl, ap, sym, ◌∙◌, subst, ap₂, eqb, ltb}
 use Rattle.std.specs.Prelude.{filter}
 use Rattle.std.specs.List.{list_any}
-use Rattle.std.proofs.lemmas.Bool.{cond_both, or_cases, or_left, or_right, and_parts, and_from, not-true, not-false, not_from_false, cases_Bool, eqb-true, eqb-false, eq-eqb, ne_eqb, true≢false}
+use Rattle.std.proofs.lemmas.Bool.{cond_both, or_cases, or_left, or_right, and_parts, and_from, not-true, not-false, not_from_false, cases_Bool, eqb-true, true≢false}
 use Rattle.rams_model.specs.declared.note.Note.TheVariants as note
 use Rattle.rams_model.specs.Service.{Item, began, told, noted, History, known, opened, is_among, placed, with_client, without, Wanted, wanted, is_wanted, pending, is_pending}
 use Rattle.rams_model.specs.Laws.{NoneIs, StandsWithout, makes_known, ends_known, is_accept_of, is_end_of, is_queued, ends_pending}
+use Rattle.rams_model.proofs.ListFacts.{or_swap, eqb_sym}
 
 -- the same by recursion: the newest item makes it so, or doesn't end it and it was so
 unfoldable pub stands : (Item → Bool) → (Item → Bool) → History → Bool
@@ -47,11 +48,10 @@ pub stands_both : (makes ends : Item → Bool) (test : History → Bool) (histor
 stands_both makes ends test history same =
     (λ e. stands_from makes ends history (sym (same history) ∙ e), λ w. same history ∙ stands_to makes ends history w)
 
-or_swap : (a b c : Bool) → (a || (b || c)) ≡ (b || (a || c))
-or_swap true true c = refl
-or_swap true false c = refl
-or_swap false true c = refl
-or_swap false false c = refl
+-- none of a kind in a history, and so in an older one
+pub none_older : (kind : Item → Bool) (later history : History) → NoneIs kind (later ++ history) → NoneIs kind history
+none_older kind [] history none = none
+none_older kind (i ∷ later) history none = none_older kind later history none.1
 
 and_false : (a : Bool) → (a && false) ≡ false
 and_false true = refl
@@ -83,9 +83,6 @@ any_last : {A : Type 0} (p : A → Bool) (xs : List A) (x : A) → list_any p (x
 any_last p [] x = refl
 any_last p (y ∷ ys) x = ap (λ (b : Bool). p y || b) (any_last p ys x) ∙ or_swap (p y) (p x) (list_any p ys)
 
-eqb_sym : (i j : ℕ) → eqb i j ≡ eqb j i
-eqb_sym i j = ⊎_elim (λ t. let e = eqb-true i j t in t ∙ sym (eq-eqb j i (sym e))) (λ f. f ∙ sym (ne_eqb j i (λ e. eqb-false i j f (sym e)))) (cases_Bool (eqb i j))
-
 -- a client among others with one more, and without one
 among_placed : (j k : ℕ) (ks : List ℕ) → is_among j (placed k ks) ≡ (eqb k j || is_among j ks)
 among_placed j k [] = refl
@@ -105,7 +102,7 @@ among_without j k ks =
     any_without (λ (i : ℕ). eqb i j) (λ i. eqb i k) (eqb k j) (λ i t. subst (λ (m : ℕ). eqb i k ≡ eqb k m) (eqb-true i j t) (eqb_sym i k)) ks
 
 -- known, open and pending go step by step
-known_step : (k : ℕ) (i : Item) (history : History) → is_among k (known (i ∷ history)) ≡ (makes_known k i || (not (ends_known k i) && is_among k (known history)))
+pub known_step : (k : ℕ) (i : Item) (history : History) → is_among k (known (i ∷ history)) ≡ (makes_known k i || (not (ends_known k i) && is_among k (known history)))
 unfolding known
 known_step k (began heard) history = refl
 known_step k (told client message) history = refl

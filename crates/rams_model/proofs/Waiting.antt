@@ -6,7 +6,7 @@ use Rattle.rams_model.specs.Packets.{hi, has_number, least, is_missing, awaited}
 use Rattle.rams_model.specs.Laws.{Rises}
 use Rattle.rams_model.proofs.Rising.{below_hi, none_at_hi}
 
-least_from_start : (test : ℕ → Bool) (n count : ℕ) → n ≤ least test n count
+pub least_from_start : (test : ℕ → Bool) (n count : ℕ) → n ≤ least test n count
 least_from_start test n zero = omega arith
 least_from_start test n (suc count) =
     cond_both (test n) n (least test (n + 1) count) (λ m. n ≤ m) (λ t. omega arith) (λ f. let le = least_from_start test (n + 1) count in omega (arith, le))

@@ -1,12 +1,12 @@
 -- What is true of every window stays true.
 use Rattle.std.proofs.Common.{◌≡◌, ℕ, ◌+◌, ◌-◌, ◌<◌, ◌≤◌, ◌^◌, ◌⊎◌, max, Bool, true, false, ◌==◌, nat_lt, if◌then◌else◌, List, [], ◌∷◌, length, Some, None, refl, ◌∙◌, ap, inl, inr, arith}
-use Rattle.std.proofs.lemmas.Bool.{cases_lt}
+use Rattle.std.proofs.lemmas.Bool.{cases_lt, or_parts}
 use Rattle.std.proofs.lemmas.Bool.Decides.{nat_tests}
 use Rattle.std.specs.Prelude.{insert}
 use Rattle.std.specs.List.{position_or_len}
 use Rattle.reorder_window.specs.{has_number, with_item, seen_of, next_missing, keeping, is_free, free_of, first_free, RisesIn, IsWindow}
 use Rattle.reorder_window.specs.Seen.{Seen}
-use Rattle.reorder_window.proofs.Rising.{false_first, false_second, differs, rises-wider, rises-length, rises-with_item, length-with_item}
+use Rattle.reorder_window.proofs.Rising.{differs, rises-wider, rises-length, rises-with_item, length-with_item}
 use Rattle.reorder_window.proofs.Searches.{next-from, next-none, next-end, insert-is}
 
 -- an item that can't be released is not below the awaited number
@@ -17,13 +17,13 @@ not_free_step e false none = refl
 pub rises_settled : {T : Type 0} (v : Seen T) (lo hi : ℕ) (es : List (ℕ × T)) → free_of v es ≡ None → RisesIn lo hi es → v.awaited ≤ hi → RisesIn v.awaited hi es
 rises_settled v lo hi [] settled rises within = within
 rises_settled v lo hi (e ∷ es) settled rises within =
-    let above : nat_lt e.0 v.awaited ≡ false = false_second v.ended (nat_lt e.0 v.awaited) (not_free_step e (is_free v e.0) settled) in
+    let above : nat_lt e.0 v.awaited ≡ false = (or_parts v.ended (nat_lt e.0 v.awaited) (not_free_step e (is_free v e.0) settled)).1 in
     (grind (arith, nat_tests), rises.1)
 
 -- items that rise from a number that none has rise from the next
 pub rises_next : {T : Type 0} (lo hi : ℕ) (es : List (ℕ × T)) → RisesIn lo hi es → has_number lo es ≡ false → lo < hi → RisesIn (lo + 1) hi es
 rises_next lo hi [] rises missing below = omega arith
-rises_next lo hi (e ∷ es) rises missing below = next_step (differs e.0 lo (false_first (e.0 == lo) (has_number lo es) missing)) rises
+rises_next lo hi (e ∷ es) rises missing below = next_step (differs e.0 lo (or_parts (e.0 == lo) (has_number lo es) missing).0) rises
   where
     next_step : (e.0 < lo) ⊎ (lo < e.0) → RisesIn lo hi (e ∷ es) → RisesIn (lo + 1) hi (e ∷ es)
     next_step (inl less) rises = absurd (omega (arith, rises.0))

@@ -4,11 +4,12 @@ use Rattle.std.proofs.lemmas.Bool.Decides.{nat_tests}
 use Rattle.rams_model.specs.declared.held.Held.{Held}
 use Rattle.rams_model.specs.declared.note.LiveNote.TheVariants.{Took}
 use Rattle.rams_model.specs.declared.note.LiveNote.TheVariants as notes
-use Rattle.rams_model.specs.Packets.{lo, hi, least, with_packet, in_time}
+use Rattle.rams_model.specs.Packets.{lo, hi, least, with_packet}
 use Rattle.rams_model.specs.Packets.Source as sources
+use Rattle.rams_model.proofs.Waiting.{least_from_start}
 use Rattle.reorder_window.specs.declared.window.Came.TheVariants.{Kept, Late, Twice}
 use Rattle.reorder_window.specs.{Start, has_number, with_item, last_number, is_missing, awaited, items_of, start_of, note_of, AwaitedAreThose, NotesAreThose, StartsGrowAlike, NoneIsBelowTheFirst, ReleasedAreThose}
-use Rattle.reorder_window.proofs.Searches.{least-from, least-is}
+use Rattle.reorder_window.proofs.Searches.{least-is}
 use Rattle.reorder_window.proofs.Standing.{missing_is}
 
 pub has_same : (n : ℕ) (hs : List Held) → has_number n (items_of hs) ≡ sources.has_number n hs
@@ -90,7 +91,7 @@ from_same window [] n is = omega arith
 from_same window (h ∷ hs) n is =
     let late : nat_lt n (sources.awaited window (h ∷ hs)) ≡ false = not_late n (nat_lt n (sources.awaited window (h ∷ hs))) (sources.has_number n (h ∷ hs)) is in
     let due : sources.awaited window (h ∷ hs) ≤ n = grind (arith, nat_tests) in
-    omega (arith, due, least-from (sources.is_missing window (h ∷ hs)) h.n (hi (h ∷ hs) - h.n))
+    omega (arith, due, least_from_start (sources.is_missing window (h ∷ hs)) h.n (hi (h ∷ hs) - h.n))
 
 -- what is released
 pub low_step : (a : ℕ) (h : Held) (hs : List Held) (b : Bool) → filter (λ e. nat_lt e.0 a) (items_of hs) ≡ items_of (filter (λ k. nat_lt k.n a) hs)

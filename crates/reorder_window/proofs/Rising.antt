@@ -1,7 +1,9 @@
 -- Items by rising number: one more of them, and which numbers they have.
 use Rattle.std.proofs.Common.{◌≡◌, ℕ, ◌+◌, ◌<◌, ◌≤◌, ◌⊎◌, max, Bool, true, false, ◌==◌, ◌||◌, nat_lt, if◌then◌else◌, List, [], ◌∷◌, ◌++◌, length, refl, ◌∙◌, ap, inl, inr, arith}
 use Rattle.std.proofs.lemmas.Bool.Decides.{nat_tests}
+use Rattle.std.proofs.lemmas.Bool.{or_from, or_parts}
 use Rattle.reorder_window.specs.{has_number, with_item, last_number, RisesIn}
+use Rattle.rams_model.proofs.ListFacts.{or_swap}
 
 pub rises_up : {T : Type 0} (lo hi : ℕ) (es : List (ℕ × T)) → RisesIn lo hi es → lo ≤ hi
 rises_up lo hi [] rises = rises
@@ -31,27 +33,6 @@ rises_end lo hi [] ys rises = rises
 rises_end lo hi (x ∷ xs) ys rises = rises-wider (x.0 + 1) hi lo hi ys (omega (arith, rises.0)) (omega arith) (rises_end (x.0 + 1) hi xs ys rises.1)
 
 -- ---- the numbers that the items have
-pub or_true_right : (a b : Bool) → b ≡ true → (a || b) ≡ true
-or_true_right true b is = refl
-or_true_right false b is = is
-
-pub or_false : (a b : Bool) → a ≡ false → b ≡ false → (a || b) ≡ false
-or_false true b first second = cc
-or_false false b first second = second
-
-pub false_first : (a b : Bool) → (a || b) ≡ false → a ≡ false
-false_first true b is = is
-false_first false b is = refl
-
-pub false_second : (a b : Bool) → (a || b) ≡ false → b ≡ false
-false_second true b is = cc
-false_second false b is = is
-
-pub or_swap : (a b c : Bool) → (a || (b || c)) ≡ (b || (a || c))
-or_swap true true c = refl
-or_swap true false c = refl
-or_swap false b c = refl
-
 pub or_assoc : (a b c : Bool) → (a || (b || c)) ≡ ((a || b) || c)
 or_assoc true b c = refl
 or_assoc false b c = refl
@@ -62,7 +43,7 @@ differs m n isnt = grind (arith, nat_tests)
 pub has-higher : {T : Type 0} (k lo hi : ℕ) (es : List (ℕ × T)) → RisesIn lo hi es → hi ≤ k → has_number k es ≡ false
 has-higher k lo hi [] rises above = refl
 has-higher k lo hi (e ∷ es) rises above =
-    or_false (e.0 == k) (has_number k es) (let apart : e.0 < k = omega (arith, rises_up (e.0 + 1) hi es rises.1) in grind (arith, nat_tests)) (has-higher k (e.0 + 1) hi es rises.1 above)
+    or_from (e.0 == k) (has_number k es) (let apart : e.0 < k = omega (arith, rises_up (e.0 + 1) hi es rises.1) in grind (arith, nat_tests)) (has-higher k (e.0 + 1) hi es rises.1 above)
 
 pub has-append : {T : Type 0} (k : ℕ) (xs ys : List (ℕ × T)) → has_number k (xs ++ ys) ≡ (has_number k xs || has_number k ys)
 has-append k [] ys = refl
@@ -94,8 +75,8 @@ rises_with_step lo hi n item e es false test rises from (inr more) rest = absurd
 pub rises-with_item : {T : Type 0} (lo hi n : ℕ) (item : T) (es : List (ℕ × T)) → RisesIn lo hi es → has_number n es ≡ false → lo ≤ n → n < hi → RisesIn lo hi (with_item n item es)
 rises-with_item lo hi n item [] rises new from below = (from, omega arith)
 rises-with_item lo hi n item (e ∷ es) rises new from below =
-    rises_with_step lo hi n item e es (nat_lt n e.0) refl rises from (differs e.0 n (false_first (e.0 == n) (has_number n es) new))
-    (λ above. rises-with_item (e.0 + 1) hi n item es rises.1 (false_second (e.0 == n) (has_number n es) new) above below)
+    rises_with_step lo hi n item e es (nat_lt n e.0) refl rises from (differs e.0 n (or_parts (e.0 == n) (has_number n es) new).0)
+    (λ above. rises-with_item (e.0 + 1) hi n item es rises.1 (or_parts (e.0 == n) (has_number n es) new).1 above below)
 
 pub behind_step : {T : Type 0} (n : ℕ) (item : T) (x : ℕ × T) (xs ys : List (ℕ × T)) (b : Bool) → b ≡ false → with_item n item (xs ++ ys) ≡ xs ++ with_item n item ys → (if b then (n, item) ∷ x ∷ (xs ++ ys) else x ∷ with_item n item (xs ++ ys)) ≡ x ∷ (xs ++ with_item n item ys)
 behind_step n item x xs ys true isnt is = cc

@@ -1,22 +1,14 @@
 -- The searches for the least number: that of the definitions, and that of the window.
 use Rattle.std.proofs.Common.{◌≡◌, ℕ, zero, suc, ◌+◌, ◌<◌, ◌≤◌, ◌⊎◌, Bool, true, false, ◌==◌, ◌||◌, not, nat_lt, if◌then◌else◌, List, [], ◌∷◌, refl, ◌∙◌, ap, inl, inr, subst, arith}
-use Rattle.std.proofs.lemmas.Bool.{cases_lt}
+use Rattle.std.proofs.lemmas.Bool.{cases_lt, or_right, or_from}
 use Rattle.std.proofs.lemmas.Bool.Decides.{nat_tests}
 use Rattle.std.specs.Prelude.{insert}
 use Rattle.std.specs.List.{position_or_len}
 use Rattle.rams_model.specs.Packets.{least}
 use Rattle.reorder_window.specs.{has_number, with_item, RisesIn, next_missing}
-use Rattle.reorder_window.proofs.Rising.{or_true_right, or_false, rises_up}
+use Rattle.reorder_window.proofs.Rising.{rises_up}
 
 -- ---- the least number that passes a test
-pub least-from : (test : ℕ → Bool) (n count : ℕ) → n ≤ least test n count
-least-from test n zero = omega arith
-least-from test n (suc count) = from_step test n count (test n) (least-from test (n + 1) count)
-  where
-    from_step : (test : ℕ → Bool) (n count : ℕ) (b : Bool) → n + 1 ≤ least test (n + 1) count → n ≤ (if b then n else least test (n + 1) count)
-    from_step test n count true le = omega arith
-    from_step test n count false le = omega arith
-
 -- none below it passes
 pub below_step : (test : ℕ → Bool) (n count k : ℕ) (b : Bool) → test n ≡ b → n ≤ k → k < (if b then n else least test (n + 1) count) → (n + 1 ≤ k → k < least test (n + 1) count → test k ≡ false) → (k < n + 1) ⊎ (n + 1 ≤ k) → test k ≡ false
 below_step test n count k true is from below rest which = absurd (omega arith)
@@ -52,8 +44,8 @@ next-from n (e ∷ es) = next_from_step n (e.0 == n) es (next-from n es) (next-f
 pub next_has_step : {T : Type 0} (n k : ℕ) (e : ℕ × T) (es : List (ℕ × T)) (b : Bool) → (e.0 == n) ≡ b → n ≤ k → k < next_missing (if b then n + 1 else n) es
     → (k < next_missing n es → has_number k es ≡ true) → (n + 1 ≤ k → k < next_missing (n + 1) es → has_number k es ≡ true) → (k < n + 1) ⊎ (n + 1 ≤ k) → ((e.0 == k) || has_number k es) ≡ true
 next_has_step n k e es true is from below same up (inl low) = let one : e.0 ≡ k = grind (arith, nat_tests) in grind (arith, nat_tests)
-next_has_step n k e es true is from below same up (inr high) = or_true_right (e.0 == k) (has_number k es) (up high below)
-next_has_step n k e es false is from below same up which = or_true_right (e.0 == k) (has_number k es) (same below)
+next_has_step n k e es true is from below same up (inr high) = or_right (e.0 == k) (has_number k es) (up high below)
+next_has_step n k e es false is from below same up which = or_right (e.0 == k) (has_number k es) (same below)
 
 pub next-has : {T : Type 0} (n k : ℕ) (es : List (ℕ × T)) → n ≤ k → k < next_missing n es → has_number k es ≡ true
 next-has n k [] from below = absurd (omega arith)
@@ -75,13 +67,13 @@ pub next_none_step : {T : Type 0} (hi n : ℕ) (e : ℕ × T) (es : List (ℕ ×
     → ((e.0 == next_missing (if b then n + 1 else n) es) || has_number (next_missing (if b then n + 1 else n) es) es) ≡ false
 next_none_step hi n e es true is rises same up which =
     let less : e.0 < next_missing (n + 1) es = grind (arith, nat_tests, next-from (n + 1) es) in
-    or_false (e.0 == next_missing (n + 1) es) (has_number (next_missing (n + 1) es) es) (grind (arith, nat_tests)) up
+    or_from (e.0 == next_missing (n + 1) es) (has_number (next_missing (n + 1) es) es) (grind (arith, nat_tests)) up
 next_none_step hi n e es false is rises same up (inl low) =
     let less : e.0 < next_missing n es = omega (arith, next-from n es) in
-    or_false (e.0 == next_missing n es) (has_number (next_missing n es) es) (grind (arith, nat_tests)) same
+    or_from (e.0 == next_missing n es) (has_number (next_missing n es) es) (grind (arith, nat_tests)) same
 next_none_step hi n e es false is rises same up (inr high) =
     let stays = next-stays (e.0 + 1) hi n es rises (omega arith) in
-    or_false (e.0 == next_missing n es) (has_number (next_missing n es) es) (ap (λ m. e.0 == m) stays ∙ is) same
+    or_from (e.0 == next_missing n es) (has_number (next_missing n es) es) (ap (λ m. e.0 == m) stays ∙ is) same
 
 pub next-none : {T : Type 0} (lo hi n : ℕ) (es : List (ℕ × T)) → RisesIn lo hi es → has_number (next_missing n es) es ≡ false
 next-none lo hi n [] rises = refl

@@ -1,12 +1,12 @@
 -- A window goes on to stand for the items in time.
 use Rattle.std.proofs.Common.{◌≡◌, ℕ, ◌+◌, ◌-◌, ◌<◌, ◌≤◌, ◌⊎◌, max, Bool, true, false, ◌==◌, ◌||◌, ◌&&◌, not, nat_lt, nat_le, if◌then◌else◌, List, [], ◌∷◌, ◌++◌, drop, filter, Some, None, refl, sym, ◌∙◌, ap, inl, inr, subst, append_assoc, append-nil, arith}
 use Rattle.std.specs.Prelude.{MatchOption}
-use Rattle.std.proofs.lemmas.Bool.{cases_lt}
+use Rattle.std.proofs.lemmas.Bool.{cases_lt, or_right, or_from}
 use Rattle.std.proofs.lemmas.Bool.Decides.{nat_tests}
 use Rattle.reorder_window.specs.declared.window.Came.TheVariants.{Kept, Late, Twice}
 use Rattle.reorder_window.specs.{Start, has_number, with_item, last_number, is_missing, awaited, came, start_after, released, begun, next_missing, keeping, came_of, arrived, is_free, free_of, first_free, without, after_release, RisesIn, IsWindow, StandsFor}
 use Rattle.reorder_window.specs.Seen.{Seen}
-use Rattle.reorder_window.proofs.Rising.{rises_up, rises-wider, rises-append, rises_front, rises_end, rises_before, rises-with_item, or_true_right, or_false, has-higher, has-append, has-with_item, with_item-append, last-with_item}
+use Rattle.reorder_window.proofs.Rising.{rises_up, rises-wider, rises-append, rises_front, rises_end, rises_before, rises-with_item, has-higher, has-append, has-with_item, with_item-append, last-with_item}
 use Rattle.reorder_window.proofs.Searches.{least-below, least-is, next-from, next-has, next-none, next-end}
 use Rattle.reorder_window.proofs.Keeping.{not_free_step, rises_settled}
 
@@ -65,7 +65,7 @@ none_before v s out n item stood joined last k from below (inl before) =
     old = least-below (is_missing v.width s) s.first (last_number s.first s.items + 1 - s.first) k from (omega (arith, stood.awaited))
 
     known_before : (has_number k s.items ≡ true) ⊎ (k < last_number s.first s.items - v.width) → (has_number k (with_item n item s.items) ≡ true) ⊎ (k < last_number s.first (with_item n item s.items) - v.width)
-    known_before (inl has) = inl (has-with_item k n item s.items ∙ or_true_right (n == k) (has_number k s.items) has)
+    known_before (inl has) = inl (has-with_item k n item s.items ∙ or_right (n == k) (has_number k s.items) has)
     known_before (inr low) = inr (omega (arith, last, stood.greatest))
 none_before v s out n item stood joined last k from below (inr behind) =
     missing_not (has_number k (with_item n item s.items)) (last_number s.first (with_item n item s.items) - v.width) k
@@ -73,7 +73,7 @@ none_before v s out n item stood joined last k from below (inr behind) =
   where
     behind_step : (k < max v.awaited (max v.greatest n - v.width)) ⊎ (max v.awaited (max v.greatest n - v.width) ≤ k) → (has_number k (with_item n item s.items) ≡ true) ⊎ (k < last_number s.first (with_item n item s.items) - v.width)
     behind_step (inl low) = inr (omega (arith, last))
-    behind_step (inr high) = inl (ap (has_number k) joined ∙ (has-append k out (with_item n item v.kept) ∙ or_true_right (has_number k out) (has_number k (with_item n item v.kept)) (next-has (max v.awaited (max v.greatest n - v.width)) k (with_item n item v.kept) high below)))
+    behind_step (inr high) = inl (ap (has_number k) joined ∙ (has-append k out (with_item n item v.kept) ∙ or_right (has_number k out) (has_number k (with_item n item v.kept)) (next-has (max v.awaited (max v.greatest n - v.width)) k (with_item n item v.kept) high below)))
 
 pub kept_stands : {T : Type 0} (v : Seen T) (s : Start T) (out : List (ℕ × T)) (n : ℕ) (item : T) → IsWindow v → v.ended ≡ false → first_free v ≡ None → v.awaited ≤ n → has_number n v.kept ≡ false → StandsFor v s out → StandsFor (keeping v n item) (record s { items = with_item n item s.items }) out
 unfolding awaited
@@ -92,7 +92,7 @@ kept_stands {T} v s out n item was going settled above new stood =
     let goes : from ≤ m = next-from from kept in
     let ends : m ≤ top + 1 = next-end v.awaited (top + 1) from kept rises within in
     let none : has_number m items ≡ false =
-    ap (has_number m) joined ∙ (has-append m out kept ∙ or_false (has_number m out) (has_number m kept) (has-higher m s.first v.awaited out due (omega arith)) (next-none v.awaited (top + 1) from kept rises)) in
+    ap (has_number m) joined ∙ (has-append m out kept ∙ or_from (has_number m out) (has_number m kept) (has-higher m s.first v.awaited out due (omega arith)) (next-none v.awaited (top + 1) from kept rises)) in
     record {
       items = joined;
       greatest = sym last;

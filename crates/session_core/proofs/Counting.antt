@@ -1,8 +1,7 @@
 -- How many notes a tick makes at most.
 use Rattle.std.proofs.Common.{◌≡◌, ℕ, Bool, ◌+◌, ◌-◌, ◌*◌, ◌^◌, ◌<◌, ◌≤◌, List, [], ◌∷◌, ◌++◌, Option, Some, None, length, ap, sym, ◌∙◌, arith, append_assoc}
-use Rattle.std.specs.Prelude.{◌==◌, ◌&&◌, nat_le, if◌then◌else◌, filter, find, option_to_list}
+use Rattle.std.specs.Prelude.{◌==◌, ◌&&◌, nat_le, if◌then◌else◌, find, option_to_list}
 use Rattle.std.proofs.lemmas.Bool.{cond_both}
-use Rattle.std.proofs.lemmas.List.{length-drop}
 use Rattle.std.proofs.lemmas.Nat.{mul-le}
 use Rattle.rams_model.specs.declared.answer.Order.{Order}
 use Rattle.rams_model.specs.declared.event.Event.{Event}
@@ -11,14 +10,15 @@ use Rattle.rams_model.specs.declared.note.Note.{Note}
 use Rattle.rams_model.specs.declared.event.Event.TheVariants.{Tick}
 use Rattle.rams_model.specs.declared.note.Cause.TheVariants as cause
 use Rattle.rams_model.specs.declared.note.Note.TheVariants as note
-use Rattle.rams_model.specs.Service.{Settings, tick, heard_of, began, told, noted, History, stream, hold, known, opened, sequence, Burst, next, open_burst, has_open, Wanted, pending, idle, channel_left, may_take, is_before, run, send, is_lost, is_stop, after_run, run_sent, burst_served, all_served, repaired, all_repaired, all_forgotten, bursts_served, repairs_sent, idle_forgotten, after_tick, order_of, newest_notes, newest_orders, after_hearing, history_of, answer}
-use Rattle.rams_model.specs.Packets.{from_number, consecutive_end, source}
-use Rattle.rams_model.specs.Packets.Source as sources
+use Rattle.rams_model.specs.Service.{Settings, tick, heard_of, began, told, noted, History, hold, known, opened, sequence, Burst, next, open_burst, has_open, Wanted, pending, idle, channel_left, may_take, is_before, run, send, is_lost, is_stop, after_run, run_sent, burst_served, all_served, repaired, all_repaired, all_forgotten, bursts_served, repairs_sent, idle_forgotten, after_tick, order_of, newest_notes, newest_orders, after_hearing, history_of, answer}
+use Rattle.rams_model.specs.Packets.{from_number}
 use Rattle.channel_config.specs.{IsLawful}
 use Rattle.channel_parts.proofs.Facts.{known_clients_are_few, opened_are_the_known_with_bursts, repairs_are_within_limits}
 use Rattle.channel_parts.proofs.Given.{moment}
 use Rattle.book_laws.specs.{IsMoment}
 use Rattle.rams_model.proofs.Items.{is_repair, is_forgotten, Puts, all_repaired_put, all_forgotten_put}
+use Rattle.rams_model.proofs.ListFacts.{few_passed}
+use Rattle.rams_model.proofs.Holding.{few_held}
 use Rattle.session_core.specs.{IsCountable}
 
 -- the notes since the newest event began
@@ -49,11 +49,6 @@ count_orders s (noted n packet ∷ history) later =
     let o = order_of s history n packet in omega (arith, count_orders s history (option_to_list o ++ later), one_order o later)
 
 -- ---- runs
-
-few_pass : {A : Type 0} (test : A → Bool) (xs : List A) → length (filter test xs) ≤ length xs
-few_pass test [] = omega arith
-few_pass test (x ∷ xs) =
-    cond_both (test x) (x ∷ filter test xs) (filter test xs) (λ l. length l ≤ length (x ∷ xs)) (λ t. omega (arith, few_pass test xs)) (λ f. omega (arith, few_pass test xs))
 
 run_few : (stop : Option ℕ) (n left : ℕ) (hs : List Held) → length (run stop n left hs) ≤ length hs
 unfolding run
@@ -90,7 +85,7 @@ count_served s held k (Some b) history =
       count_ended s k (open_burst s k sent) sent,
       count_sent s k packets history,
       run_few b.stop (next b) b.left from,
-      few_pass (λ (h : Held). nat_le (next b) h.n) held,
+      few_passed (λ (h : Held). nat_le (next b) h.n) held,
     ))
 
 count_all_served : (s : Settings) (held : List Held) (ks : List ℕ) (history : History)
@@ -128,19 +123,13 @@ count_all_forgotten s (k ∷ ks) history =
 
 -- ---- the tick
 
-held_few : (s : Settings) (history : History) → length (hold s history) ≤ s.channel.ring
-unfolding sources.hold
-held_few s history =
-    let all = consecutive_end (source s.channel.window (stream s history)) in
-    omega (arith, length-drop (length all - s.channel.ring) all)
-
 opened_few : (s : Settings) (events : List Event) → IsLawful s → length (opened (history_of s events)) ≤ s.channel.clients
 opened_few s events lawful =
     let history = history_of s events in
     omega (
       arith,
       ap length (opened_are_the_known_with_bursts s events lawful),
-      few_pass (λ (k : ℕ). has_open s k history) (known history),
+      few_passed (λ (k : ℕ). has_open s k history) (known history),
       known_clients_are_few s history (moment s events),
     )
 
@@ -168,7 +157,7 @@ tick_counted s events lawful =
     let at_end : IsMoment s done = moment s (Tick ∷ events) in
     let at_sent = earlier s is_forgotten sent done (all_forgotten_put s (known sent) sent) at_end in
     let at_served = earlier s is_repair served sent (all_repaired_put s (hold s served) (pending served) served) at_sent in
-    let few_runs = runs_bound (length (opened start)) (length (hold s start)) (omega (arith, opened_few s events lawful, lawful.clients_most)) (omega (arith, held_few s start, lawful.ring_most)) in
+    let few_runs = runs_bound (length (opened start)) (length (hold s start)) (omega (arith, opened_few s events lawful, lawful.clients_most)) (omega (arith, few_held s start, lawful.ring_most)) in
     omega (
       arith,
       runs,

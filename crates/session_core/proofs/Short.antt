@@ -11,22 +11,13 @@ use Rattle.rams_model.specs.declared.note.Cause.{Cause}
 use Rattle.rams_model.specs.declared.note.Note.{Note}
 use Rattle.rams_model.specs.declared.note.Note.TheVariants as note
 use Rattle.rams_model.specs.Service.{Settings, end_info, began, told, noted, History, arrivals, hold, Burst, open_burst, info_order, packet_order, again_order, update_order, end_order, order_of, newest_orders, history_of, answer}
-use Rattle.rams_model.specs.Packets.{Arrival}
 use Rattle.rams_model.proofs.Legal.{Allows, IsLegal}
 use Rattle.rams_model.proofs.Legality.{legal_history}
 use Rattle.book_laws.proofs.HeldPackets as packets
-use Rattle.book_laws.proofs.HeldPackets.{ArriveSmall, small_held}
-use Rattle.book_laws.proofs.Quiet.Sizes.{AreSmall, small_history}
+use Rattle.book_laws.proofs.HeldPackets.{small_held, all_small}
+use Rattle.book_laws.proofs.Quiet.Sizes.{ArriveSmall}
 use Rattle.session_core.specs.{IsShort, SendsShort}
 use Rattle.session_core.proofs.Sized.{held_sized}
-
--- all that ever came
-came_small : (came : List Arrival) → AreSmall came → ArriveSmall came
-came_small [] small = tt
-came_small (a ∷ came) small = (small.0, came_small came small.1)
-
-came : (s : Settings) (events : List Event) → ArriveSmall (arrivals (history_of s events))
-came s events = came_small (arrivals (history_of s events)) (small_history s events)
 
 -- ---- the packets that are held
 
@@ -90,4 +81,4 @@ short_orders s (noted n packet ∷ history) later l small a =
 
 pub sends_short : (s : Settings) (events : List Event) (event : Event) → SendsShort (answer s events event)
 sends_short s events event =
-    short_orders s (history_of s (event ∷ events)) [] (legal_history s (event ∷ events)) (came s (event ∷ events)) (All-nil IsShort)
+    short_orders s (history_of s (event ∷ events)) [] (legal_history s (event ∷ events)) (all_small s (event ∷ events)) (All-nil IsShort)

@@ -54,7 +54,6 @@ fn admitted(ssrc: u32) -> Entry {
         ssrc,
         seq: 500,
         idle: 0,
-        last: None,
         burst: None,
     }
 }

@@ -9,10 +9,10 @@ use Rattle.rams_model.specs.declared.note.Note.TheVariants.{Burst as BurstNote, 
 use Rattle.rams_model.specs.Service.{Settings, noted, History, sequence, next, open_burst, has_open, Wanted, idle, may_take, channel_left, is_before, run, send, is_lost, is_stop, after_run, burst_served, all_served, repaired, all_repaired, all_forgotten, newest_notes}
 use Rattle.rams_model.specs.Packets.{lo, from_number, Follows}
 use Rattle.rams_model.specs.Service.Bursts as model
+use Rattle.rams_model.proofs.Newest.{notes_behind}
 use Rattle.packet_ring.specs.{packet_of}
 use Rattle.channel_parts.proofs.Knowing.{idle_not_busy}
 use Rattle.channel_parts.proofs.Opening.{none_of}
-use Rattle.tick_core.proofs.Shown.{notes_before}
 
 -- What a note of a tick says of the history before it: the packet that it sends is the held one of its number; a burst that ends was open; one who is forgotten has none.
 abbrev pub Fits : Settings → List Held → Note → Option Held → History → Type 0
@@ -137,7 +137,7 @@ steps s held a _ (plus note packet later fits on) =
     record {
       notes = rest.notes ++ note ∷ [];
       leads = leads_more s held rest.notes a later note packet rest.leads fits;
-      noted_are = notes_before later (note ∷ []) ∙ (ap (λ (l : List Note). l ++ note ∷ []) rest.noted_are ∙ append_assoc (newest_notes a []) rest.notes (note ∷ []));
+      noted_are = notes_behind later (note ∷ []) ∙ (ap (λ (l : List Note). l ++ note ∷ []) rest.noted_are ∙ append_assoc (newest_notes a []) rest.notes (note ∷ []));
     }
 
 -- the end begins with the history from which its notes lead to it

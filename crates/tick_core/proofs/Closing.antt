@@ -10,9 +10,10 @@ use Rattle.rams_model.specs.declared.held.Held.{Held}
 use Rattle.rams_model.specs.declared.note.Note.{Note}
 use Rattle.rams_model.specs.declared.event.Event.TheVariants.{Tick}
 use Rattle.rams_model.specs.declared.note.Note.TheVariants.{Burst as BurstNote, Repair, Gone, End, Forgot}
-use Rattle.rams_model.specs.Service.{Settings, tick, heard_of, began, noted, History, arrivals, hold, known, is_among, sendings, ssrc, next, kept, in_tick, bursts, open_burst, Wanted, pending, idle, channel_left, all_served, all_repaired, all_forgotten, after_tick, newest_notes, Answered, after_hearing, history_of}
+use Rattle.rams_model.specs.Service.{Settings, tick, heard_of, began, noted, History, arrivals, hold, known, is_among, sendings, ssrc, in_tick, open_burst, Wanted, pending, idle, channel_left, all_served, all_repaired, all_forgotten, after_tick, newest_notes, Answered, after_hearing, history_of}
 use Rattle.rams_model.specs.Packets.{hi}
 use Rattle.rams_model.specs.Service.Bursts as model
+use Rattle.rams_model.proofs.Newest.{notes_behind}
 use Rattle.link_budget.specs.{amounts}
 use Rattle.link_budget.specs.Amounts.{Amounts}
 use Rattle.client_table.specs.declared.entry.Burst.{Burst}
@@ -22,28 +23,24 @@ use Rattle.client_table.specs.Clients.{Clients}
 use Rattle.repair_queue.specs.{unmarked}
 use Rattle.channel_cache.specs.Seen as caches
 use Rattle.channel_parts.specs.declared.parts.Parts.{Parts}
-use Rattle.channel_parts.specs.{HaveLowNumbers, burst_kept, WasTold, IsEntry, IsTable, StandsFor}
+use Rattle.channel_parts.specs.{HaveLowNumbers, burst_kept, IsEntry, IsTable, StandsFor}
 use Rattle.channel_parts.proofs.Facts.{opened_are_the_known_with_bursts, only_known_clients_have_bursts, repairs_are_of_known_clients, held_numbers_are_small, events_reserve_nothing}
 use Rattle.channel_parts.proofs.Ordered.{known_rise}
+use Rattle.channel_parts.proofs.Given.{held_is, moment}
 use Rattle.tick_core.specs.declared.plan.TickPlan.{TickPlan}
 use Rattle.tick_core.specs.{idle_after, begun_left, ends_wait, is_over, IsPlanFor, Rise, opened_for_tick, entry_begun, burst_ended, entry_ended, AreAllChanged, committing, with_all_committed, MayCommitAll}
 use Rattle.tick_core.specs.Committed.{Committed}
-use Rattle.tick_core.proofs.Shown.{notes_before}
 use Rattle.tick_core.proofs.Serving.{tick_open}
 use Rattle.tick_core.proofs.Idling.{idle_is, forgot_idle}
-use Rattle.tick_core.proofs.Planning.{held_stands, tick_is, some_kept}
-use Rattle.tick_core.proofs.Safe.{at_moment, in_order}
+use Rattle.tick_core.proofs.Planning.{tick_is, some_kept}
+use Rattle.tick_core.proofs.Safe.{in_order}
 use Rattle.tick_core.proofs.Adding.{Fits, Adds, none, plus, then, all_served_adds, all_repaired_adds, all_forgotten_adds, steps}
-use Rattle.tick_core.proofs.Midway.{shown, IsMidEntry, IsMid, IsCarriedOut, all_mid}
+use Rattle.tick_core.proofs.Midway.{shown, IsMidEntry, IsMid, IsCarriedOut, all_mid, mapped_some}
 
 -- ---- an entry as a tick begins
 begun_shown : (s : Settings) (burst : Option Burst) (o : Option model.Burst) → burst ≡ option_map (burst_kept s) o → option_map opened_for_tick burst ≡ option_map shown (option_map (in_tick s) o)
 begun_shown s burst None is = ap (option_map opened_for_tick) is
 begun_shown s burst (Some b) is = ap (option_map opened_for_tick) is
-
-begun_told : (s : Settings) (o : Option model.Burst) (e e2 : Entry) → e2.last ≡ e.last → WasTold o e → WasTold (option_map (in_tick s) o) e2
-begun_told s None e e2 same told = tt
-begun_told s (Some b) e e2 same told = same ∙ told
 
 entry_begins : (s : Settings) (counts : ℕ → ℕ) (k : ℕ) (ws : List Wanted) (before : History) (e : Entry) → IsEntry s k before e → idle_after ws k e ≡ counts k → IsMidEntry s counts k (began tick ∷ before) (entry_begun ws k e)
 unfolding ssrc sendings
@@ -52,12 +49,7 @@ entry_begins s counts k ws before e is count = record {
   seq_is = is.seq_is;
   idle_is = count;
   burst_is = begun_shown s e.burst (open_burst s k before) is.burst_is ∙ ap (option_map shown) (sym (tick_open s k before));
-  told = subst (λ (o : Option model.Burst). WasTold o (entry_begun ws k e)) (sym (tick_open s k before)) (begun_told s (open_burst s k before) e (entry_begun ws k e) refl is.told);
 }
-
-mapped_some : (f : Entry → Entry) (o : Option Entry) (e : Entry) → option_map f o ≡ Some e → (x : Entry) × (o ≡ Some x) × (f x ≡ e)
-mapped_some f None e is = absurd cc
-mapped_some f (Some x) e is = (x, refl, cc)
 
 mid_begins : (p : Parts) (events : List Event) (counts : ℕ → ℕ) (c : Committed) → StandsFor p events → ((k : ℕ) (e : Entry) → entry_of p.table k ≡ Some e → idle_after p.queue k e ≡ counts k)
     → AreAllChanged (entry_begun p.queue) p.table c.table → c.budget ≡ record p.budget { left = begun_left p } → IsMid p.config counts (began tick ∷ history_of p.config events) c
@@ -81,10 +73,6 @@ ended_shown : (s : Settings) (burst : Option Burst) (o : Option model.Burst) →
 ended_shown s burst None is = ap (option_map (burst_ended s.channel.depth)) is
 ended_shown s burst (Some b) is = ap (option_map (burst_ended s.channel.depth)) is
 
-told_still : (o : Option model.Burst) (e e2 : Entry) → e2.last ≡ e.last → WasTold o e → WasTold o e2
-told_still None e e2 same told = tt
-told_still (Some b) e e2 same told = same ∙ told
-
 table_ends : (s : Settings) (end : History) (c : Committed) (table : Clients) → IsMid s (λ k. idle s k end) end c → ((k : ℕ) → is_among k (known end) ≡ false → open_burst s k end ≡ None)
     → AreAllChanged (λ k. entry_ended s.channel.depth) c.table table → IsTable s end table
 table_ends s end c table mid others change = record {
@@ -98,7 +86,6 @@ table_ends s end c table mid others change = record {
         seq_is = is.seq_is;
         idle_is = is.idle_is;
         burst_is = ended_shown s x.0.burst (open_burst s k end) is.burst_is;
-        told = told_still (open_burst s k end) x.0 (entry_ended s.channel.depth x.0) refl is.told;
       });
   others = others;
 }
@@ -142,7 +129,7 @@ pending_by s held a _ start (plus note packet later fits on) =
     pending_step s held note packet later fits
     ∙ (ap (filter (λ w. not (ends_wait w note))) (pending_by s held a later start on)
     ∙ (filter_twice (λ w. not (ends_wait w note)) (λ w. not (is_over notes w)) (λ w. not (is_over (notes ++ note ∷ []) w)) (over_next notes note) (pending a)
-    ∙ ap (λ (ns : List Note). filter (λ w. not (is_over ns w)) (pending a)) (sym (notes_before later (note ∷ [])))))
+    ∙ ap (λ (ns : List Note). filter (λ w. not (is_over ns w)) (pending a)) (sym (notes_behind later (note ∷ [])))))
 
 -- those whose flag isn't set
 pub unmarked_by : (f : Wanted → Bool) (ws : List Wanted) → unmarked ws (map f ws) ≡ filter (λ w. not (f w)) ws
@@ -181,7 +168,7 @@ is_tick p events stands =
     let ks = keys_of p.table.known in
     let known_is : ks ≡ known before = stands.table.clients in
     let rise : Rise ks = subst Rise (sym known_is) (known_rise before) in
-    let of_tick = tick_is s before held ks rise known_is (held_stands p events stands) (opened_are_the_known_with_bursts s events stands.lawful) in
+    let of_tick = tick_is s before held ks rise known_is (held_is p events stands) (opened_are_the_known_with_bursts s events stands.lawful) in
     let run_history = all_served s held ks start in
     let rep_history = all_repaired s held (pending before) run_history in
     let end = after_tick s start in
@@ -216,7 +203,7 @@ carried_out p events plan c stands is change budget =
     held_numbers_are_small s end (subst HaveLowNumbers (sym same) stands.packets.low) (omega (arith, ap length same, stands.packets.counted, stands.packets.few)) in
     let begins = mid_begins p events (λ k. idle s k end) c stands of_tick.counts change budget in
     subst (λ (notes : List Note). IsCarriedOut s held (λ k. idle s k end) notes end c) notes_are
-    (all_mid s stands.lawful held (λ k. idle s k end) taken.notes start end c taken.leads (at_moment s (Tick ∷ events)) small begins)
+    (all_mid s stands.lawful held (λ k. idle s k end) taken.notes start end c taken.leads (moment s (Tick ∷ events)) small begins)
 
 -- the parts after it
 pub committed : (p : Parts) (events : List Event) (plan : TickPlan) (c : Committed) (table : Clients) (budget : Amounts) (queue : List Wanted) → StandsFor p events → IsPlanFor p events plan
@@ -254,7 +241,7 @@ committed p events plan c table budget queue stands is change budget_begun chang
       table = table_ends s end (with_all_committed s held plan.answer.notes c) table out.mid (only_known_clients_have_bursts s (Tick ∷ events) stands.lawful) change_end;
       queue = record {
         pending_is = pending_is;
-        known_is = subst (All (λ (w : Wanted). is_among w.client (known end) ≡ true)) (sym pending_is) (repairs_are_of_known_clients s end stands.lawful (at_moment s (Tick ∷ events)));
+        known_is = subst (All (λ (w : Wanted). is_among w.client (known end) ≡ true)) (sym pending_is) (repairs_are_of_known_clients s end stands.lawful (moment s (Tick ∷ events)));
       };
       budget = budget_is ∙ out.mid.budget;
       calls = omega (arith, stands.calls);

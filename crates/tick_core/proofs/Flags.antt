@@ -36,15 +36,15 @@ unfolding with_run
 run_ends_none w k seq [] d = refl
 run_ends_none w k seq (h ∷ hs) d = run_ends_none w k (following seq) hs (with_packet d (BurstNote k h.n seq) k seq h) ∙ other_note w d.notes (BurstNote k h.n seq) refl
 
-end_ends_none : (w : Wanted) (k : ℕ) (last : Option Info) (cause : Option Cause) (d : Drafted) → is_over (with_end d k last cause).notes w ≡ is_over d.notes w
+end_ends_none : (w : Wanted) (k : ℕ) (last : Info) (cause : Option Cause) (d : Drafted) → is_over (with_end d k last cause).notes w ≡ is_over d.notes w
 end_ends_none w k last None d = refl
 end_ends_none w k last (Some cause) d = other_note w d.notes (End k cause) refl
 
 served_ends_none : (s : Settings) (held : List Held) (w : Wanted) (k : ℕ) (e : Entry) (o : Option Burst) (d : Drafted) → is_over (with_served s held k e o d).notes w ≡ is_over d.notes w
 served_ends_none s held w k e None d = refl
 served_ends_none s held w k e (Some b) d =
-    cond_both (is_lost b.next held) _ _ (λ (x : Drafted). is_over x.notes w ≡ is_over d.notes w) (λ t. end_ends_none w k e.last (Some Lost) d)
-    (λ f. end_ends_none w k e.last (end_of s.channel.limit b (after_run held e.seq b).next) (with_run k e.seq (run_of held b) d) ∙ run_ends_none w k e.seq (run_of held b) d)
+    cond_both (is_lost b.next held) _ _ (λ (x : Drafted). is_over x.notes w ≡ is_over d.notes w) (λ t. end_ends_none w k b.last (Some Lost) d)
+    (λ f. end_ends_none w k b.last (end_of s.channel.limit b (after_run held e.seq b).next) (with_run k e.seq (run_of held b) d) ∙ run_ends_none w k e.seq (run_of held b) d)
 
 pub all_served_end_none : (s : Settings) (held : List Held) (w : Wanted) (es : List (ℕ × Entry)) (d : Drafted) → is_over (with_all_served s held es d).notes w ≡ is_over d.notes w
 unfolding with_all_served

@@ -7,17 +7,17 @@ use Rattle.channel_parts.specs.declared.parts.Parts.{Parts}
 use Rattle.channel_parts.specs.{StandsFor}
 use Rattle.channel_parts.proofs.Facts.{opened_are_the_known_with_bursts, repairs_are_within_limits}
 use Rattle.channel_parts.proofs.Ordered.{known_rise}
+use Rattle.channel_parts.proofs.Given.{moment}
 use Rattle.link_budget.specs.Amounts.{Amounts}
 use Rattle.tick_core.specs.declared.allowance.Allowance.{Allowance}
 use Rattle.tick_core.specs.{Drafted, new_draft, allowances_of, with_all_served, Repaired, with_all_wanted, with_all_forgotten, begun_left, drafted_runs, drafted_repairs, drafted_tick, planned_answer, planned_flags, is_over}
 use Rattle.tick_core.proofs.Planning.{planned}
-use Rattle.tick_core.proofs.Safe.{at_moment}
 
 pub made_plan : (p : Parts) (events : List Event) (a : Answered) (done : List Bool) → StandsFor p events → a ≡ planned_answer p → done ≡ planned_flags p
     → (a ≡ answer p.config events Tick) × (done ≡ map (is_over a.notes) (pending (history_of p.config events)))
 made_plan p events a done stands answer_is done_is =
     let before = history_of p.config events in
-    let plan = planned p events stands (known_rise before) (opened_are_the_known_with_bursts p.config events stands.lawful) (repairs_are_within_limits p.config before (at_moment p.config events)) in
+    let plan = planned p events stands (known_rise before) (opened_are_the_known_with_bursts p.config events stands.lawful) (repairs_are_within_limits p.config before (moment p.config events)) in
     (answer_is ∙ plan.answer_is, done_is ∙ (plan.done_is ∙ ap (λ (x : Answered). map (is_over x.notes) (pending before)) (sym answer_is)))
 
 -- ---- the plan of any parts, as its calls make it

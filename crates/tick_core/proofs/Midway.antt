@@ -6,7 +6,7 @@ use Rattle.rams_model.specs.declared.held.Held.{Held}
 use Rattle.rams_model.specs.declared.note.Cause.{Cause}
 use Rattle.rams_model.specs.declared.note.Note.{Note}
 use Rattle.rams_model.specs.declared.note.Note.TheVariants.{Burst as BurstNote, Repair, Gone, End, Forgot}
-use Rattle.rams_model.specs.Service.{Settings, noted, History, hold, known, is_among, without, sendings, sequence, ssrc, next, kept, after_note, newest_open, size_of, bursts, open_burst, reserved, channel_left}
+use Rattle.rams_model.specs.Service.{Settings, noted, History, hold, known, is_among, without, sendings, sequence, ssrc, next, after_note, newest_open, size_of, bursts, open_burst, reserved, channel_left}
 use Rattle.rams_model.specs.Packets.{hi, following}
 use Rattle.rams_model.specs.Service.Bursts as model
 use Rattle.book_laws.specs.{IsMoment}
@@ -15,11 +15,11 @@ use Rattle.link_budget.specs.{amounts}
 use Rattle.link_budget.specs.Amounts.{Amounts}
 use Rattle.client_table.specs.declared.entry.Burst.{Burst}
 use Rattle.client_table.specs.declared.entry.Entry.{Entry}
-use Rattle.client_table.specs.{clients_of, entry_of, with_entry}
+use Rattle.client_table.specs.{clients_of, entry_of}
 use Rattle.client_table.specs.Clients.{Clients}
 use Rattle.client_table.specs.Clients as tables
 use Rattle.packet_ring.specs.{packet_of}
-use Rattle.channel_parts.specs.{WasTold, IsBudget}
+use Rattle.channel_parts.specs.{IsBudget}
 use Rattle.channel_parts.proofs.Facts.{open_bursts_are_within_bounds, each_burst_is_reserved, ends_release, other_notes_reserve_nothing, the_end_of_the_held_never_falls}
 use Rattle.channel_parts.proofs.Ordered.{Rise, known_rise}
 use Rattle.channel_parts.proofs.Tables.{clients-with_entry, entry-with_entry, others-with_entry, clients-without, others-without, entry_among, has_entry}
@@ -31,7 +31,7 @@ use Rattle.tick_core.proofs.Adding.{Fits, Leads, leads_later}
 
 -- an open burst in a tick: what it may still be sent is kept
 abbrev pub shown : model.Burst → Burst
-shown b = record { first = b.first; next = next b; stop = b.stop; rate = b.rate; ticks = b.ticks; kept = b.left }
+shown b = record { first = b.first; next = next b; stop = b.stop; rate = b.rate; ticks = b.ticks; kept = b.left; last = b.last }
 
 -- A known client's entry in the middle of a tick. Its idle count is already the one that it has after the tick.
 pub record IsMidEntry (s : Settings) (counts : ℕ → ℕ) (k : ℕ) (history : History) (e : Entry) : Type 0 where
@@ -39,7 +39,6 @@ pub record IsMidEntry (s : Settings) (counts : ℕ → ℕ) (k : ℕ) (history :
   pub seq_is : e.seq ≡ sequence s k history
   pub idle_is : e.idle ≡ counts k
   pub burst_is : e.burst ≡ option_map shown (open_burst s k history)
-  pub told : WasTold (open_burst s k history) e
 
 pub record IsMid (s : Settings) (counts : ℕ → ℕ) (history : History) (c : Committed) : Type 0 where
   pub most : c.table.most ≡ s.channel.clients
@@ -68,7 +67,7 @@ is_change f k t = change_by (entry_of t k) refl
       away = λ j differ. others-with_entry t k (f e) j differ;
     }
 
-mapped_some : (f : Entry → Entry) (o : Option Entry) (e : Entry) → option_map f o ≡ Some e → (x : Entry) × (o ≡ Some x) × (f x ≡ e)
+pub mapped_some : (f : Entry → Entry) (o : Option Entry) (e : Entry) → option_map f o ≡ Some e → (x : Entry) × (o ≡ Some x) × (f x ≡ e)
 mapped_some f None e is = absurd cc
 mapped_some f (Some x) e is = (x, refl, cc)
 
@@ -100,7 +99,6 @@ mid_spared s counts j history after e is mid =
       seq_is = mid.seq_is ∙ ap (λ (n : ℕ). (s.channel.seq0 + n) % 65536) (sym is.sendings_same);
       idle_is = mid.idle_is;
       burst_is = mid.burst_is ∙ ap (option_map shown) (sym same);
-      told = subst (λ (o : Option model.Burst). WasTold o e) (sym same) mid.told;
     }
 
 by_note : (s : Settings) (counts : ℕ → ℕ) (j : ℕ) (note : Note) (packet : Option Held) (history : History) (e : Entry) → spares j note ≡ true → IsMidEntry s counts j history e → IsMidEntry s counts j (noted note packet ∷ history) e
@@ -117,25 +115,20 @@ sent_shown : (o : Option model.Burst) (f : model.Burst → model.Burst) (count s
 sent_shown None f count size same = refl
 sent_shown (Some b) f count size same = ap (λ (x : Burst). Some x) (sym (same b))
 
-told_after : (o : Option model.Burst) (f : model.Burst → model.Burst) (e e2 : Entry) → ((b : model.Burst) → (f b).last ≡ b.last) → e2.last ≡ e.last → WasTold o e → WasTold (option_map f o) e2
-told_after None f e e2 same last told = tt
-told_after (Some b) f e e2 same last told = last ∙ (told ∙ ap (λ i. Some i) (sym (same b)))
-
 burst_shown : (s : Settings) (k n seq size : ℕ) (b : model.Burst) → shown (after_note s (BurstNote k n seq) size b) ≡ burst_sent 1 size (shown b)
-burst_shown s k n seq size b = ap (λ (m : ℕ). record { first = b.first; next = m; stop = b.stop; rate = b.rate; ticks = b.ticks; kept = b.left - size }) (omega arith)
+burst_shown s k n seq size b = ap (λ (m : ℕ). record { first = b.first; next = m; stop = b.stop; rate = b.rate; ticks = b.ticks; kept = b.left - size; last = b.last }) (omega arith)
 
 repair_shown : (s : Settings) (k n seq size : ℕ) (b : model.Burst) → shown (after_note s (Repair k n seq) size b) ≡ burst_sent 0 size (shown b)
-repair_shown s k n seq size b = ap (λ (m : ℕ). record { first = b.first; next = m; stop = b.stop; rate = b.rate; ticks = b.ticks; kept = b.left - size }) (omega arith)
+repair_shown s k n seq size b = ap (λ (m : ℕ). record { first = b.first; next = m; stop = b.stop; rate = b.rate; ticks = b.ticks; kept = b.left - size; last = b.last }) (omega arith)
 
 sent_entry : (s : Settings) (counts : ℕ → ℕ) (k count size : ℕ) (f : model.Burst → model.Burst) (history after : History) (e : Entry) → ssrc k after ≡ ssrc k history → sequence s k after ≡ following (sequence s k history)
-    → open_burst s k after ≡ option_map f (open_burst s k history) → ((b : model.Burst) → shown (f b) ≡ burst_sent count size (shown b)) → ((b : model.Burst) → (f b).last ≡ b.last)
+    → open_burst s k after ≡ option_map f (open_burst s k history) → ((b : model.Burst) → shown (f b) ≡ burst_sent count size (shown b))
     → IsMidEntry s counts k history e → IsMidEntry s counts k after (entry_sent count size e)
-sent_entry s counts k count size f history after e ssrc_same seq_next open_is shows tells mid = record {
+sent_entry s counts k count size f history after e ssrc_same seq_next open_is shows mid = record {
   ssrc_is = ssrc_same ∙ mid.ssrc_is;
   seq_is = ap following mid.seq_is ∙ sym seq_next;
   idle_is = mid.idle_is;
   burst_is = ap (option_map (burst_sent count size)) mid.burst_is ∙ (sent_shown (open_burst s k history) f count size shows ∙ ap (option_map shown) (sym open_is));
-  told = subst (λ (o : Option model.Burst). WasTold o (entry_sent count size e)) (sym open_is) (told_after (open_burst s k history) f e (entry_sent count size e) tells refl mid.told);
 }
 
 less_left : (s : Settings) (history after : History) (budget : Amounts) (size : ℕ) → reserved s after ≡ reserved s history → channel_left s after ≡ channel_left s history - size → IsBudget s history budget
@@ -156,7 +149,7 @@ burst_mid s held counts k n seq packet history c fits mid =
     let after = noted note packet ∷ history in
     subst (λ (o : Option Held). IsMid s counts after (record { table = changed (entry_sent 1 (size_of o)) c.table k; budget = record c.budget { left = c.budget.left - size_of o } })) fits
     (mid_changed s counts (entry_sent 1 (size_of packet)) k history after c _ mid (known_kept history after (spared_one serves note packet history refl))
-    (λ e is. sent_entry s counts k 1 (size_of packet) (after_note s note (size_of packet)) history after e refl (burst_sequence s k n seq packet history) (burst_open s k n seq packet history) (burst_shown s k n seq (size_of packet)) (λ b. refl) is)
+    (λ e is. sent_entry s counts k 1 (size_of packet) (after_note s note (size_of packet)) history after e refl (burst_sequence s k n seq packet history) (burst_open s k n seq packet history) (burst_shown s k n seq (size_of packet)) is)
     (λ j e differ is. by_note s counts j note packet history e (differs k j differ) is)
     (λ j closed. ⊎_elim
     (λ (same : j ≡ k). subst (λ (i : ℕ). open_burst s i after ≡ None) (sym same) (burst_open s k n seq packet history ∙ map_none _ (open_burst s k history) (subst (λ (i : ℕ). open_burst s i history ≡ None) same closed)))
@@ -171,7 +164,7 @@ repair_mid s held counts k n seq packet history c fits mid =
     let after = noted note packet ∷ history in
     subst (λ (o : Option Held). IsMid s counts after (record { table = changed (entry_sent 0 (size_of o)) c.table k; budget = record c.budget { left = c.budget.left - size_of o } })) fits
     (mid_changed s counts (entry_sent 0 (size_of packet)) k history after c _ mid (known_kept history after (spared_one serves note packet history refl))
-    (λ e is. sent_entry s counts k 0 (size_of packet) (after_note s note (size_of packet)) history after e refl (repair_sequence s k n seq packet history) (repair_open s k n seq packet history) (repair_shown s k n seq (size_of packet)) (λ b. refl) is)
+    (λ e is. sent_entry s counts k 0 (size_of packet) (after_note s note (size_of packet)) history after e refl (repair_sequence s k n seq packet history) (repair_open s k n seq packet history) (repair_shown s k n seq (size_of packet)) is)
     (λ j e differ is. by_note s counts j note packet history e (differs k j differ) is)
     (λ j closed. ⊎_elim
     (λ (same : j ≡ k). subst (λ (i : ℕ). open_burst s i after ≡ None) (sym same) (repair_open s k n seq packet history ∙ map_none _ (open_burst s k history) (subst (λ (i : ℕ). open_burst s i history ≡ None) same closed)))
@@ -208,7 +201,6 @@ end_mid s held counts k cause packet history c b open_is mid =
       seq_is = is.seq_is;
       idle_is = is.idle_is;
       burst_is = sym (ap (option_map shown) closed_now);
-      told = subst (λ (o : Option model.Burst). WasTold o (entry_closed e)) (sym closed_now) tt;
     })
     (λ j e differ is. by_note s counts j note packet history e (differs k j differ) is)
     (λ j closed. ⊎_elim (λ (same : j ≡ k). subst (λ (i : ℕ). open_burst s i after ≡ None) (sym same) closed_now)
@@ -224,7 +216,7 @@ unfolding ssrc sendings channel_left bursts known
 gone_mid s held counts k n packet history c mid = record {
   most = mid.most;
   clients = mid.clients;
-  entries = λ j e found. let is = mid.entries j e found in record { ssrc_is = is.ssrc_is; seq_is = is.seq_is; idle_is = is.idle_is; burst_is = is.burst_is; told = is.told };
+  entries = λ j e found. let is = mid.entries j e found in record { ssrc_is = is.ssrc_is; seq_is = is.seq_is; idle_is = is.idle_is; burst_is = is.burst_is };
   others = mid.others;
   budget = mid.budget ∙ ap (λ (r : ℕ). amounts s.channel.share s.channel.reserve s.channel.swell r (channel_left s history)) (sym (other_notes_reserve_nothing s (Gone k n) packet history refl));
 }

@@ -50,11 +50,11 @@ place_found l k (Err i) rise within parted =
     ])
 
 -- ---- what is taken from it
-clients-taken : (k size : ℕ) (l : List Allowance) → clients_of (with_taken k size l) ≡ clients_of l
+pub clients_stay : (k size : ℕ) (l : List Allowance) → clients_of (with_taken k size l) ≡ clients_of l
 unfolding with_taken
-clients-taken k size [] = refl
-clients-taken k size (a ∷ l) =
-    cond_both (eqb a.client k) (after_repair a size ∷ l) (a ∷ with_taken k size l) (λ x. clients_of x ≡ clients_of (a ∷ l)) (λ t. refl) (λ f. ap (λ (ks : List ℕ). a.client ∷ ks) (clients-taken k size l))
+clients_stay k size [] = refl
+clients_stay k size (a ∷ l) =
+    cond_both (eqb a.client k) (after_repair a size ∷ l) (a ∷ with_taken k size l) (λ x. clients_of x ≡ clients_of (a ∷ l)) (λ t. refl) (λ f. ap (λ (ks : List ℕ). a.client ∷ ks) (clients_stay k size l))
 
 -- a place of the client is the first of it, since they rise
 taken_at : (k size : ℕ) (l : List Allowance) (i : ℕ) (d : Allowance) → Rise (clients_of l) → i < length l → at l i ≡ k → set l i (after_repair (get_or l i d) size) ≡ with_taken k size l
@@ -77,6 +77,3 @@ place_is k l i d rise place = found_at k l i d rise place.within (place.there (a
 
 pub taken_is : (k size : ℕ) (l : List Allowance) (i : ℕ) (d : Allowance) → Rise (clients_of l) → IsPlaceOf k l i → set l i (after_repair (get_or l i d) size) ≡ with_taken k size l
 taken_is k size l i d rise place = taken_at k size l i d rise place.within (place.there (allowance 0 0 0))
-
-pub clients_stay : (k size : ℕ) (l : List Allowance) → clients_of (with_taken k size l) ≡ clients_of l
-clients_stay k size l = clients-taken k size l

@@ -13,17 +13,20 @@ use Rattle.rams_model.specs.declared.held.Held.{Held}
 use Rattle.rams_model.specs.declared.note.Note.{Note}
 use Rattle.rams_model.specs.declared.event.Event.TheVariants.{Tick}
 use Rattle.rams_model.specs.declared.note.Note.TheVariants.{Burst as BurstNote, End}
-use Rattle.rams_model.specs.Service.{Settings, tick, heard_of, began, noted, History, arrivals, hold, as_tick_began, known, opened, is_among, sendings, next, kept, in_tick, bursts, open_burst, has_open, Wanted, pending, idle, sent_now, budget_of, channel_left, all_served, all_repaired, all_forgotten, after_tick, bursts_served, repairs_sent, idle_forgotten, newest_notes, newest_orders, answered, after_hearing, history_of, answer}
+use Rattle.rams_model.specs.Service.{Settings, tick, heard_of, began, noted, History, arrivals, hold, as_tick_began, known, opened, is_among, sendings, in_tick, open_burst, has_open, Wanted, pending, idle, sent_now, budget_of, channel_left, all_served, all_repaired, all_forgotten, after_tick, bursts_served, repairs_sent, idle_forgotten, newest_notes, newest_orders, answered, after_hearing, history_of, answer}
 use Rattle.rams_model.specs.Packets.{Arrival, stream_of}
 use Rattle.rams_model.specs.Packets.Source as sources
 use Rattle.rams_model.specs.Service.Bursts as model
+use Rattle.rams_model.proofs.ListFacts.{each_weaker}
 use Rattle.client_table.specs.declared.entry.Burst.{Burst}
 use Rattle.client_table.specs.declared.entry.Entry.{Entry}
 use Rattle.client_table.specs.{entry_of}
+use Rattle.client_table.proofs.ChangedAll.{same_key}
 use Rattle.link_budget.specs.Amounts.{Amounts}
 use Rattle.repair_queue.specs.{IsWithinLimits}
 use Rattle.channel_parts.specs.declared.parts.Parts.{Parts}
-use Rattle.channel_parts.specs.{burst_kept, WasTold, IsEntry, StandsFor}
+use Rattle.channel_parts.specs.{burst_kept, IsEntry, StandsFor}
+use Rattle.channel_parts.proofs.Given.{held_is as held_are}
 use Rattle.tick_core.specs.{new_draft, allowances_of, Repaired, Rise, clients_of, idle_after, begun_left, drafted_runs, drafted_repairs, drafted_tick, planned_answer, planned_flags, is_over}
 use Rattle.tick_core.proofs.Sparing.{GoesOn, then, kept as kept_by, spares, serves, known_kept, arrivals_kept}
 use Rattle.tick_core.proofs.Walking.{whose_all}
@@ -35,13 +38,13 @@ use Rattle.tick_core.proofs.Idling.{IsServedIn, none_runs, none_repairs, idle_is
 use Rattle.tick_core.proofs.Flags.{all_served_end_none, forgotten_end_none, flags_say, limits_differ}
 
 -- ---- what is kept of a client as a tick begins
-alike : (s : Settings) (e : Entry) (burst : Option Burst) (o : Option model.Burst) → burst ≡ option_map (burst_kept s) o → WasTold o e → AreBothAlike e.last burst (option_map (in_tick s) o)
-alike s e None None is told = tt
-alike s e None (Some b) is told = absurd cc
-alike s e (Some eb) None is told = absurd cc
-alike s e (Some eb) (Some b) is told =
+alike : (s : Settings) (burst : Option Burst) (o : Option model.Burst) → burst ≡ option_map (burst_kept s) o → AreBothAlike burst (option_map (in_tick s) o)
+alike s None None is = tt
+alike s None (Some b) is = absurd cc
+alike s (Some eb) None is = absurd cc
+alike s (Some eb) (Some b) is =
     let same : eb ≡ burst_kept s b = cc in
-    subst (λ (x : Burst). AreAlike e.last x (in_tick s b)) (sym same) (record { next_is = refl; stop_is = refl; ticks_is = refl; left_is = refl; last_is = told })
+    subst (λ (x : Burst). AreAlike x (in_tick s b)) (sym same) (record { next_is = refl; stop_is = refl; ticks_is = refl; left_is = refl; last_is = refl })
 
 cap_alike : (s : Settings) (burst : Option Burst) (o : Option model.Burst) → burst ≡ option_map (burst_kept s) o → budget_of s (option_map (in_tick s) o) ≡ cap_by s burst
 cap_alike s burst None is = ap (cap_by s) (sym is)
@@ -51,7 +54,7 @@ ready : (s : Settings) (k : ℕ) (history : History) (e : Entry) → IsEntry s k
 unfolding sendings as_tick_began sent_now
 ready s k history e is = record {
   seq_is = sym is.seq_is;
-  burst_is = subst (AreBothAlike e.last e.burst) (sym (tick_open s k history)) (alike s e e.burst (open_burst s k history) is.burst_is is.told);
+  burst_is = subst (AreBothAlike e.burst) (sym (tick_open s k history)) (alike s e.burst (open_burst s k history) is.burst_is);
   cap_is = ap (budget_of s) (tick_open s k history) ∙ cap_alike s e.burst (open_burst s k history) is.burst_is;
   no_run = refl;
   no_repair = refl;
@@ -62,9 +65,6 @@ some_kept s burst None is = ap is_some is
 some_kept s burst (Some b) is = ap is_some is
 
 -- each known client is found in the table
-same_key : (k : ℕ) → is_at (nat_cmp k) k ≡ true
-same_key k = grind (arith, nat_tests)
-
 other_key : (k j : ℕ) → j < k → is_at (nat_cmp k) j ≡ false
 other_key k j h = grind (arith, nat_tests)
 
@@ -83,10 +83,6 @@ module _ {X : Type 0} where
 each_from_all : {X : Type 0} (P : X → Type 0) (xs : List X) → All P xs → Each P xs
 each_from_all P [] all = tt
 each_from_all P (x ∷ xs) all = (All-head P x xs all, each_from_all P xs (All-tail P x xs all))
-
-each_of : {X : Type 0} (P Q : X → Type 0) → ((x : X) → P x → Q x) → (xs : List X) → Each P xs → Each Q xs
-each_of P Q f [] each = tt
-each_of P Q f (x ∷ xs) each = (f x each.0, each_of P Q f xs each.1)
 
 each_any : {X : Type 0} (P : X → Type 0) → ((x : X) → P x) → (xs : List X) → Each P xs
 each_any P f [] = tt
@@ -169,11 +165,6 @@ tick_is s before held ks rise known_is held_is opened_is =
     }
 
 -- ---- what is planned
-pub held_stands : (p : Parts) (events : List Event) → StandsFor p events → p.cache.held ≡ hold p.config (history_of p.config events)
-held_stands p events stands =
-    let before = history_of p.config events in
-    stands.packets.stands.held ∙ ap (λ (t : Settings). sources.hold t.channel.window t.channel.ring (stream_of t.channel.window (arrivals before))) stands.packets.settings_are
-
 -- what the channel's budget has left as the tick begins
 left_begun : (p : Parts) (events : List Event) → StandsFor p events → begun_left p ≡ channel_left p.config (began tick ∷ history_of p.config events)
 unfolding channel_left
@@ -197,11 +188,11 @@ planned p events stands rise opened_is limits =
     let ws = p.queue in
     let known_is : ks ≡ known before = stands.table.clients in
     let rising : Rise ks = subst Rise (sym known_is) rise in
-    let held_is : held ≡ hold s before = held_stands p events stands in
+    let held_is : held ≡ hold s before = held_are p events stands in
     let queue_is : ws ≡ pending before = stands.queue.pending_is in
     let found = each_found es rising in
-    let entries : Each (λ e. IsEntry s e.0 before e.1) es = each_of (λ e. entry_of p.table e.0 ≡ Some e.1) (λ e. IsEntry s e.0 before e.1) (λ e is. stands.table.entries e.0 e.1 is) es found in
-    let are_ready : Each (λ e. IsReady s e.0 start e.1) es = each_of (λ e. IsEntry s e.0 before e.1) (λ e. IsReady s e.0 start e.1) (λ e is. ready s e.0 before e.1 is) es entries in
+    let entries : Each (λ e. IsEntry s e.0 before e.1) es = each_weaker (λ e. entry_of p.table e.0 ≡ Some e.1) (λ e. IsEntry s e.0 before e.1) (λ e is. stands.table.entries e.0 e.1 is) es found in
+    let are_ready : Each (λ e. IsReady s e.0 start e.1) es = each_weaker (λ e. IsEntry s e.0 before e.1) (λ e. IsReady s e.0 start e.1) (λ e is. ready s e.0 before e.1 is) es entries in
     let begins : Shows s start (new_draft (begun_left p)) = record { notes = refl; orders = refl; left = sym (left_begun p events stands) } in
     let ran = serve_all s held es start (new_draft (begun_left p)) rising are_ready begins in
     let run_history = all_served s held ks start in
@@ -216,7 +207,7 @@ planned p events stands rise opened_is limits =
     let same_reps : all_repaired s held ws run_history ≡ rep_history = ap (λ (l : List Wanted). all_repaired s held l run_history) queue_is in
     let shown : Shows s rep_history (drafted_repairs p).draft = subst (λ (h : History). Shows s h (drafted_repairs p).draft) same_reps mended.shows in
     let idle_all : Each (λ e. idle_after ws e.0 e.1 ≡ idle s e.0 rep_history) es =
-    each_of (λ e. IsEntry s e.0 before e.1) (λ e. idle_after ws e.0 e.1 ≡ idle s e.0 rep_history)
+    each_weaker (λ e. IsEntry s e.0 before e.1) (λ e. idle_after ws e.0 e.1 ≡ idle s e.0 rep_history)
     (λ e is. idle_is s e.0 e.1 ws before rep_history of_tick.served queue_is (some_kept s e.1.burst (open_burst s e.0 before) is.burst_is) is.idle_is) es entries in
     let last : Shows s (all_forgotten s ks rep_history) (drafted_tick p) = forget_all s ws es rep_history (drafted_repairs p).draft idle_all shown in
     let whole : Shows s (after_tick s start) (drafted_tick p) = subst (λ (h : History). Shows s h (drafted_tick p)) (sym of_tick.end_is) last in

@@ -102,7 +102,7 @@ allowed_kept s held x a b is allowed = record {
 pub ready_kept : (s : Settings) (k : ℕ) (e : Entry) (a b : History) → IsSpared s k a b → IsReady s k a e → IsReady s k b e
 ready_kept s k e a b is ready = record {
   seq_is = ap (λ (n : ℕ). (s.channel.seq0 + n) % 65536) is.sendings_same ∙ ready.seq_is;
-  burst_is = subst (λ (bs : List model.Burst). AreBothAlike e.last e.burst (newest_open bs)) (sym is.bursts_same) ready.burst_is;
+  burst_is = subst (λ (bs : List model.Burst). AreBothAlike e.burst (newest_open bs)) (sym is.bursts_same) ready.burst_is;
   cap_is = ap (λ (h : History). budget_of s (open_burst s k h)) is.began_same ∙ ready.cap_is;
   no_run = is.by_burst_same ∙ ready.no_run;
   no_repair = is.by_repair_same ∙ ready.no_repair;

@@ -1,11 +1,10 @@
 -- What the calls of a plan ask of the parts, which stand for some events.
-use Rattle.std.proofs.Common.{◌≡◌, ℕ, true, List, [], Option, Some, None, refl, ap, sym, ◌∙◌, subst, arith}
+use Rattle.std.proofs.Common.{◌≡◌, ℕ, true, List, Option, Some, None, refl, ap, sym, ◌∙◌, subst, arith}
 use Rattle.std.specs.Option.{option_map}
 use Rattle.rams_model.specs.declared.event.Event.{Event}
 use Rattle.rams_model.specs.Service.{Settings, known, is_among, open_burst, history_of}
 use Rattle.rams_model.specs.Service.Bursts as model
 use Rattle.rams_model.proofs.Holding.{held_follow}
-use Rattle.book_laws.specs.{IsMoment}
 use Rattle.channel_config.specs.{IsLawful}
 use Rattle.client_table.specs.declared.entry.Burst.{Burst}
 use Rattle.client_table.specs.declared.entry.Entry.{Entry}
@@ -14,16 +13,13 @@ use Rattle.channel_parts.specs.declared.parts.Parts.{Parts}
 use Rattle.channel_parts.specs.{burst_kept, StandsFor}
 use Rattle.channel_parts.proofs.Facts.{known_clients_are_idle_for_less, open_bursts_are_within_bounds, open_bursts_have_a_tick_left, held_numbers_are_small}
 use Rattle.channel_parts.proofs.Tables.{entry_among}
+use Rattle.channel_parts.proofs.Given.{held_is, moment}
 use Rattle.tick_core.specs.{AreInOrder, IsInTime, AreInTime, AreIdleInTime, IsSmallIfOpen, IsSmallIfKnown, AreSmall}
-use Rattle.tick_core.proofs.Planning.{held_stands}
-
-pub at_moment : (s : Settings) (events : List Event) → IsMoment s (history_of s events)
-at_moment s events = record { events = events; later = []; splits = refl }
 
 pub in_order : (p : Parts) (events : List Event) → StandsFor p events → AreInOrder p.cache.held
 in_order p events stands =
     let before = history_of p.config events in
-    subst AreInOrder (sym (held_stands p events stands)) (record {
+    subst AreInOrder (sym (held_is p events stands)) (record {
       follows = held_follow p.config before;
       small = omega (arith, held_numbers_are_small p.config before stands.packets.low (omega (arith, stands.packets.counted, stands.packets.few)));
     })
@@ -33,7 +29,7 @@ burst_in_time s k events None o lawful open_is is = tt
 burst_in_time s k events (Some eb) None lawful open_is is = absurd cc
 burst_in_time s k events (Some eb) (Some b) lawful open_is is =
     let same : eb ≡ burst_kept s b = cc in
-    let bounds = open_bursts_are_within_bounds s k b (history_of s events) (at_moment s events) open_is in
+    let bounds = open_bursts_are_within_bounds s k b (history_of s events) (moment s events) open_is in
     let lasts = open_bursts_have_a_tick_left s k b events lawful open_is in
     subst (λ (x : Burst). IsInTime s (Some x)) (sym same) (record { lasts = lasts; budget = omega (arith, bounds.rate_most, lawful.burst_most, lawful.depth_most) })
 

@@ -11,6 +11,7 @@ use Rattle.rams_model.specs.Service.{Settings, tick, began, noted, History, as_t
 use Rattle.rams_model.specs.Packets.{hi, from_number, following}
 use Rattle.rams_model.specs.Service.Bursts as model
 use Rattle.rams_model.specs.Service.Tick as ticks
+use Rattle.rams_model.proofs.OpenBurst.{changed_open}
 use Rattle.client_table.specs.declared.entry.Burst.{Burst}
 use Rattle.client_table.specs.declared.entry.Entry.{Entry}
 use Rattle.tick_core.specs.declared.allowance.Allowance.{Allowance}
@@ -19,15 +20,6 @@ use Rattle.tick_core.specs.{Drafted, with_packet, with_end, unsent, after_packet
 use Rattle.tick_core.proofs.Shown.{Shows, shows_burst, shows_end}
 
 -- ---- the open burst after a note of its client
-map_open : (o : Option Cause) (f : model.Burst → model.Burst) (b : model.Burst) → if_open o (f b) ≡ option_map f (if_open o b)
-map_open None f b = refl
-map_open (Some cause) f b = refl
-
--- a change that ends no burst
-pub changed_open : (f : model.Burst → model.Burst) → ((b : model.Burst) → (f b).ended ≡ b.ended) → (bs : List model.Burst) → newest_open (newest_changed f bs) ≡ option_map f (newest_open bs)
-changed_open f same [] = refl
-changed_open f same (b ∷ bs) = ap (λ (o : Option Cause). if_open o (f b)) (same b) ∙ map_open b.ended f b
-
 -- a change that ends the open one
 changed_ended : (f : model.Burst → model.Burst) (cause : Cause) → ((b : model.Burst) → (f b).ended ≡ Some cause) → (bs : List model.Burst) → newest_open (newest_changed f bs) ≡ None
 changed_ended f cause ends [] = refl
@@ -153,7 +145,7 @@ unrepaired s held k history left o left_is open_is none =
     ∙ (ap (λ (p : Option model.Burst). left - kept_from_repairs s held left p - 0) open_is ∙ omega arith))
 
 -- a burst that ends
-ended : (s : Settings) (held : List Held) (k : ℕ) (cause : Cause) (history : History) (b : model.Burst) (last : Option Info) (left seq : ℕ) (d : Drafted) → open_burst s k history ≡ Some b → last ≡ Some b.last
+ended : (s : Settings) (held : List Held) (k : ℕ) (cause : Cause) (history : History) (b : model.Burst) (last : Info) (left seq : ℕ) (d : Drafted) → open_burst s k history ≡ Some b → last ≡ b.last
     → run_left s k history ≡ left → sequence s k history ≡ seq → sent_now (is_repair_of k) history ≡ 0 → Shows s history d
     → IsServed s held (noted (End k cause) None ∷ history) (with_end d k last (Some cause)) (allowance k (left - 0) seq)
 unfolding sent_now as_tick_began sendings
@@ -179,17 +171,17 @@ goes_on s held k history at stop passed last d way =
 -- the end that a run brings, by its two tests
 run_ends : (s : Settings) (held : List Held) (k : ℕ) (stops lasted : Bool) (history : History) (at : Sent) (stop : Option ℕ) (passed : ℕ) (last : Info) (d : Drafted) → IsUnderWay s k history at stop passed last d
     → let cause = cond stops (Some Stopped) (cond lasted (Some Limit) None) in
-    IsServed s held (cond stops (noted (End k Stopped) None ∷ history) (cond lasted (noted (End k Limit) None ∷ history) history)) (with_end d k (Some last) cause) (left_by_run s held k cause at)
+    IsServed s held (cond stops (noted (End k Stopped) None ∷ history) (cond lasted (noted (End k Limit) None ∷ history) history)) (with_end d k last cause) (left_by_run s held k cause at)
 run_ends s held k true lasted history at stop passed last d way =
-    let r = way.running in ended s held k Stopped history way.burst (Some last) at.left at.seq d r.open_is (ap (λ (i : Info). Some i) (sym r.last_is)) r.left_is r.seq_is r.repairs_is way.shows
+    let r = way.running in ended s held k Stopped history way.burst last at.left at.seq d r.open_is (sym r.last_is) r.left_is r.seq_is r.repairs_is way.shows
 run_ends s held k false true history at stop passed last d way =
-    let r = way.running in ended s held k Limit history way.burst (Some last) at.left at.seq d r.open_is (ap (λ (i : Info). Some i) (sym r.last_is)) r.left_is r.seq_is r.repairs_is way.shows
+    let r = way.running in ended s held k Limit history way.burst last at.left at.seq d r.open_is (sym r.last_is) r.left_is r.seq_is r.repairs_is way.shows
 run_ends s held k false false history at stop passed last d way = goes_on s held k history at stop passed last d way
 
 -- the run of a burst that isn't lost
 run_served : (s : Settings) (held : List Held) (k : ℕ) (history : History) (at : Sent) (eb : Burst) (last : Info) (d : Drafted) → IsUnderWay s k history at eb.stop (eb.ticks + 1) last d
     → let cause = end_of s.channel.limit eb at.next in
-    IsServed s held (ticks.after_run s k (open_burst s k history) history) (with_end d k (Some last) cause) (left_by_run s held k cause at)
+    IsServed s held (ticks.after_run s k (open_burst s k history) history) (with_end d k last cause) (left_by_run s held k cause at)
 run_served s held k history at eb last d way =
     let r = way.running in
     let b = way.burst in
@@ -201,22 +193,22 @@ run_served s held k history at eb last d way =
     ∙ (ap (λ (c : Bool). cond c (noted (End k Stopped) None ∷ history) (cond (eqb b.ticks s.channel.limit) (noted (End k Limit) None ∷ history) history)) stops
     ∙ ap (λ (c : Bool). cond (is_stop eb.stop at.next) (noted (End k Stopped) None ∷ history) (cond c (noted (End k Limit) None ∷ history) history)) lasted) in
     let cause = end_of s.channel.limit eb at.next in
-    subst (λ (h : History). IsServed s held h (with_end d k (Some last) cause) (left_by_run s held k cause at)) (sym same)
+    subst (λ (h : History). IsServed s held h (with_end d k last cause) (left_by_run s held k cause at)) (sym same)
     (run_ends s held k (is_stop eb.stop at.next) (eqb (eb.ticks + 1) s.channel.limit) history at eb.stop (eb.ticks + 1) last d way)
 
 -- an entry's burst and the open one, in a tick that has not sent anything of it yet
-pub record AreAlike (last : Option Info) (eb : Burst) (b : model.Burst) : Type 0 where
+pub record AreAlike (eb : Burst) (b : model.Burst) : Type 0 where
   pub next_is : next b ≡ eb.next
   pub stop_is : b.stop ≡ eb.stop
   pub ticks_is : b.ticks ≡ eb.ticks + 1
   pub left_is : b.left ≡ eb.rate + eb.kept
-  pub last_is : last ≡ Some b.last
+  pub last_is : eb.last ≡ b.last
 
-abbrev pub AreBothAlike : Option Info → Option Burst → Option model.Burst → Type 0
-AreBothAlike last None None = Unit {0}
-AreBothAlike last None (Some b) = ⊥
-AreBothAlike last (Some eb) None = ⊥
-AreBothAlike last (Some eb) (Some b) = AreAlike last eb b
+abbrev pub AreBothAlike : Option Burst → Option model.Burst → Type 0
+AreBothAlike None None = Unit {0}
+AreBothAlike None (Some b) = ⊥
+AreBothAlike (Some eb) None = ⊥
+AreBothAlike (Some eb) (Some b) = AreAlike eb b
 
 -- what a client may be sent at most, by what is kept of it
 abbrev pub cap_by : Settings → Option Burst → ℕ
@@ -226,12 +218,12 @@ cap_by s (Some eb) = eb.rate + eb.kept
 -- What is kept of a client is what the history says, in a tick that has not served it yet.
 pub record IsReady (s : Settings) (k : ℕ) (history : History) (e : Entry) : Type 0 where
   pub seq_is : sequence s k history ≡ e.seq
-  pub burst_is : AreBothAlike e.last e.burst (open_burst s k history)
+  pub burst_is : AreBothAlike e.burst (open_burst s k history)
   pub cap_is : cap s k history ≡ cap_by s e.burst
   pub no_run : sent_now (is_burst_of k) history ≡ 0
   pub no_repair : sent_now (is_repair_of k) history ≡ 0
 
-lost_or_run : (s : Settings) (held : List Held) (k : ℕ) (e : Entry) (eb : Burst) (b : model.Burst) (history : History) (d : Drafted) → open_burst s k history ≡ Some b → AreAlike e.last eb b
+lost_or_run : (s : Settings) (held : List Held) (k : ℕ) (e : Entry) (eb : Burst) (b : model.Burst) (history : History) (d : Drafted) → open_burst s k history ≡ Some b → AreAlike eb b
     → run_left s k history ≡ eb.rate + eb.kept → sequence s k history ≡ e.seq → sent_now (is_repair_of k) history ≡ 0 → Shows s history d
     → IsServed s held (burst_served s held k (Some b) history) (with_served s held k e (Some eb) d) (allowance_of s held k e (Some eb))
 lost_or_run s held k e eb b history d open_is alike left_is seq_is none shows =
@@ -245,10 +237,10 @@ lost_or_run s held k e eb b history d open_is alike left_is seq_is none shows =
     let on = all_sent s k hs history at eb.stop (eb.ticks + 1) b.last d way in
     let cause = end_of s.channel.limit eb (after_run held e.seq eb).next in
     let after = send s k hs history in
-    let served : IsServed s held (ticks.after_run s k (open_burst s k after) after) (with_end (with_run k e.seq hs d) k e.last cause) (left_by_run s held k cause (after_run held e.seq eb)) =
-    subst (λ (o : Option Info). IsServed s held (ticks.after_run s k (open_burst s k after) after) (with_end (with_run k e.seq hs d) k o cause) (left_by_run s held k cause (after_run held e.seq eb))) (sym alike.last_is)
+    let served : IsServed s held (ticks.after_run s k (open_burst s k after) after) (with_end (with_run k e.seq hs d) k eb.last cause) (left_by_run s held k cause (after_run held e.seq eb)) =
+    subst (λ (i : Info). IsServed s held (ticks.after_run s k (open_burst s k after) after) (with_end (with_run k e.seq hs d) k i cause) (left_by_run s held k cause (after_run held e.seq eb))) (sym alike.last_is)
     (run_served s held k after (after_run held e.seq eb) eb b.last (with_run k e.seq hs d) on) in
-    let lost = subst (λ (n : ℕ). IsServed s held (noted (End k Lost) None ∷ history) (with_end d k e.last (Some Lost)) (allowance k n e.seq)) (omega arith) (ended s held k Lost history b e.last (eb.rate + eb.kept) e.seq d open_is alike.last_is left_is seq_is none shows) in
+    let lost = subst (λ (n : ℕ). IsServed s held (noted (End k Lost) None ∷ history) (with_end d k eb.last (Some Lost)) (allowance k n e.seq)) (omega arith) (ended s held k Lost history b eb.last (eb.rate + eb.kept) e.seq d open_is alike.last_is left_is seq_is none shows) in
     let sends = λ (r : List Held). ticks.after_run s k (open_burst s k (send s k r history)) (send s k r history) in
     let run_is : run b.stop (next b) b.left (from_number (next b) held) ≡ hs =
     ap (λ (o : Option ℕ). run o (next b) b.left (from_number (next b) held)) alike.stop_is
@@ -259,7 +251,7 @@ lost_or_run s held k e eb b history d open_is alike left_is seq_is none shows =
     subst (λ (h : History). IsServed s held h (with_served s held k e (Some eb) d) (allowance_of s held k e (Some eb))) (sym same)
     (either s held (is_lost eb.next held) _ _ _ _ _ _ lost served)
 
-serve_by : (s : Settings) (held : List Held) (k : ℕ) (e : Entry) (burst : Option Burst) (o : Option model.Burst) (history : History) (d : Drafted) → open_burst s k history ≡ o → AreBothAlike e.last burst o
+serve_by : (s : Settings) (held : List Held) (k : ℕ) (e : Entry) (burst : Option Burst) (o : Option model.Burst) (history : History) (d : Drafted) → open_burst s k history ≡ o → AreBothAlike burst o
     → run_left s k history ≡ cap_by s burst → sequence s k history ≡ e.seq → sent_now (is_repair_of k) history ≡ 0 → Shows s history d
     → IsServed s held (burst_served s held k o history) (with_served s held k e burst d) (allowance_of s held k e burst)
 serve_by s held k e None None history d open_is alike left_is seq_is none shows = record {

@@ -1,5 +1,5 @@
 -- The notes and orders of the present tick, as it goes on.
-use Rattle.std.proofs.Common.{◌≡◌, ℕ, List, [], ◌∷◌, ◌++◌, Option, Some, None, refl, ap, sym, ◌∙◌, subst, append_assoc, append-nil}
+use Rattle.std.proofs.Common.{◌≡◌, ℕ, List, [], ◌∷◌, ◌++◌, Option, Some, None, refl, ap, sym, ◌∙◌, subst, append-nil}
 use Rattle.std.specs.Option.{option_to_list}
 use Rattle.rams_model.specs.declared.answer.Order.{Order}
 use Rattle.rams_model.specs.declared.held.Held.{Held}
@@ -7,8 +7,9 @@ use Rattle.rams_model.specs.declared.message.Info.{Info}
 use Rattle.rams_model.specs.declared.note.Cause.{Cause}
 use Rattle.rams_model.specs.declared.note.Note.{Note}
 use Rattle.rams_model.specs.declared.note.Note.TheVariants.{Burst, Repair, Gone, End, Forgot}
-use Rattle.rams_model.specs.Service.{Settings, began, told, noted, History, size_of, open_burst, after_sending, channel_left, order_of, end_order, newest_notes, newest_orders}
+use Rattle.rams_model.specs.Service.{Settings, noted, History, size_of, open_burst, after_sending, channel_left, order_of, end_order, newest_notes, newest_orders}
 use Rattle.rams_model.specs.Service.Bursts as model
+use Rattle.rams_model.proofs.Newest.{notes_behind, orders_behind}
 use Rattle.tick_core.specs.{Drafted, with_note, with_packet, with_end, told_end}
 
 -- What a history has noted of its newest event, with its orders, and what the channel's budget has left.
@@ -16,24 +17,6 @@ pub record Shows (s : Settings) (history : History) (d : Drafted) : Type 0 where
   pub notes : newest_notes history [] ≡ d.notes
   pub orders : newest_orders s history [] ≡ d.orders
   pub left : channel_left s history ≡ d.left
-
-pub notes_before : (history : History) (later : List Note) → newest_notes history later ≡ newest_notes history [] ++ later
-unfolding newest_notes
-notes_before [] later = refl
-notes_before (began heard ∷ history) later = refl
-notes_before (told client message ∷ history) later = notes_before history later
-notes_before (noted note packet ∷ history) later =
-    notes_before history (note ∷ later) ∙ (sym (append_assoc (newest_notes history []) (note ∷ []) later) ∙ ap (λ (l : List Note). l ++ later) (sym (notes_before history (note ∷ []))))
-
-orders_before : (s : Settings) (history : History) (later : List Order) → newest_orders s history later ≡ newest_orders s history [] ++ later
-unfolding newest_orders
-orders_before s [] later = refl
-orders_before s (began heard ∷ history) later = refl
-orders_before s (told client message ∷ history) later = orders_before s history later
-orders_before s (noted note packet ∷ history) later =
-    let one = option_to_list (order_of s history note packet) in
-    orders_before s history (one ++ later)
-    ∙ (sym (append_assoc (newest_orders s history []) one later) ∙ ap (λ (l : List Order). l ++ later) (ap (λ (l : List Order). newest_orders s history [] ++ l) (sym (append-nil one)) ∙ sym (orders_before s history (one ++ []))))
 
 abbrev more_drafted : Settings → History → Note → Option Held → Drafted → Drafted
 more_drafted s history note packet d = record {
@@ -47,8 +30,8 @@ unfolding newest_notes newest_orders channel_left
 shows_more s history note packet d shows =
     let one = option_to_list (order_of s history note packet) in
     record {
-      notes = notes_before history (note ∷ []) ∙ ap (λ (l : List Note). l ++ note ∷ []) shows.notes;
-      orders = orders_before s history (one ++ []) ∙ (ap (λ (l : List Order). newest_orders s history [] ++ l) (append-nil one) ∙ ap (λ (l : List Order). l ++ one) shows.orders);
+      notes = notes_behind history (note ∷ []) ∙ ap (λ (l : List Note). l ++ note ∷ []) shows.notes;
+      orders = orders_behind s history (one ++ []) ∙ (ap (λ (l : List Order). newest_orders s history [] ++ l) (append-nil one) ∙ ap (λ (l : List Order). l ++ one) shows.orders);
       left = ap (after_sending note (size_of packet)) shows.left;
     }
 
@@ -78,7 +61,7 @@ pub shows_forgot : (s : Settings) (history : History) (k : ℕ) (d : Drafted) �
 unfolding order_of
 shows_forgot s history k d shows = no_order s history (Forgot k) d refl refl shows
 
-pub shows_end : (s : Settings) (history : History) (k : ℕ) (cause : Cause) (b : model.Burst) (last : Option Info) (d : Drafted) → open_burst s k history ≡ Some b → last ≡ Some b.last → Shows s history d
+pub shows_end : (s : Settings) (history : History) (k : ℕ) (cause : Cause) (b : model.Burst) (last : Info) (d : Drafted) → open_burst s k history ≡ Some b → last ≡ b.last → Shows s history d
     → Shows s (noted (End k cause) None ∷ history) (with_end d k last (Some cause))
 unfolding order_of
 shows_end s history k cause b last d open_is last_is shows =

@@ -5,7 +5,7 @@ use Rattle.std.proofs.lemmas.Bool.{cond_both, cond-false, not-true, not-false, a
 use Rattle.rams_model.specs.declared.held.Held.{Held}
 use Rattle.rams_model.specs.declared.note.Note.{Note}
 use Rattle.rams_model.specs.declared.note.Note.TheVariants.{Burst, Repair, Gone, End, Forgot}
-use Rattle.rams_model.specs.Service.{Settings, noted, History, arrivals, as_tick_began, sendings, ssrc, known, bursts, size_of, Wanted, is_wanted, pending, quiet_ticks, sent_now, is_burst_of, is_repair_of}
+use Rattle.rams_model.specs.Service.{Settings, noted, History, arrivals, as_tick_began, sendings, ssrc, known, bursts, Wanted, is_wanted, pending, quiet_ticks, sent_now, is_burst_of, is_repair_of}
 use Rattle.rams_model.specs.Packets.{Arrival}
 use Rattle.rams_model.specs.Service.Bursts as model
 

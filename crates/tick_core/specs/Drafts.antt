@@ -32,11 +32,10 @@ with_packet d note client seq h = record {
 }
 
 -- what a client is told of the end of its burst, after what it was told last
-abbrev pub told_end : ℕ → Cause → Option Info → Option Order
-told_end client cause None = None
-told_end client cause (Some last) = option_map (info_order client) (end_info last cause)
+abbrev pub told_end : ℕ → Cause → Info → Option Order
+told_end client cause last = option_map (info_order client) (end_info last cause)
 
 -- the note of a burst's end, where it has ended
-abbrev pub with_end : Drafted → ℕ → Option Info → Option Cause → Drafted
+abbrev pub with_end : Drafted → ℕ → Info → Option Cause → Drafted
 with_end d client last None = d
 with_end d client last (Some cause) = record d { notes = d.notes ++ End client cause ∷ []; orders = d.orders ++ option_to_list (told_end client cause last) }

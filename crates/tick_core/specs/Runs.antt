@@ -96,8 +96,8 @@ allowance_of s held client e (Some b) =
 abbrev pub with_served : Settings → List Held → ℕ → Entry → Option Burst → Drafted → Drafted
 with_served s held client e None d = d
 with_served s held client e (Some b) d =
-    if is_lost b.next held then with_end d client e.last (Some Lost)
-    else with_end (with_run client e.seq (run_of held b) d) client e.last (end_of s.channel.limit b (after_run held e.seq b).next)
+    if is_lost b.next held then with_end d client b.last (Some Lost)
+    else with_end (with_run client e.seq (run_of held b) d) client b.last (end_of s.channel.limit b (after_run held e.seq b).next)
 
 -- the notes of these clients' bursts, one after another
 unfoldable pub with_all_served : Settings → List Held → List (ℕ × Entry) → Drafted → Drafted

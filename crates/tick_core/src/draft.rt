@@ -70,13 +70,8 @@ impl Draft {
     }
 
     /// Notes the end of a client's burst, where there is a cause, and tells the client (RFC 6285, 7.3).
-    pub fn end(
-        &mut self,
-        client: u64,
-        last: Option<Info>,
-        cause: Option<Cause>,
-    ) -> Result<(), NoMemory>
-        ensures { IfOk result (λ _. self.new ≡ with_end self.old client last cause) }
+    pub fn end(&mut self, client: u64, last: &Info, cause: Option<Cause>) -> Result<(), NoMemory>
+        ensures { IfOk result (λ _. self.new ≡ with_end self.old client last.now cause) }
     {
         let Some(cause) = cause else {
             return Ok(());
@@ -97,10 +92,9 @@ impl Draft {
 }
 
 /// What a client is told of the end of its burst (RFC 6285, 7.3), after what it was told last.
-fn end_order(client: u64, cause: Cause, last: Option<Info>) -> Option<Order>
-    ensures { result ≡ told_end client cause last }
+fn end_order(client: u64, cause: Cause, last: &Info) -> Option<Order>
+    ensures { result ≡ told_end client cause last.now }
 {
-    let last = last?;
-    let info = end_info(&last, cause)?;
+    let info = end_info(last, cause)?;
     Some(Order::Info { client, info })
 }

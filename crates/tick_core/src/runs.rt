@@ -135,7 +135,7 @@ fn serve_burst(
     ensures draft { IfOk result (λ _. draft.new ≡ with_served config.now cache.now.held client entry.now (Some burst.now) draft.old) }
 {
     if is_lost(cache, burst.next) {
-        draft.end(client, entry.last, Some(Cause::Lost))?;
+        draft.end(client, &burst.last, Some(Cause::Lost))?;
         return Ok(Allowance {
             client,
             may_take: burst.rate + burst.kept,
@@ -144,7 +144,7 @@ fn serve_burst(
     }
     let sent = send_run(cache, client, burst, entry.seq, draft)?;
     let end = end_of(config.channel().limit, burst, sent.next);
-    draft.end(client, entry.last, end)?;
+    draft.end(client, &burst.last, end)?;
     let kept = kept_back(config.channel().depth, cache, end, &sent);
     Ok(Allowance {
         client,

@@ -1,18 +1,19 @@
 -- What an Accept, a stop and an End that answer a message say of the burst.
-use Rattle.std.proofs.Common.{◌≡◌, ℕ, ◌+◌, ◌*◌, ◌≤◌, ◌≢◌, Option, Some, None, ap, sym, ◌∙◌, arith, leb}
+use Rattle.std.proofs.Common.{◌≡◌, ℕ, ◌+◌, ◌*◌, ◌≤◌, ◌≢◌, ap, sym, ◌∙◌, arith, leb}
 use Rattle.std.specs.Prelude.{unwrap_or}
 use Rattle.std.proofs.lemmas.Bool.{and_parts, leb-true}
 use Rattle.rams_model.specs.declared.held.Held.{Held}
 use Rattle.rams_model.specs.declared.note.Cause.{Cause}
 use Rattle.rams_model.specs.declared.note.Cause.TheVariants as cause
 use Rattle.rams_model.specs.declared.note.Note.TheVariants as note
-use Rattle.rams_model.specs.Service.{Settings, stop_of, Message, History, hold, Burst, next, join_from}
+use Rattle.rams_model.specs.Service.{Settings, Message, History, hold, Burst, next, join_from}
 use Rattle.rams_model.specs.Packets.{wires, from_number, age, is_eligible}
 use Rattle.rams_model.specs.Laws.{IsAmong}
 use Rattle.rams_model.proofs.Legal.{Answers, IsVerdict, Stops, EndsFor}
 use Rattle.rams_model.proofs.Legality.{in_tick_from_runs}
 use Rattle.rams_model.proofs.Granting.{accept_grants, accepted_choice}
 use Rattle.rams_model.proofs.Induction.{no_tick_answers}
+use Rattle.rams_model.proofs.Stopping.{stop_from_next}
 
 -- A burst begins at an access point that is held and eligible, at a rate that can catch up, and its client is told the join time from there.
 pub record Begins (s : Settings) (history : History) (first rate join : ℕ) : Type 0 where
@@ -41,14 +42,10 @@ begins s history k first rate join v =
       is_join = a.join_is ∙ ap (λ (n : ℕ). join_from s (hold s history) n rate) (sym a.number);
     }
 
-later_stop : (first next : ℕ) (named : Option ℕ) → next ≤ stop_of first next named
-later_stop first next None = omega arith
-later_stop first next (Some named) = omega arith
-
 -- A stop is at the burst's next packet or after it.
 pub stops_later : (s : Settings) (history : History) (k n : ℕ) → (a : Stops s history k n) → next a.opened.burst ≤ n
 stops_later s history k n a =
-    let b = a.opened.burst in let least = later_stop b.first (next b) a.stop.first_multicast in omega (arith, least, a.n_is)
+    let b = a.opened.burst in let least = stop_from_next b.first (next b) a.stop.first_multicast in omega (arith, least, a.n_is)
 
 -- While a message is answered no burst is lost.
 pub not_lost : (s : Settings) (history : History) (k c : ℕ) (m : Message) (b : Burst) (why : Cause) → Answers history c m → EndsFor s history k b why → why ≢ cause.Lost

@@ -11,9 +11,10 @@ use Rattle.rams_model.specs.Packets.{hi, wires, from_number, Arrival, Follows, h
 use Rattle.rams_model.specs.Packets.Source as sources
 use Rattle.rams_model.proofs.Growing.{source_grows}
 use Rattle.rams_model.specs.Laws.{source, moments, AreAtLeast, JoinsSlowly, IsQuiet, told_join}
+use Rattle.rams_model.proofs.Running.{wires-cons}
 use Rattle.book_laws.specs.{ticks_since_told}
-use Rattle.book_laws.proofs.Quiet.Packets.{wires-cons, follows_drop, follows_front, held_later, held_to, drop_at_least, count_fits}
-use Rattle.book_laws.proofs.Quiet.Sizes.{AreSmall, AreSized, sized_filter, sized_source, at_most, at_least_one}
+use Rattle.book_laws.proofs.Quiet.Packets.{follows_drop, follows_front, held_later, held_to, drop_at_least, count_fits}
+use Rattle.book_laws.proofs.Quiet.Sizes.{AreSized, sized_filter, sized_source, at_most, at_least_one, ArriveSmall}
 use Rattle.book_laws.proofs.Quiet.Near.{Near, wires_now, next_near}
 use Rattle.book_laws.proofs.Quiet.States.{Quietly, Keeps, Good, has_sent, open_is}
 use Rattle.book_laws.proofs.Quiet.Grown.{grown, some_moment}
@@ -44,7 +45,7 @@ drop_sized zero hs a = a
 drop_sized (suc u) [] a = tt
 drop_sized (suc u) (h ∷ hs) a = drop_sized u hs a.1
 
-pub known_of : (s : Settings) (k : ℕ) (history : History) (b : Burst) (m : History) (ms : List History) → AreSmall (arrivals history) → moments k history ≡ m ∷ ms → Quietly s b.first m ms (source s history)
+pub known_of : (s : Settings) (k : ℕ) (history : History) (b : Burst) (m : History) (ms : List History) → ArriveSmall (arrivals history) → moments k history ≡ m ∷ ms → Quietly s b.first m ms (source s history)
     → Near s b (told_join k history) (ticks_since_told k history) (from_number b.first (source s m)) → Known s k history b
 known_of s k history b m ms small marks quiet near =
     let g = grown s k history m ms marks in
@@ -115,14 +116,14 @@ quietly_of s k first before m ms marks q =
     let joins : JoinsSlowly s (before ∷ m ∷ ms) = subst (λ (l : List History). JoinsSlowly s (before ∷ l)) marks q.joins in
     record { follows = q.follows; sizes = q.sizes; joins = joins.0; before = joins.1 }
 
-known_at : (s : Settings) (k : ℕ) (before : History) (b : Burst) (others : List Burst) → AreSmall (arrivals before) → Keeps s k before → bursts s k before ≡ b ∷ others → b.ended ≡ None
+known_at : (s : Settings) (k : ℕ) (before : History) (b : Burst) (others : List Burst) → ArriveSmall (arrivals before) → Keeps s k before → bursts s k before ≡ b ∷ others → b.ended ≡ None
     → IsQuiet s k b.first (base before) → Known s k before b
 known_at s k before b others small keeps is_newest is_open quiet =
     let some = some_moment s k before b others is_newest in
     let q = quietly_of s k b.first before some.0 some.1 some.2 quiet in
     known_of s k before b some.0 some.1 small some.2 q (keeps b others some.0 some.1 is_newest is_open some.2 q)
 
-opened_at : (s : Settings) (k : ℕ) (before : History) (b : Burst) (others : List Burst) → AreSmall (arrivals before) → Keeps s k before → bursts s k before ≡ b ∷ others → b.ended ≡ None
+opened_at : (s : Settings) (k : ℕ) (before : History) (b : Burst) (others : List Burst) → ArriveSmall (arrivals before) → Keeps s k before → bursts s k before ≡ b ∷ others → b.ended ≡ None
     → Opened s k before
 unfolding arrivals
 opened_at s k before b others small keeps is_newest is_open = record {
@@ -178,7 +179,7 @@ keeps_shut s k history closed b others m ms is_newest is_open marks quiet =
     let none : newest_open (bursts s k history) ≡ Some b = open_is (bursts s k history) b others is_newest is_open in absurd cc
 
 -- the burst that a tick leaves open
-tick_near : (s : Settings) (k : ℕ) (before : History) (o : Opened s k before) (later : History) → AreSmall (arrivals before) → Keeps s k before
+tick_near : (s : Settings) (k : ℕ) (before : History) (o : Opened s k before) (later : History) → ArriveSmall (arrivals before) → Keeps s k before
     → (r : Repaired s k before o (held_in s before) later) → let b = with_left (served s before o.burst) r.left in Quietly s b.first before (moments k before) (source s later)
     → Near s b (told_join k later) (ticks_since_told k later) (from_number b.first (source s before))
 unfolding arrivals moments told_join ticks_since_told
@@ -197,7 +198,7 @@ tick_near s k before o later small keeps r quiet =
     (subst (λ (n : ℕ). Near s b n (ticks_since_told k later) (from_number o.burst.first (source s before))) (sym r.state.same_told)
     (subst (λ (n : ℕ). Near s b (told_join k before) n (from_number o.burst.first (source s before))) (sym r.state.same_since) (nearer s k before o later q r)))
 
-keeps_repaired : (s : Settings) (k : ℕ) (before : History) (o : Opened s k before) (later : History) → AreSmall (arrivals before) → Keeps s k before
+keeps_repaired : (s : Settings) (k : ℕ) (before : History) (o : Opened s k before) (later : History) → ArriveSmall (arrivals before) → Keeps s k before
     → Repaired s k before o (held_in s before) later → Keeps s k later
 unfolding moments
 keeps_repaired s k before o later small keeps r b others m ms is_newest is_open marks quiet =
@@ -212,7 +213,7 @@ keeps_repaired s k before o later small keeps r b others m ms is_newest is_open 
     (λ q. tick_near s k before o later small keeps r q))) quiet
 
 -- A tick keeps it so.
-pub good_tick : (s : Settings) (k : ℕ) (before : History) → AreSmall (arrivals before) → Good s k before → Good s k (after_tick s (base before))
+pub good_tick : (s : Settings) (k : ℕ) (before : History) → ArriveSmall (arrivals before) → Good s k before → Good s k (after_tick s (base before))
 good_tick s k before small good = at (bursts s k before) refl
   where
     shut : IsClosed s k before → Good s k (after_tick s (base before))

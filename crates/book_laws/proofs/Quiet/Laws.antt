@@ -18,19 +18,19 @@ use Rattle.rams_model.specs.Packets.Source as sources
 use Rattle.rams_model.specs.Laws.{source, until_end, moments, JoinsSlowly, IsQuiet, IsQuietBurst, AreAtLeast, told_join, NoneIs, is_accept_of, is_end_of}
 use Rattle.rams_model.proofs.Growing.{source_grows}
 use Rattle.rams_model.proofs.Since.{stands, opened_stands}
-use Rattle.rams_model.proofs.LastAccept.{last_accept, open_stands}
+use Rattle.rams_model.proofs.LastAccept.{last_accept, open_stands, opened_open}
 use Rattle.book_laws.specs.{is_loss_of, ticks_since_told, QuietBurstsAreNeverLost, QuietBurstsKeepTheirJoinTimes}
 use Rattle.book_laws.proofs.Quiet.Packets.{held_to, no_fewer}
 use Rattle.rams_model.proofs.Legal.{is_tick}
 use Rattle.rams_model.proofs.Items.{is_of_tick, tick_puts}
 use Rattle.rams_model.proofs.Induction.{through, is_at_once, between, arrivals_of_event, arrivals_of_part}
-use Rattle.book_laws.proofs.Quiet.Sizes.{AreSmall, sized_filter, sized_source, at_least_one, small_history}
+use Rattle.book_laws.proofs.Quiet.Sizes.{sized_filter, sized_source, at_least_one, ArriveSmall}
 use Rattle.burst_plan.specs.{gain}
 use Rattle.book_laws.proofs.Quiet.Near.{Nears, nears_none}
 use Rattle.book_laws.proofs.Quiet.States.{Sound, Good, open_is, open_parts}
-use Rattle.book_laws.proofs.Quiet.Turns.{is_opened}
 use Rattle.book_laws.proofs.Quiet.Kept.{good_tick, good_live, front_follows, front_sizes, drop_sized, same_head}
 use Rattle.book_laws.proofs.Quiet.Notes.{Stays, good_other, good_message}
+use Rattle.book_laws.proofs.HeldPackets.{all_small}
 
 -- The beginning of any other event than a live packet or a tick.
 good_dropped : (s : Settings) (k : ℕ) (why : LiveNote) (history : History) → Good s k history → Good s k (began (dropped why) ∷ history)
@@ -58,9 +58,9 @@ good_once s k (note.BadFeedback client fault) history is good = good_other s k (
 good_once s k n history is good = absurd (true≢false (sym is))
 
 -- what came of an event is small
-small_event : (s : Settings) (event : Event) (events : List Event) → AreSmall (arrivals (began (heard_of s.channel event) ∷ history_of s events))
+small_event : (s : Settings) (event : Event) (events : List Event) → ArriveSmall (arrivals (began (heard_of s.channel event) ∷ history_of s events))
 unfolding history_of
-small_event s event events = subst AreSmall (arrivals_of_event s (heard_of s.channel event) (history_of s events)) (small_history s (event ∷ events))
+small_event s event events = subst ArriveSmall (arrivals_of_event s (heard_of s.channel event) (history_of s events)) (all_small s (event ∷ events))
 
 -- Each event keeps it so.
 stays_history : (s : Settings) (k : ℕ) (events : List Event) → Stays s k (history_of s events)
@@ -71,7 +71,7 @@ stays_history s k events =
     (good_once s k n (began heard ∷ history_of s before) is (good_begun s k heard (history_of s before) other p.0), small_event s event before))
     (λ client ms history p. (good_framed s k client ms history p.0, p.1)) (λ client m history l p. good_message s k client m history l p)
     (λ before l p. let start = began tick ∷ history_of s before in
-    (good_tick s k (history_of s before) p.1 p.0, subst AreSmall (sym (arrivals_of_part is_of_tick start (after_tick s start) (tick_puts s start))) p.1))
+    (good_tick s k (history_of s before) p.1 p.0, subst ArriveSmall (sym (arrivals_of_part is_of_tick start (after_tick s start) (tick_puts s start))) p.1))
     (record { keeps = λ b others m ms is_newest is_open marks quiet. absurd cc; sound = tt }, tt) events
 
 good_history : (s : Settings) (k : ℕ) (events : List Event) → Good s k (history_of s events)
@@ -98,7 +98,7 @@ kept_tick s k before =
     (record { same_moments = refl; same_arrivals = refl })
 
 -- Right after a tick, a quiet burst that is open and whose time is over has caught up.
-caught_up : (s : Settings) (k : ℕ) (before : History) (b : Burst) → let history = after_tick s (began tick ∷ before) in AreSmall (arrivals before) → Good s k history
+caught_up : (s : Settings) (k : ℕ) (before : History) (b : Burst) → let history = after_tick s (began tick ∷ before) in ArriveSmall (arrivals before) → Good s k history
     → open_burst s k history ≡ Some b → IsQuiet s k b.first history → told_join k history ≤ ticks_since_told k history → next b ≡ hi (hold s history)
 unfolding moments arrivals
 caught_up s k before b small good is_open quiet over =
@@ -141,8 +141,8 @@ keeps_join_times s events k accept b is_open quiet over =
     let history = history_of s (Tick ∷ events) in
     let p = open_parts s k history b is_open in
     let same = first_is s k accept.first accept.rate accept.join accept.packet accept.since accept.before accept.last b p.others (sym (ap (bursts s k) accept.splits) ∙ p.is_newest) in
-    let among : is_among k (opened history) ≡ true = is_opened s k history ∙ ap (λ (x : Option Burst). is_some x) is_open in
-    caught_up s k (history_of s events) b (small_history s events) (good_history s k (Tick ∷ events)) is_open
+    let among : is_among k (opened history) ≡ true = opened_open s k history ∙ ap (λ (x : Option Burst). is_some x) is_open in
+    caught_up s k (history_of s events) b (all_small s events) (good_history s k (Tick ∷ events)) is_open
     (subst (λ (n : ℕ). IsQuiet s k n history) (sym same) (quiet_open s k accept.first history among quiet)) over
 
 -- A burst that is quiet after an item that neither begins nor ends it was quiet before.

@@ -11,7 +11,6 @@ use Rattle.rams_model.specs.Packets.{wires, from_number}
 use Rattle.rams_model.specs.Laws.{source, moments, told_join}
 use Rattle.book_laws.specs.{ticks_since_told}
 use Rattle.book_laws.proofs.Quiet.Packets.{held_itself, there_itself, ring_some}
-use Rattle.book_laws.proofs.Quiet.Sizes.{AreSmall}
 use Rattle.rams_model.proofs.Legal.{Answers, Stops, Allows, IsLegal}
 use Rattle.rams_model.proofs.Legality.{in_tick_from_runs}
 use Rattle.rams_model.proofs.Granting.{Updated, update_grants}
@@ -20,6 +19,7 @@ use Rattle.book_laws.proofs.Quiet.Answers.{Begins, begins, stops_later, not_lost
 use Rattle.book_laws.proofs.Quiet.Near.{Near, begun_near, updated_near, stopped_near}
 use Rattle.book_laws.proofs.Quiet.States.{Quietly, Keeps, Good, keeps_unmoved, unmoved_note, unmoved_told, other_sound, own, open_parts, ended_none}
 use Rattle.book_laws.proofs.Quiet.Kept.{known_of, no_less, keeps_shut, same_head}
+use Rattle.book_laws.proofs.Quiet.Sizes.{ArriveSmall}
 
 -- The notes of other clients, and those that say nothing of bursts.
 pub good_other : (s : Settings) (k : ℕ) (note : Note) (packet : Option Held) (history : History) → is_of k note ≡ false → Good s k history → Good s k (noted note packet ∷ history)
@@ -67,7 +67,7 @@ own_accept s k client first rate join packet history t i good = record { keeps =
         (cond-true (eqb client k) join (told_join k history) t) (cond-true (eqb client k) 0 (ticks_since_told k history) t) (near q)
 
 -- An Update of the client gives its burst another rate, at which it is near.
-own_update : (s : Settings) (k client rate join : ℕ) (packet : Option Held) (history : History) → eqb client k ≡ true → Updated s history client rate join → AreSmall (arrivals history) → Good s k history
+own_update : (s : Settings) (k client rate join : ℕ) (packet : Option Held) (history : History) → eqb client k ≡ true → Updated s history client rate join → ArriveSmall (arrivals history) → Good s k history
     → Good s k (noted (note.Update client rate join) packet ∷ history)
 unfolding bursts moments told_join ticks_since_told arrivals
 own_update s k client rate join packet history t i small good = record { keeps = keeps; sound = good.sound }
@@ -114,9 +114,9 @@ own_end s k client why packet history t b e other good =
 
 -- Any note of a message.
 abbrev pub Stays : Settings → ℕ → History → Type 0
-Stays s k history = Good s k history × AreSmall (arrivals history)
+Stays s k history = Good s k history × ArriveSmall (arrivals history)
 
-good_note : (s : Settings) (k c : ℕ) (m : Message) (n : Note) (packet : Option Held) (history : History) → Allows s history n packet → Answers history c m → AreSmall (arrivals history)
+good_note : (s : Settings) (k c : ℕ) (m : Message) (n : Note) (packet : Option Held) (history : History) → Allows s history n packet → Answers history c m → ArriveSmall (arrivals history)
     → Good s k history → Good s k (noted n packet ∷ history)
 good_note s k c m (note.Accept client first rate join) packet history a here small good =
     ⊎_elim (λ t. own_accept s k client first rate join packet history t (begins s history client first rate join a) good)

@@ -2,16 +2,17 @@
 use Rattle.std.proofs.Common.{◌≡◌, ℕ, zero, suc, ◌+◌, ◌-◌, ◌*◌, ◌<◌, ◌≤◌, Bool, true, false, cond, inr, ⊎_elim, List, [], ◌∷◌, ◌++◌, length, take, drop, refl, ap, sym, ◌∙◌, subst, arith, suc-mul, eqb, leb}
 use Rattle.std.proofs.lemmas.List.{take-append-drop, length-drop, length-append}
 use Rattle.std.proofs.Math.Nat.{lt_of_mul-lt-mul_right}
-use Rattle.std.proofs.lemmas.List.Sums.{sum_by-cons}
 use Rattle.std.proofs.lemmas.Bool.{cond_both, cond-true, cond-false, leb-true, leb-false, le-leb, eq-eqb, and_from}
 use Rattle.rams_model.specs.declared.held.Held.{Held}
 use Rattle.rams_model.specs.Service.{Settings, History, arrivals, hold}
 use Rattle.rams_model.specs.Packets.{hi, wires, from_number, Follows, is_consecutive, consecutive_end}
 use Rattle.rams_model.specs.Packets.Source as sources
 use Rattle.rams_model.specs.Laws.{source, AreAtLeast, Rises, IsAmong}
-use Rattle.rams_model.proofs.Rising.{hi_of_end}
+use Rattle.rams_model.proofs.Rising.{hi_of_end, at_least}
 use Rattle.rams_model.proofs.Growing.{source_rises}
 use Rattle.rams_model.proofs.Holding.{rises_from, longest_end}
+use Rattle.rams_model.proofs.Holding as holding
+use Rattle.rams_model.proofs.Running.{wires-cons}
 
 -- packets whose numbers follow one another
 pub follows_front : (n : ℕ) (hs ks : List Held) → Follows n (hs ++ ks) → Follows n hs
@@ -28,14 +29,9 @@ consecutive n [] f = refl
 consecutive n (h ∷ []) f = refl
 consecutive n (h ∷ k ∷ hs) f = and_from (eqb k.n (h.n + 1)) (is_consecutive (k ∷ hs)) (eq-eqb k.n (h.n + 1) (f.1.0 ∙ ap (λ (m : ℕ). m + 1) (sym f.0))) (consecutive (n + 1) (k ∷ hs) f.1)
 
-hi_follows : (n : ℕ) (h : Held) (hs : List Held) → Follows n (h ∷ hs) → hi (h ∷ hs) ≡ n + length (h ∷ hs)
-unfolding hi
-hi_follows n h [] f = omega (arith, f.0)
-hi_follows n h (k ∷ hs) f = let rest = hi_follows (n + 1) k hs f.1 in omega (arith, rest)
-
 pub hi_is : (n : ℕ) (hs : List Held) → Follows n hs → 0 < length hs → hi hs ≡ n + length hs
 hi_is n [] f lt = absurd (omega arith)
-hi_is n (h ∷ hs) f lt = hi_follows n h hs f
+hi_is n (h ∷ hs) f lt = holding.hi_is n h hs f
 
 -- the end of the interval is that of any end
 pub hi_end : (front end : List Held) → 0 < length end → hi (front ++ end) ≡ hi end
@@ -158,12 +154,6 @@ pub held_to : (s : Settings) (history : History) (first : ℕ) → Follows first
 unfolding sources.hold
 held_to s history first f some room = held_ends s.channel.ring first (source s history) (source_rises s.channel.window (arrivals history)) f some room
 
--- a packet that is held has the same from its number on in the source
-at_least : (n : ℕ) (h : Held) (hs : List Held) → Rises n hs → IsAmong h hs → n ≤ h.n
-at_least n h [] r a = absurd a
-at_least n h (k ∷ ks) r a =
-    ⊎_elim (λ (same : k ≡ h). subst (λ (x : Held). n ≤ x.n) same r.0) (λ later. let le = at_least (k.n + 1) h ks r.1 later in omega (arith, le, r.0)) a
-
 among_end : (h : Held) (front end : List Held) → IsAmong h end → IsAmong h (front ++ end)
 among_end h [] end a = a
 among_end h (x ∷ front) end a = inr (among_end h front end a)
@@ -202,9 +192,6 @@ ring_some s history h a =
     omega (arith, some, size)
 
 -- Packets of at least a size are no more than fit.
-pub wires-cons : (h : Held) (hs : List Held) → wires (h ∷ hs) ≡ h.wire + wires hs
-wires-cons h hs = sum_by-cons (λ (x : Held). x.wire) h hs
-
 times_size : (size : ℕ) (hs : List Held) → AreAtLeast size hs → length hs * size ≤ wires hs
 times_size size [] a = omega arith
 times_size size (h ∷ hs) a =

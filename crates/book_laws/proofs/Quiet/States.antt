@@ -9,8 +9,8 @@ use Rattle.rams_model.specs.declared.note.Note.TheVariants as note
 use Rattle.rams_model.specs.Service.{Settings, Message, tick, began, told, noted, History, arrivals, as_tick_began, sequence, Burst, after_note, bursts_after, newest_changed, is_of, size_of, bursts, if_open, newest_open, send, is_burst_of, is_repair_of, sent_now}
 use Rattle.rams_model.specs.Packets.{wires, from_number, Follows}
 use Rattle.rams_model.specs.Laws.{source, moments, JoinsSlowly, AreAtLeast, IsQuiet, told_join}
+use Rattle.rams_model.proofs.Running.{wires-cons}
 use Rattle.book_laws.specs.{ticks_since_told}
-use Rattle.book_laws.proofs.Quiet.Packets.{wires-cons}
 use Rattle.book_laws.proofs.Quiet.Near.{Near}
 
 -- A burst is quiet as far as the history goes, as if a tick began now: with the moments since its Accept, and the source.

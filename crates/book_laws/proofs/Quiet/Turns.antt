@@ -7,15 +7,15 @@ use Rattle.rams_model.specs.declared.note.Cause.{Cause}
 use Rattle.rams_model.specs.declared.note.Note.{Note}
 use Rattle.rams_model.specs.declared.note.Cause.TheVariants as cause
 use Rattle.rams_model.specs.declared.note.Note.TheVariants as note
-use Rattle.rams_model.specs.Service.{Settings, tick, began, noted, History, arrivals, hold, as_tick_began, known, opened, is_among, Burst, next, kept, in_tick, newest_changed, is_of, bursts, if_open, newest_open, open_burst, has_open, pending, budget_of, cap, run_left, kept_from_repairs, may_take, run, send, is_lost, is_stop, after_run, run_sent, burst_served, bursts_served, repairs_sent, after_tick}
+use Rattle.rams_model.specs.Service.{Settings, tick, began, noted, History, arrivals, hold, as_tick_began, known, opened, is_among, Burst, next, kept, in_tick, newest_changed, is_of, bursts, if_open, newest_open, open_burst, pending, budget_of, cap, run_left, kept_from_repairs, may_take, run, send, is_lost, is_stop, after_run, run_sent, burst_served, bursts_served, repairs_sent, after_tick}
 use Rattle.rams_model.specs.Packets.{hi, wires, from_number, Arrival, Follows, stream_of}
 use Rattle.rams_model.specs.Packets.Source as sources
 use Rattle.rams_model.specs.Laws.{source, moments, JoinsSlowly, AreAtLeast, IsQuiet}
-use Rattle.rams_model.proofs.Since.{opened_stands}
-use Rattle.rams_model.proofs.LastAccept.{open_stands}
+use Rattle.rams_model.proofs.LastAccept.{opened_open}
 use Rattle.book_laws.proofs.Quiet.Through.{each_any, all_served_through, all_repaired_through, all_forgotten_through}
-use Rattle.book_laws.proofs.Quiet.Once.{once, unserved, turn_through}
+use Rattle.book_laws.proofs.Quiet.Once.{unserved, turn_through}
 use Rattle.book_laws.proofs.Quiet.States.{Sound, other_sound, At, at_base, at_other, at_repair, at_send, sound_send, with_run, has_sent, open_is, ended_none, none_repaired, other_none}
+use Rattle.book_laws.proofs.Reserved.{times-opened}
 
 -- A burst that is open as a tick begins, with the packets that are held.
 pub record Opened (s : Settings) (k : ℕ) (before : History) : Type 0 where
@@ -141,9 +141,6 @@ other_ran s k before o note packet history e (sound, inr ran) = (
   inr (record { state = at_other s k (base before) (served s before o.burst ∷ o.others) (wires (run_in s before o.burst)) 0 note packet history e ran.state; unstopped = ran.unstopped }),
 )
 
-pub is_opened : (s : Settings) (k : ℕ) (history : History) → is_among k (opened history) ≡ has_open s k history
-is_opened s k history = opened_stands k history ∙ sym (open_stands s k history)
-
 base_bursts : (s : Settings) (k : ℕ) (before : History) (o : Opened s k before) → bursts s k (base before) ≡ in_tick s o.burst ∷ o.others
 unfolding bursts
 base_bursts s k before o = ap (newest_changed (in_tick s)) o.is_newest
@@ -151,14 +148,14 @@ base_bursts s k before o = ap (newest_changed (in_tick s)) o.is_newest
 all_turns : (s : Settings) (k : ℕ) (before : History) (o : Opened s k before) → Sound s k before → HasRun s k before o (bursts_served s (base before))
 all_turns s k before o sound =
     let start = base_bursts s k before o in
-    let among : is_among k (opened (base before)) ≡ true = is_opened s k (base before) ∙ ap (λ (x : Option Burst). is_some x) (open_is (bursts s k (base before)) (in_tick s o.burst) o.others start o.is_open) in
+    let among : is_among k (opened (base before)) ≡ true = opened_open s k (base before) ∙ ap (λ (x : Option Burst). is_some x) (open_is (bursts s k (base before)) (in_tick s o.burst) o.others start o.is_open) in
     turn_through (Waits s k before o) (HasRun s k before o) s (held_in s before) k
     (λ j e n q h history p. other_waits s k before o (note.Burst j n q) (Some h) history e p)
     (λ j e why history p. other_waits s k before o (note.End j why) None history e p)
     (λ j e n q h history p. other_ran s k before o (note.Burst j n q) (Some h) history e p)
     (λ j e why history p. other_ran s k before o (note.End j why) None history e p)
     (λ history p. turn s k before o history p)
-    (opened (base before)) (once k (base before)) among (base before) (sound, at_base s k before (in_tick s o.burst ∷ o.others) start)
+    (opened (base before)) (times-opened k (base before)) among (base before) (sound, at_base s k before (in_tick s o.burst ∷ o.others) start)
 
 -- What a client's repairs may take.
 takes_at_most : (s : Settings) (k : ℕ) (before : History) (o : Opened s k before) (held : List Held) (history : History) (left repairs : ℕ)
@@ -279,7 +276,7 @@ pub ticked_shut : (s : Settings) (k : ℕ) (before : History) → IsClosed s k b
 unfolding after_tick
 ticked_shut s k before closed sound =
     let start = closed_base s k before closed in
-    let among : is_among k (opened (base before)) ≡ false = is_opened s k (base before) ∙ ap (λ (x : Option Burst). is_some x) start in
+    let among : is_among k (opened (base before)) ≡ false = opened_open s k (base before) ∙ ap (λ (x : Option Burst). is_some x) start in
     let runs = bursts_served s (base before) in
     let repairs = repairs_sent s runs in
     all_forgotten_through (Shut s k) s (λ j history p. other_shut s k (note.Forgot j) None history refl p) (known repairs) repairs

@@ -1,8 +1,8 @@
 use Rattle.std.proofs.Common.{◌∙◌, arith}
 use Rattle.book_laws.proofs.Moments.{legal_moment}
-use Rattle.book_laws.proofs.BurstAmounts.{opened_open}
 use Rattle.book_laws.proofs.Reserved.{fits, within_share, counts_once}
 use Rattle.book_laws.proofs.budgets.reserves_fit_the_share.Goals as goal
+use Rattle.rams_model.proofs.LastAccept.{opened_open}
 
 pub returns-clause-fit : goal.returns-clause-fit
 returns-clause-fit c s history m =

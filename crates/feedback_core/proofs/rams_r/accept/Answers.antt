@@ -36,6 +36,6 @@ returns-clause-answers c = λ held h number size before history queue hold from 
     let channel = c.channel-channel.result.now in
     let fast = subst (λ (x : Channel). x.declared + 1500 ≤ c.args.rate) c.channel-channel.ensures.value c.if-rate-channel.false in
     accepts s held c.args.sender before history queue v c.args.rate c.args.first c.args.behind c.join_ticks-join.result h channel c.reserve.new.self c.entry_under-entry.result
-    c.accept_info.result c.begun.result c.channel-channel.ensures.value c.channel-channel.ensures.lawful.seq0_most number size fast
+    c.accept_info-last.result c.begun.result c.channel-channel.ensures.value c.channel-channel.ensures.lawful.seq0_most number size fast
     (c.reserve.ensures.room.0 c.if-not-reserve.false) (OnTrue_at c.if-not-reserve.false c.reserve.ensures.taken) c.join_ticks-join.ensures c.entry_under-entry.ensures
-    c.accept_info.ensures c.begun.ensures c.requires.closed from w
+    c.accept_info-last.ensures c.begun.ensures c.requires.closed from w
