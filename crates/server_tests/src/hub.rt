@@ -79,14 +79,20 @@ fn text(alloc: Global, answer: &HubAnswer) -> Result<String, Fail> {
     let mut text = String::new(alloc);
     match answer {
         HubAnswer::NoChannel(id) => write!(text, "no channel {id}")?,
+        HubAnswer::Answer(at) => write_at(alloc, &mut text, at)?,
         HubAnswer::Answers(answers) => write_all(alloc, &mut text, answers)?,
     }
     Ok(text)
 }
 
+fn write_at(alloc: Global, text: &mut String, at: &At) -> Result<(), Fail> {
+    writeln!(text, "{} {}", at.id, text_of(alloc, &at.answer)?)?;
+    Ok(())
+}
+
 fn write_all(alloc: Global, text: &mut String, answers: &[At]) -> Result<(), Fail> {
     for at in answers {
-        writeln!(text, "{} {}", at.id, text_of(alloc, &at.answer)?)?;
+        write_at(alloc, text, at)?;
     }
     Ok(())
 }
