@@ -1,7 +1,7 @@
 -- The spans while points come and go, and what they tell of the points.
-use Rattle.std.proofs.Common.{◌≡◌, ℕ, ◌+◌, ◌-◌, ◌*◌, ◌/◌, ◌<◌, ◌≤◌, ◌⊎◌, List, [], ◌∷◌, ◌++◌, length, get_or, take, drop, inl, inr, sym, ◌∙◌, ap, subst, length-append, length-drop, get_or-drop, lt_of_not-le, arith}
+use Rattle.std.proofs.Common.{◌≡◌, ℕ, ◌+◌, ◌-◌, ◌*◌, ◌/◌, ◌<◌, ◌≤◌, ◌⊎◌, List, [], ◌∷◌, ◌++◌, length, min, get_or, take, drop, inl, inr, sym, ◌∙◌, ap, subst, length-append, length-drop, get_or-drop, lt_of_not-le, arith}
 use Rattle.std.proofs.lemmas.Bool.{cases_lt}
-use Rattle.std.proofs.lemmas.List.{get_or_append_left, get_or_push}
+use Rattle.std.proofs.lemmas.List.{get_or_append_left, get_or_push, take_min}
 use Rattle.access_index.specs.declared.point.Ask.{Ask}
 use Rattle.access_index.specs.declared.point.Point.{Point}
 use Rattle.access_index.specs.declared.span.Span.{Span}
@@ -61,13 +61,26 @@ spanned_next gone spans ps last some spanned =
     }
 
 -- ---- the search
+-- the points of a span, in front of which are those of the spans before it
+pub span_start : (gone place : ℕ) (spans : List Span) (ps : List Point) → Spanned gone spans ps → place < length spans → place * 64 - gone ≤ min ((place + 1) * 64 - gone) (length ps)
+span_start gone place spans ps spanned some = omega (arith, spanned.few, spanned.tight)
+
 -- where no timestamp of a span is old enough, no point of it is
-pub span_passed : (a : Ask) (gone end place start : ℕ) (spans : List Span) (s : Span) (ps : List Point) → Spanned gone spans ps → 0 < end → end ≤ length ps → place ≡ (gone + end - 1) / 64 → start ≡ place * 64 - gone
-    → s ≡ get_or spans place s → (Reaches s a.last a.min_ms → ⊥) → start_of a (take start ps) ≡ start_of a (take end ps)
-span_passed a gone end place start spans s ps spanned some within is_place is_start is young =
+pub span_passed : (a : Ask) (gone place : ℕ) (spans : List Span) (s : Span) (ps : List Point) → Spanned gone spans ps → place < length spans → s ≡ get_or spans place s → (Reaches s a.last a.min_ms → ⊥)
+    → start_of a (take (place * 64 - gone) ps) ≡ start_of a (take (min ((place + 1) * 64 - gone) (length ps)) ps)
+span_passed a gone place spans s ps spanned some is young =
+    let start = place * 64 - gone in
+    let end = min ((place + 1) * 64 - gone) (length ps) in
+    let ordered : start ≤ end = span_start gone place spans ps spanned some in
     let whole : start + (end - start) ≡ end = omega arith in
     start_passed a ps start (end - start) (omega arith) (λ j from below.
     let here : (gone + j) / 64 ≡ place = omega arith in
     let in_span = in_same (get_or spans ((gone + j) / 64) s) s (get_or ps j no_point).ts (ap (λ (n : ℕ). get_or spans n s) here ∙ sym is) (spanned.within j s no_point (omega arith)) in
     lt_of_not-le (λ old. young ((get_or ps j no_point).ts, in_span, old)))
     ∙ ap (λ (n : ℕ). start_of a (take n ps)) whole
+
+-- behind it are the points of the spans that were passed over
+pub span_kept : (a : Ask) (gone place : ℕ) (ps : List Point) → 0 < place → start_of a (take (min ((place - 1 + 1) * 64 - gone) (length ps)) ps) ≡ start_of a (take (place * 64 - gone) ps)
+span_kept a gone place ps some =
+    let same : (place - 1 + 1) * 64 - gone ≡ place * 64 - gone = omega arith in
+    ap (start_of a) (take_min ((place - 1 + 1) * 64 - gone) ps) ∙ ap (λ (n : ℕ). start_of a (take n ps)) same

@@ -89,16 +89,16 @@ impl Points {
         if !ask.leaves_room(newest) {
             return Choice::NoStart;
         }
-        let mut end = self.points.len();
-        while end > 0 {
-            let place = (self.gone + end - 1) / SPAN;
-            let start = (place * SPAN).saturating_sub(self.gone);
-            if self.spans[place].reaches(ask.last, ask.min_ms)
-                && let Some(choice) = self.look(ask, start, end)
-            {
-                return choice;
+        let mut place = self.spans.len();
+        while place > 0 {
+            place -= 1;
+            if self.spans[place].reaches(ask.last, ask.min_ms) {
+                let start = (place * SPAN).saturating_sub(self.gone);
+                let end = ((place + 1) * SPAN - self.gone).min(self.points.len());
+                if let Some(choice) = self.look(ask, start, end) {
+                    return choice;
+                }
             }
-            end = start;
         }
         Choice::MinUnmet
     }

@@ -1,10 +1,10 @@
-use Rattle.std.proofs.Common.{◌≡◌, ◌+◌, ◌-◌, ◌/◌, ◌^◌, List, [], ◌∷◌, ◌++◌, take, deque_len, rules, refl, sym, ◌∙◌, ap, subst, arith}
+use Rattle.std.proofs.Common.{◌≡◌, ◌-◌, ◌^◌, List, [], ◌∷◌, ◌++◌, ◌<◌, length, take, deque_len, refl, sym, ◌∙◌, ap, subst, arith}
 use Rattle.access_index.specs.declared.point.Point.{Point}
-use Rattle.access_index.specs.{start_of, choice_for, RiseIn}
+use Rattle.access_index.specs.{choice_for, RiseIn}
 use Rattle.access_index.proofs.Choosing.{before_last, take_newest, choice_full}
-use Rattle.access_index.proofs.Spanning.{span_passed}
+use Rattle.access_index.proofs.Spanning.{span_passed, span_kept}
 use Rattle.access_index.proofs.points.Points.choose.Goals as goal
-use Rattle.access_index.proofs.points.Points.choose.Goals.{In-Some, else-reaches-via-else-reaches, else-reaches-via-then-reaches+in-None-1}
+use Rattle.access_index.proofs.points.Points.choose.Goals.{In-Some}
 
 -- the points in front of the newest
 abbrev front : In-Some → List Point
@@ -28,20 +28,14 @@ returns-then-not-leaves_room c =
     sym (ap (choice_for c.args.ask.now) (joined i)
     ∙ choice_full c.args.ask.now 0 (2 ^ 62) 0 (front i) c.in-Some.newest.now (rise i) (sym c.leaves_room.ensures ∙ c.if-not-leaves_room.true))
 
-pub loop-end-preserved : goal.loop-end-preserved
-loop-end-preserved c =
+pub loop-place-preserved : goal.loop-place-preserved
+loop-place-preserved c =
     let i = c.self.inside in
     let ask = c.args.ask.now in
-    let start = c.saturating_sub-start.result in
-    let items : i.points.items ≡ c.args.self.now.items = ap (λ r. r.items) c.self.view_is in
-    let passed : start_of ask (take start i.points.items) ≡ start_of ask (take c.loop-end.end i.points.items) = elim c.else-reaches.branch [
-      | else-reaches-via-else-reaches w ↦ span_passed ask i.gone c.loop-end.end ((i.gone + c.loop-end.end - 1) / 64) start i.spans.items c.index.result.now i.points.items c.self.invariant.spanned
-          c.loop-end-test.true (omega (arith, c.loop-end.invariant.within, i.points.ok.0)) refl c.saturating_sub-start.ensures c.index.ensures (λ reached. let yes = c.reaches.ensures.1 reached in cc)
-      | else-reaches-via-then-reaches+in-None-1 w ↦
-          let same : start_of ask (take start c.args.self.now.items) ≡ start_of ask (take c.loop-end.end c.args.self.now.items) = search rules in
-          ap (λ ps. start_of ask (take start ps)) items ∙ (same ∙ sym (ap (λ ps. start_of ask (take c.loop-end.end ps)) items))
-    ] in
+    let some : c.loop-place.place - 1 < length i.spans.items = omega (arith, c.loop-place-test.true, c.loop-place.invariant.within, i.spans.ok.0) in
     record {
-      within = omega (arith, c.saturating_sub-start.ensures, c.loop-end.invariant.within);
-      same = passed ∙ c.loop-end.invariant.same;
+      within = omega (arith, c.loop-place.invariant.within);
+      same =
+          span_passed ask i.gone (c.loop-place.place - 1) i.spans.items c.index.result.now i.points.items c.self.invariant.spanned some c.index.ensures (λ reached. let yes = c.reaches.ensures.1 reached in cc)
+          ∙ (span_kept ask i.gone c.loop-place.place i.points.items c.loop-place-test.true ∙ c.loop-place.invariant.same);
     }

@@ -1,15 +1,15 @@
-use Rattle.std.proofs.Common.{◌≡◌, ◌≤◌, deque_len, take}
+use Rattle.std.proofs.Common.{◌≡◌, ◌-◌, ◌*◌, ◌≤◌, deque_len, take}
 use Rattle.access_index.specs.{start_of}
 use Rattle.access_index.proofs.points.Points.choose.Given as goal
 
--- the points that were passed over or looked at are too young
-abbrev pub invariant-loop-end : goal.invariant-loop-end
-invariant-loop-end l =
-    let points = l.self-inside.points in
+-- the points of the spans that were passed over or looked into are too young
+abbrev pub invariant-loop-place : goal.invariant-loop-place
+invariant-loop-place l =
+    let p = l.self-inside in
     record {
-      within : l.end ≤ deque_len points;
-      same : start_of l.ask (take l.end points.items) ≡ start_of l.ask points.items;
+      within : l.place ≤ deque_len p.spans;
+      same : start_of l.ask (take (l.place * 64 - p.gone) p.points.items) ≡ start_of l.ask p.points.items;
     }
 
-abbrev pub decreases-loop-end : goal.decreases-loop-end
-decreases-loop-end l = l.end
+abbrev pub decreases-loop-place : goal.decreases-loop-place
+decreases-loop-place l = l.place
