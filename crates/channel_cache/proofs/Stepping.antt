@@ -1,5 +1,5 @@
 -- A packet's number, and the packets in time after it.
-use Rattle.std.proofs.Common.{◌≡◌, ℕ, ◌+◌, ◌-◌, ◌^◌, ◌<◌, ◌≤◌, ◌⊎◌, max, Bool, true, false, nat_lt, if◌then◌else◌, List, [], ◌∷◌, ◌++◌, length, Option, Some, None, refl, sym, ap, ◌∙◌, subst, inl, inr, arith, append-nil}
+use Rattle.std.proofs.Common.{◌≡◌, ℕ, ◌+◌, ◌-◌, ◌^◌, ◌<◌, ◌≤◌, ◌⊎◌, max, Bool, true, false, nat_lt, if◌then◌else◌, List, [], ◌∷◌, ◌++◌, length, Option, Some, None, refl, sym, ap, ◌∙◌, subst, inl, inr, arith, append-nil, IfSome}
 use Rattle.std.proofs.lemmas.Bool.Decides.{nat_tests}
 use Rattle.rams_model.specs.declared.held.Held.{Held}
 use Rattle.rams_model.specs.declared.note.LiveNote.{LiveNote}
@@ -7,7 +7,7 @@ use Rattle.rams_model.specs.declared.note.LiveNote.TheVariants.{Took, Restart as
 use Rattle.rams_model.specs.Packets.{hi, Numbered, first, forward, backward, jump, restart, ahead, is_kept, numbered, Arrival, Stream, held_as, with_packet, greatest, in_time, note_of, live_note, stream_after, stream_of}
 use Rattle.packet_ring.specs.Seen as rings
 use Rattle.ext_seq.specs.declared.numbering.Noted.{Noted}
-use Rattle.ext_seq.specs.{noted, moved, IsWithin, IsNumberWithin}
+use Rattle.ext_seq.specs.{noted, moved}
 use Rattle.ext_seq.specs.declared.numbering.Noted.TheVariants.{First, Forward, Behind, Jump, Restart}
 use Rattle.ext_seq.specs.Numbers as numbers
 use Rattle.reorder_window.specs.{first_free}
@@ -38,24 +38,35 @@ suits_numbered None kept sequence = omega arith
 suits_numbered (Some g) kept sequence = let u = ahead sequence g in suits_step g u (nat_lt u 3000) (nat_lt 65436 u) (is_kept kept sequence) refl
 
 -- ---- the numbers stay small
-within_step : (g u calls : ℕ) (near far again : Bool) → u < 65536 → IsWithin calls (Some g)
-    → IsNumberWithin (calls + 1) (noted (if near then forward (g + u) else if far then backward (g - (65536 - u)) else if again then restart (g + u) else jump))
-within_step g u calls true far again low within = (omega (arith, within.0), omega (arith, within.1))
-within_step g u calls false true again low within = tt
-within_step g u calls false false true low within = (omega (arith, within.0), omega (arith, within.1))
-within_step g u calls false false false low within = tt
+abbrev IsSmall : Noted → Type 0
+IsSmall (First n) = n < 2 ^ 62
+IsSmall (Forward n) = n < 2 ^ 62
+IsSmall (Behind n) = Unit {0}
+IsSmall Jump = Unit {0}
+IsSmall (Restart n) = n < 2 ^ 62
 
-within_numbered : (g kept : Option ℕ) (sequence calls : ℕ) → sequence < 65536 → IsWithin calls g → IsNumberWithin (calls + 1) (noted (numbered g kept sequence))
+-- the greatest number leaves room for one more
+abbrev HasRoom : Option ℕ → Type 0
+HasRoom g = IfSome g (λ n. n < 2 ^ 61)
+
+small_step : (g u : ℕ) (near far again : Bool) → u < 65536 → g < 2 ^ 61
+    → IsSmall (noted (if near then forward (g + u) else if far then backward (g - (65536 - u)) else if again then restart (g + u) else jump))
+small_step g u true far again low room = omega (arith, low, room)
+small_step g u false true again low room = tt
+small_step g u false false true low room = omega (arith, low, room)
+small_step g u false false false low room = tt
+
+small_numbered : (g kept : Option ℕ) (sequence : ℕ) → sequence < 65536 → HasRoom g → IsSmall (noted (numbered g kept sequence))
 unfolding numbered
-within_numbered None kept sequence calls low within = (omega arith, omega arith)
-within_numbered (Some g) kept sequence calls low within =
+small_numbered None kept sequence low room = omega (arith, low)
+small_numbered (Some g) kept sequence low room =
     let u = ahead sequence g in
     let few : u < 65536 = omega arith in
-    within_step g u calls (nat_lt u 3000) (nat_lt 65436 u) (is_kept kept sequence) few within
+    small_step g u (nat_lt u 3000) (nat_lt 65436 u) (is_kept kept sequence) few room
 
-IsWithin-more : (calls : ℕ) (g : Option ℕ) → IsWithin calls g → IsWithin (calls + 1) g
-IsWithin-more calls None within = tt
-IsWithin-more calls (Some g) within = (within.0, omega (arith, within.1))
+pub note_room : (g : Option ℕ) → HasRoom g → IfSome g (λ n. n < 2 ^ 62)
+note_room None room = tt
+note_room (Some g) room = omega (arith, room)
 
 -- ---- what is known in each case
 pub record Begins (v : numbers.Seen) (i : Intake) (n : ℕ) : Type 0 where
@@ -63,19 +74,18 @@ pub record Begins (v : numbers.Seen) (i : Intake) (n : ℕ) : Type 0 where
   pub empty : i.window.kept ≡ []
   pub above : hi i.stock.ring.held ≤ n
   pub small : n < 2 ^ 62
-  pub within : IsWithin (v.calls + 1) (Some n)
 
-begins_at : (v : numbers.Seen) (i : Intake) (n : ℕ) (g : Option ℕ) → v.greatest ≡ g → IsTop g i.window → Suits g (First n) → IsIntake i → v.calls < 2 ^ 40 → IsWithin (v.calls + 1) (Some n) → Begins v i n
-begins_at v i n (Some g) is top suits intake few within = absurd suits
-begins_at v i n None is top suits intake few within =
+begins_at : (v : numbers.Seen) (i : Intake) (n : ℕ) (g : Option ℕ) → v.greatest ≡ g → IsTop g i.window → Suits g (First n) → IsIntake i → n < 2 ^ 62 → Begins v i n
+begins_at v i n (Some g) is top suits intake small = absurd suits
+begins_at v i n None is top suits intake small =
     let rises = subst (λ (es : List (ℕ × Held)). windows.RisesIn (hi i.stock.ring.held) (i.window.greatest + 1) es) top.0 intake.behind in
-    record { none = is; empty = top.0; above = omega (arith, rises, top.1, suits); small = omega (arith, within.1); within = within }
+    record { none = is; empty = top.0; above = omega (arith, rises, top.1, suits); small = small }
 
-pub begins : (v : numbers.Seen) (i : Intake) (sequence n : ℕ) (r : Noted) → AreInStep v i → v.calls < 2 ^ 40 → sequence < 65536 → r ≡ noted (numbered v.greatest v.kept sequence) → r ≡ First n → Begins v i n
+pub begins : (v : numbers.Seen) (i : Intake) (sequence n : ℕ) (r : Noted) → AreInStep v i → HasRoom v.greatest → sequence < 65536 → r ≡ noted (numbered v.greatest v.kept sequence) → r ≡ First n → Begins v i n
 begins v i sequence n r step few low is one =
     let same = sym is ∙ one in
-    begins_at v i n v.greatest refl step.top (subst (Suits v.greatest) same (suits_numbered v.greatest v.kept sequence)) step.lawful few
-    (subst (IsNumberWithin (v.calls + 1)) same (within_numbered v.greatest v.kept sequence v.calls low step.within))
+    begins_at v i n v.greatest refl step.top (subst (Suits v.greatest) same (suits_numbered v.greatest v.kept sequence)) step.lawful
+    (subst IsSmall same (small_numbered v.greatest v.kept sequence low few))
 
 pub record Reaches (v : numbers.Seen) (i : Intake) (n : ℕ) (r : Noted) : Type 0 where
   pub top : ℕ
@@ -85,25 +95,22 @@ pub record Reaches (v : numbers.Seen) (i : Intake) (n : ℕ) (r : Noted) : Type 
   pub small : n < 2 ^ 62
   -- the greatest number after it
   pub later : (kept_of : ℕ) → (moved v kept_of r).greatest ≡ Some (max top n)
-  pub within : IsWithin (v.calls + 1) (Some (max top n))
 
-reaches_at : (v : numbers.Seen) (i : Intake) (n : ℕ) (r : Noted) (g : Option ℕ) → v.greatest ≡ g → IsTop g i.window → (r ≡ Forward n) ⊎ (r ≡ Behind n) → Suits g r → v.calls < 2 ^ 40 → IsWithin v.calls g → IsNumberWithin (v.calls + 1) r → Reaches v i n r
-reaches_at v i n r None is top (inl near) suits few within number = absurd (subst (Suits None) near suits)
-reaches_at v i n r None is top (inr near) suits few within number = absurd (subst (Suits None) near suits)
-reaches_at v i n r (Some g) is top (inl near) suits few within number =
+reaches_at : (v : numbers.Seen) (i : Intake) (n : ℕ) (r : Noted) (g : Option ℕ) → v.greatest ≡ g → IsTop g i.window → (r ≡ Forward n) ⊎ (r ≡ Behind n) → Suits g r → HasRoom g → IsSmall r → Reaches v i n r
+reaches_at v i n r None is top (inl near) suits room small = absurd (subst (Suits None) near suits)
+reaches_at v i n r None is top (inr near) suits room small = absurd (subst (Suits None) near suits)
+reaches_at v i n r (Some g) is top (inl near) suits room small =
     let above : g ≤ n = subst (Suits (Some g)) near suits in
     let most : n ≡ max g n = omega arith in
-    let bound : IsWithin (v.calls + 1) (Some n) = subst (IsNumberWithin (v.calls + 1)) near number in
     record {
       top = g;
       is = is;
       going = top.0;
       same = top.1;
-      small = omega (arith, bound.1);
+      small = subst IsSmall near small;
       later = λ k. ap (λ (x : Noted). (moved v k x).greatest) near ∙ ap Some most;
-      within = subst (λ (m : ℕ). IsWithin (v.calls + 1) (Some m)) most bound;
     }
-reaches_at v i n r (Some g) is top (inr near) suits few within number =
+reaches_at v i n r (Some g) is top (inr near) suits room small =
     let below : n ≤ g = subst (Suits (Some g)) near suits in
     let most : g ≡ max g n = omega arith in
     record {
@@ -111,38 +118,35 @@ reaches_at v i n r (Some g) is top (inr near) suits few within number =
       is = is;
       going = top.0;
       same = top.1;
-      small = omega (arith, within.1);
+      small = omega (arith, below, room);
       later = λ k. ap (λ (x : Noted). (moved v k x).greatest) near ∙ (is ∙ ap Some most);
-      within = subst (λ (m : ℕ). IsWithin (v.calls + 1) (Some m)) most (IsWithin-more v.calls (Some g) within);
     }
 
-pub reaches : (v : numbers.Seen) (i : Intake) (sequence n : ℕ) (r : Noted) → AreInStep v i → v.calls < 2 ^ 40 → sequence < 65536 → r ≡ noted (numbered v.greatest v.kept sequence) → (r ≡ Forward n) ⊎ (r ≡ Behind n) → Reaches v i n r
+pub reaches : (v : numbers.Seen) (i : Intake) (sequence n : ℕ) (r : Noted) → AreInStep v i → HasRoom v.greatest → sequence < 65536 → r ≡ noted (numbered v.greatest v.kept sequence) → (r ≡ Forward n) ⊎ (r ≡ Behind n) → Reaches v i n r
 reaches v i sequence n r step few low is near =
-    reaches_at v i n r v.greatest refl step.top near (subst (Suits v.greatest) (sym is) (suits_numbered v.greatest v.kept sequence)) few step.within
-    (subst (IsNumberWithin (v.calls + 1)) (sym is) (within_numbered v.greatest v.kept sequence v.calls low step.within))
+    reaches_at v i n r v.greatest refl step.top near (subst (Suits v.greatest) (sym is) (suits_numbered v.greatest v.kept sequence)) few
+    (subst IsSmall (sym is) (small_numbered v.greatest v.kept sequence low few))
 
 pub record Restarts (v : numbers.Seen) (i : Intake) (n : ℕ) : Type 0 where
   pub above : i.window.greatest < n
   pub small : n < 2 ^ 62
-  pub within : IsWithin (v.calls + 1) (Some n)
 
-restarts_at : (v : numbers.Seen) (i : Intake) (n : ℕ) (g : Option ℕ) → IsTop g i.window → Suits g (Restart n) → v.calls < 2 ^ 40 → IsWithin (v.calls + 1) (Some n) → Restarts v i n
-restarts_at v i n None top suits few within = absurd suits
-restarts_at v i n (Some g) top suits few within = record { above = omega (arith, top.1, suits); small = omega (arith, within.1); within = within }
+restarts_at : (v : numbers.Seen) (i : Intake) (n : ℕ) (g : Option ℕ) → IsTop g i.window → Suits g (Restart n) → n < 2 ^ 62 → Restarts v i n
+restarts_at v i n None top suits small = absurd suits
+restarts_at v i n (Some g) top suits small = record { above = omega (arith, top.1, suits); small = small }
 
-pub restarts : (v : numbers.Seen) (i : Intake) (sequence n : ℕ) (r : Noted) → AreInStep v i → v.calls < 2 ^ 40 → sequence < 65536 → r ≡ noted (numbered v.greatest v.kept sequence) → r ≡ Restart n → Restarts v i n
+pub restarts : (v : numbers.Seen) (i : Intake) (sequence n : ℕ) (r : Noted) → AreInStep v i → HasRoom v.greatest → sequence < 65536 → r ≡ noted (numbered v.greatest v.kept sequence) → r ≡ Restart n → Restarts v i n
 restarts v i sequence n r step few low is again =
     let same = sym is ∙ again in
-    restarts_at v i n v.greatest step.top (subst (Suits v.greatest) same (suits_numbered v.greatest v.kept sequence)) few
-    (subst (IsNumberWithin (v.calls + 1)) same (within_numbered v.greatest v.kept sequence v.calls low step.within))
+    restarts_at v i n v.greatest step.top (subst (Suits v.greatest) same (suits_numbered v.greatest v.kept sequence))
+    (subst IsSmall same (small_numbered v.greatest v.kept sequence low few))
 
 -- ---- numbering and packets are in step again
-pub in_step : (w : numbers.Seen) (j : Intake) (g calls : ℕ) → w.greatest ≡ Some g → w.calls ≡ calls → IsWithin calls (Some g) → IsIntake j → first_free j.window ≡ None → j.window.ended ≡ false → j.window.greatest ≡ g → AreInStep w j
-in_step w j g calls is count within intake settled going same = record {
+pub in_step : (w : numbers.Seen) (j : Intake) (g : ℕ) → w.greatest ≡ Some g → IsIntake j → first_free j.window ≡ None → j.window.ended ≡ false → j.window.greatest ≡ g → AreInStep w j
+in_step w j g is intake settled going same = record {
   lawful = intake;
   settled = settled;
   top = subst (λ (o : Option ℕ). IsTop o j.window) (sym is) (going, same);
-  within = subst (λ (o : Option ℕ). IsWithin w.calls o) (sym is) (subst (λ (m : ℕ). IsWithin m (Some g)) (sym count) within);
 }
 
 -- ---- what a dropped packet leaves

@@ -16,6 +16,6 @@ pub use Rattle.channel_cache.specs.Brought.{Brings}
 unfoldable pub use Rattle.channel_cache.specs.Step.{IsTop, kept_other}
 pub use Rattle.channel_cache.specs.Step.{AreInStep, Stand}
 unfoldable pub use Rattle.channel_cache.specs.Seen.{new_cache, ring_of, DiffersInKept}
-pub use Rattle.channel_cache.specs.Seen.{StandsFor, IsCache}
+pub use Rattle.channel_cache.specs.Seen.{StandsFor, StandsForFewer, IsCache}
 unfoldable pub use Rattle.channel_cache.specs.Laws.{NotesAreOfTheBook}
 pub use Rattle.channel_cache.specs.Laws.{IsNotedSo}

@@ -1,5 +1,5 @@
 -- What contracts see of a cache, and the live packets that it stands for.
-use Rattle.std.specs.Prelude.{◌≡◌, ℕ, ◌^◌, ◌≤◌, List, []}
+use Rattle.std.specs.Prelude.{◌≡◌, ℕ, ◌<◌, ◌≤◌, List, [], length}
 use Rattle.rams_model.specs.declared.held.Held.{Held}
 use Rattle.rams_model.specs.Service.{Settings}
 use Rattle.rams_model.specs.Packets.{Arrival, stream_of, hold}
@@ -10,23 +10,22 @@ use Rattle.reorder_window.specs.{new_window}
 use Rattle.reorder_window.specs.Seen as windows
 use Rattle.channel_cache.specs.declared.intake.Intake.{Intake}
 use Rattle.channel_cache.specs.Brought.{Waits}
-use Rattle.channel_cache.specs.Waiting.{count}
 use Rattle.channel_cache.specs.Step.{AreInStep, kept_other}
 
 -- what a cache keeps
 pub record Seen : Type 0 where
   pub settings : Settings
-  -- how many packets came
-  pub calls : ℕ
   pub numbering : numbers.Seen
   -- the packets that wait for others
   pub window : windows.Seen Held
   -- the packets that are held, the oldest first
   pub held : List Held
+  -- how many packets wait or were held
+  pub counted : ℕ
 
 -- no packet came
 abbrev pub new_cache : Settings → Seen
-new_cache s = record { settings = s; calls = 0; numbering = new_numbering; window = new_window s.channel.window; held = [] }
+new_cache s = record { settings = s; numbering = new_numbering; window = new_window s.channel.window; held = []; counted = 0 }
 
 -- the packets that are held, as a ring: at most so many, with consecutive numbers
 abbrev pub ring_of : Seen → rings.Seen
@@ -37,16 +36,20 @@ pub record StandsFor (v : Seen) (arrivals : List Arrival) : Type 0 where
   pub numbering : numbers.StandsFor v.numbering v.settings.channel.window arrivals
   pub waits : Waits v.window v.settings.channel.window (stream_of v.settings.channel.window arrivals).present
   pub held : v.held ≡ hold v.settings.channel.window v.settings.channel.ring (stream_of v.settings.channel.window arrivals)
+  pub counted : v.counted ≤ length arrivals
 
--- nothing but the kept value and the counts of packets differs
+-- It stands for some live packets, fewer than so many.
+pub record StandsForFewer (v : Seen) (most : ℕ) : Type 0 where
+  pub arrivals : List Arrival
+  pub stands : StandsFor v arrivals
+  pub few : length arrivals < most
+
+-- nothing but the kept value differs
 abbrev pub DiffersInKept : Seen → Seen → Type 0
-DiffersInKept old new = new ≡ record old { calls = new.calls; numbering = kept_other old.numbering new.numbering }
+DiffersInKept old new = new ≡ record old { numbering = kept_other old.numbering new.numbering }
 
 -- what is true of every cache
-pub record IsCache (settings : Settings) (calls : ℕ) (numbering : numbers.Seen) (intake : Intake) : Type 0 where
+pub record IsCache (settings : Settings) (numbering : numbers.Seen) (intake : Intake) : Type 0 where
   pub in_step : AreInStep numbering intake
   pub width : intake.window.width ≡ settings.channel.window
   pub ring : intake.stock.ring.capacity ≡ settings.channel.ring
-  pub numbered : numbering.calls ≤ calls
-  pub counted : count intake ≤ calls
-  pub few : calls ≤ 2 ^ 40

@@ -2,7 +2,6 @@
 use Rattle.std.specs.Prelude.{◌≡◌, ℕ, false, List, [], Option, Some, None}
 use Rattle.rams_model.specs.declared.held.Held.{Held}
 use Rattle.rams_model.specs.Packets.{Arrival, stream_of}
-use Rattle.ext_seq.specs.{IsWithin}
 use Rattle.ext_seq.specs.Numbers as numbers
 use Rattle.reorder_window.specs.{first_free}
 use Rattle.reorder_window.specs.Seen as windows
@@ -20,7 +19,6 @@ pub record AreInStep (v : numbers.Seen) (intake : Intake) : Type 0 where
   pub lawful : IsIntake intake
   pub settled : first_free intake.window ≡ None
   pub top : IsTop v.greatest intake.window
-  pub within : IsWithin v.calls v.greatest
 
 -- They stand for these live packets, the newest first.
 pub record Stand (v : numbers.Seen) (intake : Intake) (arrivals : List Arrival) : Type 0 where
@@ -29,4 +27,4 @@ pub record Stand (v : numbers.Seen) (intake : Intake) (arrivals : List Arrival) 
 
 -- a numbering that kept all but the kept value
 abbrev pub kept_other : numbers.Seen → numbers.Seen → numbers.Seen
-kept_other v w = record v { kept = w.kept; calls = w.calls }
+kept_other v w = record v { kept = w.kept }

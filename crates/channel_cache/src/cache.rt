@@ -1,9 +1,9 @@
 //! The cache of one channel.
-ghost use Rattle.std.specs.Prelude.{◌≡◌, ◌+◌, ◌^◌, ◌<◌, ◌≤◌, ◌↔◌, List, [], Some, ◌∷◌, option_copied, IfOk, IfSome, IsSome, OnOk, OnErr};
+ghost use Rattle.std.specs.Prelude.{◌≡◌, ℕ, ◌+◌, ◌^◌, ◌<◌, ◌≤◌, ◌↔◌, List, [], Some, ◌∷◌, option_copied, IfOk, IfSome, IsSome, OnOk, OnErr};
 ghost use Rattle.rams_model.specs.Packets.{chosen, lo, hi, Arrival, live_note, stream_of};
 ghost use Rattle.packet_ring.specs.{packet_of, IsRing};
 ghost use Rattle.access_index.specs.{choice_of};
-ghost use Rattle.channel_cache.specs.{arrival_of, live_note_of, arrivals_after, UnlessTaken, new_cache, ring_of, StandsFor, DiffersInKept, AreInStep, Stand, Grows, count, kept_other, IsBare, IsWhole};
+ghost use Rattle.channel_cache.specs.{arrival_of, live_note_of, arrivals_after, UnlessTaken, new_cache, ring_of, StandsFor, StandsForFewer, DiffersInKept, AreInStep, Stand, Grows, count, kept_other, IsBare, IsWhole};
 
 use crate::incoming::{Incoming, read_live};
 use crate::intake::Intake;
@@ -20,21 +20,19 @@ use std::marker::Model;
 #[derive(Drop)]
 pub struct Cache {
     config: Config,
-    /// How many packets came.
-    calls: u64,
     numbering: Numbering,
     intake: Intake,
 }
 
 impl Model for Cache {
-    ghost use Rattle.channel_cache.specs.{IsCache};
+    ghost use Rattle.channel_cache.specs.{IsCache, count};
     ghost use Rattle.channel_cache.specs.Seen.{Seen};
 
     ghost Value = { Seen };
 
-    ghost view = { λ c. record { settings = c.config; calls = c.calls; numbering = c.numbering; window = c.intake.window; held = c.intake.stock.ring.held } };
+    ghost view = { λ c. record { settings = c.config; numbering = c.numbering; window = c.intake.window; held = c.intake.stock.ring.held; counted = count c.intake } };
 
-    ghost invariant = { λ c. IsCache c.config c.calls c.numbering c.intake };
+    ghost invariant = { λ c. IsCache c.config c.numbering c.intake };
 }
 
 impl Cache {
@@ -46,7 +44,6 @@ impl Cache {
         let channel = config.channel();
         Ok(Cache {
             config: *config,
-            calls: 0,
             numbering: Numbering::new(),
             intake: Intake::new(alloc, channel.window, channel.ring)?,
         })
@@ -56,7 +53,7 @@ impl Cache {
     /// nor begins a new start changes nothing but what the next jump is compared with (RFC 3550, A.1).
     /// Memory is taken first: after want of it all is as before.
     pub fn live(&mut self, alloc: Global, bytes: &[u8]) -> Result<LiveNote, NoMemory>
-        requires { self.old.calls < 2 ^ 40 }
+        requires { StandsForFewer self.old (2 ^ 40) }
         // Whichever packets came before, the note is that of this one after them.
         ensures stands { (arrivals : List Arrival) → StandsFor self.old arrivals →
             IfOk result (λ note. (live_note_of self.old.settings arrivals bytes.now ≡ Some note)
@@ -64,19 +61,16 @@ impl Cache {
         ensures kept { IfOk result (λ note. UnlessTaken note (DiffersInKept self.old self.new)) }
         ensures settings { self.new.settings ≡ self.old.settings }
         ensures grows { hi self.old.held ≤ hi self.new.held }
-        ensures calls { OnOk result (self.new.calls ≡ self.old.calls + 1) }
+        ensures few { (most : ℕ) → StandsForFewer self.old most → OnOk result (StandsForFewer self.new (most + 1)) }
         ensures same { OnErr result (self.new ≡ self.old) }
     {
         let channel = self.config.channel();
-        let note = match read_live(channel, bytes) {
-            Ok(packet) => {
-                let incoming = Incoming::of(alloc, channel, &packet)?;
-                receive(&mut self.numbering, &mut self.intake, incoming)
-            }
-            Err(note) => note,
+        let packet = match read_live(channel, bytes) {
+            Ok(packet) => packet,
+            Err(note) => return Ok(note),
         };
-        self.calls += 1;
-        Ok(note)
+        let incoming = Incoming::of(alloc, channel, &packet)?;
+        Ok(receive(&mut self.numbering, &mut self.intake, incoming))
     }
 
     /// The number of the oldest packet that is held; 0 while none is.
@@ -122,10 +116,9 @@ fn receive(numbering: &mut Numbering, intake: &mut Intake, incoming: Incoming) -
     requires in_step { AreInStep numbering.old intake.old }
     requires bare { IsBare incoming.packet }
     requires low { incoming.sequence < 65536 }
-    requires numbered { numbering.old.calls < 2 ^ 40 }
+    requires numbered { IfSome numbering.old.greatest (λ g. g < 2 ^ 61) }
     requires counted { count intake.old < 2 ^ 40 }
     ensures in_step { AreInStep numbering.new intake.new }
-    ensures numbered { numbering.new.calls ≡ numbering.old.calls + 1 }
     ensures grows { Grows intake.old intake.new 1 }
     ensures kept { UnlessTaken result ((numbering.new ≡ kept_other numbering.old numbering.new) × (intake.new ≡ intake.old)) }
     ensures stands { (arrivals : List Arrival) → Stand numbering.old intake.old arrivals →

@@ -18,11 +18,10 @@ new_stands : (s : Settings) → IsLawful s → caches.StandsFor (new_cache s) []
 unfolding history_of arrivals known opened bursts pending channel_left
 new_stands s lawful stands = record {
   lawful = lawful;
-  packets = record { settings_are = refl; stands = stands; low = All-nil (λ (a : Arrival). a.sequence < 2 ^ 16); counted = omega arith; few = omega arith };
+  packets = record { settings_are = refl; stands = stands; low = All-nil (λ (a : Arrival). a.sequence < 2 ^ 16); few = omega arith };
   table = record { most = refl; clients = refl; entries = λ k e found. absurd cc; others = λ k f. refl };
   queue = record { pending_is = refl; known_is = All-nil (λ (w : Wanted). is_among w.client [] ≡ true) };
   budget = refl;
-  calls = omega arith;
 }
 
 -- the same of parts that are each new

@@ -48,7 +48,7 @@ held_packets_are_in_order p events st =
     record {
       same = same;
       follows = subst (λ (hs : List Held). Follows (lo hs) hs) (sym same) (held_follow p.config history);
-      small = subst (λ (hs : List Held). hi hs ≤ 2 ^ 62) (sym same) (held_small p.config history st.packets.low (omega (arith, st.packets.counted, st.packets.few)));
+      small = subst (λ (hs : List Held). hi hs ≤ 2 ^ 62) (sym same) (held_small p.config history st.packets.low st.packets.few);
     }
 
 -- the entries

@@ -1,5 +1,5 @@
 -- Parts that stand for some events stand for one more, where each is what that event makes of it.
-use Rattle.std.proofs.Common.{◌≡◌, ℕ, ◌+◌, ◌≤◌, not, List, ◌∷◌, length, None, refl, ap, sym, ◌∙◌, subst, arith, eqb, ltb}
+use Rattle.std.proofs.Common.{◌≡◌, ℕ, ◌+◌, ◌≤◌, not, List, ◌∷◌, length, None, refl, ap, sym, ◌∙◌, subst, arith, eqb, ltb, ◌^◌, []}
 use Rattle.std.specs.Prelude.{Result, Ok, Err}
 use Rattle.std.specs.List.{AllByRecursion as Each}
 use Rattle.std.proofs.lemmas.Bool.{cond_both}
@@ -48,8 +48,7 @@ cache_stays s old new cache same is = record {
   settings_are = is.settings_are;
   stands = subst (caches.StandsFor cache) (sym same) is.stands;
   low = subst HaveLowNumbers (sym same) is.low;
-  counted = subst (λ (l : List Arrival). length l ≤ cache.calls) (sym same) is.counted;
-  few = is.few;
+  few = subst (λ (l : List Arrival). length l ≤ 2 ^ 40) (sym same) is.few;
 }
 
 -- the pending repairs, of whom the queue speaks
@@ -83,7 +82,6 @@ stands_on p q event events st same g =
       table = all.2;
       queue = all.3;
       budget = all.4;
-      calls = omega (arith, ap (λ (c : caches.Seen). c.calls) g.same_cache, st.calls);
     }
 
 pub other_events_leave_the_cache : OtherEventsLeaveTheCache
@@ -138,6 +136,22 @@ live_budget s note (live a) history of' = (refl, refl)
 live_budget s note (dropped other) history of' = (refl, refl)
 live_budget s note heard history of' = absurd of'
 
+-- no more live packets come than events
+few_heard : (heard : Heard) (history : History) → length (arrivals (began heard ∷ history)) ≤ length (arrivals history) + 1
+unfolding arrivals
+few_heard (live a) history = omega arith
+few_heard (dropped note) history = omega arith
+few_heard (feedback client ms) history = omega arith
+few_heard (unframed client fault) history = omega arith
+few_heard tick history = omega arith
+
+pub few_arrive : (s : Settings) (events : List Event) → length (arrivals (history_of s events)) ≤ length events
+unfolding history_of arrivals
+few_arrive s [] = omega arith
+few_arrive s (event ∷ events) =
+    let heard = heard_of s.channel event in
+    omega (arith, ap length (arrivals_of_event s heard (history_of s events)), few_heard heard (history_of s events), few_arrive s events)
+
 -- how many live packets there are after one more
 live_counted : (s : Settings) (bytes : List ℕ) (packets : List Arrival) → length (arrivals_after s bytes packets) ≤ length packets + 1
 live_counted s bytes packets = counted (heard_live s.channel bytes)
@@ -168,8 +182,7 @@ live_packets_change_the_cache p events bytes note cache are st taken =
         settings_are = taken.settings_are;
         stands = subst (caches.StandsFor cache) (sym brought) taken.stands;
         low = subst HaveLowNumbers (sym brought) (reads_low s bytes (arrivals old) are st.packets.low);
-        counted = omega (arith, ap (λ (l : List Arrival). length l) brought, live_counted s bytes (arrivals old), st.packets.counted, taken.calls);
-        few = omega (arith, taken.calls, taken.few);
+        few = omega (arith, ap (λ (l : List Arrival). length l) brought, live_counted s bytes (arrivals old), taken.few);
       },
       live_table s note heard old p.table of' st.table,
       st.queue.pending_is ∙ sym (live_pending note heard old of'),
@@ -182,5 +195,4 @@ live_packets_change_the_cache p events bytes note cache are st taken =
       table = all.1;
       queue = queue_is s (Live bytes ∷ events) p.queue st.lawful all.2;
       budget = all.3;
-      calls = omega (arith, taken.calls, st.calls);
     }

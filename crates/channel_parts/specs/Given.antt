@@ -1,5 +1,5 @@
 -- What is true of the parts of a channel whenever they stand for some events.
-use Rattle.std.specs.Prelude.{◌≡◌, ℕ, ◌+◌, ◌^◌, ◌<◌, ◌≤◌, List, ◌∷◌, sum_by, All, Option, Some, None, IfSome, is_some}
+use Rattle.std.specs.Prelude.{◌≡◌, ℕ, ◌+◌, ◌^◌, ◌<◌, ◌≤◌, List, ◌∷◌, sum_by, All, Option, Some, None, IfSome, is_some, length}
 use Rattle.rams_model.specs.declared.event.Event.{Event}
 use Rattle.rams_model.specs.declared.held.Held.{Held}
 use Rattle.rams_model.specs.declared.note.LiveNote.{LiveNote}
@@ -67,8 +67,7 @@ pub record IsTaken (p : Parts) (events : List Event) (bytes : List ℕ) (note : 
   pub noted : live_note_of p.config (arrivals (history_of p.config events)) bytes ≡ Some note
   pub stands : caches.StandsFor cache (arrivals_after p.config bytes (arrivals (history_of p.config events)))
   pub settings_are : cache.settings ≡ p.config
-  pub calls : cache.calls ≡ p.cache.calls + 1
-  pub few : p.cache.calls < 2 ^ 40
+  pub few : length (arrivals (history_of p.config events)) < 2 ^ 40
 
 -- After a live packet that the cache took the parts stand for it too: nothing else of them changes.
 abbrev pub LivePacketsChangeTheCache : Type 0

@@ -43,13 +43,12 @@ abbrev pub IsBudget : Settings → History → Amounts → Type 0
 IsBudget s history budget =
     budget ≡ amounts s.channel.share s.channel.reserve s.channel.swell (reserved s history) (channel_left s history)
 
--- The cache has the live packets that passed the tests, whose sequence numbers have 16 bits, and counts those that came.
+-- The cache has the live packets that passed the tests, whose sequence numbers have 16 bits: at most 2^40 of them.
 pub record IsCache (s : Settings) (history : History) (cache : caches.Seen) : Type 0 where
   pub settings_are : cache.settings ≡ s
   pub stands : caches.StandsFor cache (arrivals history)
   pub low : HaveLowNumbers (arrivals history)
-  pub counted : length (arrivals history) ≤ cache.calls
-  pub few : cache.calls ≤ 2 ^ 40
+  pub few : length (arrivals history) ≤ 2 ^ 40
 
 -- The parts stand for these events, the newest first: each is what their history says. The settings are lawful.
 pub record StandsFor (p : Parts) (events : List Event) : Type 0 where
@@ -58,7 +57,6 @@ pub record StandsFor (p : Parts) (events : List Event) : Type 0 where
   pub table : IsTable p.config (history_of p.config events) p.table
   pub queue : IsQueue (history_of p.config events) p.queue
   pub budget : IsBudget p.config (history_of p.config events) p.budget
-  pub calls : p.cache.calls ≤ length events
 
 -- the parts of a channel that nothing came to
 abbrev pub new_parts : Settings → Parts

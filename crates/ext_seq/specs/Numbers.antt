@@ -10,12 +10,10 @@ pub record Seen : Type 0 where
   pub greatest : Option ℕ
   -- the sequence number that would begin a new start: the one after the last jump of this start
   pub kept : Option ℕ
-  -- how many sequence numbers came
-  pub calls : ℕ
 
 -- no packet came
 abbrev pub new_numbering : Seen
-new_numbering = record { greatest = None; kept = None; calls = 0 }
+new_numbering = record { greatest = None; kept = None }
 
 -- the answer for each number of the definitions
 abbrev pub noted : Numbered → Noted
@@ -26,32 +24,28 @@ noted jump = Jump
 noted (restart n) = Restart n
 
 -- what is kept after the answer: a number from the greatest on is the greatest, a jump is remembered, a restart forgets it
-abbrev pub kept_after : Seen → ℕ → Noted → Seen
-kept_after v sequence (First n) = record v { greatest = Some n }
-kept_after v sequence (Forward n) = record v { greatest = Some n }
-kept_after v sequence (Behind n) = v
-kept_after v sequence Jump = record v { kept = Some (following sequence) }
-kept_after v sequence (Restart n) = record v { greatest = Some n; kept = None }
-
--- and the call is counted
 abbrev pub moved : Seen → ℕ → Noted → Seen
-moved v sequence answer = let w = kept_after v sequence answer in record w { calls = v.calls + 1 }
+moved v sequence (First n) = record v { greatest = Some n }
+moved v sequence (Forward n) = record v { greatest = Some n }
+moved v sequence (Behind n) = v
+moved v sequence Jump = record v { kept = Some (following sequence) }
+moved v sequence (Restart n) = record v { greatest = Some n; kept = None }
 
--- The greatest number is that of a first packet, and at most 65,536 more for each packet since.
+-- After so many packets the greatest number is that of a first packet, and at most 65,536 more for each packet.
 abbrev pub IsWithin : ℕ → Option ℕ → Type 0
-IsWithin calls None = Unit {0}
-IsWithin calls (Some g) = (65536 ≤ g) × (g < 131072 + 65536 * calls)
+IsWithin packets None = Unit {0}
+IsWithin packets (Some g) = (65536 ≤ g) × (g < 131072 + 65536 * packets)
 
 -- so is a number that becomes the greatest
 abbrev pub IsNumberWithin : ℕ → Noted → Type 0
-IsNumberWithin calls (First n) = IsWithin calls (Some n)
-IsNumberWithin calls (Forward n) = IsWithin calls (Some n)
-IsNumberWithin calls (Restart n) = IsWithin calls (Some n)
-IsNumberWithin calls (Behind n) = Unit {0}
-IsNumberWithin calls Jump = Unit {0}
+IsNumberWithin packets (First n) = IsWithin packets (Some n)
+IsNumberWithin packets (Forward n) = IsWithin packets (Some n)
+IsNumberWithin packets (Restart n) = IsWithin packets (Some n)
+IsNumberWithin packets (Behind n) = Unit {0}
+IsNumberWithin packets Jump = Unit {0}
 
 -- The numbering keeps what the definitions say of these live packets, the newest first, whichever of them were late.
 pub record StandsFor (v : Seen) (window : ℕ) (arrivals : List Arrival) : Type 0 where
   pub greatest : v.greatest ≡ greatest (stream_of window arrivals).present
   pub kept : v.kept ≡ (stream_of window arrivals).kept
-  pub calls : v.calls ≡ length arrivals
+  pub within : IsWithin (length arrivals) v.greatest

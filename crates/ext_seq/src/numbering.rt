@@ -34,19 +34,17 @@ pub struct Numbering {
     greatest: Option<u64>,
     /// The sequence number after the last jump of this start.
     kept: Option<u16>,
-    /// How many sequence numbers came.
-    calls: u64,
 }
 
 impl Model for Numbering {
-    ghost use Rattle.std.specs.Prelude.{ℕ, ◌+◌, ◌*◌, ◌≤◌, ◌^◌};
-    ghost use Rattle.ext_seq.specs.{Seen, IsWithin};
+    ghost use Rattle.std.specs.Prelude.{◌≤◌, IfSome};
+    ghost use Rattle.ext_seq.specs.{Seen};
 
     ghost Value = { Seen };
 
-    ghost view = { λ n. record { greatest = n.greatest; kept = n.kept; calls = n.calls } };
+    ghost view = { λ n. record { greatest = n.greatest; kept = n.kept } };
 
-    ghost invariant = { λ n. IsWithin n.calls n.greatest × (n.calls ≤ 2 ^ 40) };
+    ghost invariant = { λ n. IfSome n.greatest (λ g. 65536 ≤ g) };
 }
 
 impl Numbering {
@@ -58,16 +56,17 @@ impl Numbering {
         Numbering {
             greatest: None,
             kept: None,
-            calls: 0,
         }
     }
 
     /// Takes the next live packet's sequence number, and says what number the packet has. A packet
     /// may have a number and still be late.
     pub fn note(&mut self, seq: u16) -> Noted
-        requires { self.old.calls < 2 ^ 40 }
+        requires { IfSome self.old.greatest (λ g. g < 2 ^ 62) }
         ensures number { result ≡ noted (numbered self.old.greatest self.old.kept seq) }
         ensures step { self.new ≡ moved self.old seq result }
+        // The greatest number rises by less than 65,536.
+        ensures rises { (packets : ℕ) → IsWithin packets self.old.greatest → IsWithin (packets + 1) self.new.greatest }
         // After any list of calls, what is kept is what the definitions say of these packets.
         ensures stands { (window : ℕ) (arrivals : List Arrival) (a : Arrival) →
             a.sequence ≡ seq → StandsFor self.old window arrivals → StandsFor self.new window (a ∷ arrivals) }
@@ -77,12 +76,11 @@ impl Numbering {
 
     // Numbers the packet, and keeps what its number says; `note` adds what that means in history.
     fn advance(&mut self, seq: u16) -> Noted
-        requires { self.old.calls < 2 ^ 40 }
+        requires { IfSome self.old.greatest (λ g. g < 2 ^ 62) }
         ensures number { result ≡ noted (numbered self.old.greatest self.old.kept seq) }
         ensures step { self.new ≡ moved self.old seq result }
     {
         let noted = number_of(self.greatest, self.kept, seq);
-        self.calls += 1;
         match noted {
             Noted::First(n) | Noted::Forward(n) => self.greatest = Some(n),
             Noted::Behind(_) => {}
@@ -99,9 +97,10 @@ impl Numbering {
 // What the numbering makes of a sequence number.
 #[tactic(auto, unfolding(rams_model::specs::Packets::Numbering::numbered))]
 fn number_of(greatest: Option<u64>, kept: Option<u16>, seq: u16) -> Noted
-    requires { IfSome greatest (λ g. (65536 ≤ g) × (g < 2 ^ 62)) }
+    requires from { IfSome greatest (λ g. 65536 ≤ g) }
+    requires small { IfSome greatest (λ g. g < 2 ^ 62) }
     ensures number { result ≡ noted (numbered greatest kept seq) }
-    ensures within { (calls : ℕ) → IsWithin calls greatest → IsNumberWithin (calls + 1) result }
+    ensures within { (packets : ℕ) → IsWithin packets greatest → IsNumberWithin (packets + 1) result }
 {
     let Some(greatest) = greatest else {
         return Noted::First(SEQUENCE_NUMBERS + u64::from(seq));

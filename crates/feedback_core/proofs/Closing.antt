@@ -1,5 +1,5 @@
 -- What the parts stand for as a datagram ends.
-use Rattle.std.proofs.Common.{◌≡◌, ◌≢◌, ℕ, true, List, [], ◌∷◌, None, Result, Ok, Err, refl, ap, sym, ◌∙◌, subst, arith, eqb}
+use Rattle.std.proofs.Common.{◌≡◌, ◌≢◌, ℕ, true, List, [], ◌∷◌, None, Result, Ok, Err, refl, ap, sym, ◌∙◌, subst, eqb}
 use Rattle.std.specs.Prelude.{IsSome, All, option_map, option_to_list}
 use Rattle.std.proofs.lemmas.Bool.{cond-false, ne_eqb}
 use Rattle.rams_model.specs.declared.answer.Order.{Order}
@@ -76,7 +76,6 @@ stands_after p new events k seq0 bytes ps queue v page st e ke pe placed t ne =
         known_is = subst (All (λ w. is_among w.client (known after) ≡ true)) (sym w.queue_is) (repairs_are_of_known_clients s after st.lawful (moment s (Feedback k bytes ∷ events)));
       };
       budget = w.budget_is;
-      calls = omega (arith, st.calls);
     } in
     subst (λ (x : Parts). StandsFor x (Feedback k bytes ∷ events)) (sym ne) whole
 
@@ -133,7 +132,6 @@ stands_unframed p events k bytes fault st e =
       table = subst (λ (h : History). IsTable s h p.table) (sym is) u.1;
       queue = subst (λ (h : History). IsQueue h p.queue) (sym is) u.2;
       budget = subst (λ (h : History). IsBudget s h p.budget) (sym is) u.3;
-      calls = omega (arith, st.calls);
     }
 
 pub answer_unframed : (s : Settings) (events : List Event) (k : ℕ) (bytes : List ℕ) (fault : FrameFault) → framed bytes ≡ Err fault

@@ -27,4 +27,4 @@ seen p calls = record { settings = p.config; calls = calls; parts = p }
 pub core_bounded : (p : Parts) (calls : ℕ) (v : Seen) → IsCore p calls → seen p calls ≡ v → (plan : Planned) → IsPlanOf v plan → IsBounded plan
 core_bounded p calls v core is plan planned =
     let of_core = subst (λ (w : Seen). IsPlanOf w plan) (sym is) planned in
-    plan_bounded p core.events core.stands plan (of_core.for_all core.events (record { settings_are = refl; parts_stand = core.stands }))
+    plan_bounded p core.events core.stands plan (of_core.for_all core.events (record { settings_are = refl; parts_stand = core.stands; counted = core.counted }))

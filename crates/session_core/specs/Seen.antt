@@ -21,10 +21,11 @@ pub record IsCore (p : Parts) (calls : ℕ) : Type 0 where
   pub counted : length events ≤ calls
   pub few : calls ≤ 2 ^ 40
 
--- The core stands for these events, the newest first: its parts are what their history says.
+-- The core stands for these events, the newest first, no more than it counts: its parts are what their history says.
 pub record StandsFor (v : Seen) (events : List Event) : Type 0 where
   pub settings_are : v.settings ≡ v.parts.config
   pub parts_stand : parts.StandsFor v.parts events
+  pub counted : length events ≤ v.calls
 
 -- what is planned for a tick
 abbrev pub Planned : Type 0

@@ -17,8 +17,8 @@ pub(crate) fn answer_live(
     parts: &mut Parts,
     bytes: &[u8],
 ) -> Result<Answer, NoMemory>
-    requires few { parts.old.cache.calls < 2 ^ 40 }
-    ensures stands { (events : List Event) → StandsFor parts.old events →
+    requires few { (events : List Event) × StandsFor parts.old events × (length events < 2 ^ 40) }
+    ensures stands { (events : List Event) → StandsFor parts.old events → length events < 2 ^ 40 →
         IfOk result (λ a. (a ≡ answer parts.old.config events (Live bytes.now))
         × StandsFor parts.new (Live bytes.now ∷ events)) }
     ensures one_note { IfOk result (λ a. (length a.notes ≡ 1) × (a.orders ≡ [])) }

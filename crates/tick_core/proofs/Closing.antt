@@ -21,12 +21,12 @@ use Rattle.client_table.specs.declared.entry.Entry.{Entry}
 use Rattle.client_table.specs.{entry_of}
 use Rattle.client_table.specs.Clients.{Clients}
 use Rattle.repair_queue.specs.{unmarked}
-use Rattle.channel_cache.specs.Seen as caches
 use Rattle.channel_parts.specs.declared.parts.Parts.{Parts}
 use Rattle.channel_parts.specs.{HaveLowNumbers, burst_kept, IsEntry, IsTable, StandsFor}
 use Rattle.channel_parts.proofs.Facts.{opened_are_the_known_with_bursts, only_known_clients_have_bursts, repairs_are_of_known_clients, held_numbers_are_small, events_reserve_nothing}
 use Rattle.channel_parts.proofs.Ordered.{known_rise}
 use Rattle.channel_parts.proofs.Given.{held_is, moment}
+use Rattle.channel_parts.proofs.Staying.{cache_stays}
 use Rattle.tick_core.specs.declared.plan.TickPlan.{TickPlan}
 use Rattle.tick_core.specs.{idle_after, begun_left, ends_wait, is_over, IsPlanFor, Rise, opened_for_tick, entry_begun, burst_ended, entry_ended, AreAllChanged, committing, with_all_committed, MayCommitAll}
 use Rattle.tick_core.specs.Committed.{Committed}
@@ -200,7 +200,7 @@ carried_out p events plan c stands is change budget =
     let notes_are : taken.notes ≡ plan.answer.notes = sym (ap (λ (a : Answered). a.notes) is.answer_is ∙ taken.noted_are) in
     let same : arrivals end ≡ arrivals before = arrivals_by s held start end of_tick.adds in
     let small : hi (hold s end) ≤ 2 ^ 62 =
-    held_numbers_are_small s end (subst HaveLowNumbers (sym same) stands.packets.low) (omega (arith, ap length same, stands.packets.counted, stands.packets.few)) in
+    held_numbers_are_small s end (subst HaveLowNumbers (sym same) stands.packets.low) (omega (arith, ap length same, stands.packets.few)) in
     let begins = mid_begins p events (λ k. idle s k end) c stands of_tick.counts change budget in
     subst (λ (notes : List Note). IsCarriedOut s held (λ k. idle s k end) notes end c) notes_are
     (all_mid s stands.lawful held (λ k. idle s k end) taken.notes start end c taken.leads (moment s (Tick ∷ events)) small begins)
@@ -231,20 +231,13 @@ committed p events plan c table budget queue stands is change budget_begun chang
     ∙ (ap (λ (ns : List Note). filter (λ w. not (is_over ns w)) (pending before)) (sym notes_are) ∙ sym (pending_by s held start end refl of_tick.adds)))))) in
     record {
       lawful = stands.lawful;
-      packets = record {
-        settings_are = stands.packets.settings_are;
-        stands = subst (caches.StandsFor p.cache) (sym same) stands.packets.stands;
-        low = subst HaveLowNumbers (sym same) stands.packets.low;
-        counted = omega (arith, ap length same, stands.packets.counted);
-        few = stands.packets.few;
-      };
+      packets = cache_stays s before end p.cache same stands.packets;
       table = table_ends s end (with_all_committed s held plan.answer.notes c) table out.mid (only_known_clients_have_bursts s (Tick ∷ events) stands.lawful) change_end;
       queue = record {
         pending_is = pending_is;
         known_is = subst (All (λ (w : Wanted). is_among w.client (known end) ≡ true)) (sym pending_is) (repairs_are_of_known_clients s end stands.lawful (moment s (Tick ∷ events)));
       };
       budget = budget_is ∙ out.mid.budget;
-      calls = omega (arith, stands.calls);
     }
 
 -- ---- as the calls make it

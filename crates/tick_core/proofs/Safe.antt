@@ -21,7 +21,7 @@ in_order p events stands =
     let before = history_of p.config events in
     subst AreInOrder (sym (held_is p events stands)) (record {
       follows = held_follow p.config before;
-      small = omega (arith, held_numbers_are_small p.config before stands.packets.low (omega (arith, stands.packets.counted, stands.packets.few)));
+      small = omega (arith, held_numbers_are_small p.config before stands.packets.low stands.packets.few);
     })
 
 burst_in_time : (s : Settings) (k : ℕ) (events : List Event) (burst : Option Burst) (o : Option model.Burst) → IsLawful s → open_burst s k (history_of s events) ≡ o → burst ≡ option_map (burst_kept s) o → IsInTime s burst

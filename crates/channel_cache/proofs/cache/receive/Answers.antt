@@ -2,8 +2,11 @@ use Rattle.std.proofs.Common.{max, refl, ◌∙◌, ap}
 use Rattle.ext_seq.specs.{moved}
 use Rattle.ext_seq.specs.Numbers as numbers
 use Rattle.channel_cache.specs.{arrival_of}
-use Rattle.channel_cache.proofs.Stepping.{begins, reaches, restarts, in_step, UnlessTaken-map, only_kept, first_stands, near_stands, jump_stands, restart_stands}
+use Rattle.channel_cache.proofs.Stepping.{begins, reaches, restarts, in_step, UnlessTaken-map, only_kept, first_stands, near_stands, jump_stands, restart_stands, note_room}
 use Rattle.channel_cache.proofs.cache.receive.Goals as goal
+
+pub note-requires : goal.note-requires
+note-requires c = note_room c.args.numbering.now.greatest c.requires.numbered
 
 pub begin_with-requires-clause-empty : goal.begin_with-requires-clause-empty
 begin_with-requires-clause-empty c = (begins c.args.numbering.now c.args.intake.now c.args.incoming.sequence c.in-First.n c.note.result c.requires.in_step c.requires.numbered c.requires.low c.note.ensures.number c.in-First.is).empty
@@ -32,7 +35,7 @@ returns-in-First-clause-in_step c =
     let b = begins v c.args.intake.now c.args.incoming.sequence c.in-First.n c.note.result c.requires.in_step c.requires.numbered c.requires.low c.note.ensures.number c.in-First.is in
     let step = c.note.ensures.step ∙ ap (moved v c.args.incoming.sequence) c.in-First.is in
     let new = c.begin_with.ensures in
-    in_step c.note.new.self c.begin_with.new.self c.in-First.n _ (ap (λ (w : numbers.Seen). w.greatest) step) (ap (λ (w : numbers.Seen). w.calls) step) b.within new.settled.lawful new.settled.settled new.settled.going new.greatest
+    in_step c.note.new.self c.begin_with.new.self c.in-First.n (ap (λ (w : numbers.Seen). w.greatest) step) new.settled.lawful new.settled.settled new.settled.going new.greatest
 
 pub returns-in-First-clause-stands : goal.returns-in-First-clause-stands
 returns-in-First-clause-stands c = λ arrivals stood.
@@ -55,7 +58,7 @@ returns-in-Restart-clause-in_step c =
     let b = restarts v c.args.intake.now c.args.incoming.sequence c.in-Restart.n c.note.result c.requires.in_step c.requires.numbered c.requires.low c.note.ensures.number c.in-Restart.is in
     let step = c.note.ensures.step ∙ ap (moved v c.args.incoming.sequence) c.in-Restart.is in
     let new = c.restart_with.ensures in
-    in_step c.note.new.self c.restart_with.new.self c.in-Restart.n _ (ap (λ (w : numbers.Seen). w.greatest) step) (ap (λ (w : numbers.Seen). w.calls) step) b.within new.settled.lawful new.settled.settled new.settled.going new.greatest
+    in_step c.note.new.self c.restart_with.new.self c.in-Restart.n (ap (λ (w : numbers.Seen). w.greatest) step) new.settled.lawful new.settled.settled new.settled.going new.greatest
 
 pub returns-in-Restart-clause-stands : goal.returns-in-Restart-clause-stands
 returns-in-Restart-clause-stands c = λ arrivals stood.
@@ -71,7 +74,7 @@ returns-in-Forward-clause-in_step c =
     let greatest = ap (λ (w : numbers.Seen). w.greatest) c.note.ensures.step ∙ r.later c.args.incoming.sequence in
     let new = c.continue_with.ensures in
     let same = new.greatest ∙ ap (λ g. max g c.in-Forward.n) r.same in
-    in_step c.note.new.self c.continue_with.new.self (max r.top c.in-Forward.n) _ greatest (ap (λ (w : numbers.Seen). w.calls) c.note.ensures.step) r.within new.settled.lawful new.settled.settled new.settled.going same
+    in_step c.note.new.self c.continue_with.new.self (max r.top c.in-Forward.n) greatest new.settled.lawful new.settled.settled new.settled.going same
 
 pub returns-in-Forward-clause-kept : goal.returns-in-Forward-clause-kept
 returns-in-Forward-clause-kept c =

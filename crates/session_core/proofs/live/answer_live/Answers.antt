@@ -3,18 +3,29 @@ use Rattle.std.specs.Prelude.{is_ok, if◌then◌else◌}
 use Rattle.std.proofs.lemmas.List.Elements.{All-from_get_or}
 use Rattle.rams_model.specs.declared.note.Note.{Note}
 use Rattle.rams_model.specs.declared.note.Note.TheVariants.{Live as LiveNoted}
-use Rattle.rams_model.specs.Service.{answered}
+use Rattle.rams_model.specs.Service.{answered, arrivals, history_of}
 use Rattle.session_core.proofs.Living.{live_stands}
 use Rattle.session_core.proofs.live.answer_live.Goals as goal
+use Rattle.channel_parts.proofs.Staying.{few_arrive}
 
 pub returns-clause-stands : goal.returns-clause-stands
-returns-clause-stands c = λ events st.
+returns-clause-stands c = λ events st few.
     let bytes = c.args.bytes.now in
     let note = c.in_ok-note.note in
     let took = c.in_ok-note.ensures in
     let are = All-from_get_or (λ b. b < 256) bytes 0 (λ i within. let fits = c.type_inv.bytes i in omega arith) in
-    let all = live_stands c.args.parts.now bytes note c.live.new.self are c.requires.few took.stands took.settings took.calls events st in
+    let all = live_stands c.args.parts.now bytes note c.live.new.self are took.stands took.settings events st few in
     let before = c.in_ok-notes.notes.items in
     let pushed = c.push.ensures.items ∙ ap (λ r. if is_ok r then before ++ LiveNoted note ∷ [] else before) c.unwrap.ensures in
     let notes = pushed ∙ ap (λ (l : List Note). l ++ LiveNoted note ∷ []) c.in_ok-notes.ensures.items in
     (c.new-2.ensures ∙ ap (λ (l : List Note). answered l c.new.result.items) notes ∙ ap (answered (LiveNoted note ∷ [])) c.new.ensures.items ∙ all.0, all.1)
+
+pub live-requires : goal.live-requires
+live-requires c =
+    let p = c.args.parts.now in
+    let events = c.requires.few.0 in
+    record {
+      arrivals = arrivals (history_of p.config events);
+      stands = c.requires.few.1.packets.stands;
+      few = omega (arith, few_arrive p.config events, c.requires.few.2);
+    }

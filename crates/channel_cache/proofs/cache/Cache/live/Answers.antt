@@ -1,27 +1,40 @@
-use Rattle.std.proofs.Common.{◌≡◌, ◌+◌, sym, ◌∙◌, ap, subst}
+use Rattle.std.proofs.Common.{◌≡◌, ◌<◌, ◌^◌, IfSome, sym, ◌∙◌, ap, subst, arith}
 use Rattle.rams_model.specs.declared.channel.Channel.{Channel}
 use Rattle.rams_model.specs.Service.{live, dropped, heard_live}
 use Rattle.channel_cache.specs.{arrival_of}
-use Rattle.channel_cache.proofs.Shown.{took, let_go, does}
+use Rattle.channel_cache.specs.Seen.{Seen}
+use Rattle.channel_cache.proofs.Shown.{Does, seen_at, took, let_go, fewer_after, numbers_have_room}
 use Rattle.channel_cache.proofs.cache.Cache.live.Goals as goal
-use Rattle.channel_cache.proofs.cache.Cache.live.Goals.{in-Ok+in_ok-incoming-in-Ok, in-Err}
+
+pub returns-in-Err-clause-stands : goal.returns-in-Err-clause-stands
+returns-in-Err-clause-stands c =
+    let old = c.self.inside in
+    let bytes = c.args.bytes.now in
+    let heard = subst (λ (ch : Channel). heard_live ch bytes ≡ dropped c.in-Err.note) c.channel-channel.ensures.value c.in-Err.ensures.heard in
+    subst (λ (v : Seen). Does v v bytes c.in-Err.note) c.self.view_is
+    (let_go old.config old.numbering old.intake bytes c.in-Err.note heard)
+
+pub returns-in-Err-clause-few : goal.returns-in-Err-clause-few
+returns-in-Err-clause-few c = λ most few. fewer_after c.args.self.now _ c.args.bytes.now c.in-Err.note most (returns-in-Err-clause-stands c) few
 
 pub returns-clause-stands : goal.returns-clause-stands
 returns-clause-stands c =
     let old = c.self.inside in
-    let mid = c.match-read_live.self-inside in
+    let new = c.receive.new in
     let bytes = c.args.bytes.now in
-    elim c.match-read_live.branch [
-      | in-Ok+in_ok-incoming-in-Ok w ↦ (
-          let new = record old { numbering = w.receive-note.new.numbering; intake = w.receive-note.new.intake } in
-          let a = arrival_of w.in_ok-incoming-in-Ok.incoming in
-          let heard = subst (λ (ch : Channel). heard_live ch bytes ≡ live a) c.channel-channel.ensures.value (w.in-Ok.ensures.heard ∙ ap live (sym w.in_ok-incoming-in-Ok.ensures.value)) in
-          does c.args.self.now old mid new bytes c.match-read_live.note w.receive-note.result c.self.view_is w.self-inside-is w.note-is
-          (took old.config old.calls (old.calls + 1) old.numbering new.numbering old.intake new.intake bytes a w.receive-note.result
-          (record { width = c.self.invariant.width; ring = c.self.invariant.ring })
-          (record { width = w.receive-note.ensures.grows.width ∙ c.self.invariant.width; ring = w.receive-note.ensures.grows.capacity ∙ c.self.invariant.ring }) heard w.receive-note.ensures.stands))
-      | in-Err w ↦ (
-          let heard = subst (λ (ch : Channel). heard_live ch bytes ≡ dropped w.in-Err.note) c.channel-channel.ensures.value w.in-Err.ensures.heard in
-          does c.args.self.now old mid old bytes c.match-read_live.note w.in-Err.note c.self.view_is w.self-inside-is w.note-is
-          (let_go old.config old.calls (old.calls + 1) old.numbering old.intake bytes w.in-Err.note heard))
-    ]
+    let a = arrival_of c.in_ok-incoming.incoming in
+    let heard = subst (λ (ch : Channel). heard_live ch bytes ≡ live a) c.channel-channel.ensures.value (c.in-Ok.ensures.heard ∙ ap live (sym c.in_ok-incoming.ensures.value)) in
+    let grows = c.receive.ensures.grows in
+    subst (λ (v : Seen). Does v (seen_at old.config new.numbering new.intake) bytes c.receive.result) c.self.view_is
+    (took old.config old.numbering new.numbering old.intake new.intake bytes a c.receive.result (record { width = c.self.invariant.width; ring = c.self.invariant.ring })
+    (record { width = grows.width ∙ c.self.invariant.width; ring = grows.capacity ∙ c.self.invariant.ring }) grows.counted heard c.receive.ensures.stands)
+
+pub returns-clause-few : goal.returns-clause-few
+returns-clause-few c = λ most few. fewer_after c.args.self.now _ c.args.bytes.now c.receive.result most (returns-clause-stands c) few
+
+pub receive-requires-clause-numbered : goal.receive-requires-clause-numbered
+receive-requires-clause-numbered c =
+    subst (λ (v : Seen). IfSome v.numbering.greatest (λ n. n < 2 ^ 61)) (sym c.self.view_is) (numbers_have_room c.args.self.now c.requires)
+
+pub receive-requires-clause-counted : goal.receive-requires-clause-counted
+receive-requires-clause-counted c = omega (arith, ap (λ (v : Seen). v.counted) c.self.view_is, c.requires.stands.counted, c.requires.few)

@@ -4,4 +4,4 @@ use Rattle.ext_seq.proofs.numbering.Numbering.new.Goals as goal
 
 pub returns-clause-stands : goal.returns-clause-stands
 unfolding stream_of
-returns-clause-stands c = λ window. record { greatest = refl; kept = refl; calls = refl }
+returns-clause-stands c = λ window. record { greatest = refl; kept = refl; within = tt }
