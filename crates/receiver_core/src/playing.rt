@@ -59,11 +59,11 @@ pub(crate) fn arrive_by_multicast(
         return Ok((MediaCame::BeforeFirst, None));
     };
     let text = Octets::of(packet.strip(alloc)?);
-    join_or_arrive(alloc, tuned, window, packet.sequence(), text)
+    arrive_and_join(alloc, tuned, window, packet.sequence(), text)
 }
 
-// A packet of the multicast with these low 16 bits arrives.
-fn join_or_arrive(
+// A packet of the multicast with these low 16 bits arrives, and the receiver may join with it.
+fn arrive_and_join(
     alloc: Global,
     tuned: &Tuned,
     window: &mut Window,
