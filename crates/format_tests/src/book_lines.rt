@@ -1,152 +1,293 @@
 //! Lines of a book behind a text, written by hand.
+use crate::fixtures::same;
 use book_text::{append_count, append_no_channel, append_note, append_refused, append_send};
 use rams_model::{Cause, FrameFault, LineFault, LiveNote, Note, RtpFault};
 use std::alloc::Global;
+use std::process::Abort;
 use std::test::Fail;
 
-/// What becomes of live packets, and the line of event 4 and channel 7.
-const LIVE: [(LiveNote, &str); 13] = [
-    (LiveNote::Took(65_546), "4 7 took 65546\n"),
-    (LiveNote::Restart(85_547), "4 7 restart 85547\n"),
-    (LiveNote::Late, "4 7 late\n"),
-    (LiveNote::Twice, "4 7 twice\n"),
-    (LiveNote::Jump, "4 7 jump\n"),
-    (LiveNote::ForeignSsrc, "4 7 foreign-ssrc\n"),
-    (LiveNote::ForeignType, "4 7 foreign-type\n"),
-    (LiveNote::TooBig, "4 7 too-big\n"),
-    (LiveNote::Bad(RtpFault::Short), "4 7 bad short\n"),
-    (LiveNote::Bad(RtpFault::Version), "4 7 bad version\n"),
-    (LiveNote::Bad(RtpFault::Csrc), "4 7 bad csrc\n"),
-    (LiveNote::Bad(RtpFault::Extension), "4 7 bad extension\n"),
-    (LiveNote::Bad(RtpFault::Padding), "4 7 bad padding\n"),
+/// Notes of channel 7, and their lines as those of event 4.
+const NOTES: &[(Note, &str)] = &[
+    // what becomes of live packets
+    (Note::Live(LiveNote::Took(65_546)), "4 7 took 65546\n"),
+    (Note::Live(LiveNote::Restart(85_547)), "4 7 restart 85547\n"),
+    (Note::Live(LiveNote::Late), "4 7 late\n"),
+    (Note::Live(LiveNote::Twice), "4 7 twice\n"),
+    (Note::Live(LiveNote::Jump), "4 7 jump\n"),
+    (Note::Live(LiveNote::ForeignSsrc), "4 7 foreign-ssrc\n"),
+    (Note::Live(LiveNote::ForeignType), "4 7 foreign-type\n"),
+    (Note::Live(LiveNote::TooBig), "4 7 too-big\n"),
+    (
+        Note::Live(LiveNote::Bad(RtpFault::Short)),
+        "4 7 bad short\n",
+    ),
+    (
+        Note::Live(LiveNote::Bad(RtpFault::Version)),
+        "4 7 bad version\n",
+    ),
+    (Note::Live(LiveNote::Bad(RtpFault::Csrc)), "4 7 bad csrc\n"),
+    (
+        Note::Live(LiveNote::Bad(RtpFault::Extension)),
+        "4 7 bad extension\n",
+    ),
+    (
+        Note::Live(LiveNote::Bad(RtpFault::Padding)),
+        "4 7 bad padding\n",
+    ),
+    // what is noted of client 5
+    (
+        Note::Accept {
+            client: 5,
+            first: 65_547,
+            rate: 1_500,
+            join: 3_000,
+        },
+        "4 7 accept 5 first 65547 rate 1500 join 3000\n",
+    ),
+    (
+        Note::Update {
+            client: 5,
+            rate: 1_500,
+            join: 3_000,
+        },
+        "4 7 update 5 rate 1500 join 3000\n",
+    ),
+    (Note::Again { client: 5 }, "4 7 again 5\n"),
+    (
+        Note::Refuse {
+            client: 5,
+            code: 507,
+        },
+        "4 7 refuse 5 507\n",
+    ),
+    (
+        Note::StopAt {
+            client: 5,
+            n: 65_546,
+        },
+        "4 7 stop 5 65546\n",
+    ),
+    (
+        Note::StopKept {
+            client: 5,
+            n: 65_546,
+        },
+        "4 7 stop-kept 5 65546\n",
+    ),
+    (Note::StopIdle { client: 5 }, "4 7 stop-idle 5\n"),
+    (
+        Note::Queued {
+            client: 5,
+            n: 65_546,
+        },
+        "4 7 queued 5 65546\n",
+    ),
+    (
+        Note::Already {
+            client: 5,
+            n: 65_546,
+        },
+        "4 7 already 5 65546\n",
+    ),
+    (Note::Unheld { client: 5, low: 12 }, "4 7 unheld 5 12\n"),
+    (
+        Note::Early {
+            client: 5,
+            n: 65_546,
+        },
+        "4 7 early 5 65546\n",
+    ),
+    (
+        Note::TableFull {
+            client: 5,
+            n: 65_546,
+        },
+        "4 7 table-full 5 65546\n",
+    ),
+    (
+        Note::ClientFull {
+            client: 5,
+            n: 65_546,
+        },
+        "4 7 client-full 5 65546\n",
+    ),
+    (
+        Note::QueueFull {
+            client: 5,
+            n: 65_546,
+        },
+        "4 7 queue-full 5 65546\n",
+    ),
+    (Note::ForeignNack { client: 5 }, "4 7 foreign-nack 5\n"),
+    (Note::Bye { client: 5 }, "4 7 bye 5\n"),
+    (Note::ByeIdle { client: 5 }, "4 7 bye-idle 5\n"),
+    (
+        Note::Burst {
+            client: 5,
+            n: 65_546,
+            seq: 65_535,
+        },
+        "4 7 burst 5 65546 65535\n",
+    ),
+    (
+        Note::Repair {
+            client: 5,
+            n: 65_546,
+            seq: 65_535,
+        },
+        "4 7 repair 5 65546 65535\n",
+    ),
+    (
+        Note::Gone {
+            client: 5,
+            n: 65_546,
+        },
+        "4 7 gone 5 65546\n",
+    ),
+    // why bursts end
+    (
+        Note::End {
+            client: 5,
+            cause: Cause::Stopped,
+        },
+        "4 7 end 5 stopped\n",
+    ),
+    (
+        Note::End {
+            client: 5,
+            cause: Cause::Lost,
+        },
+        "4 7 end 5 lost\n",
+    ),
+    (
+        Note::End {
+            client: 5,
+            cause: Cause::Limit,
+        },
+        "4 7 end 5 limit\n",
+    ),
+    (
+        Note::End {
+            client: 5,
+            cause: Cause::Bye,
+        },
+        "4 7 end 5 bye\n",
+    ),
+    // why feedback is refused
+    (
+        Note::BadFeedback {
+            client: 5,
+            fault: FrameFault::Empty,
+        },
+        "4 7 bad-feedback 5 empty\n",
+    ),
+    (
+        Note::BadFeedback {
+            client: 5,
+            fault: FrameFault::Short,
+        },
+        "4 7 bad-feedback 5 short\n",
+    ),
+    (
+        Note::BadFeedback {
+            client: 5,
+            fault: FrameFault::Version,
+        },
+        "4 7 bad-feedback 5 version\n",
+    ),
+    (
+        Note::BadFeedback {
+            client: 5,
+            fault: FrameFault::Length,
+        },
+        "4 7 bad-feedback 5 length\n",
+    ),
+    (
+        Note::BadFeedback {
+            client: 5,
+            fault: FrameFault::Padding,
+        },
+        "4 7 bad-feedback 5 padding\n",
+    ),
+    (
+        Note::BadFeedback {
+            client: 5,
+            fault: FrameFault::Body,
+        },
+        "4 7 bad-feedback 5 body\n",
+    ),
 ];
 
-/// Notes of a client that have its number, and perhaps a packet's, and their words where the client
-/// is 5 and the packet 65,546.
-fn notes(client: u64, n: u64) -> [(Note, &'static str); 20] {
-    let (first, rate, join) = (65_547, 1_500, 3_000);
-    let accept = Note::Accept {
-        client,
-        first,
-        rate,
-        join,
-    };
-    let seq = 65_535;
-    [
-        (accept, "accept 5 first 65547 rate 1500 join 3000"),
-        (
-            Note::Update { client, rate, join },
-            "update 5 rate 1500 join 3000",
-        ),
-        (Note::Again { client }, "again 5"),
-        (Note::Refuse { client, code: 507 }, "refuse 5 507"),
-        (Note::StopAt { client, n }, "stop 5 65546"),
-        (Note::StopKept { client, n }, "stop-kept 5 65546"),
-        (Note::StopIdle { client }, "stop-idle 5"),
-        (Note::Queued { client, n }, "queued 5 65546"),
-        (Note::Already { client, n }, "already 5 65546"),
-        (Note::Unheld { client, low: 12 }, "unheld 5 12"),
-        (Note::Early { client, n }, "early 5 65546"),
-        (Note::TableFull { client, n }, "table-full 5 65546"),
-        (Note::ClientFull { client, n }, "client-full 5 65546"),
-        (Note::QueueFull { client, n }, "queue-full 5 65546"),
-        (Note::ForeignNack { client }, "foreign-nack 5"),
-        (Note::Bye { client }, "bye 5"),
-        (Note::ByeIdle { client }, "bye-idle 5"),
-        (Note::Burst { client, n, seq }, "burst 5 65546 65535"),
-        (Note::Repair { client, n, seq }, "repair 5 65546 65535"),
-        (Note::Gone { client, n }, "gone 5 65546"),
-    ]
+/// Bytes that are sent to client 5, and their lines.
+const SENDS: &[(&[u8], &str)] = &[
+    (&[], "4 7 send 5 -\n"),
+    (&[0x0a], "4 7 send 5 0a\n"),
+    (&[0x86, 0xcd, 0x00, 0xfe, 0x39], "4 7 send 5 86cd00fe39\n"),
+];
+
+/// Why line 4 of a trace is refused, and the book's line.
+const REFUSALS: &[(LineFault, &str)] = &[
+    (LineFault::Form, "refused 4 form\n"),
+    (LineFault::Order, "refused 4 order\n"),
+    (LineFault::Range, "refused 4 range\n"),
+    (LineFault::Twice, "refused 4 twice\n"),
+    (LineFault::Rule(3), "refused 4 rule-3\n"),
+];
+
+/// Each row's value is written as its line, behind `a` and a line feed.
+fn expect_lines<T, F: Fn(Vec<u8>, &T) -> Result<Vec<u8>, Fail>>(
+    rt: &impl Abort,
+    alloc: Global,
+    rows: &[(T, &str)],
+    write: F,
+) -> Result<(), Fail>
+    requires { F.IsAlwaysCallable write }
+{
+    for (value, line) in rows {
+        let text = write(b"a\n".to_vec(alloc)?, value)?;
+        same(rt, &text.strip_prefix(b"a\n"), &Some(line.as_bytes()), line);
+    }
+    Ok(())
 }
 
-/// Why bursts end, and the cause's word.
-const CAUSES: [(Cause, &str); 4] = [
-    (Cause::Stopped, "stopped"),
-    (Cause::Lost, "lost"),
-    (Cause::Limit, "limit"),
-    (Cause::Bye, "bye"),
-];
-
-/// Why feedback is refused, and the fault's word.
-const FAULTS: [(FrameFault, &str); 6] = [
-    (FrameFault::Empty, "empty"),
-    (FrameFault::Short, "short"),
-    (FrameFault::Version, "version"),
-    (FrameFault::Length, "length"),
-    (FrameFault::Padding, "padding"),
-    (FrameFault::Body, "body"),
-];
-
-/// The note's line of event 4 and channel 7.
-fn line_of(alloc: Global, note: &Note) -> Result<String, Fail> {
-    let mut text = Vec::new(alloc);
+fn note_line(mut text: Vec<u8>, note: &Note) -> Result<Vec<u8>, Fail> {
     append_note(&mut text, 4, 7, note)?;
-    Ok(String::from_utf8(text)?)
+    Ok(text)
+}
+
+fn send_line(mut text: Vec<u8>, bytes: &&[u8]) -> Result<Vec<u8>, Fail> {
+    append_send(&mut text, 4, 7, 5, bytes)?;
+    Ok(text)
+}
+
+fn refused_line(mut text: Vec<u8>, fault: &LineFault) -> Result<Vec<u8>, Fail> {
+    append_refused(&mut text, 4, *fault)?;
+    Ok(text)
 }
 
 #[test]
 fn notes_are_lines(rt: HostRuntime) -> Result<(), Fail> {
-    let alloc = rt.alloc();
-    for (note, line) in LIVE {
-        assert_eq!(rt; line_of(alloc, &Note::Live(note))?.as_str(), line);
-    }
-    for (note, words) in notes(5, 65_546) {
-        let line = format!(in alloc; "4 7 {words}\n")?;
-        assert_eq!(rt; line_of(alloc, &note)?, line);
-    }
-    for (cause, word) in CAUSES {
-        let line = format!(in alloc; "4 7 end 5 {word}\n")?;
-        assert_eq!(rt; line_of(alloc, &Note::End { client: 5, cause })?, line);
-    }
-    for (fault, word) in FAULTS {
-        let line = format!(in alloc; "4 7 bad-feedback 5 {word}\n")?;
-        let note = Note::BadFeedback { client: 5, fault };
-        assert_eq!(rt; line_of(alloc, &note)?, line);
-    }
-    let forgot = Note::Forgot {
-        client: 281_474_976_710_655,
-    };
-    let mut text = b"a\n".to_vec(alloc)?;
-    append_note(&mut text, u64::MAX, 65_535, &forgot)?;
-    let line = "a\n18446744073709551615 65535 forgot 281474976710655\n";
-    assert_eq!(rt; text.as_slice(), line.as_bytes());
-    Ok(())
+    expect_lines(&rt, rt.alloc(), NOTES, note_line)
 }
-
-/// Bytes that are sent, and their word.
-const DATAGRAMS: [(&[u8], &str); 3] = [
-    (&[], "-"),
-    (&[0x0a], "0a"),
-    (&[0x86, 0xcd, 0x00, 0xfe, 0x39], "86cd00fe39"),
-];
-
-/// Why lines are refused, and the fault's word.
-const REFUSALS: [(LineFault, &str); 5] = [
-    (LineFault::Form, "form"),
-    (LineFault::Order, "order"),
-    (LineFault::Range, "range"),
-    (LineFault::Twice, "twice"),
-    (LineFault::Rule(3), "rule-3"),
-];
 
 #[test]
 fn datagrams_and_refusals_are_lines(rt: HostRuntime) -> Result<(), Fail> {
-    let alloc = rt.alloc();
-    for (bytes, word) in DATAGRAMS {
-        let mut text = b"a\n".to_vec(alloc)?;
-        append_send(&mut text, 4, 7, 5, bytes)?;
-        let line = format!(in alloc; "a\n4 7 send 5 {word}\n")?;
-        assert_eq!(rt; text.as_slice(), line.as_bytes());
-    }
-    for (fault, word) in REFUSALS {
-        let mut text = Vec::new(alloc);
-        append_refused(&mut text, 4, fault)?;
-        let line = format!(in alloc; "refused 4 {word}\n")?;
-        assert_eq!(rt; text.as_slice(), line.as_bytes());
-    }
-    let mut text = Vec::new(alloc);
+    expect_lines(&rt, rt.alloc(), SENDS, send_line)?;
+    expect_lines(&rt, rt.alloc(), REFUSALS, refused_line)
+}
+
+/// The greatest client.
+const FORGOT: Note = Note::Forgot {
+    client: 281_474_976_710_655,
+};
+
+#[test]
+fn the_greatest_numbers_are_written(rt: HostRuntime) -> Result<(), Fail> {
+    let mut text = Vec::new(rt.alloc());
+    append_note(&mut text, u64::MAX, 65_535, &FORGOT)?;
     append_no_channel(&mut text, 4, 7)?;
     append_count(&mut text, b"done", 0)?;
-    assert_eq!(rt; text.as_slice(), b"4 7 no-channel\ndone 0\n".as_slice());
+    let want = b"18446744073709551615 65535 forgot 281474976710655\n4 7 no-channel\ndone 0\n";
+    same(&rt, &text.as_slice(), &want.as_slice(), &"the last lines");
     Ok(())
 }

@@ -1,5 +1,7 @@
-//! What the tests of several crates begin with.
+//! What the tests of several crates begin with: bytes in words, and the drivers of tables.
 use std::alloc::{AllocError, Global};
+use std::fmt::Debug;
+use std::process::Abort;
 use std::test::Fail;
 
 /// The SSRC of the client that sends feedback.
@@ -7,6 +9,12 @@ pub const CLIENT: u32 = 0x0000_c001;
 
 /// The SSRC of the media source.
 pub const MEDIA: u32 = 0x1122_3344;
+
+/// Bytes, as words of hexadecimal digits.
+pub type Words = &'static [&'static str];
+
+/// A name, bytes, and the text of what they are read as.
+pub type Reading = (&'static str, Words, &'static str);
 
 /// The bytes of words of hexadecimal digits.
 pub fn bytes_of(alloc: Global, words: &[&str]) -> Result<Vec<u8>, Fail> {
@@ -23,4 +31,57 @@ pub fn run(alloc: Global, byte: u8, count: usize, end: &[u8]) -> Result<Vec<u8>,
     let mut bytes = vec![in alloc; byte; count]?;
     bytes.extend_from_slice(end)?;
     Ok(bytes)
+}
+
+/// The value is the one that is wanted of this.
+pub fn same<T: Debug + PartialEq, C: Debug>(rt: &impl Abort, got: &T, want: &T, of: &C) {
+    assert_eq!(rt; *got, *want, "{of:?}");
+}
+
+/// It holds of this.
+pub fn holds<C: Debug>(rt: &impl Abort, is_so: bool, of: &C) {
+    assert!(rt; is_so, "{of:?}");
+}
+
+/// Each row's bytes are read as its text.
+pub fn expect_texts<F: Fn(Global, &[u8]) -> Result<String, Fail>>(
+    rt: &impl Abort,
+    alloc: Global,
+    rows: &[Reading],
+    read: F,
+) -> Result<(), Fail>
+    requires { F.IsAlwaysCallable read }
+{
+    for (name, words, want) in rows {
+        let bytes = bytes_of(alloc, words)?;
+        let got = read(alloc, &bytes)?;
+        same(rt, &got.as_str(), want, name);
+    }
+    Ok(())
+}
+
+/// Each row's bytes belong to its value, as the call finds.
+pub fn expect_values<T, F: Fn(Global, &[u8], &T) -> Result<bool, Fail>>(
+    rt: &impl Abort,
+    alloc: Global,
+    rows: &[(&str, Words, T)],
+    belongs: F,
+) -> Result<(), Fail>
+    requires { F.IsAlwaysCallable belongs }
+{
+    for (name, words, value) in rows {
+        let bytes = bytes_of(alloc, words)?;
+        holds(rt, belongs(alloc, &bytes, value)?, name);
+    }
+    Ok(())
+}
+
+/// The feedback control information of a feedback packet (RFC 4585, 6.1).
+pub fn fci_of(packet: &[u8]) -> &[u8] {
+    packet.get(12..).unwrap_or(&[])
+}
+
+/// Text of what was written alone and then behind itself is the packet, twice.
+pub fn is_twice(text: &[u8], packet: &[u8]) -> bool {
+    text.strip_prefix(packet) == Some(packet)
 }

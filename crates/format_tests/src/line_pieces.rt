@@ -1,10 +1,10 @@
 //! Lines and texts through a source and a sink that go in small steps, and fail in the middle.
 ghost use Rattle.std.specs.Prelude.{Some};
 
-use crate::fixtures::run;
+use crate::fixtures::{holds, run, same};
 use line_io::{Gather, LineReader, Next};
 use ram_io::{Failed, Sink, Source};
-use std::alloc::Global;
+use std::alloc::{AllocError, Global};
 use std::process::Abort;
 use std::test::Fail;
 
@@ -89,114 +89,191 @@ impl Sink for Text {
     }
 }
 
-/// These lines come out of the bytes, and then that.
-fn gives(
+/// Writes an answer of `advance`, with the line where there is one.
+fn append_answer(
+    text: &mut Vec<u8>,
+    answer: Result<Next, Failed>,
+    line: &[u8],
+) -> Result<(), AllocError> {
+    let word: &[u8] = match answer {
+        Ok(Next::Line) => b"line ",
+        Ok(Next::Long) => b"long",
+        Ok(Next::End) => b"end",
+        Err(Failed) => b"failed",
+    };
+    text.extend_from_slice(word)?;
+    if answer == Ok(Next::Line) {
+        text.extend_from_slice(line)?;
+    }
+    text.push(b'|')?;
+    Ok(())
+}
+
+/// The answers of so many calls of `advance`.
+fn answers(alloc: Global, source: &mut Pieces<'_>, calls: usize) -> Result<Vec<u8>, Fail> {
+    let mut text = Vec::new(alloc);
+    let mut reader = LineReader::new(alloc)?;
+    for _ in 0..calls {
+        let answer = reader.advance(source);
+        append_answer(&mut text, answer, reader.line())?;
+    }
+    Ok(text)
+}
+
+/// Bytes that a call of a source gives at most.
+const MOST: [usize; 5] = [1, 3, 4095, 4096, 9000];
+
+/// So many calls over these bytes give these answers, in pieces of any size.
+fn expect_answers(
     rt: &impl Abort,
     alloc: Global,
     bytes: &[u8],
-    lines: &[&[u8]],
-    last: Next,
+    calls: usize,
+    want: &[u8],
 ) -> Result<(), Fail> {
-    for most in [1, 3, 4095, 4096, 9000] {
+    for most in MOST {
         let mut source = source_of(bytes, most, 0);
-        let mut reader = LineReader::new(alloc)?;
-        for line in lines {
-            assert_eq!(rt; reader.advance(&mut source)?, Next::Line);
-            assert_eq!(rt; reader.line(), *line);
-        }
-        assert_eq!(rt; reader.advance(&mut source)?, last);
-        if last == Next::Long {
-            assert_eq!(rt; reader.line().len(), 4097);
-            assert!(rt; bytes.starts_with(reader.line()));
-        }
-        assert_eq!(rt; reader.advance(&mut source)?, last);
+        let got = answers(alloc, &mut source, calls)?;
+        holds(rt, got.as_slice() == want, &most);
     }
     Ok(())
 }
 
-/// Bytes of a source, and its lines.
-const TEXTS: [(&[u8], &[&[u8]]); 5] = [
-    (b"", &[]),
-    (b"a", &[b"a"]),
-    (b"a\n", &[b"a"]),
-    (b"a\n\n", &[b"a", b""]),
-    (b"\nab\r\n\nc", &[b"", b"ab\r", b"", b"c"]),
+/// Bytes of a source, and the answers of so many calls.
+const TEXTS: &[(&[u8], usize, &[u8])] = &[
+    (b"", 2, b"end|end|"),
+    (b"a", 3, b"line a|end|end|"),
+    (b"a\n", 3, b"line a|end|end|"),
+    (b"a\n\n", 4, b"line a|line |end|end|"),
+    (b"\nab\r\n\nc", 6, b"line |line ab\r|line |line c|end|end|"),
 ];
 
 #[test]
 fn lines_come_out(rt: HostRuntime) -> Result<(), Fail> {
-    let alloc = rt.alloc();
-    for (bytes, lines) in TEXTS {
-        gives(&rt, alloc, bytes, lines, Next::End)?;
+    for (bytes, calls, want) in TEXTS {
+        expect_answers(&rt, rt.alloc(), bytes, *calls, want)?;
     }
-    let longest = run(alloc, b'x', 4096, b"")?;
-    let ended = run(alloc, b'x', 4096, b"\ny\n")?;
-    gives(&rt, alloc, &ended, &[&longest, b"y"], Next::End)?;
-    let too_long = run(alloc, b'x', 4097, b"\ny\n")?;
-    gives(&rt, alloc, &too_long, &[], Next::Long)?;
     Ok(())
 }
 
 #[test]
-fn reading_goes_on_after_a_fault(rt: HostRuntime) -> Result<(), Fail> {
-    for fails in 1..6 {
-        let mut source = source_of(b"ab\ncde", 2, fails);
-        let mut reader = LineReader::new(rt.alloc())?;
-        let mut faults = 0u8;
-        for line in [b"ab".as_slice(), b"cde"] {
-            let mut next = reader.advance(&mut source);
-            if next == Err(Failed) {
-                faults = faults.saturating_add(1);
-                next = reader.advance(&mut source);
-            }
-            assert_eq!(rt; next?, Next::Line, "fails at {fails}");
-            assert_eq!(rt; reader.line(), line, "fails at {fails}");
-        }
-        // Calls: "ab", "\nc", "de", and the end.
-        assert_eq!(rt; faults, u8::from(fails < 5), "fails at {fails}");
+fn a_line_has_4096_bytes(rt: HostRuntime) -> Result<(), Fail> {
+    let bytes = run(rt.alloc(), b'x', 4096, b"\ny\n")?;
+    let mut want = b"line ".to_vec(rt.alloc())?;
+    want.extend_from_slice(&run(rt.alloc(), b'x', 4096, b"|line y|end|end|")?)?;
+    expect_answers(&rt, rt.alloc(), &bytes, 4, &want)
+}
+
+/// The beginning of a line that is too long, which a second call answers again.
+fn long_line(alloc: Global, source: &mut Pieces<'_>) -> Result<Vec<u8>, Fail> {
+    let mut reader = LineReader::new(alloc)?;
+    if reader.advance(source)? != Next::Long {
+        return Err(Fail::from("the line isn't too long"));
+    }
+    let line = reader.line().to_vec(alloc)?;
+    if reader.advance(source)? != Next::Long {
+        return Err(Fail::from("the reader goes on"));
+    }
+    Ok(line)
+}
+
+#[test]
+fn a_line_is_too_long(rt: HostRuntime) -> Result<(), Fail> {
+    let bytes = run(rt.alloc(), b'x', 4097, b"\ny\n")?;
+    let want = run(rt.alloc(), b'x', 4097, b"")?;
+    for most in MOST {
+        let mut source = source_of(&bytes, most, 0);
+        let line = long_line(rt.alloc(), &mut source)?;
+        holds(&rt, line == want, &most);
     }
     Ok(())
+}
+
+/// The call of a source that fails, of "ab", "\nc", "de" and the end, and the answers of so many
+/// calls.
+const READ_FAULTS: &[(u64, usize, &str)] = &[
+    (1, 3, "failed|line ab|line cde|"),
+    (2, 3, "failed|line ab|line cde|"),
+    (3, 3, "line ab|failed|line cde|"),
+    (4, 3, "line ab|failed|line cde|"),
+    (5, 2, "line ab|line cde|"),
+];
+
+#[test]
+fn reading_goes_on_after_a_fault(rt: HostRuntime) -> Result<(), Fail> {
+    for (fails, calls, want) in READ_FAULTS {
+        let mut source = source_of(b"ab\ncde", 2, *fails);
+        let got = answers(rt.alloc(), &mut source, *calls)?;
+        same(&rt, &got.as_slice(), &want.as_bytes(), fails);
+    }
+    Ok(())
+}
+
+/// How many bytes the sink has after these pieces.
+fn put_all(gather: &mut Gather, sink: &mut Text, pieces: &[&[u8]]) -> Result<usize, Fail> {
+    for piece in pieces {
+        gather.put(sink, piece)?;
+    }
+    Ok(sink.bytes.len())
+}
+
+/// How many bytes a sink has after two short pieces and an empty one, a third, and a long one; and
+/// its bytes in the end.
+fn passed(
+    alloc: Global,
+    most: usize,
+    short: &[u8],
+    long: &[u8],
+) -> Result<([usize; 3], Vec<u8>), Fail> {
+    let mut sink = sink_for(alloc, most, 0);
+    let mut gather = Gather::new(alloc)?;
+    let held = [
+        put_all(&mut gather, &mut sink, &[short, short, b""])?,
+        put_all(&mut gather, &mut sink, &[short])?,
+        put_all(&mut gather, &mut sink, &[long])?,
+    ];
+    gather.put(&mut sink, b"end")?;
+    gather.flush(&mut sink)?;
+    gather.flush(&mut sink)?;
+    Ok((held, sink.bytes))
 }
 
 #[test]
 fn texts_pass(rt: HostRuntime) -> Result<(), Fail> {
-    let alloc = rt.alloc();
-    let piece = run(alloc, b'p', 30000, b"")?;
-    let long = run(alloc, b'l', 70000, b"")?;
+    let short = run(rt.alloc(), b'p', 30000, b"")?;
+    let long = run(rt.alloc(), b'l', 70000, b"")?;
+    let mut whole = run(rt.alloc(), b'p', 90000, &long)?;
+    whole.extend_from_slice(b"end")?;
     for most in [7, 1000, 100000] {
-        let mut sink = sink_for(alloc, most, 0);
-        let mut gather = Gather::new(alloc)?;
-        gather.put(&mut sink, &piece)?;
-        gather.put(&mut sink, &piece)?;
-        gather.put(&mut sink, b"")?;
-        assert_eq!(rt; sink.bytes.len(), 0);
-        gather.put(&mut sink, &piece)?;
-        assert_eq!(rt; sink.bytes.len(), 60000);
-        gather.put(&mut sink, &long)?;
-        assert_eq!(rt; sink.bytes.len(), 160000);
-        gather.put(&mut sink, b"end")?;
-        gather.flush(&mut sink)?;
-        gather.flush(&mut sink)?;
-        let mut whole = run(alloc, b'p', 90000, &long)?;
-        whole.extend_from_slice(b"end")?;
-        assert!(rt;
-            sink.bytes.as_slice() == whole.as_slice(),
-            "{most} bytes a call"
-        );
+        let (held, bytes) = passed(rt.alloc(), most, &short, &long)?;
+        same(&rt, &held, &[0, 60000, 160000], &most);
+        holds(&rt, bytes == whole, &most);
     }
     Ok(())
 }
 
+/// The call of a sink that fails, whether all was put, and what the sink has.
+const WRITE_FAULTS: &[(u64, bool, &str)] = &[
+    (1, false, ""),
+    (2, false, "ab"),
+    (3, false, "abcd"),
+    (4, true, "abcde"),
+];
+
+/// Whether "abc" and "de" are put to a sink.
+fn flushes(alloc: Global, sink: &mut Text) -> Result<bool, Fail> {
+    let mut gather = Gather::new(alloc)?;
+    gather.put(sink, b"abc")?;
+    gather.put(sink, b"de")?;
+    Ok(gather.flush(sink).is_ok())
+}
+
 #[test]
 fn a_front_passes_before_a_fault(rt: HostRuntime) -> Result<(), Fail> {
-    for (fails, held) in [(1, b"".as_slice()), (2, b"ab"), (3, b"abcd"), (4, b"abcde")] {
-        let mut sink = sink_for(rt.alloc(), 2, fails);
-        let mut gather = Gather::new(rt.alloc())?;
-        gather.put(&mut sink, b"abc")?;
-        gather.put(&mut sink, b"de")?;
-        let ended = gather.flush(&mut sink);
-        assert_eq!(rt; ended.is_ok(), fails == 4, "fails at {fails}");
-        assert_eq!(rt; sink.bytes.as_slice(), held, "fails at {fails}");
+    for (fails, all, held) in WRITE_FAULTS {
+        let mut sink = sink_for(rt.alloc(), 2, *fails);
+        same(&rt, &flushes(rt.alloc(), &mut sink)?, all, fails);
+        same(&rt, &sink.bytes.as_slice(), &held.as_bytes(), fails);
     }
     Ok(())
 }

@@ -2,6 +2,7 @@
 ghost use Rattle.std.specs.Prelude.{All, IfOk};
 ghost use Rattle.ram_io.specs.{IsFromClient};
 
+use crate::fixtures::{holds, same};
 use ram_io::{
     Arrival, Clock, Failed, Gate, Incoming, MemClock, MemSink, MemSource, MemWire, Octets, Open,
     Sink, Source, StdSink, StdSource, Wire,
@@ -50,30 +51,45 @@ impl Write for Broken {
 
 /// The most that a call gives of 1, 2, 3, 4, 5, the size of the buffer, the two calls that fail, and
 /// the answers.
-const SOURCES: [(usize, usize, [u64; 2], &str); 4] = [
+const SOURCES: &[(usize, usize, [u64; 2], &str)] = &[
     (9, 8, [7, 7], "[1, 2, 3, 4, 5][][][][][]"),
     (9, 2, [7, 7], "[1, 2][3, 4][5][][][]"),
     (2, 8, [7, 7], "[1, 2][3, 4][5][][][]"),
     (3, 8, [1, 4], "[1, 2, 3]Failed[4, 5][]Failed[]"),
 ];
 
+fn taken(alloc: Global, most: usize, size: usize, fails: &[u64; 2]) -> Result<String, Fail> {
+    let bytes = [1u8, 2, 3, 4, 5].to_vec(alloc)?;
+    let mut source = MemSource::new(bytes, most.max(1), fails.to_vec(alloc)?);
+    Ok(six_takes(alloc, &mut source, size)?)
+}
+
 #[test]
 fn sources_give_their_bytes(rt: HostRuntime) -> Result<(), Fail> {
-    let alloc = rt.alloc();
     for (most, size, fails, want) in SOURCES {
-        if most == 0 {
-            continue;
-        }
-        let bytes = [1u8, 2, 3, 4, 5].to_vec(alloc)?;
-        let mut source = MemSource::new(bytes, most, fails.to_vec(alloc)?);
-        assert_eq!(rt; six_takes(alloc, &mut source, size)?.as_str(), want);
+        let got = taken(rt.alloc(), *most, *size, fails)?;
+        same(&rt, &got.as_str(), want, &(most, size, fails));
     }
+    Ok(())
+}
+
+#[test]
+fn a_reader_is_a_source(rt: HostRuntime) -> Result<(), Fail> {
     let mut source = StdSource::new([1u8, 2, 3].as_slice());
-    let got = six_takes(alloc, &mut source, 2)?;
-    assert_eq!(rt; got.as_str(), "[1, 2][3][][][][]");
-    let mut source = StdSource::new(Broken);
-    let got = six_takes(alloc, &mut source, 2)?;
-    assert_eq!(rt; got.as_str(), "FailedFailedFailedFailedFailedFailed");
+    let got = six_takes(rt.alloc(), &mut source, 2)?;
+    same(&rt, &got.as_str(), &"[1, 2][3][][][][]", &"three bytes");
+    Ok(())
+}
+
+#[test]
+fn a_broken_reader_fails(rt: HostRuntime) -> Result<(), Fail> {
+    let got = six_takes(rt.alloc(), &mut StdSource::new(Broken), 2)?;
+    same(
+        &rt,
+        &got.as_str(),
+        &"FailedFailedFailedFailedFailedFailed",
+        &"six calls",
+    );
     Ok(())
 }
 
@@ -97,32 +113,55 @@ fn six_puts<K: Sink>(alloc: Global, sink: &mut K) -> Result<String, AllocError> 
 }
 
 /// The room, the most that a call takes, the two calls that fail, the answers, and what went out.
-const SINKS: [(usize, usize, [u64; 2], &str, &[u8]); 4] = [
+const SINKS: &[(usize, usize, [u64; 2], &str, &[u8])] = &[
     (7, 9, [9, 9], "7 ", b"abcdefg"),
     (7, 3, [9, 9], "3 3 1 ", b"abcdefg"),
     (5, 3, [9, 9], "3 2 Failed Failed Failed Failed ", b"abcde"),
     (9, 4, [1, 2], "4 Failed Failed 3 ", b"abcdefg"),
 ];
 
+fn sink_of(alloc: Global, room: usize, most: usize, fails: &[u64; 2]) -> Result<MemSink, Fail> {
+    Ok(MemSink::new(alloc, room, most.max(1), fails.to_vec(alloc)?)?)
+}
+
 #[test]
 fn sinks_take_bytes(rt: HostRuntime) -> Result<(), Fail> {
-    let alloc = rt.alloc();
     for (room, most, fails, want, held) in SINKS {
-        if most == 0 {
-            continue;
-        }
-        let mut sink = MemSink::new(alloc, room, most, fails.to_vec(alloc)?)?;
-        assert_eq!(rt; six_puts(alloc, &mut sink)?.as_str(), want);
-        assert_eq!(rt; sink.held(), held);
+        let mut sink = sink_of(rt.alloc(), *room, *most, fails)?;
+        same(
+            &rt,
+            &six_puts(rt.alloc(), &mut sink)?.as_str(),
+            want,
+            &(room, most),
+        );
+        same(&rt, &sink.held(), held, &(room, most));
     }
+    Ok(())
+}
+
+#[test]
+fn a_writer_is_a_sink(rt: HostRuntime) -> Result<(), Fail> {
     let mut room = [0u8; 4];
-    let mut sink = StdSink::new(room.as_mut_slice());
-    let got = six_puts(alloc, &mut sink)?;
-    assert_eq!(rt; got.as_str(), "4 Failed Failed Failed Failed Failed ");
-    assert_eq!(rt; room.as_slice(), b"abcd".as_slice());
-    let mut sink = StdSink::new(Broken);
-    let got = six_puts(alloc, &mut sink)?;
-    assert_eq!(rt; got.as_str(), "Failed Failed Failed Failed Failed Failed ");
+    let got = six_puts(rt.alloc(), &mut StdSink::new(room.as_mut_slice()))?;
+    same(
+        &rt,
+        &got.as_str(),
+        &"4 Failed Failed Failed Failed Failed ",
+        &"four bytes",
+    );
+    same(&rt, &room.as_slice(), &b"abcd".as_slice(), &"four bytes");
+    Ok(())
+}
+
+#[test]
+fn a_broken_writer_fails(rt: HostRuntime) -> Result<(), Fail> {
+    let got = six_puts(rt.alloc(), &mut StdSink::new(Broken))?;
+    same(
+        &rt,
+        &got.as_str(),
+        &"Failed Failed Failed Failed Failed Failed ",
+        &"six calls",
+    );
     Ok(())
 }
 
@@ -165,41 +204,63 @@ fn six_receives<W: Wire>(alloc: Global, wire: &mut W) -> Result<String, AllocErr
     Ok(text)
 }
 
+fn received(alloc: Global) -> Result<String, Fail> {
+    let fails = [1, 2].to_vec(alloc)?;
+    let mut wire = MemWire::new(alloc, arrivals(alloc)?, 0, 0, fails)?;
+    Ok(six_receives(alloc, &mut wire)?)
+}
+
 #[test]
 fn a_wire_receives(rt: HostRuntime) -> Result<(), Fail> {
-    let alloc = rt.alloc();
-    let mut wire = MemWire::new(alloc, arrivals(alloc)?, 0, 0, [1, 2].to_vec(alloc)?)?;
-    let got = six_receives(alloc, &mut wire)?;
     let want = "5 to 9: 3 (Some(97), Some(99)) Failed Failed None \
         281474976710655 to 7: 2000 (Some(1), Some(1)) None ";
-    assert_eq!(rt; got.as_str(), want);
+    same(&rt, &received(rt.alloc())?.as_str(), &want, &"six calls");
     Ok(())
 }
 
-const PIECES: [&[u8]; 4] = [b"ab", b"cdef", b"cde", b""];
+const PIECES: &[&[u8]] = &[b"ab", b"cdef", b"cde", b""];
 
-/// Room for bytes and for datagrams, the call that fails, which of the pieces go out, and their
-/// bytes.
-const SENDS: [(usize, usize, u64, [bool; 4], &[u8]); 4] = [
-    (9, 4, 9, [true, true, true, true], b"abcdefcde"),
-    (5, 2, 9, [true, false, true, false], b"abcde"),
-    (4, 4, 9, [true, false, false, true], b"ab"),
-    (9, 4, 0, [false, true, true, true], b"cdefcde"),
+/// Room for bytes and for datagrams, the call that fails, the answers to the pieces, and the bytes
+/// that go out.
+const SENDS: &[(usize, usize, u64, &str, &[u8])] = &[
+    (9, 4, 9, "sent sent sent sent ", b"abcdefcde"),
+    (5, 2, 9, "sent Failed sent Failed ", b"abcde"),
+    (4, 4, 9, "sent Failed Failed sent ", b"ab"),
+    (9, 4, 0, "Failed sent sent sent ", b"cdefcde"),
 ];
+
+/// The answers to each piece that is sent to client 5 and port 9.
+fn sends<W: Wire>(alloc: Global, wire: &mut W) -> Result<String, AllocError> {
+    let mut text = String::new(alloc);
+    for piece in PIECES {
+        match wire.send(5, 9, piece) {
+            Ok(()) => write!(text, "sent ")?,
+            Err(Failed) => write!(text, "Failed ")?,
+        }
+    }
+    Ok(text)
+}
+
+fn wire_of(alloc: Global, room: usize, datagrams: usize, fails: u64) -> Result<MemWire, Fail> {
+    let fails = [fails].to_vec(alloc)?;
+    Ok(MemWire::new(alloc, Vec::new(alloc), room, datagrams, fails)?)
+}
 
 #[test]
 fn a_wire_sends(rt: HostRuntime) -> Result<(), Fail> {
-    let alloc = rt.alloc();
     for (room, datagrams, fails, want, bytes) in SENDS {
-        let fails = [fails].to_vec(alloc)?;
-        let mut wire = MemWire::new(alloc, Vec::new(alloc), room, datagrams, fails)?;
-        for i in 0..4 {
-            assert_eq!(rt; wire.send(5, 9, PIECES[i]).is_ok(), want[i], "{i}");
-        }
-        for sent in wire.sent() {
-            assert_eq!(rt; (sent.to, sent.port), (5, 9));
-        }
-        assert_eq!(rt; wire.sent_bytes(), bytes);
+        let mut wire = wire_of(rt.alloc(), *room, *datagrams, *fails)?;
+        same(
+            &rt,
+            &sends(rt.alloc(), &mut wire)?.as_str(),
+            want,
+            &(room, datagrams),
+        );
+        let is_right = wire
+            .sent()
+            .iter()
+            .all(|sent| sent.to == 5 && sent.port == 9);
+        holds(&rt, is_right && wire.sent_bytes() == *bytes, want);
     }
     Ok(())
 }
@@ -215,12 +276,30 @@ fn five_moments<C: Clock>(alloc: Global, clock: &mut C) -> Result<String, AllocE
 
 #[test]
 fn a_clock_repeats_its_last_moment(rt: HostRuntime) -> Result<(), Fail> {
-    let alloc = rt.alloc();
-    let mut clock = MemClock::new([3, 5, 9].to_vec(alloc)?);
-    assert_eq!(rt; five_moments(alloc, &mut clock)?.as_str(), "3 5 9 9 9 ");
-    let mut clock = MemClock::new(Vec::new(alloc));
-    assert_eq!(rt; five_moments(alloc, &mut clock)?.as_str(), "0 0 0 0 0 ");
+    let mut clock = MemClock::new([3, 5, 9].to_vec(rt.alloc())?);
+    same(
+        &rt,
+        &five_moments(rt.alloc(), &mut clock)?.as_str(),
+        &"3 5 9 9 9 ",
+        &"five calls",
+    );
+    Ok(())
+}
+
+#[test]
+fn a_clock_without_moments_stands_at_0(rt: HostRuntime) -> Result<(), Fail> {
+    let mut clock = MemClock::new(Vec::new(rt.alloc()));
+    same(
+        &rt,
+        &five_moments(rt.alloc(), &mut clock)?.as_str(),
+        &"0 0 0 0 0 ",
+        &"five calls",
+    );
+    Ok(())
+}
+
+#[test]
+fn an_open_gate_holds_nobody(_rt: HostRuntime) {
     Open.enter(0, 0);
     Open.drawing(0, u64::MAX);
-    Ok(())
 }

@@ -1,13 +1,10 @@
 //! RAMS messages, byte for byte, and each fault at its edge (RFC 6285, 7).
-ghost use Rattle.rams_tlv.specs.{HasSpelling};
-
-use crate::fixtures::{CLIENT, MEDIA, bytes_of};
+use crate::fixtures::{CLIENT, MEDIA, Words, expect_values, fci_of, is_twice, same};
 use rams_tlv::{
     Info, Request, Stop, TlvFault, append_info, append_request, append_stop, names, read_info,
     read_request, read_stop, write_info, write_request, write_stop,
 };
 use std::alloc::Global;
-use std::process::Abort;
 use std::test::Fail;
 
 const SENDER: u32 = 0xaabb_ccdd;
@@ -21,12 +18,13 @@ const ANY: Request<'static> = Request {
     preamble: false,
 };
 
-/// TLVs of a RAMS-R, and what is read of them.
-const REQUESTS: [(&str, &[&str], Result<Request<'static>, TlvFault>); 14] = [
-    ("none", &[], Ok(ANY)),
+/// Feedback control information of RAMS-R, reserved bits set, and what is read of it.
+const REQUESTS: &[(&str, Words, Result<Request<'static>, TlvFault>)] = &[
+    ("none", &["01ffffff"], Ok(ANY)),
     (
         "type 3, then type 2, then type 3 again",
         &[
+            "01ffffff", // RAMS-R
             "03000004", // greatest buffer fill, length 4
             "00000100", // 256 ms
             "02000004", // least buffer fill, length 4
@@ -43,6 +41,7 @@ const REQUESTS: [(&str, &[&str], Result<Request<'static>, TlvFault>); 14] = [
     (
         "an SSRC, a rate and a preamble, reserved bits set",
         &[
+            "01ffffff", // RAMS-R
             "01ff0004", // media senders, length 4
             "99999999", // SSRC
             "04070008", // greatest bit rate, length 8
@@ -60,6 +59,7 @@ const REQUESTS: [(&str, &[&str], Result<Request<'static>, TlvFault>); 14] = [
     (
         "an empty list of SSRCs, then one of one",
         &[
+            "01ffffff", // RAMS-R
             "01000000", // media senders, length 0
             "01000004", // media senders, length 4
             "99999999", // SSRC
@@ -69,6 +69,7 @@ const REQUESTS: [(&str, &[&str], Result<Request<'static>, TlvFault>); 14] = [
     (
         "types of other messages, of any length",
         &[
+            "01ffffff", // RAMS-R
             "3d000002", // first multicast packet, length 2
             "09090506", // value, filled up by any bytes
             "20000000", // first sequence number, length 0
@@ -78,6 +79,7 @@ const REQUESTS: [(&str, &[&str], Result<Request<'static>, TlvFault>); 14] = [
     (
         "SSRCs in 5 bytes",
         &[
+            "01ffffff", // RAMS-R
             "01000005", // media senders, length 5
             "99999999", "99000000",
         ],
@@ -85,29 +87,30 @@ const REQUESTS: [(&str, &[&str], Result<Request<'static>, TlvFault>); 14] = [
     ),
     (
         "a least fill in 3 bytes",
-        &["02000003", "00000000"],
+        &["01ffffff", "02000003", "00000000"],
         Err(TlvFault::Length(2)),
     ),
     (
         "a rate in 4 bytes",
-        &["04000004", "00138800"],
+        &["01ffffff", "04000004", "00138800"],
         Err(TlvFault::Length(4)),
     ),
     (
         "a preamble in 1 byte",
-        &["05000001", "00000000"],
+        &["01ffffff", "05000001", "00000000"],
         Err(TlvFault::Length(5)),
     ),
-    ("three bytes", &["090000"], Err(TlvFault::Short)),
-    ("no value", &["09000001"], Err(TlvFault::Short)),
+    ("three bytes", &["01ffffff", "090000"], Err(TlvFault::Short)),
+    ("no value", &["01ffffff", "09000001"], Err(TlvFault::Short)),
     (
         "a value that isn't filled up",
-        &["09000001", "050000"],
+        &["01ffffff", "09000001", "050000"],
         Err(TlvFault::Short),
     ),
     (
         "a wrong length, then three bytes",
         &[
+            "01ffffff", // RAMS-R
             "05000004", // preamble only, length 4
             "00000000", // value
             "090000",
@@ -116,44 +119,122 @@ const REQUESTS: [(&str, &[&str], Result<Request<'static>, TlvFault>); 14] = [
     ),
     (
         "a wrong length and a value that isn't filled up",
-        &["05000004", "000000"],
+        &["01ffffff", "05000004", "000000"],
         Err(TlvFault::Short),
     ),
+    ("nothing", &[], Err(TlvFault::Form)),
+    ("three bytes of the head", &["010000"], Err(TlvFault::Form)),
+    ("a RAMS-I", &["02000000"], Err(TlvFault::Form)),
 ];
+
+/// What is read of a request.
+type Read<'a> = Result<Request<'a>, TlvFault>;
+
+fn reads(_alloc: Global, fci: &[u8], want: &Read<'_>) -> Result<bool, Fail> {
+    Ok(read_request(fci) == *want)
+}
 
 #[test]
 fn requests_are_read(rt: HostRuntime) -> Result<(), Fail> {
-    for (name, words, want) in REQUESTS {
-        let mut fci = [1, 0xff, 0xff, 0xff].to_vec(rt.alloc())?;
-        fci.extend_from_slice(&bytes_of(rt.alloc(), words)?)?;
-        assert_eq!(rt; read_request(&fci), want, "{name}");
-    }
-    for fci in [[].as_slice(), &[1, 0, 0], &[2, 0, 0, 0]] {
-        assert_eq!(rt; read_request(fci), Err(TlvFault::Form), "{fci:?}");
-    }
-    Ok(())
+    expect_values(&rt, rt.alloc(), REQUESTS, reads)
 }
 
-/// Whether a request of these SSRCs is one of the source's.
-const LISTS: [(Option<&[u8]>, bool); 5] = [
-    (None, true),
-    (Some(&[]), true),
-    (Some(&[0x99; 4]), false),
+/// Requests, and whether they are of the source.
+const LISTS: &[(Request<'static>, bool)] = &[
+    (ANY, true),
     (
-        Some(&[0x99, 0x99, 0x99, 0x99, 0x11, 0x22, 0x33, 0x44]),
+        Request {
+            ssrcs: Some(&[]),
+            ..ANY
+        },
         true,
     ),
     (
-        Some(&[0x99, 0x99, 0x11, 0x22, 0x33, 0x44, 0x99, 0x99]),
+        Request {
+            ssrcs: Some(&[0x99; 4]),
+            ..ANY
+        },
+        false,
+    ),
+    (
+        Request {
+            ssrcs: Some(&[0x99, 0x99, 0x99, 0x99, 0x11, 0x22, 0x33, 0x44]),
+            ..ANY
+        },
+        true,
+    ),
+    (
+        Request {
+            ssrcs: Some(&[0x99, 0x99, 0x11, 0x22, 0x33, 0x44, 0x99, 0x99]),
+            ..ANY
+        },
         false,
     ),
 ];
 
 #[test]
 fn requests_name_sources(rt: HostRuntime) {
-    for (ssrcs, want) in LISTS {
-        assert_eq!(rt; names(&Request { ssrcs, ..ANY }, MEDIA), want, "{ssrcs:?}");
+    for (request, want) in LISTS {
+        same(&rt, &names(request, MEDIA), want, request);
     }
+}
+
+/// Requests of `CLIENT`, and what they wish for.
+const WRITTEN: &[(&str, Words, Request<'static>)] = &[
+    (
+        "no wish",
+        &[
+            "86cd0003", // v=2, p=0, format 6, RTPFB, length 3
+            "0000c001", // SSRC of the packet's sender
+            "11223344", // SSRC of the media source
+            "01000000", // RAMS-R
+        ],
+        ANY,
+    ),
+    (
+        "every wish",
+        &[
+            "86cd000e", // v=2, p=0, format 6, RTPFB, length 14
+            "0000c001", // SSRC of the packet's sender
+            "11223344", // SSRC of the media source
+            "01000000", // RAMS-R
+            "01000008", // media senders, length 8
+            "11223344", // SSRC
+            "99999999", // SSRC
+            "02000004", // least buffer fill, length 4
+            "00000190", // 400 ms
+            "03000004", // greatest buffer fill, length 4
+            "000007d0", // 2,000 ms
+            "04000008", // greatest bit rate, length 8
+            "00000000", // 1,280,000
+            "00138800", // bits per second
+            "05000000", // preamble only, length 0
+        ],
+        Request {
+            ssrcs: Some(&[0x11, 0x22, 0x33, 0x44, 0x99, 0x99, 0x99, 0x99]),
+            min_ms: Some(400),
+            max_ms: Some(2_000),
+            bps: Some(1_280_000),
+            preamble: true,
+        },
+    ),
+];
+
+/// The packet is this request, alone and behind others, and is read as it.
+fn is_request(alloc: Global, packet: &[u8], request: &Request<'_>) -> Result<bool, Fail> {
+    if let Some(list) = request.ssrcs {
+        if list.len() > 256 || list.len() % 4 != 0 {
+            return Err(Fail::from("a list that isn't written"));
+        }
+    }
+    let mut text = write_request(alloc, CLIENT, MEDIA, request)?;
+    append_request(&mut text, CLIENT, MEDIA, request)?;
+    Ok(is_twice(&text, packet) && read_request(fci_of(packet)) == Ok(*request))
+}
+
+#[test]
+fn requests_are_written(rt: HostRuntime) -> Result<(), Fail> {
+    expect_values(&rt, rt.alloc(), WRITTEN, is_request)
 }
 
 const NO_INFO: Info = Info {
@@ -165,29 +246,24 @@ const NO_INFO: Info = Info {
     bps: None,
 };
 
-/// Information of `SENDER`, and its packet.
-const INFOS: [(Info, &[&str]); 2] = [
+/// Packets of information of `SENDER`, and what they say.
+const INFOS: &[(&str, Words, Info)] = &[
     (
-        Info {
-            msn: 1,
-            code: 201,
-            ..NO_INFO
-        },
+        "a code alone",
         &[
             "86cd0003", // v=2, p=0, format 6, RTPFB, length 3
             "aabbccdd", // SSRC of the packet's sender
             "11223344", // SSRC of the media source
             "020100c9", // RAMS-I, message 1, response 201
         ],
-    ),
-    (
         Info {
-            first: Some(500),
-            join_ms: Some(10),
-            length_ms: Some(1_000),
-            bps: Some(3_200_000),
+            msn: 1,
+            code: 201,
             ..NO_INFO
         },
+    ),
+    (
+        "every TLV",
         &[
             "86cd000c", // v=2, p=0, format 6, RTPFB, length 12
             "aabbccdd", // SSRC of the packet's sender
@@ -203,100 +279,54 @@ const INFOS: [(Info, &[&str]); 2] = [
             "00000000", // 3,200,000
             "0030d400", // bits per second
         ],
+        Info {
+            first: Some(500),
+            join_ms: Some(10),
+            length_ms: Some(1_000),
+            bps: Some(3_200_000),
+            ..NO_INFO
+        },
     ),
 ];
 
+/// The packet is this information, alone and behind others, and is read as it.
+fn is_info(alloc: Global, packet: &[u8], info: &Info) -> Result<bool, Fail> {
+    let mut text = write_info(alloc, SENDER, MEDIA, info)?;
+    append_info(&mut text, SENDER, MEDIA, info)?;
+    Ok(is_twice(&text, packet) && read_info(fci_of(packet)) == Ok(*info))
+}
+
+/// Information whose join time has 8 bytes.
+const LONG_JOIN: [u8; 16] = [2, 0, 0, 200, 0x21, 0, 0, 8, 0, 0, 0, 0, 0, 0, 0, 10];
+
 #[test]
 fn information_goes_there_and_back(rt: HostRuntime) -> Result<(), Fail> {
-    for (info, words) in INFOS {
-        let packet = bytes_of(rt.alloc(), words)?;
-        let mut text = write_info(rt.alloc(), SENDER, MEDIA, &info)?;
-        assert_eq!(rt; text, packet);
-        append_info(&mut text, SENDER, MEDIA, &info)?;
-        assert!(rt; text.ends_with(&packet));
-        let (_, fci) = packet.split_at(packet.len().min(12));
-        assert_eq!(rt; read_info(fci), Ok(info));
-    }
-    let wrong = [2, 0, 0, 200, 0x21, 0, 0, 8, 0, 0, 0, 0, 0, 0, 0, 10];
-    assert_eq!(rt; read_info(&wrong), Err(TlvFault::Length(0x21)));
+    expect_values(&rt, rt.alloc(), INFOS, is_info)?;
+    same(
+        &rt,
+        &read_info(&LONG_JOIN),
+        &Err(TlvFault::Length(0x21)),
+        &LONG_JOIN,
+    );
     Ok(())
 }
 
-/// The request is written as this packet, and read back.
-fn is_written(
-    rt: &impl Abort,
-    alloc: Global,
-    request: &Request<'_>,
-    words: &[&str],
-) -> Result<(), Fail>
-    requires { HasSpelling request.now }
-{
-    let packet = bytes_of(alloc, words)?;
-    let mut text = write_request(alloc, CLIENT, MEDIA, request)?;
-    assert_eq!(rt; text, packet);
-    append_request(&mut text, CLIENT, MEDIA, request)?;
-    assert!(rt; text.ends_with(&packet));
-    let (_, fci) = packet.split_at(packet.len().min(12));
-    assert_eq!(rt; read_request(fci), Ok(*request));
-    Ok(())
-}
-
-const ANY_PACKET: &[&str] = &[
-    "86cd0003", // v=2, p=0, format 6, RTPFB, length 3
-    "0000c001", // SSRC of the packet's sender
-    "11223344", // SSRC of the media source
-    "01000000", // RAMS-R
-];
-
-const EVERY_PACKET: &[&str] = &[
-    "86cd000e", // v=2, p=0, format 6, RTPFB, length 14
-    "0000c001", // SSRC of the packet's sender
-    "11223344", // SSRC of the media source
-    "01000000", // RAMS-R
-    "01000008", // media senders, length 8
-    "11223344", // SSRC
-    "99999999", // SSRC
-    "02000004", // least buffer fill, length 4
-    "00000190", // 400 ms
-    "03000004", // greatest buffer fill, length 4
-    "000007d0", // 2,000 ms
-    "04000008", // greatest bit rate, length 8
-    "00000000", // 1,280,000
-    "00138800", // bits per second
-    "05000000", // preamble only, length 0
-];
-
-#[test]
-fn requests_are_written(rt: HostRuntime) -> Result<(), Fail> {
-    let every = Request {
-        ssrcs: Some(&[0x11, 0x22, 0x33, 0x44, 0x99, 0x99, 0x99, 0x99]),
-        min_ms: Some(400),
-        max_ms: Some(2_000),
-        bps: Some(1_280_000),
-        preamble: true,
-    };
-    is_written(&rt, rt.alloc(), &ANY, ANY_PACKET)?;
-    is_written(&rt, rt.alloc(), &every, EVERY_PACKET)?;
-    Ok(())
-}
-
-/// Terminations of `CLIENT`, and their packets.
-const STOPS: [(Stop, &[&str]); 2] = [
+/// Terminations of `CLIENT`, and what they say.
+const STOPS: &[(&str, Words, Stop)] = &[
     (
-        Stop {
-            first_multicast: None,
-        },
+        "no packet",
         &[
             "86cd0003", // v=2, p=0, format 6, RTPFB, length 3
             "0000c001", // SSRC of the packet's sender
             "11223344", // SSRC of the media source
             "03000000", // RAMS-T
         ],
+        Stop {
+            first_multicast: None,
+        },
     ),
     (
-        Stop {
-            first_multicast: Some(65_552),
-        },
+        "a packet",
         &[
             "86cd0005", // v=2, p=0, format 6, RTPFB, length 5
             "0000c001", // SSRC of the packet's sender
@@ -305,20 +335,27 @@ const STOPS: [(Stop, &[&str]); 2] = [
             "3d000004", // first multicast packet, length 4
             "00010010", // 65,552
         ],
+        Stop {
+            first_multicast: Some(65_552),
+        },
     ),
 ];
 
+/// The packet is this termination, alone and behind others, and is read as it.
+fn is_stop(alloc: Global, packet: &[u8], stop: &Stop) -> Result<bool, Fail> {
+    let mut text = write_stop(alloc, CLIENT, MEDIA, stop)?;
+    append_stop(&mut text, CLIENT, MEDIA, stop)?;
+    Ok(is_twice(&text, packet) && read_stop(fci_of(packet)) == Ok(*stop))
+}
+
 #[test]
 fn terminations_go_there_and_back(rt: HostRuntime) -> Result<(), Fail> {
-    for (stop, words) in STOPS {
-        let packet = bytes_of(rt.alloc(), words)?;
-        let mut text = write_stop(rt.alloc(), CLIENT, MEDIA, &stop)?;
-        assert_eq!(rt; text, packet);
-        append_stop(&mut text, CLIENT, MEDIA, &stop)?;
-        assert!(rt; text.ends_with(&packet));
-        let (_, fci) = packet.split_at(packet.len().min(12));
-        assert_eq!(rt; read_stop(fci), Ok(stop));
-    }
-    assert_eq!(rt; read_stop(&[4, 0, 0, 0]), Err(TlvFault::Form));
+    expect_values(&rt, rt.alloc(), STOPS, is_stop)?;
+    same(
+        &rt,
+        &read_stop(&[4, 0, 0, 0]),
+        &Err(TlvFault::Form),
+        &"format 4",
+    );
     Ok(())
 }

@@ -1,11 +1,13 @@
 //! Worked retransmissions, and what is restored of them (RFC 4588, 4).
-use crate::fixtures::bytes_of;
-use rtx_payload::{Rtp, RtxFault, append_rtx, restore, restoring_gives_the_original, write_rtx};
+use crate::fixtures::{Reading, Words, bytes_of, expect_texts, expect_values, is_twice};
+use rtx_payload::{Rtp, append_rtx, restore, restoring_gives_the_original, write_rtx};
+use std::alloc::Global;
 use std::test::Fail;
 
 /// Packets, and their retransmissions under payload type 99 and sequence number 500.
-const ROWS: [(&[&str], &[&str]); 2] = [
+const ROWS: &[(&str, Words, Words)] = &[
     (
+        "every part",
         &[
             "b2a1000a", // v=2, p=1, x=1, count=2, m=1, type 33, sequence number 10
             "00000000", // timestamp
@@ -28,6 +30,7 @@ const ROWS: [(&[&str], &[&str]); 2] = [
         ],
     ),
     (
+        "a header alone",
         &[
             "8021ffff", // v=2, p=0, x=0, count=0, m=0, type 33, sequence number 65,535
             "00000384", // timestamp 900
@@ -42,49 +45,67 @@ const ROWS: [(&[&str], &[&str]); 2] = [
     ),
 ];
 
-#[test]
-fn packets_go_there_and_back(rt: HostRuntime) -> Result<(), Fail> {
-    let alloc = rt.alloc();
-    restoring_gives_the_original();
-    for (words, words_again) in ROWS {
-        let packet = bytes_of(alloc, words)?;
-        let again = bytes_of(alloc, words_again)?;
-        let original = Rtp::read(&packet).expect(&rt, "a packet");
-        let mut text = write_rtx(alloc, &original, 99, 500)?;
-        assert_eq!(rt; text, again);
-        append_rtx(&mut text, &original, 99, 500)?;
-        assert!(rt; text.ends_with(&again));
-        let came = Rtp::read(&again).expect(&rt, "a retransmission");
-        let (number, restored) = restore(alloc, &came, 33).expect(&rt, "an original");
-        assert_eq!(rt; number, original.sequence());
-        assert_eq!(rt; restored, original.strip(alloc)?);
-    }
-    Ok(())
+/// The packet is sent again as these words, alone and behind others.
+fn goes_again(alloc: Global, packet: &[u8], words: &Words) -> Result<bool, Fail> {
+    let original = Rtp::read(packet).ok().ok_or("a packet")?;
+    let mut text = write_rtx(alloc, &original, 99, 500)?;
+    append_rtx(&mut text, &original, 99, 500)?;
+    Ok(is_twice(&text, &bytes_of(alloc, words)?))
 }
 
-/// The first byte of a packet, the bytes behind its fixed header, and the fault.
-const PAYLOADS: [(u8, &[u8], Option<RtxFault>); 5] = [
-    (0x80, &[7], Some(RtxFault::Short)),
-    (0x80, &[7, 8], None),
-    // padding is no payload
-    (0xa0, &[7, 1], Some(RtxFault::Short)),
-    (0xa0, &[7, 8, 1], None),
-    // nor is an extension
-    (0x90, &[0, 0, 0, 0, 7], Some(RtxFault::Short)),
+/// The words bring the packet's number, and the packet without its padding.
+fn comes_back(alloc: Global, packet: &[u8], words: &Words) -> Result<bool, Fail> {
+    let original = Rtp::read(packet).ok().ok_or("a packet")?;
+    let bytes = bytes_of(alloc, words)?;
+    let again = Rtp::read(&bytes).ok().ok_or("a retransmission")?;
+    let (number, restored) = restore(alloc, &again, 33).ok().ok_or("an original")?;
+    Ok(number == original.sequence() && restored == original.strip(alloc)?)
+}
+
+#[test]
+fn packets_go_there_and_back(rt: HostRuntime) -> Result<(), Fail> {
+    restoring_gives_the_original();
+    expect_values(&rt, rt.alloc(), ROWS, goes_again)?;
+    expect_values(&rt, rt.alloc(), ROWS, comes_back)
+}
+
+/// Retransmissions, and why nothing is restored.
+const PAYLOADS: &[Reading] = &[
+    (
+        "one byte",
+        &["806301f4", "00000000", "00000001", "07"],
+        "Some(Short)",
+    ),
+    (
+        "two bytes",
+        &["806301f4", "00000000", "00000001", "0708"],
+        "None",
+    ),
+    (
+        "one byte, and padding of one",
+        &["a06301f4", "00000000", "00000001", "0701"],
+        "Some(Short)",
+    ),
+    (
+        "two bytes, and padding of one",
+        &["a06301f4", "00000000", "00000001", "070801"],
+        "None",
+    ),
+    (
+        "one byte behind an extension",
+        &["906301f4", "00000000", "00000001", "00000000", "07"],
+        "Some(Short)",
+    ),
 ];
+
+/// Why nothing is restored of a retransmission.
+fn fault(alloc: Global, bytes: &[u8]) -> Result<String, Fail> {
+    let packet = Rtp::read(bytes).ok().ok_or("a packet")?;
+    let fault = restore(alloc, &packet, 33).err();
+    Ok(format!(in alloc; "{fault:?}")?)
+}
 
 #[test]
 fn an_original_number_is_missing(rt: HostRuntime) -> Result<(), Fail> {
-    let alloc = rt.alloc();
-    for (first, behind, fault) in PAYLOADS {
-        let mut text = Vec::from_slice(alloc, &[first, 0x63, 1, 0xf4, 0, 0, 0, 0, 0, 0, 0, 1])?;
-        text.extend_from_slice(behind)?;
-        let packet = Rtp::read(&text).expect(&rt, "a packet");
-        assert_eq!(rt;
-            restore(alloc, &packet, 33).err(),
-            fault,
-            "{first} {behind:?}"
-        );
-    }
-    Ok(())
+    expect_texts(&rt, rt.alloc(), PAYLOADS, fault)
 }

@@ -1,28 +1,26 @@
 //! Datagrams of RTCP packets, byte for byte, and each fault at its edge (RFC 3550, 6).
-use crate::fixtures::{CLIENT, bytes_of};
+use crate::fixtures::{CLIENT, Reading, Words, bytes_of, expect_texts, same};
 use rtcp_frame::{
-    FrameFault, append_bye, append_rr, append_sdes, bye_names, packets, write_bye, write_rr,
-    write_sdes,
+    append_bye, append_rr, append_sdes, bye_names, packets, write_bye, write_rr, write_sdes,
 };
-use std::alloc::{AllocError, Global};
+use std::alloc::Global;
 use std::fmt::Write;
 use std::test::Fail;
 
-/// Type, count and length of the body of each packet, or the fault.
-fn framed(alloc: Global, datagram: &[u8]) -> Result<String, AllocError> {
-    let mut text = String::new(alloc);
-    match packets(datagram) {
-        Err(fault) => write!(text, "{fault:?}")?,
-        Ok(all) => {
-            for p in all {
-                write!(text, "{} {} {}, ", p.kind, p.count, p.body.len())?;
-            }
-        }
-    }
-    Ok(text)
-}
+/// What a receiver writes in front of its feedback, and its goodbye.
+const COMPOUND: Words = &[
+    "80c90001", // v=2, p=0, count=0, RR, length 1
+    "0000c001", // SSRC
+    "81ca0003", // v=2, p=0, count=1, SDES, length 3
+    "0000c001", // SSRC
+    "01037374", // CNAME, 3 bytes
+    "62000000", // end of the items
+    "81cb0001", // v=2, p=0, count=1, BYE, length 1
+    "0000c001", // SSRC
+];
 
-const DATAGRAMS: [(&str, &[&str], &str); 19] = [
+/// Datagrams, and their packets.
+const DATAGRAMS: &[Reading] = &[
     ("nothing", &[], "Empty"),
     ("three bytes", &["80c900"], "Short"),
     (
@@ -125,97 +123,130 @@ const DATAGRAMS: [(&str, &[&str], &str); 19] = [
         ],
         "Body",
     ),
+    (
+        "a receiver's packets",
+        COMPOUND,
+        "201 0 4, 202 1 12, 203 1 4, ",
+    ),
+    (
+        "a receiver's packets without their last byte",
+        &[
+            "80c90001", // v=2, p=0, count=0, RR, length 1
+            "0000c001", // SSRC
+            "81ca0003", // v=2, p=0, count=1, SDES, length 3
+            "0000c001", // SSRC
+            "01037374", // CNAME, 3 bytes
+            "62000000", // end of the items
+            "81cb0001", // v=2, p=0, count=1, BYE, length 1
+            "0000c0", // three bytes of the SSRC
+        ],
+        "Length",
+    ),
 ];
+
+/// Type, count and length of the body of each packet, or the fault.
+fn framed(alloc: Global, datagram: &[u8]) -> Result<String, Fail> {
+    let mut text = String::new(alloc);
+    match packets(datagram) {
+        Err(fault) => write!(text, "{fault:?}")?,
+        Ok(all) => {
+            for p in all {
+                write!(text, "{} {} {}, ", p.kind, p.count, p.body.len())?;
+            }
+        }
+    }
+    Ok(text)
+}
 
 #[test]
 fn datagrams_are_taken_apart(rt: HostRuntime) -> Result<(), Fail> {
-    for (name, words, want) in DATAGRAMS {
-        let datagram = bytes_of(rt.alloc(), words)?;
-        assert_eq!(rt; framed(rt.alloc(), &datagram)?.as_str(), want, "{name}");
-    }
-    Ok(())
+    expect_texts(&rt, rt.alloc(), DATAGRAMS, framed)
 }
 
-/// What a receiver writes in front of its feedback, and its goodbye.
-const COMPOUND: &[&str] = &[
-    "80c90001", // v=2, p=0, count=0, RR, length 1
-    "0000c001", // SSRC
-    "81ca0003", // v=2, p=0, count=1, SDES, length 3
-    "0000c001", // SSRC
-    "01037374", // CNAME, 3 bytes
-    "62000000", // end of the items
-    "81cb0001", // v=2, p=0, count=1, BYE, length 1
-    "0000c001", // SSRC
-];
-
-#[test]
-fn receivers_packets_are_written(rt: HostRuntime) -> Result<(), Fail> {
-    let alloc = rt.alloc();
-    let want = "201 0 4, 202 1 12, 203 1 4, ";
-    let compound = bytes_of(alloc, COMPOUND)?;
-    assert_eq!(rt; framed(alloc, &compound)?.as_str(), want);
+/// A receiver's packets, each written alone or behind the others.
+fn written(alloc: Global) -> Result<Vec<u8>, Fail> {
     let mut text = write_rr(alloc, CLIENT)?;
     append_sdes(&mut text, CLIENT)?;
     append_bye(&mut text, CLIENT)?;
-    assert_eq!(rt; text, compound);
+    Ok(text)
+}
+
+/// The same, the other way round.
+fn appended(alloc: Global) -> Result<Vec<u8>, Fail> {
     let mut text = Vec::new(alloc);
     append_rr(&mut text, CLIENT)?;
     text.extend_from_slice(&write_sdes(alloc, CLIENT)?)?;
     text.extend_from_slice(&write_bye(alloc, CLIENT)?)?;
-    assert_eq!(rt; text, compound);
-    text.pop();
-    assert_eq!(rt; packets(&text).err(), Some(FrameFault::Length));
+    Ok(text)
+}
+
+#[test]
+fn receivers_packets_are_written(rt: HostRuntime) -> Result<(), Fail> {
+    let compound = bytes_of(rt.alloc(), COMPOUND)?;
+    same(
+        &rt,
+        &written(rt.alloc())?,
+        &compound,
+        &"write, append, append",
+    );
+    same(
+        &rt,
+        &appended(rt.alloc())?,
+        &compound,
+        &"append, write, write",
+    );
     Ok(())
 }
 
 /// Packets whose second and third word are 0xc001 and 0xc002, and whether they are BYEs of each.
-const BYES: [(&[&str], bool, bool); 4] = [
+const BYES: &[Reading] = &[
     (
+        "a BYE of one, and a reason",
         &[
             "81cb0002", // v=2, p=0, count=1, BYE, length 2
             "0000c001", // SSRC
             "0000c002", // a reason
         ],
-        true,
-        false,
+        "(true, false)",
     ),
     (
+        "a BYE of two",
         &[
             "82cb0002", // v=2, p=0, count=2, BYE, length 2
             "0000c001", // SSRC
             "0000c002", // SSRC
         ],
-        true,
-        true,
+        "(true, true)",
     ),
     (
+        "a BYE of none",
         &[
             "80cb0002", // v=2, p=0, count=0, BYE, length 2
             "0000c001", // a reason
             "0000c002",
         ],
-        false,
-        false,
+        "(false, false)",
     ),
     (
+        "no BYE",
         &[
             "82cc0002", // v=2, p=0, subtype=2, APP, length 2
             "0000c001", // SSRC
             "0000c002", // its name
         ],
-        false,
-        false,
+        "(false, false)",
     ),
 ];
 
+/// Whether the first packet says goodbye for 0xc001, and whether for 0xc002.
+fn named(alloc: Global, datagram: &[u8]) -> Result<String, Fail> {
+    let mut all = packets(datagram).ok().ok_or("packets")?;
+    let packet = all.next().ok_or("a packet")?;
+    let named = (bye_names(&packet, 0xc001), bye_names(&packet, 0xc002));
+    Ok(format!(in alloc; "{named:?}")?)
+}
+
 #[test]
 fn goodbyes_name_sources(rt: HostRuntime) -> Result<(), Fail> {
-    for (words, names_1, names_2) in BYES {
-        let datagram = bytes_of(rt.alloc(), words)?;
-        let packet = packets(&datagram).ok().and_then(|mut all| all.next());
-        let packet = packet.ok_or("a packet")?;
-        assert_eq!(rt; bye_names(&packet, 0xc001), names_1, "{words:?}");
-        assert_eq!(rt; bye_names(&packet, 0xc002), names_2, "{words:?}");
-    }
-    Ok(())
+    expect_texts(&rt, rt.alloc(), BYES, named)
 }

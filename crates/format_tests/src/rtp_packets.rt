@@ -1,10 +1,10 @@
 //! A packet with every part, and each fault at its edge (RFC 3550, 5.1).
-use crate::fixtures::bytes_of;
-use rtp_record::RtpFault::{Csrc, Extension, Padding, Short, Version};
-use rtp_record::{Rtp, RtpFault, RtpFields, append_rtp, append_rtp_behind, write_rtp};
+use crate::fixtures::{Reading, Words, bytes_of, expect_texts, holds, is_twice, same};
+use rtp_record::{Rtp, RtpFields, append_rtp, append_rtp_behind, write_rtp};
+use std::alloc::Global;
 use std::test::Fail;
 
-const PADDED: &[&str] = &[
+const PADDED: Words = &[
     "b2a1000a", // v=2, p=1, x=1, count=2, m=1, type 33, sequence number 10
     "00000384", // timestamp 900
     "11223344", // SSRC
@@ -15,7 +15,7 @@ const PADDED: &[&str] = &[
     "aabb0002", // payload of two bytes, padding of two
 ];
 
-const STRIPPED: &[&str] = &[
+const STRIPPED: Words = &[
     "92a1000a", // p=0
     "00000384", // timestamp
     "11223344", // SSRC
@@ -26,27 +26,52 @@ const STRIPPED: &[&str] = &[
     "aabb", // payload
 ];
 
+/// A packet, and what its calls say.
+const PARTS: &[Reading] = &[(
+    "every part",
+    PADDED,
+    "(true, 33, 10, 900, 287454020) \
+        0000000100000002 bede000110ff0000 aabb 30",
+)];
+
+/// Marker, payload type, sequence number, timestamp and SSRC of a packet; its contributing sources,
+/// its extension and its payload, and how long it is without padding.
+fn parts(alloc: Global, bytes: &[u8]) -> Result<String, Fail> {
+    let packet = Rtp::read(bytes).ok().ok_or("a packet")?;
+    let header = (
+        packet.marker(),
+        packet.payload_type(),
+        packet.sequence(),
+        packet.timestamp(),
+        packet.ssrc(),
+    );
+    let csrc = hex::encode(alloc, packet.csrc())?;
+    let extension = hex::encode(alloc, packet.extension())?;
+    let payload = hex::encode(alloc, packet.payload())?;
+    let len = packet.stripped_len();
+    Ok(format!(in alloc; "{header:?} {csrc} {extension} {payload} {len}")?)
+}
+
 #[test]
 fn every_part_is_read(rt: HostRuntime) -> Result<(), Fail> {
+    expect_texts(&rt, rt.alloc(), PARTS, parts)
+}
+
+#[test]
+fn padding_is_left_out(rt: HostRuntime) -> Result<(), Fail> {
     let alloc = rt.alloc();
     let padded = bytes_of(alloc, PADDED)?;
     let stripped = bytes_of(alloc, STRIPPED)?;
-    let packet = Rtp::read(&padded).expect(&rt, "a packet");
-    assert!(rt; packet.marker());
-    assert_eq!(rt; packet.payload_type(), 33);
-    assert_eq!(rt; packet.sequence(), 10);
-    assert_eq!(rt; packet.timestamp(), 900);
-    assert_eq!(rt; packet.ssrc(), 0x1122_3344);
-    assert_eq!(rt; packet.csrc(), [0, 0, 0, 1, 0, 0, 0, 2].as_slice());
-    let extension = [0xbe, 0xde, 0, 1, 0x10, 0xff, 0, 0];
-    assert_eq!(rt; packet.extension(), extension.as_slice());
-    assert_eq!(rt; packet.payload(), [0xaa, 0xbb].as_slice());
-    assert_eq!(rt; packet.stripped_len(), 30);
-    assert_eq!(rt; packet.strip(alloc)?, stripped);
-    let mut text = Vec::new(alloc);
+    let packet = Rtp::read(&padded).ok().ok_or("a packet")?;
+    let mut text = packet.strip(alloc)?;
     packet.append_stripped(&mut text)?;
-    assert_eq!(rt; text, stripped);
-    assert_eq!(rt; write_rtp(alloc, &packet.fields())?, stripped);
+    holds(&rt, is_twice(&text, &stripped), &"strip");
+    same(
+        &rt,
+        &write_rtp(alloc, &packet.fields())?,
+        &stripped,
+        &"fields",
+    );
     Ok(())
 }
 
@@ -61,7 +86,13 @@ const PLAIN: RtpFields<'static> = RtpFields {
     payload: &[7],
 };
 
-const SPELLED: &[&str] = &[
+/// `PLAIN` without its payload.
+const BARE: RtpFields<'static> = RtpFields {
+    payload: &[],
+    ..PLAIN
+};
+
+const SPELLED: Words = &[
     "807ffffe", // v=2, p=0, x=0, count=0, m=0, type 127, sequence number 65,534
     "01020304", // timestamp
     "00000005", // SSRC
@@ -70,58 +101,121 @@ const SPELLED: &[&str] = &[
 
 #[test]
 fn packets_are_written_behind_what_is_there(rt: HostRuntime) -> Result<(), Fail> {
-    let alloc = rt.alloc();
-    let mut want = b"front".to_vec(alloc)?;
-    want.extend_from_slice(&bytes_of(alloc, SPELLED)?)?;
-    let mut text = b"front".to_vec(alloc)?;
+    let mut text = b"front".to_vec(rt.alloc())?;
     append_rtp(&mut text, &PLAIN)?;
-    assert_eq!(rt; text, want);
-    let mut text = b"front".to_vec(alloc)?;
-    let plain = RtpFields {
-        payload: &[],
-        ..PLAIN
-    };
-    append_rtp_behind(&mut text, &plain, PLAIN.payload)?;
-    assert_eq!(rt; text, want);
+    append_rtp_behind(&mut text, &BARE, PLAIN.payload)?;
+    let written = text.strip_prefix(b"front").ok_or("the front")?;
+    holds(
+        &rt,
+        is_twice(written, &bytes_of(rt.alloc(), SPELLED)?),
+        &"behind",
+    );
     Ok(())
 }
 
-/// The first byte, the bytes behind the fixed header, and the fault. The other bytes of the header
-/// are zeros.
-const PACKETS: [(u8, &[u8], Option<RtpFault>); 17] = [
-    (0x80, &[], None),
-    (0x40, &[], Some(Version)),
-    (0xc0, &[], Some(Version)),
-    // one contributing source
-    (0x81, &[0; 3], Some(Csrc)),
-    (0x81, &[0; 4], None),
-    // an extension of no words, and of one
-    (0x90, &[0; 3], Some(Extension)),
-    (0x90, &[0; 4], None),
-    (0x90, &[0, 0, 0, 1, 0, 0, 0], Some(Extension)),
-    (0x90, &[0, 0, 0, 1, 0, 0, 0, 0], None),
-    // padding of no bytes, of one, of two
-    (0xa0, &[0], Some(Padding)),
-    (0xa0, &[1], None),
-    (0xa0, &[2], Some(Padding)),
-    (0xa0, &[9, 2], None),
-    // no padding reaches into the extension
-    (0xb0, &[0, 0, 0, 0, 9, 3], Some(Padding)),
+/// Packets whose header is of zeros but for its first byte, and the fault.
+const PACKETS: &[Reading] = &[
+    ("no bytes", &[], "Some(Short)"),
+    (
+        "eleven bytes",
+        &["00000000", "00000000", "000000"],
+        "Some(Short)",
+    ),
+    (
+        "a header alone",
+        &["80000000", "00000000", "00000000"],
+        "None",
+    ),
+    (
+        "version 1",
+        &["40000000", "00000000", "00000000"],
+        "Some(Version)",
+    ),
+    (
+        "version 3",
+        &["c0000000", "00000000", "00000000"],
+        "Some(Version)",
+    ),
+    (
+        "one contributing source in three bytes",
+        &["81000000", "00000000", "00000000", "000000"],
+        "Some(Csrc)",
+    ),
+    (
+        "one contributing source",
+        &["81000000", "00000000", "00000000", "00000000"],
+        "None",
+    ),
+    (
+        "an extension in three bytes",
+        &["90000000", "00000000", "00000000", "000000"],
+        "Some(Extension)",
+    ),
+    (
+        "an extension of no words",
+        &["90000000", "00000000", "00000000", "00000000"],
+        "None",
+    ),
+    (
+        "an extension of a word, in three bytes",
+        &["90000000", "00000000", "00000000", "00000001", "000000"],
+        "Some(Extension)",
+    ),
+    (
+        "an extension of a word",
+        &["90000000", "00000000", "00000000", "00000001", "00000000"],
+        "None",
+    ),
+    (
+        "padding of no bytes",
+        &["a0000000", "00000000", "00000000", "00"],
+        "Some(Padding)",
+    ),
+    (
+        "padding of one byte",
+        &["a0000000", "00000000", "00000000", "01"],
+        "None",
+    ),
+    (
+        "padding of two bytes, in one",
+        &["a0000000", "00000000", "00000000", "02"],
+        "Some(Padding)",
+    ),
+    (
+        "padding of two bytes",
+        &["a0000000", "00000000", "00000000", "0902"],
+        "None",
+    ),
+    (
+        "padding into the extension",
+        &["b0000000", "00000000", "00000000", "00000000", "0903"],
+        "Some(Padding)",
+    ),
     // the first fault that is true
-    (0x4f, &[], Some(Version)),
-    (0xbf, &[], Some(Csrc)),
-    (0xb0, &[0; 3], Some(Extension)),
+    (
+        "version 1, and no contributing sources",
+        &["4f000000", "00000000", "00000000"],
+        "Some(Version)",
+    ),
+    (
+        "neither contributing sources nor an extension",
+        &["bf000000", "00000000", "00000000"],
+        "Some(Csrc)",
+    ),
+    (
+        "an extension and padding in three bytes",
+        &["b0000000", "00000000", "00000000", "000000"],
+        "Some(Extension)",
+    ),
 ];
+
+/// Why bytes are no packet.
+fn fault(alloc: Global, bytes: &[u8]) -> Result<String, Fail> {
+    let fault = Rtp::read(bytes).err();
+    Ok(format!(in alloc; "{fault:?}")?)
+}
 
 #[test]
 fn each_fault_is_found(rt: HostRuntime) -> Result<(), Fail> {
-    let alloc = rt.alloc();
-    assert_eq!(rt; Rtp::read(&[]).err(), Some(Short));
-    assert_eq!(rt; Rtp::read(&[0; 11]).err(), Some(Short));
-    for (first, behind, fault) in PACKETS {
-        let mut text = Vec::from_slice(alloc, &[first, 0, 0, 0, 0, 0, 0, 0, 0, 0, 0, 0])?;
-        text.extend_from_slice(behind)?;
-        assert_eq!(rt; Rtp::read(&text).err(), fault, "{first} {behind:?}");
-    }
-    Ok(())
+    expect_texts(&rt, rt.alloc(), PACKETS, fault)
 }

@@ -1,5 +1,7 @@
 //! Settings of a channel that are lawful, and why others aren't.
+use crate::fixtures::same;
 use channel_config::{Access, Channel, Config, ConfigFault, lawful_settings};
+use std::process::Abort;
 use std::test::Fail;
 
 const LAWFUL: Channel = Channel {
@@ -27,7 +29,9 @@ const LAWFUL: Channel = Channel {
 const RANGE: Option<ConfigFault> = Some(ConfigFault::Range);
 
 /// Settings that are changed, at a tick of 10 ms where it isn't, and the fault.
-const ROWS: [(&[(&str, u32)], Option<ConfigFault>); 47] = [
+type Row = (&'static [(&'static str, u32)], Option<ConfigFault>);
+
+const ROWS: &[Row] = &[
     (&[], None),
     (&[("tick", 0)], RANGE),
     (&[("tick", 1)], None),
@@ -121,19 +125,25 @@ fn changed(changes: &[(&str, u32)]) -> Result<(Channel, u32), Fail> {
     Ok((channel, tick_ms))
 }
 
+/// The fault of these settings; where there is none, they are kept.
+fn fault_of(changes: &[(&str, u32)]) -> Result<Option<ConfigFault>, Fail> {
+    let (channel, tick_ms) = changed(changes)?;
+    match Config::check(channel, tick_ms) {
+        Err(fault) => Ok(Some(fault)),
+        Ok(config) if *config.channel() == channel && config.tick_ms() == tick_ms => Ok(None),
+        Ok(_) => Err(Fail::from("other settings")),
+    }
+}
+
+fn expect(rt: &impl Abort, rows: &[Row]) -> Result<(), Fail> {
+    for (changes, fault) in rows {
+        same(rt, &fault_of(changes)?, fault, changes);
+    }
+    Ok(())
+}
+
 #[test]
 fn settings_are_checked(rt: HostRuntime) -> Result<(), Fail> {
     lawful_settings();
-    for (changes, fault) in ROWS {
-        let (channel, tick_ms) = changed(changes)?;
-        match Config::check(channel, tick_ms) {
-            Ok(config) => {
-                assert_eq!(rt; None, fault, "{changes:?}");
-                assert_eq!(rt; *config.channel(), channel, "{changes:?}");
-                assert_eq!(rt; config.tick_ms(), tick_ms, "{changes:?}");
-            }
-            Err(found) => assert_eq!(rt; Some(found), fault, "{changes:?}"),
-        }
-    }
-    Ok(())
+    expect(&rt, ROWS)
 }

@@ -1,10 +1,14 @@
 //! Lines of a trace: each kind, other forms, and numbers out of their ranges.
-use crate::trace_words::{expect_line, word};
+use crate::fixtures::{holds, same};
+use crate::trace_words::{Answer, expect_words, line_of, word};
+use rams_model::{Access, Channel};
+use std::alloc::{AllocError, Global};
+use std::process::Abort;
 use std::test::Fail;
-use trace_text::{Line, decode, decode_to, read_line};
+use trace_text::{Line, decode, decode_to, read_line, write_line};
 
 /// Lines, and the word of what they are read as.
-const LINES: [(&str, &[&str]); 7] = [
+const LINES: &[Answer] = &[
     // other words, spaces and ends
     (
         "form",
@@ -141,16 +145,38 @@ const LINES: [(&str, &[&str]); 7] = [
 ];
 
 #[test]
-fn lines_have_forms_and_ranges(rt: HostRuntime) {
-    for (want, lines) in LINES {
-        for line in lines {
-            assert_eq!(rt; word(read_line(line.as_bytes()).err()), want, "{line}");
-        }
-    }
+fn lines_have_forms_and_ranges(rt: HostRuntime) -> Result<(), Fail> {
+    expect_words(&rt, rt.alloc(), LINES)
 }
 
-/// A line of each kind but the channel's, and what it says.
-const KINDS: [(&str, Line<'static>); 10] = [
+/// What the channel line says.
+const SETTINGS: Channel = Channel {
+    id: 7,
+    ssrc: 0x1122_3344,
+    pt: 33,
+    rtx: 99,
+    server: 0xaabb_ccdd,
+    seq0: 500,
+    ring: 64,
+    window: 0,
+    access: Access::Marker,
+    share: 10000,
+    reserve: 1500,
+    burst: 4000,
+    declared: 100,
+    minwire: 42,
+    limit: 100,
+    idle: 100,
+    clients: 4,
+    depth: 0,
+    swell: 0,
+};
+
+/// A line, and what it says.
+type Spelled = (&'static str, Line<'static>);
+
+/// A line of each kind, and of each version of a channel.
+const KINDS: &[Spelled] = &[
     (
         "rams-trace 2 tick 20 link 3000",
         Line::Head {
@@ -195,53 +221,98 @@ const KINDS: [(&str, Line<'static>); 10] = [
     ),
     ("ask 7 5", Line::Ask { id: 7, client: 5 }),
     ("drop 7 5", Line::Drop { id: 7, client: 5 }),
+    (
+        "@",
+        Line::Channel {
+            version: 1,
+            channel: SETTINGS,
+        },
+    ),
+    (
+        "@marker>ts;clients 4>clients 4 depth 50 swell 60",
+        Line::Channel {
+            version: 2,
+            channel: Channel {
+                access: Access::Ts,
+                depth: 50,
+                swell: 60,
+                ..SETTINGS
+            },
+        },
+    ),
 ];
 
-#[test]
-fn each_kind_is_read_and_written(rt: HostRuntime) -> Result<(), Fail> {
-    for (text, line) in KINDS {
-        expect_line(&rt, rt.alloc(), text, line)?;
+/// Each text is read as its line, and the line is written as the text.
+fn expect_spelled(rt: &impl Abort, alloc: Global, rows: &[Spelled]) -> Result<(), Fail> {
+    for (text, line) in rows {
+        let text = line_of(alloc, text)?;
+        holds(rt, read_line(text.as_bytes()) == Ok(*line), &text);
+        holds(
+            rt,
+            write_line(alloc, line)?.as_slice() == text.as_bytes(),
+            &text,
+        );
     }
     Ok(())
 }
 
+#[test]
+fn each_kind_is_read_and_written(rt: HostRuntime) -> Result<(), Fail> {
+    expect_spelled(&rt, rt.alloc(), KINDS)
+}
+
 /// The front of a line, its length with digits `a` behind the front, and its answer.
-const LONG: [(&str, usize, &str); 4] = [
+const LONG: &[(&str, usize, &str)] = &[
     ("live 77 ", 4096, "ok"),
     ("live 7 ", 4097, "form"),
     ("live 0 ", 4095, "range"),
     ("live 0 ", 4097, "form"),
 ];
 
+/// The front with so many bytes in all.
+fn filled(alloc: Global, front: &str, len: usize) -> Result<String, AllocError> {
+    let mut line = String::from_str(alloc, front)?;
+    for _ in front.len()..len {
+        line.push('a')?;
+    }
+    Ok(line)
+}
+
 #[test]
 fn a_line_has_at_most_4096_bytes(rt: HostRuntime) -> Result<(), Fail> {
     for (front, len, want) in LONG {
-        let mut line = String::from_str(rt.alloc(), front)?;
-        for _ in front.len()..len {
-            line.push('a')?;
-        }
-        assert_eq!(rt; word(read_line(line.as_bytes()).err()), want, "{front}");
+        let line = filled(rt.alloc(), front, *len)?;
+        same(&rt, &word(read_line(line.as_bytes()).err()), want, front);
     }
     Ok(())
 }
 
 /// Words of digits, and their bytes.
-const DIGITS: [(&str, &[u8]); 2] = [
+const DIGITS: &[(&str, &[u8])] = &[
     ("live 7 -", &[]),
     ("live 7 00ff19ae", &[0x00, 0xff, 0x19, 0xae]),
 ];
 
+/// The bytes of a live line: alone, and in place of others.
+fn live_bytes(alloc: Global, text: &str) -> Result<[Vec<u8>; 2], Fail> {
+    let Ok(Line::Live { hex, .. }) = read_line(text.as_bytes()) else {
+        return Err(Fail::from("no live line"));
+    };
+    let mut room = b"before".to_vec(alloc)?;
+    decode_to(hex, &mut room)?;
+    Ok([decode(alloc, hex)?, room])
+}
+
 #[test]
 fn words_of_digits_are_bytes(rt: HostRuntime) -> Result<(), Fail> {
-    let alloc = rt.alloc();
     for (text, bytes) in DIGITS {
-        let Ok(Line::Live { hex, .. }) = read_line(text.as_bytes()) else {
-            return Err(Fail::from("no live line"));
-        };
-        assert_eq!(rt; decode(alloc, hex)?.as_slice(), bytes);
-        let mut room = b"before".to_vec(alloc)?;
-        decode_to(hex, &mut room)?;
-        assert_eq!(rt; room.as_slice(), bytes);
+        let [alone, in_place] = live_bytes(rt.alloc(), text)?;
+        same(
+            &rt,
+            &(alone.as_slice(), in_place.as_slice()),
+            &(*bytes, *bytes),
+            text,
+        );
     }
     Ok(())
 }

@@ -1,6 +1,7 @@
 //! The order of a trace's lines in each mode, what a trace's channels may be together, and which of
 //! several faults is named.
-use crate::trace_words::{edited, word};
+use crate::fixtures::same;
+use crate::trace_words::{line_of, word};
 use std::alloc::Global;
 use std::process::Abort;
 use std::test::Fail;
@@ -14,7 +15,7 @@ struct Trace {
     lines: &'static [&'static str],
 }
 
-const TRACES: [Trace; 9] = [
+const TRACES: &[Trace] = &[
     // the order of run
     Trace {
         mode: Mode::Run,
@@ -211,40 +212,45 @@ const TRACES: [Trace; 9] = [
     },
 ];
 
-/// Judges a line that has the word of its answer in front. Where its form is right, its words tell
-/// whether it is in order.
-fn expect(rt: &impl Abort, alloc: Global, state: &mut State, case: &str) -> Result<(), Fail> {
-    let (want, text) = case.split_once(' ').unwrap_or((case, ""));
-    let line = match text.strip_prefix('@') {
-        Some(edits) => edited(alloc, edits)?,
-        None => String::from_str(alloc, text)?,
-    };
-    let expected = state.expects(line.as_bytes());
-    let answer = match state.judge(line.as_bytes()) {
+/// The word of a line's answer. Where its form is right, its words tell whether it is in order.
+fn judged(state: &mut State, line: &[u8]) -> &'static str {
+    let expected = state.expects(line);
+    let answer = match state.judge(line) {
         Ok(_) => word(None),
         Err(fault) => word(Some(fault)),
     };
-    assert!(rt; answer == want, "{case}: {answer}");
-    assert!(rt;
-        answer == "form" || expected == (answer != "order"),
-        "{case}"
-    );
+    if answer == "form" || expected == (answer != "order") {
+        answer
+    } else {
+        "its words tell otherwise"
+    }
+}
+
+/// Judges lines, each of which has the word of its answer in front.
+fn expect(rt: &impl Abort, alloc: Global, state: &mut State, cases: &[&str]) -> Result<(), Fail> {
+    for case in cases {
+        let (want, text) = case.split_once(' ').unwrap_or((case, ""));
+        let line = line_of(alloc, text)?;
+        same(rt, &judged(state, line.as_bytes()), &want, case);
+    }
+    Ok(())
+}
+
+fn expect_traces(rt: &impl Abort, alloc: Global, traces: &[Trace]) -> Result<(), Fail> {
+    for trace in traces {
+        let mut state = State::new(trace.mode);
+        expect(rt, alloc, &mut state, trace.lines)?;
+    }
     Ok(())
 }
 
 #[test]
 fn lines_come_in_their_order(rt: HostRuntime) -> Result<(), Fail> {
-    for trace in TRACES {
-        let mut state = State::new(trace.mode);
-        for case in trace.lines {
-            expect(&rt, rt.alloc(), &mut state, case)?;
-        }
-    }
-    Ok(())
+    expect_traces(&rt, rt.alloc(), TRACES)
 }
 
 /// Lines behind 64 channels.
-const FULL: [&str; 5] = [
+const FULL: &[&str] = &[
     "rule-5 @channel 7>channel 65",
     "rule-4 @channel 7>channel 65;share 10000>share 360001",
     "rule-5 @channel 7>channel 65;share 10000>share 360000",
@@ -252,22 +258,25 @@ const FULL: [&str; 5] = [
     "ok end",
 ];
 
+/// What a trace of 64 channels has reached.
+fn with_64_channels(alloc: Global) -> Result<State, Fail> {
+    let mut state = State::new(Mode::Run);
+    let head = b"rams-trace 1 tick 10 link 1000000";
+    if judged(&mut state, head) != "ok" {
+        return Err(Fail::from("the head"));
+    }
+    for id in 1..=64 {
+        let edits = format!(in alloc; "@channel 7>channel {id}")?;
+        let line = line_of(alloc, &edits)?;
+        if judged(&mut state, line.as_bytes()) != "ok" {
+            return Err(Fail::from("a channel"));
+        }
+    }
+    Ok(state)
+}
+
 #[test]
 fn there_are_at_most_64_channels(rt: HostRuntime) -> Result<(), Fail> {
-    let alloc = rt.alloc();
-    let mut state = State::new(Mode::Run);
-    expect(
-        &rt,
-        alloc,
-        &mut state,
-        "ok rams-trace 1 tick 10 link 1000000",
-    )?;
-    for id in 1..=64 {
-        let channel = format!(in alloc; "ok @channel 7>channel {id}")?;
-        expect(&rt, alloc, &mut state, &channel)?;
-    }
-    for case in FULL {
-        expect(&rt, alloc, &mut state, case)?;
-    }
-    Ok(())
+    let mut state = with_64_channels(rt.alloc())?;
+    expect(&rt, rt.alloc(), &mut state, FULL)
 }

@@ -1,15 +1,16 @@
 //! What the tests of traces begin with: a channel line, its edits, and the words of answers.
+use crate::fixtures::same;
 use std::alloc::{AllocError, Global};
 use std::process::Abort;
 use std::test::Fail;
-use trace_text::{Line, LineFault, read_line, write_line};
+use trace_text::{LineFault, read_line};
 
-pub const CHANNEL: &str = "channel 7 ssrc 11223344 pt 33 rtx 99 server aabbccdd seq0 500 ring 64 \
+const CHANNEL: &str = "channel 7 ssrc 11223344 pt 33 rtx 99 server aabbccdd seq0 500 ring 64 \
     window 0 access marker share 10000 reserve 1500 burst 4000 declared 100 minwire 42 limit 100 \
     idle 100 clients 4";
 
 /// `CHANNEL` with edits `old>new` that are set off by semicolons; none where there is no `>`.
-pub fn edited(alloc: Global, edits: &str) -> Result<String, AllocError> {
+fn edited(alloc: Global, edits: &str) -> Result<String, AllocError> {
     let mut line = String::from_str(alloc, CHANNEL)?;
     for edit in edits.split(';') {
         if let Some((old, new)) = edit.split_once('>') {
@@ -18,6 +19,14 @@ pub fn edited(alloc: Global, edits: &str) -> Result<String, AllocError> {
         }
     }
     Ok(line)
+}
+
+/// A line: `@` stands for the channel line with the edits behind it.
+pub fn line_of(alloc: Global, text: &str) -> Result<String, AllocError> {
+    match text.strip_prefix('@') {
+        Some(edits) => edited(alloc, edits),
+        None => String::from_str(alloc, text),
+    }
 }
 
 /// The word of an answer.
@@ -36,10 +45,22 @@ pub fn word(fault: Option<LineFault>) -> &'static str {
     }
 }
 
-/// The text is read as the line, and the line is written as the text.
-pub fn expect_line(rt: &impl Abort, alloc: Global, text: &str, line: Line<'_>) -> Result<(), Fail> {
-    assert!(rt; read_line(text.as_bytes()) == Ok(line), "{text}");
-    let written = write_line(alloc, &line)?;
-    assert!(rt; written.as_slice() == text.as_bytes(), "{text}");
+/// Each line is read with this word.
+pub fn expect_word(rt: &impl Abort, alloc: Global, want: &str, lines: &[&str]) -> Result<(), Fail> {
+    for text in lines {
+        let line = line_of(alloc, text)?;
+        same(rt, &word(read_line(line.as_bytes()).err()), &want, text);
+    }
+    Ok(())
+}
+
+/// A word, and lines that are read with it.
+pub type Answer = (&'static str, &'static [&'static str]);
+
+/// Each row's lines are read with its word.
+pub fn expect_words(rt: &impl Abort, alloc: Global, rows: &[Answer]) -> Result<(), Fail> {
+    for (want, lines) in rows {
+        expect_word(rt, alloc, want, lines)?;
+    }
     Ok(())
 }

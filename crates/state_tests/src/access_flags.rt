@@ -1,5 +1,7 @@
 //! Payloads of TS packets, written by hand (ISO/IEC 13818-1, 2.4.3).
+use crate::fixtures::same;
 use std::alloc::{AllocError, Global};
+use std::process::Abort;
 use std::test::Fail;
 use ts_access::has_access;
 
@@ -7,9 +9,12 @@ use ts_access::has_access;
 // adaptation field, its flags.
 const FLAGGED: [u8; 6] = [0x47, 0x40, 0x00, 0x20, 0x01, 0x40];
 
+// A payload, and whether it has the flag.
+type Row = (&'static [(&'static [u8], usize)], bool);
+
 // Payloads, each as the first bytes of its pieces and how long they are with the zeros behind, and
 // whether one of their packets has the flag.
-const PAYLOADS: [(&[(&[u8], usize)], bool); 17] = [
+const PAYLOADS: &[Row] = &[
     (&[(&FLAGGED, 188)], true),
     // no adaptation field
     (&[(&[0x47, 0x40, 0x00, 0x10, 0x01, 0x40], 188)], false),
@@ -49,11 +54,15 @@ fn payload(alloc: Global, pieces: &[(&[u8], usize)]) -> Result<Vec<u8>, AllocErr
     Ok(bytes)
 }
 
-#[test]
-fn a_flag_in_a_whole_packet_is_found(rt: HostRuntime) -> Result<(), Fail> {
-    for (i, (pieces, want)) in PAYLOADS.iter().enumerate() {
-        let bytes = payload(rt.alloc(), pieces)?;
-        assert_eq!(rt; has_access(&bytes), *want, "payload {i}");
+fn expect(rt: &impl Abort, alloc: Global, rows: &[Row]) -> Result<(), Fail> {
+    for (pieces, want) in rows {
+        let bytes = payload(alloc, pieces)?;
+        same(rt, &has_access(&bytes), want, pieces);
     }
     Ok(())
+}
+
+#[test]
+fn a_flag_in_a_whole_packet_is_found(rt: HostRuntime) -> Result<(), Fail> {
+    expect(&rt, rt.alloc(), PAYLOADS)
 }

@@ -1,9 +1,13 @@
 //! Amounts that are reserved and spent, counted out by hand.
+use crate::fixtures::same;
 use link_budget::Budget;
+use std::process::Abort;
 
 // A share and its reserve, two amounts that are asked for in turn, whether each is reserved, and what
 // is reserved then.
-const RESERVED: [(u64, u64, [u64; 2], [bool; 2], u64); 8] = [
+type Reserved = (u64, u64, [u64; 2], [bool; 2], u64);
+
+const RESERVED: &[Reserved] = &[
     // two bursts of 4,000 bytes beside 1,500 for repairs
     (9500, 1500, [4000, 4000], [true, true], 8000),
     (9499, 1500, [4000, 4000], [true, false], 4000),
@@ -19,7 +23,9 @@ const RESERVED: [(u64, u64, [u64; 2], [bool; 2], u64); 8] = [
 
 // A share and a swell, the sizes of the packets in two ticks, what each tick has as it begins, and
 // what the second leaves.
-const TICKS: [(u64, u64, [[u64; 3]; 2], [u64; 2], u64); 5] = [
+type Ticks = (u64, u64, [[u64; 3]; 2], [u64; 2], u64);
+
+const TICKS: &[Ticks] = &[
     // nothing is sent in the first tick; the second has room for three packets, or for two
     (3100, 1400, [[0, 0, 0], [1500, 1500, 1500]], [3100, 4500], 0),
     (3100, 1399, [[0, 0, 0], [1500, 1500, 0]], [3100, 4499], 1499),
@@ -36,7 +42,9 @@ const TICKS: [(u64, u64, [[u64; 3]; 2], [u64; 2], u64); 5] = [
 ];
 
 // Of 3,100 bytes: what is spent before, what the client has left, a size, and whether it fits.
-const SPENT: [(u64, u64, u64, bool); 9] = [
+type Spent = (u64, u64, u64, bool);
+
+const SPENT: &[Spent] = &[
     (0, 1500, 1500, true),
     (0, 1499, 1500, false),
     (1500, 1600, 1600, true),
@@ -48,50 +56,91 @@ const SPENT: [(u64, u64, u64, bool); 9] = [
     (0, u64::MAX, u64::MAX, false),
 ];
 
+// The answers to two amounts, and what is reserved then; all of it can be released.
+fn reserved(share: u64, reserve: u64, amounts: &[u64; 2]) -> Option<([bool; 2], u64)> {
+    if share < reserve {
+        return None;
+    }
+    let mut budget = Budget::new(share, reserve, 0);
+    let answers = [budget.reserve(amounts[0]), budget.reserve(amounts[1])];
+    let reserved = budget.reserved();
+    budget.release(reserved);
+    (budget == Budget::new(share, reserve, 0)).then_some((answers, reserved))
+}
+
+fn expect_reserved(rt: &impl Abort, rows: &[Reserved]) {
+    for (share, reserve, amounts, answers, total) in rows {
+        let got = reserved(*share, *reserve, amounts);
+        same(rt, &got, &Some((*answers, *total)), &(amounts, share));
+    }
+}
+
 #[test]
 fn reserves_what_the_share_has_room_for(rt: HostRuntime) {
-    for (share, reserve, amounts, answers, reserved) in RESERVED {
-        assert!(rt; reserve <= share);
-        let mut budget = Budget::new(share, reserve, 0);
-        for (amount, answer) in amounts.iter().zip(answers.iter()) {
-            assert_eq!(rt; budget.reserve(*amount), *answer, "{amount} of {share}");
+    expect_reserved(&rt, RESERVED);
+}
+
+// What a tick has as it begins, where packets of these sizes are sent in it.
+fn begun(budget: &mut Budget, sizes: &[u64; 3]) -> Option<u64> {
+    budget.open_tick();
+    let left = budget.left();
+    for size in sizes {
+        if !budget.spend(1500, *size) {
+            return None;
         }
-        assert_eq!(rt; budget.reserved(), reserved, "of {share}");
-        budget.release(reserved);
-        assert_eq!(rt; budget, Budget::new(share, reserve, 0), "of {share}");
+    }
+    Some(left)
+}
+
+// What two ticks have as they begin, and what the second leaves.
+fn ticks(share: u64, swell: u64, sizes: &[[u64; 3]; 2]) -> Option<([u64; 2], u64)> {
+    if share > 5000 || swell > 5000 {
+        return None;
+    }
+    let mut budget = Budget::new(share, 0, swell);
+    let first = begun(&mut budget, &sizes[0])?;
+    let second = begun(&mut budget, &sizes[1])?;
+    Some(([first, second], budget.left()))
+}
+
+fn expect_ticks(rt: &impl Abort, rows: &[Ticks]) {
+    for (share, swell, sizes, begun, left) in rows {
+        let got = ticks(*share, *swell, sizes);
+        same(rt, &got, &Some((*begun, *left)), &(share, swell));
     }
 }
 
 #[test]
 fn keeps_up_to_the_swell(rt: HostRuntime) {
-    for (share, swell, ticks, begun, left) in TICKS {
-        assert!(rt; share <= 5000 && swell <= 5000);
-        let mut budget = Budget::new(share, 0, swell);
-        for (sizes, start) in ticks.iter().zip(begun.iter()) {
-            budget.open_tick();
-            assert_eq!(rt; budget.left(), *start, "{share} {swell}");
-            for size in sizes {
-                assert!(rt; budget.spend(1500, *size));
-            }
-        }
-        assert_eq!(rt; budget.left(), left, "{share} {swell}");
+    expect_ticks(&rt, TICKS);
+}
+
+// Whether a size fits behind what is spent before, and how much less is left then.
+fn spent(before: u64, client_left: u64, size: u64) -> Option<(bool, u64)> {
+    let mut budget = Budget::new(3100, 1500, 0);
+    budget.open_tick();
+    if !budget.spend(before, before) {
+        return None;
+    }
+    let left = budget.left();
+    let fits = budget.spend(client_left, size);
+    Some((fits, left - budget.left()))
+}
+
+fn expect_spent(rt: &impl Abort, rows: &[Spent]) {
+    for (before, client_left, size, fits) in rows {
+        let taken = if *fits { *size } else { 0 };
+        let got = spent(*before, *client_left, *size);
+        same(
+            rt,
+            &got,
+            &Some((*fits, taken)),
+            &(before, client_left, size),
+        );
     }
 }
 
 #[test]
 fn spends_within_both_bounds(rt: HostRuntime) {
-    for (before, client_left, size, want) in SPENT {
-        let mut budget = Budget::new(3100, 1500, 0);
-        budget.open_tick();
-        assert!(rt; budget.spend(before, before));
-        let left = budget.left();
-        let fits = budget.spend(client_left, size);
-        assert_eq!(rt; fits, want, "{before} {client_left} {size}");
-        let taken = if fits { size } else { 0 };
-        assert_eq!(rt;
-            left - budget.left(),
-            taken,
-            "{before} {client_left} {size}"
-        );
-    }
+    expect_spent(&rt, SPENT);
 }

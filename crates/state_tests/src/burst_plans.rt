@@ -1,11 +1,15 @@
 //! Rates, join times and stops that are worked out by hand (RFC 6285, 7).
+use crate::fixtures::same;
 use burst_plan::{
     bits_of, catching_up_ends, five_packets_in_three_ticks, join_ticks, join_times_are_kept,
     quiet_bursts_catch_up, rate_of, stop_of,
 };
+use std::process::Abort;
 
 // The bit rate of a request, the ms of a tick, the most of a client in bytes, and the rate.
-const RATES: [(Option<u64>, u32, u64, u64); 12] = [
+type Rate = (Option<u64>, u32, u64, u64);
+
+const RATES: &[Rate] = &[
     // as no bit rate is named
     (None, 10, 4000, 4000),
     // a slow client, one at the channel's rate, and one above it
@@ -25,7 +29,9 @@ const RATES: [(Option<u64>, u32, u64, u64); 12] = [
 ];
 
 // A rate in bytes, the ms of a tick, and the bit rate.
-const BIT_RATES: [(u64, u32, u64); 5] = [
+type BitRate = (u64, u32, u64);
+
+const BIT_RATES: &[BitRate] = &[
     (4000, 10, 3_200_000),
     (1599, 7, 1_827_428),
     (0, 1, 0),
@@ -34,7 +40,9 @@ const BIT_RATES: [(u64, u32, u64); 5] = [
 ];
 
 // Bytes behind, a rate, declared bytes, what a burst may keep, and the ticks until it has caught up.
-const JOINS: [(u64, u64, u64, u64, u64); 12] = [
+type Join = (u64, u64, u64, u64, u64);
+
+const JOINS: &[Join] = &[
     // one byte is gained in a tick: a slow client, and one packet per tick
     (46, 1600, 100, 0, 46),
     (3000, 1500, 0, 0, 3000),
@@ -55,7 +63,9 @@ const JOINS: [(u64, u64, u64, u64, u64); 12] = [
 ];
 
 // The first packet of a burst, the one that would be sent next, what is named, and the stop.
-const STOPS: [(u64, u64, Option<u32>, u64); 12] = [
+type Stop = (u64, u64, Option<u32>, u64);
+
+const STOPS: &[Stop] = &[
     // none is named
     (131_070, 131_074, None, 131_074),
     // of a burst whose sequence numbers go from 65534 over 65535 to 0 and on
@@ -75,16 +85,40 @@ const STOPS: [(u64, u64, Option<u32>, u64); 12] = [
     (0, u64::MAX, Some(0), u64::MAX),
 ];
 
+fn expect_rates(rt: &impl Abort, rows: &[Rate]) {
+    for (bps, tick_ms, burst, rate) in rows {
+        let got = rate_of(*bps, *tick_ms, *burst);
+        same(rt, &got, rate, &(bps, tick_ms, burst));
+    }
+}
+
+fn expect_bit_rates(rt: &impl Abort, rows: &[BitRate]) {
+    for (rate, tick_ms, bps) in rows {
+        assert!(rt; *rate <= 1_000_000_000 && *tick_ms >= 1);
+        same(rt, &bits_of(*rate, *tick_ms), bps, &(rate, tick_ms));
+    }
+}
+
+fn expect_joins(rt: &impl Abort, rows: &[Join]) {
+    for (behind, rate, declared, depth, join) in rows {
+        assert!(rt; *rate >= 1500 && *declared <= *rate - 1500);
+        let got = join_ticks(*behind, *rate, *declared, *depth);
+        same(rt, &got, join, &(behind, rate, declared, depth));
+    }
+}
+
+fn expect_stops(rt: &impl Abort, rows: &[Stop]) {
+    for (first, next, named, stop) in rows {
+        assert!(rt; *first < 1 << 63);
+        let got = stop_of(*first, *next, *named);
+        same(rt, &got, stop, &(first, next, named));
+    }
+}
+
 #[test]
 fn rates(rt: HostRuntime) {
-    for (bps, tick_ms, burst, rate) in RATES {
-        let got = rate_of(bps, tick_ms, burst);
-        assert_eq!(rt; got, rate, "{bps:?} {tick_ms} {burst}");
-    }
-    for (rate, tick_ms, bps) in BIT_RATES {
-        assert!(rt; rate <= 1_000_000_000 && tick_ms >= 1);
-        assert_eq!(rt; bits_of(rate, tick_ms), bps, "{rate} {tick_ms}");
-    }
+    expect_rates(&rt, RATES);
+    expect_bit_rates(&rt, BIT_RATES);
 }
 
 #[test]
@@ -93,18 +127,10 @@ fn join_times(rt: HostRuntime) {
     catching_up_ends();
     quiet_bursts_catch_up();
     five_packets_in_three_ticks();
-    for (behind, rate, declared, depth, join) in JOINS {
-        assert!(rt; rate >= 1500 && declared <= rate - 1500);
-        let got = join_ticks(behind, rate, declared, depth);
-        assert_eq!(rt; got, join, "{behind} {rate} {declared} {depth}");
-    }
+    expect_joins(&rt, JOINS);
 }
 
 #[test]
 fn stops(rt: HostRuntime) {
-    for (first, next, named, stop) in STOPS {
-        assert!(rt; first < 1 << 63);
-        let got = stop_of(first, next, named);
-        assert_eq!(rt; got, stop, "{first} {next} {named:?}");
-    }
+    expect_stops(&rt, STOPS);
 }

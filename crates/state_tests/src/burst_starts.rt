@@ -1,4 +1,5 @@
 //! Choices among packets that are worked out by hand.
+use crate::fixtures::same;
 use access_index::{Choice, Index};
 use std::alloc::Global;
 use std::process::Abort;
@@ -38,7 +39,9 @@ const WRAPPED: &[Packet] = &[(4294967295, 10, true), (89, 10, false)];
 const AHEAD: &[Packet] = &[(18090, 10, true), (18000, 10, false)];
 
 // Packets from number 1000 on, what is asked for, and where a burst begins.
-const CHOICES: [(&[Packet], Ask, Want); 24] = [
+type Start = (&'static [Packet], Ask, Want);
+
+const CHOICES: &[Start] = &[
     (FIRST, (600, 0, 0, None), Ok((1000, 600))),
     (FIRST, (599, 0, 0, None), Err(Choice::NoStart)),
     (FIRST, (650, 50, 0, None), Ok((1000, 600))),
@@ -81,7 +84,9 @@ const MARKS: &[Packet] = &[
 ];
 
 // The number below which marks go, the least age, and where a burst begins then.
-const LEFT: [(u64, u32, Want); 6] = [
+type Left = (u64, u32, Want);
+
+const LEFT: &[Left] = &[
     (0, 3, Ok((1000, 1111))),
     (1001, 3, Err(Choice::MinUnmet)),
     (1001, 2, Ok((1001, 1110))),
@@ -110,28 +115,33 @@ fn index_of(rt: &impl Abort, alloc: Global, packets: &[Packet]) -> Result<Index,
     Ok(index)
 }
 
+fn expect_starts(rt: &impl Abort, alloc: Global, rows: &[Start]) -> Result<(), Fail> {
+    for (packets, ask, want) in rows {
+        let (room, declared, min_ms, max_ms) = *ask;
+        assert!(rt; declared <= 1000000000);
+        let index = index_of(rt, alloc, packets)?;
+        let choice = index.choose(room, declared, min_ms, max_ms);
+        same(rt, &choice, &choice_of(*want), ask);
+    }
+    Ok(())
+}
+
 #[test]
 fn the_newest_that_fits_is_chosen(rt: HostRuntime) -> Result<(), Fail> {
-    for (packets, (room, declared, min_ms, max_ms), want) in CHOICES {
-        assert!(rt; declared <= 1000000000);
-        let index = index_of(&rt, rt.alloc(), packets)?;
-        let choice = index.choose(room, declared, min_ms, max_ms);
-        assert_eq!(rt;
-            choice,
-            choice_of(want),
-            "{room} {declared} {min_ms} {max_ms:?}"
-        );
+    expect_starts(&rt, rt.alloc(), CHOICES)
+}
+
+fn expect_left(rt: &impl Abort, alloc: Global, rows: &[Left]) -> Result<(), Fail> {
+    for (lo, min_ms, want) in rows {
+        let mut index = index_of(rt, alloc, MARKS)?;
+        index.drop_below(*lo);
+        let choice = index.choose(10000, 0, *min_ms, None);
+        same(rt, &choice, &choice_of(*want), &(min_ms, lo));
     }
     Ok(())
 }
 
 #[test]
 fn marks_go(rt: HostRuntime) -> Result<(), Fail> {
-    for (lo, min_ms, want) in LEFT {
-        let mut index = index_of(&rt, rt.alloc(), MARKS)?;
-        index.drop_below(lo);
-        let choice = index.choose(10000, 0, min_ms, None);
-        assert_eq!(rt; choice, choice_of(want), "{min_ms} from {lo}");
-    }
-    Ok(())
+    expect_left(&rt, rt.alloc(), LEFT)
 }

@@ -1,14 +1,19 @@
 //! Tables whose clients and entries are told by hand.
+use crate::fixtures::same;
 use client_table::{AdmitFault, Burst, Entry, Table};
 use std::alloc::Global;
 use std::process::Abort;
 use std::test::Fail;
 
 // Most clients of a table, and those that fill it.
-const FULL: [(u32, &[u32]); 3] = [(0, &[]), (1, &[5]), (3, &[2, 5, 9])];
+type Full = (u32, &'static [u32]);
+
+const FULL: &[Full] = &[(0, &[]), (1, &[5]), (3, &[2, 5, 9])];
 
 // Known clients in the order in which they came, a client, and the least that is above it.
-const NEXT: [(&[u32], Option<u64>, Option<u64>); 8] = [
+type Next = (&'static [u32], Option<u64>, Option<u64>);
+
+const NEXT: &[Next] = &[
     (&[], None, None),
     (&[], Some(0), None),
     (&[7], Some(6), Some(7)),
@@ -30,7 +35,7 @@ const BURST: Burst = Burst {
 
 // A client that isn't known asks to become known, with its own number as its SSRC.
 fn admit(rt: &impl Abort, alloc: Global, table: &mut Table, client: u32) -> Result<(), AdmitFault> {
-    assert!(rt; table.find(u64::from(client)).is_none(), "{client}");
+    assert!(rt; table.find(u64::from(client)).is_none());
     table.admit(alloc, u64::from(client), client, 500)
 }
 
@@ -38,7 +43,7 @@ fn admit(rt: &impl Abort, alloc: Global, table: &mut Table, client: u32) -> Resu
 fn table_of(rt: &impl Abort, alloc: Global, most: u32, clients: &[u32]) -> Result<Table, Fail> {
     let mut table = Table::new(alloc, most)?;
     for client in clients {
-        assert_eq!(rt; admit(rt, alloc, &mut table, *client), Ok(()), "{client}");
+        same(rt, &admit(rt, alloc, &mut table, *client), &Ok(()), client);
     }
     Ok(table)
 }
@@ -53,75 +58,135 @@ fn admitted(ssrc: u32) -> Entry {
     }
 }
 
+// Known are these clients, as they were admitted.
+fn expect_known(rt: &impl Abort, table: &Table, clients: &[u32]) {
+    for (expected, (client, entry)) in clients.iter().zip(table.iter()) {
+        same(
+            rt,
+            &(client, *entry),
+            &(u64::from(*expected), admitted(*expected)),
+            expected,
+        );
+    }
+}
+
+// Each client leaves, once, and becomes known again.
+fn expect_leave(rt: &impl Abort, alloc: Global, table: &mut Table, clients: &[u32]) {
+    for client in clients {
+        let left = (
+            table.remove(u64::from(*client)),
+            table.remove(u64::from(*client)),
+        );
+        same(rt, &left, &(Some(admitted(*client)), None), client);
+        same(rt, &admit(rt, alloc, table, *client), &Ok(()), client);
+    }
+}
+
 // A full table takes no more: the one that came too late changes nothing, and comes in after another
 // one left.
+fn expect_full(rt: &impl Abort, alloc: Global, rows: &[Full]) -> Result<(), Fail> {
+    for (most, known) in rows {
+        let mut table = table_of(rt, alloc, *most, known)?;
+        let refused = admit(rt, alloc, &mut table, 6);
+        same(
+            rt,
+            &(refused, table.count()),
+            &(Err(AdmitFault::Full), *most),
+            most,
+        );
+        expect_known(rt, &table, known);
+        expect_leave(rt, alloc, &mut table, known);
+    }
+    Ok(())
+}
+
 #[test]
 fn full_tables(rt: HostRuntime) -> Result<(), Fail> {
-    for (most, known) in FULL {
-        let mut table = table_of(&rt, rt.alloc(), most, known)?;
-        let refused = admit(&rt, rt.alloc(), &mut table, 6);
-        assert_eq!(rt; refused, Err(AdmitFault::Full), "{most}");
-        assert_eq!(rt; table.count(), most);
-        for (expected, (client, entry)) in known.iter().zip(table.iter()) {
-            assert_eq!(rt; client, u64::from(*expected));
-            assert_eq!(rt; *entry, admitted(*expected));
-        }
-        for client in known {
-            assert_eq!(rt; table.remove(u64::from(*client)), Some(admitted(*client)));
-            assert_eq!(rt; table.remove(u64::from(*client)), None);
-            assert_eq!(rt; admit(&rt, rt.alloc(), &mut table, *client), Ok(()));
-        }
+    expect_full(&rt, rt.alloc(), FULL)
+}
+
+fn expect_next(rt: &impl Abort, alloc: Global, rows: &[Next]) -> Result<(), Fail> {
+    for (clients, from, next) in rows {
+        let table = table_of(rt, alloc, 4, clients)?;
+        same(rt, &table.next_after(*from), next, &(clients, from));
     }
     Ok(())
 }
 
 #[test]
 fn next_clients(rt: HostRuntime) -> Result<(), Fail> {
-    for (clients, from, next) in NEXT {
-        let table = table_of(&rt, rt.alloc(), 4, clients)?;
-        assert_eq!(rt; table.next_after(from), next, "{clients:?} from {from:?}");
+    expect_next(&rt, rt.alloc(), NEXT)
+}
+
+const CLIENTS: [u32; 3] = [2, 5, 9];
+
+// The entry of a client, where this one's was written to.
+fn entry_of(client: u32, written: u32) -> Entry {
+    let mut entry = admitted(client);
+    if client == written {
+        entry.idle = 7;
+        entry.burst = Some(BURST);
     }
-    Ok(())
+    entry
+}
+
+// A table of the clients, where one's entry was written to.
+fn written_table(rt: &impl Abort, alloc: Global, written: u32) -> Result<Table, Fail> {
+    let mut table = table_of(rt, alloc, 3, &[9, 2, 5])?;
+    if let Some(entry) = table.find_mut(u64::from(written)) {
+        entry.idle = 7;
+        entry.burst = Some(BURST);
+    }
+    Ok(table)
+}
+
+fn expect_written(rt: &impl Abort, table: &Table, written: u32) {
+    for client in CLIENTS {
+        let entry = table.find(u64::from(client)).copied();
+        same(
+            rt,
+            &entry,
+            &Some(entry_of(client, written)),
+            &(client, written),
+        );
+    }
 }
 
 // What is written to one client's entry stands there, and nowhere else.
 #[test]
 fn written_entries(rt: HostRuntime) -> Result<(), Fail> {
-    for written in [2u32, 5, 9] {
-        let mut table = table_of(&rt, rt.alloc(), 3, &[9, 2, 5])?;
-        if let Some(entry) = table.find_mut(u64::from(written)) {
-            entry.idle = 7;
-            entry.burst = Some(BURST);
-        }
-        for client in [2u32, 5, 9] {
-            let mut expected = admitted(client);
-            if client == written {
-                expected.idle = 7;
-                expected.burst = Some(BURST);
-            }
-            assert_eq!(rt; table.find(u64::from(client)).copied(), Some(expected));
-        }
+    for written in CLIENTS {
+        let table = written_table(&rt, rt.alloc(), written)?;
+        expect_written(&rt, &table, written);
     }
     Ok(())
+}
+
+// Each entry's change, by its own client and by what it was.
+fn changed(client: u64, entry: Entry) -> Entry {
+    let mut changed = entry;
+    changed.seq = entry.seq.wrapping_add(1);
+    changed.idle = if client == 5 { 7 } else { entry.idle };
+    changed
+}
+
+// An entry that was changed once.
+fn changed_entry(client: u32, idle: u32) -> Entry {
+    let mut entry = admitted(client);
+    entry.seq = 501;
+    entry.idle = idle;
+    entry
 }
 
 // Each entry is changed once, by its own client and by what it was.
 #[test]
 fn changed_entries(rt: HostRuntime) -> Result<(), Fail> {
     let mut table = table_of(&rt, rt.alloc(), 3, &[9, 2, 5])?;
-    table.change_all(|client, entry| Entry {
-        seq: entry.seq.wrapping_add(1),
-        idle: if client == 5 { 7 } else { entry.idle },
-        ..entry
-    });
+    table.change_all(changed);
     for (client, idle) in [(2u32, 0), (5, 7), (9, 0)] {
-        let expected = Entry {
-            seq: 501,
-            idle,
-            ..admitted(client)
-        };
-        assert_eq!(rt; table.find(u64::from(client)).copied(), Some(expected));
+        let entry = table.find(u64::from(client)).copied();
+        same(&rt, &entry, &Some(changed_entry(client, idle)), &client);
     }
-    assert_eq!(rt; table.count(), 3);
+    same(&rt, &table.count(), &3, &"count");
     Ok(())
 }

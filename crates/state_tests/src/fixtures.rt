@@ -1,6 +1,18 @@
-//! The channel and the packets of the tests.
+//! What is compared, and the channel and the packets of the tests.
 use channel_config::{Access, Channel};
 use std::alloc::{AllocError, Global};
+use std::fmt::Debug;
+use std::process::Abort;
+
+/// The value is the one that is wanted of this.
+pub fn same<T: Debug + PartialEq, C: Debug>(rt: &impl Abort, got: &T, want: &T, of: &C) {
+    assert_eq!(rt; *got, *want, "{of:?}");
+}
+
+/// It holds of this.
+pub fn holds<C: Debug>(rt: &impl Abort, is_so: bool, of: &C) {
+    assert!(rt; is_so, "{of:?}");
+}
 
 /// The settings of channel 7: 64 packets are held, and none is waited for.
 pub const CHANNEL: Channel = Channel {

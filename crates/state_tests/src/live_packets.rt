@@ -1,14 +1,14 @@
 //! Live packets and what is held of them, by hand.
 ghost use Rattle.std.specs.Prelude.{◌≡◌, ◌+◌, ◌<◌, ◌≤◌, IfOk, length};
 
-use crate::fixtures::{CHANNEL, packet};
+use crate::fixtures::{CHANNEL, holds, packet, same};
 use channel_cache::LiveNote::{
     Bad, ForeignSsrc, ForeignType, Jump, Late, Restart, TooBig, Took, Twice,
 };
 use channel_cache::{Cache, Choice, Config, LiveNote};
 use channel_config::{Access, Channel};
 use rams_model::RtpFault::{Short, Version};
-use std::alloc::Global;
+use std::alloc::{AllocError, Global};
 use std::process::Abort;
 use std::test::Fail;
 
@@ -17,7 +17,9 @@ use std::test::Fail;
 type Step = (u16, LiveNote, u64, u64);
 
 // Most places by which a packet may come late, most packets held, and what comes.
-const ROWS: [(u32, u32, &[Step]); 5] = [
+type Row = (u32, u32, &'static [Step]);
+
+const ROWS: &[Row] = &[
     // some come out of order, one too late
     (
         2,
@@ -82,7 +84,9 @@ const ROWS: [(u32, u32, &[Step]); 5] = [
 ];
 
 // A packet: its sequence number, how many bytes of payload, another byte at a place, and its note.
-const NOTED: [(u16, usize, (usize, u8), LiveNote); 9] = [
+type Noted = (u16, usize, (usize, u8), LiveNote);
+
+const NOTED: &[Noted] = &[
     (1, 1459, (0, 0x80), TooBig),
     (10, 4, (0, 0x80), Took(65546)),
     (12, 4, (0, 0x80), Took(65548)),
@@ -137,7 +141,7 @@ fn expect_note(
     ensures { cache.new.calls ≤ cache.old.calls + 1 }
 {
     let note = cache.live(alloc, bytes)?;
-    assert_eq!(rt; note, want, "{bytes:?}");
+    same(rt, &note, &want, &bytes);
     Ok(())
 }
 
@@ -154,56 +158,134 @@ fn expect_steps(
     for (sequence, note, lo, hi) in steps {
         let bytes = packet(alloc, *sequence, 0, false, &[0; 4])?;
         expect_note(rt, alloc, cache, &bytes, *note)?;
-        assert_eq!(rt; (cache.lo(), cache.hi()), (*lo, *hi), "after {sequence}");
+        same(rt, &(cache.lo(), cache.hi()), &(*lo, *hi), sequence);
+    }
+    Ok(())
+}
+
+// The settings of the channel, with another window and another ring.
+fn settings(window: u32, ring: u32) -> Channel {
+    let mut channel = CHANNEL;
+    channel.window = window;
+    channel.ring = ring;
+    channel
+}
+
+fn expect_rows(rt: &impl Abort, alloc: Global, rows: &[Row]) -> Result<(), Fail> {
+    for (window, ring, steps) in rows {
+        assert!(rt; steps.len() < 1000);
+        let mut cache = cache_of(rt, alloc, settings(*window, *ring))?;
+        expect_steps(rt, alloc, &mut cache, steps)?;
     }
     Ok(())
 }
 
 #[test]
 fn packets_are_held_in_order(rt: HostRuntime) -> Result<(), Fail> {
-    for (window, ring, steps) in ROWS {
-        assert!(rt; steps.len() < 1000);
-        let channel = Channel {
-            window,
-            ring,
-            ..CHANNEL
-        };
-        let mut cache = cache_of(&rt, rt.alloc(), channel)?;
-        expect_steps(&rt, rt.alloc(), &mut cache, steps)?;
+    expect_rows(&rt, rt.alloc(), ROWS)
+}
+
+// A packet of so many zeros, with another byte at a place.
+fn changed_packet(
+    rt: &impl Abort,
+    alloc: Global,
+    sequence: u16,
+    len: usize,
+    change: (usize, u8),
+) -> Result<Vec<u8>, Fail> {
+    let zeros = vec![in alloc; 0u8; len]?;
+    let mut bytes = packet(alloc, sequence, 0, false, &zeros)?;
+    let (place, byte) = change;
+    assert!(rt; place < bytes.len());
+    bytes[place] = byte;
+    Ok(bytes)
+}
+
+// Takes packets, and compares the note of each.
+fn expect_noted(
+    rt: &impl Abort,
+    alloc: Global,
+    cache: &mut Cache,
+    rows: &[Noted],
+) -> Result<(), Fail>
+    requires { cache.old.calls + length rows.now < 1000 }
+{
+    for (sequence, len, change, want) in rows {
+        let bytes = changed_packet(rt, alloc, *sequence, *len, *change)?;
+        expect_note(rt, alloc, cache, &bytes, *want)?;
     }
     Ok(())
 }
 
 #[test]
 fn each_live_packet_has_its_note(rt: HostRuntime) -> Result<(), Fail> {
-    let channel = Channel {
-        window: 2,
-        ..CHANNEL
-    };
-    let mut cache = cache_of(&rt, rt.alloc(), channel)?;
+    let mut cache = cache_of(&rt, rt.alloc(), settings(2, 64))?;
     expect_note(&rt, rt.alloc(), &mut cache, &[], Bad(Short))?;
     expect_note(&rt, rt.alloc(), &mut cache, &[0x40], Bad(Short))?;
-    let zeros = [0; 1459];
-    for (sequence, len, (place, byte), want) in NOTED {
-        assert!(rt; len <= zeros.len());
-        let mut bytes = packet(rt.alloc(), sequence, 0, false, &zeros[..len])?;
-        assert!(rt; place < bytes.len());
-        bytes[place] = byte;
-        expect_note(&rt, rt.alloc(), &mut cache, &bytes, want)?;
-    }
-    assert_eq!(rt; (cache.lo(), cache.hi()), (65546, 65549));
+    expect_noted(&rt, rt.alloc(), &mut cache, NOTED)?;
+    same(
+        &rt,
+        &(cache.lo(), cache.hi()),
+        &(65546, 65549),
+        &"lo and hi",
+    );
     Ok(())
+}
+
+// What is held under a number: its number, its timestamp, its bytes on the wire, whether it is an access
+// point, and its packet.
+fn expect_held(rt: &impl Abort, cache: &Cache, n: u64, want: (u64, u32, u32, bool), packet: &[u8]) {
+    let held = cache.held(n).expect(rt, "the packet");
+    same(rt, &(held.n, held.ts, held.wire, held.access), &want, &n);
+    same(rt, &held.packet.as_slice(), &packet, &n);
 }
 
 #[test]
 fn padding_is_not_held(rt: HostRuntime) -> Result<(), Fail> {
     let mut cache = cache_of(&rt, rt.alloc(), CHANNEL)?;
     expect_note(&rt, rt.alloc(), &mut cache, &PADDED, Took(65546))?;
-    let held = cache.held(65546).expect(&rt, "the packet");
-    assert_eq!(rt; held.packet.as_slice(), BARE.as_slice());
-    let shown = (held.n, held.ts, held.wire, held.access);
-    assert_eq!(rt; shown, (65546, 0, 60, true));
-    assert!(rt; cache.held(65545).is_none() && cache.held(65547).is_none());
+    expect_held(&rt, &cache, 65546, (65546, 0, 60, true), &BARE);
+    holds(
+        &rt,
+        cache.held(65545).is_none() && cache.held(65547).is_none(),
+        &"around",
+    );
+    Ok(())
+}
+
+const START: Choice = Choice::Start {
+    n: 65546,
+    behind: 230,
+};
+
+// What access points are, whether a packet has the marker, the flags of its TS packet, most packets held,
+// and where a burst begins.
+type Begun = (Access, bool, u8, u32, Choice);
+
+const BEGUN: &[Begun] = &[
+    (Access::Ts, false, 0x40, 8, START),
+    (Access::Ts, true, 0x00, 8, Choice::NoStart),
+    (Access::Marker, false, 0x40, 8, Choice::NoStart),
+    (Access::Marker, true, 0x00, 8, START),
+    (Access::Marker, true, 0x00, 7, Choice::NoStart),
+];
+
+// A packet with a TS packet that has these flags.
+fn flagged(alloc: Global, marker: bool, flags: u8) -> Result<Vec<u8>, AllocError> {
+    let mut payload = [0; 188];
+    payload[..6].copy_from_slice(&[0x47, 0x40, 0x00, 0x20, 0x01, flags]);
+    packet(alloc, 10, 0, marker, &payload)
+}
+
+fn expect_begun(rt: &impl Abort, alloc: Global, rows: &[Begun]) -> Result<(), Fail> {
+    for (access, marker, flags, ring, want) in rows {
+        let mut channel = settings(0, *ring);
+        channel.access = *access;
+        let mut cache = cache_of(rt, alloc, channel)?;
+        let bytes = flagged(alloc, *marker, *flags)?;
+        expect_note(rt, alloc, &mut cache, &bytes, Took(65546))?;
+        same(rt, &cache.choose(0, None), want, &(access, flags, ring));
+    }
     Ok(())
 }
 
@@ -211,28 +293,5 @@ fn padding_is_not_held(rt: HostRuntime) -> Result<(), Fail> {
 // says. A burst begins at one whose bytes surely stay in the ring.
 #[test]
 fn a_burst_begins_at_an_access_point(rt: HostRuntime) -> Result<(), Fail> {
-    let start = Choice::Start {
-        n: 65546,
-        behind: 230,
-    };
-    for (access, marker, flags, ring, want) in [
-        (Access::Ts, false, 0x40, 8, start),
-        (Access::Ts, true, 0x00, 8, Choice::NoStart),
-        (Access::Marker, false, 0x40, 8, Choice::NoStart),
-        (Access::Marker, true, 0x00, 8, start),
-        (Access::Marker, true, 0x00, 7, Choice::NoStart),
-    ] {
-        let channel = Channel {
-            access,
-            ring,
-            ..CHANNEL
-        };
-        let mut cache = cache_of(&rt, rt.alloc(), channel)?;
-        let mut payload = [0; 188];
-        payload[..6].copy_from_slice(&[0x47, 0x40, 0x00, 0x20, 0x01, flags]);
-        let bytes = packet(rt.alloc(), 10, 0, marker, &payload)?;
-        expect_note(&rt, rt.alloc(), &mut cache, &bytes, Took(65546))?;
-        assert_eq!(rt; cache.choose(0, None), want, "{access:?} {flags} {ring}");
-    }
-    Ok(())
+    expect_begun(&rt, rt.alloc(), BEGUN)
 }

@@ -2,15 +2,20 @@
 ghost use Rattle.std.specs.Prelude.{◌≡◌, ◌<◌, ◌^◌, [], None, true, false, OnOk};
 ghost use Rattle.reorder_window.specs.{first_free};
 
+use crate::fixtures::same;
 use reorder_window::{Came, Window};
-use std::alloc::AllocError;
+use std::alloc::{AllocError, Global};
+use std::process::Abort;
 use std::test::Fail;
 
 // How far a window waits, and the numbers that come after its start at 65,546: each with what becomes
 // of it, and the numbers that go out then.
-type Row = (u32, &'static [(u64, Came, &'static [u64])]);
+type Row = (u32, &'static [Step]);
 
-const ROWS: [Row; 5] = [
+// A number, what becomes of it, and the numbers that go out then.
+type Step = (u64, Came, &'static [u64]);
+
+const ROWS: &[Row] = &[
     // one comes late
     (
         2,
@@ -100,43 +105,66 @@ fn pass(window: &mut Window<u64>, n: u64, out: &mut Vec<(u64, u64)>) -> Result<C
     Ok(came)
 }
 
-#[test]
-fn items_go_out_in_order(rt: HostRuntime) -> Result<(), Fail> {
-    for (width, steps) in ROWS {
-        let mut window = Window::new(rt.alloc(), width)?;
+// Items that are ten times their numbers.
+fn items(alloc: Global, numbers: &[u64]) -> Result<Vec<(u64, u64)>, AllocError> {
+    let mut items = Vec::new(alloc);
+    for n in numbers {
+        items.push((*n, n.wrapping_mul(10)))?;
+    }
+    Ok(items)
+}
+
+// Lets items arrive, and compares what becomes of each and what goes out.
+fn expect_steps(
+    rt: &impl Abort,
+    alloc: Global,
+    window: &mut Window<u64>,
+    steps: &[Step],
+) -> Result<(), Fail>
+    requires going { window.old.ended ≡ false }
+    requires settled { first_free window.old ≡ None }
+{
+    for (n, want, released) in steps {
+        assert!(rt; *n < 200000);
+        let mut out = Vec::new(alloc);
+        let came = pass(window, *n, &mut out)?;
+        same(rt, &(came, out), &(*want, items(alloc, released)?), n);
+    }
+    Ok(())
+}
+
+fn expect(rt: &impl Abort, alloc: Global, rows: &[Row]) -> Result<(), Fail> {
+    for (width, steps) in rows {
+        let mut window = Window::new(alloc, *width)?;
         window.begin(65546);
-        for (n, want, released) in steps {
-            let mut out = Vec::new(rt.alloc());
-            assert!(rt; *n < 200000);
-            let came = pass(&mut window, *n, &mut out)?;
-            assert_eq!(rt; came, *want, "{n} in {width}");
-            assert_eq!(rt; out.len(), released.len(), "{n} in {width}");
-            for (item, number) in out.iter().zip(released.iter()) {
-                assert_eq!(rt; *item, (*number, number.wrapping_mul(10)), "{n} in {width}");
-            }
-        }
+        expect_steps(rt, alloc, &mut window, steps)?;
     }
     Ok(())
 }
 
 #[test]
+fn items_go_out_in_order(rt: HostRuntime) -> Result<(), Fail> {
+    expect(&rt, rt.alloc(), ROWS)
+}
+
+// Numbers that come before a start ends, and after the next has begun at 85,547.
+const BEFORE: &[Step] = &[
+    (65546, Came::Kept, &[65546]),
+    (65549, Came::Kept, &[]),
+    (65551, Came::Kept, &[]),
+];
+
+const AFTER: &[Step] = &[(85547, Came::Kept, &[85547]), (65552, Came::Late, &[])];
+
+#[test]
 fn the_end_of_a_start_lets_all_go(rt: HostRuntime) -> Result<(), Fail> {
     let mut window = Window::new(rt.alloc(), 5)?;
-    let mut out = Vec::new(rt.alloc());
     window.begin(65546);
-    for n in [65546, 65549, 65551] {
-        let _ = pass(&mut window, n, &mut out)?;
-    }
-    out.clear();
+    expect_steps(&rt, rt.alloc(), &mut window, BEFORE)?;
     window.end_start();
+    let mut out = Vec::new(rt.alloc());
     drain(&mut window, &mut out)?;
-    assert_eq!(rt;
-        out.as_slice(),
-        [(65549, 655490), (65551, 655510)].as_slice()
-    );
+    same(&rt, &out, &items(rt.alloc(), &[65549, 65551])?, &"the end");
     window.begin(85547);
-    assert_eq!(rt; pass(&mut window, 85547, &mut out)?, Came::Kept);
-    assert_eq!(rt; pass(&mut window, 65552, &mut out)?, Came::Late);
-    assert_eq!(rt; out.last(), Some(&(85547, 855470)));
-    Ok(())
+    expect_steps(&rt, rt.alloc(), &mut window, AFTER)
 }

@@ -1,4 +1,5 @@
 //! Packets under rising numbers, and those of them that are held.
+use crate::fixtures::{holds, same};
 use bytes::Bytes;
 use packet_ring::{Held, Ring};
 use std::alloc::{AllocError, Global};
@@ -6,7 +7,9 @@ use std::process::Abort;
 use std::test::Fail;
 
 // So many packets at most, the numbers that are put in, and the interval that is held then.
-const ROWS: [(u32, &[u64], u64, u64); 10] = [
+type Row = (u32, &'static [u64], u64, u64);
+
+const ROWS: &[Row] = &[
     (4, &[], 0, 0),
     (1, &[65546, 65547, 65548], 65548, 65549),
     (1, &[65546, 65547, 65550], 65550, 65551),
@@ -33,29 +36,44 @@ fn packet(alloc: Global, n: u64) -> Result<Held, AllocError> {
     })
 }
 
-// The numbers from `lo` up to `hi` are held, each with its own packet, and none around them is.
+// A ring of so many packets at most, into which the packets of these numbers were put.
+fn ring_of(rt: &impl Abort, alloc: Global, capacity: u32, numbers: &[u64]) -> Result<Ring, Fail> {
+    assert!(rt; capacity >= 1);
+    let mut ring = Ring::new(alloc, capacity)?;
+    for n in numbers {
+        let held = packet(alloc, *n)?;
+        assert!(rt; ring.hi() <= held.n && held.n < 1 << 62);
+        ring.push(held);
+    }
+    Ok(ring)
+}
+
+// The numbers from `lo` up to `hi` are held, each with its own packet.
 fn expect_held(rt: &impl Abort, ring: &Ring, lo: u64, hi: u64) {
-    assert_eq!(rt; (ring.lo(), ring.hi()), (lo, hi));
+    same(rt, &(ring.lo(), ring.hi()), &(lo, hi), &"lo and hi");
     for n in lo..hi {
         let held = ring.get(n).expect(rt, "a packet within");
-        assert_eq!(rt; held.packet.as_slice(), n.to_be_bytes().as_slice(), "{n}");
+        same(rt, &held.packet.as_slice(), &n.to_be_bytes().as_slice(), &n);
     }
+}
+
+// None around them is held.
+fn expect_none(rt: &impl Abort, ring: &Ring, lo: u64, hi: u64) {
     for n in [0, lo.wrapping_sub(1), hi, hi.wrapping_add(1), u64::MAX] {
-        assert!(rt; ring.get(n).is_none(), "{n} of {lo} to {hi}");
+        holds(rt, ring.get(n).is_none(), &(n, lo, hi));
     }
+}
+
+fn expect(rt: &impl Abort, alloc: Global, rows: &[Row]) -> Result<(), Fail> {
+    for (capacity, numbers, lo, hi) in rows {
+        let ring = ring_of(rt, alloc, *capacity, numbers)?;
+        expect_held(rt, &ring, *lo, *hi);
+        expect_none(rt, &ring, *lo, *hi);
+    }
+    Ok(())
 }
 
 #[test]
 fn the_last_packets_are_held(rt: HostRuntime) -> Result<(), Fail> {
-    for (capacity, numbers, lo, hi) in ROWS {
-        assert!(rt; capacity >= 1);
-        let mut ring = Ring::new(rt.alloc(), capacity)?;
-        for n in numbers {
-            let held = packet(rt.alloc(), *n)?;
-            assert!(rt; ring.hi() <= held.n && held.n < 1 << 62, "{n}");
-            ring.push(held);
-        }
-        expect_held(&rt, &ring, lo, hi);
-    }
-    Ok(())
+    expect(&rt, rt.alloc(), ROWS)
 }

@@ -1,8 +1,12 @@
 //! Sequence numbers as the channel meets them (RFC 3550, A.1), and numbers named by 16 bits.
+use crate::fixtures::same;
 use ext_seq::{Noted, Numbering, age_ms, least_from, resolve_in};
+use std::process::Abort;
 
 // Lists of sequence numbers, each with what it becomes. A list goes to a numbering of its own.
-const LISTS: [&[(u16, Noted)]; 5] = [
+type List = &'static [(u16, Noted)];
+
+const LISTS: &[List] = &[
     // around the wrap, then a restart
     &[
         (65535, Noted::First(131071)),
@@ -41,7 +45,9 @@ const LISTS: [&[(u16, Noted)]; 5] = [
 ];
 
 // An interval of numbers, 16 bits, and the number in it that they name.
-const RESOLVED: [(u64, u64, u16, Option<u64>); 8] = [
+type Resolved = (u64, u64, u16, Option<u64>);
+
+const RESOLVED: &[Resolved] = &[
     (65546, 65546, 10, None),
     (65546, 65547, 10, Some(65546)),
     (65546, 65547, 11, None),
@@ -55,7 +61,9 @@ const RESOLVED: [(u64, u64, u16, Option<u64>); 8] = [
 ];
 
 // A number, 16 bits, and the least number from there on that they name.
-const LEAST: [(u64, u16, u64); 4] = [
+type Least = (u64, u16, u64);
+
+const LEAST: &[Least] = &[
     (65546, 10, 65546),
     (65546, 9, 131081),
     (131071, 0, 131072),
@@ -63,7 +71,9 @@ const LEAST: [(u64, u16, u64); 4] = [
 ];
 
 // Two timestamps, and by how many ms the second is older.
-const AGES: [(u32, u32, u32); 5] = [
+type Age = (u32, u32, u32);
+
+const AGES: &[Age] = &[
     (18000, 0, 200),
     (18089, 0, 200),
     (90, 90, 0),
@@ -71,26 +81,50 @@ const AGES: [(u32, u32, u32); 5] = [
     (0, 90, 47721857),
 ];
 
-#[test]
-fn sequence_numbers_are_extended(rt: HostRuntime) {
-    for list in LISTS {
-        assert!(rt; list.len() < 100);
-        let mut numbering = Numbering::new();
-        for (seq, want) in list {
-            assert_eq!(rt; numbering.note(*seq), *want, "{seq}");
-        }
+// One list, to a numbering of its own.
+fn expect_list(rt: &impl Abort, list: &[(u16, Noted)]) {
+    assert!(rt; list.len() < 100);
+    let mut numbering = Numbering::new();
+    for (seq, want) in list {
+        same(rt, &numbering.note(*seq), want, seq);
+    }
+}
+
+fn expect_lists(rt: &impl Abort, lists: &[List]) {
+    for list in lists {
+        expect_list(rt, list);
+    }
+}
+
+fn expect_resolved(rt: &impl Abort, rows: &[Resolved]) {
+    for (lo, hi, low, want) in rows {
+        assert!(rt; *lo <= *hi && *hi - *lo <= 65536);
+        let got = resolve_in(*lo, *hi, *low);
+        same(rt, &got, want, &(low, lo, hi));
+    }
+}
+
+fn expect_least(rt: &impl Abort, rows: &[Least]) {
+    for (first, low, want) in rows {
+        assert!(rt; *first < 1 << 63);
+        same(rt, &least_from(*first, *low), want, &(low, first));
+    }
+}
+
+fn expect_ages(rt: &impl Abort, rows: &[Age]) {
+    for (newer, older, want) in rows {
+        same(rt, &age_ms(*newer, *older), want, &(older, newer));
     }
 }
 
 #[test]
+fn sequence_numbers_are_extended(rt: HostRuntime) {
+    expect_lists(&rt, LISTS);
+}
+
+#[test]
 fn numbers_are_found_and_ages_go_around(rt: HostRuntime) {
-    for (lo, hi, low, want) in RESOLVED {
-        assert_eq!(rt; resolve_in(lo, hi, low), want, "{low} in {lo} to {hi}");
-    }
-    for (first, low, want) in LEAST {
-        assert_eq!(rt; least_from(first, low), want, "{low} from {first}");
-    }
-    for (newer, older, want) in AGES {
-        assert_eq!(rt; age_ms(newer, older), want, "{older} before {newer}");
-    }
+    expect_resolved(&rt, RESOLVED);
+    expect_least(&rt, LEAST);
+    expect_ages(&rt, AGES);
 }

@@ -1,5 +1,5 @@
 use Rattle.std.proofs.Common.{◌≡◌, ◌<◌, length}
-use Rattle.state_tests.proofs.sequence_numbers.sequence_numbers_are_extended.Given as goal
+use Rattle.state_tests.proofs.sequence_numbers.expect_list.Given as goal
 
 -- each sequence number so far was counted
 abbrev pub invariant-loop-seq : goal.invariant-loop-seq
