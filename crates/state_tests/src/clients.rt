@@ -1,6 +1,6 @@
 //! Tables whose clients and entries are told by hand.
 use crate::fixtures::same;
-use client_table::{AdmitFault, Burst, Entry, Table};
+use client_table::{AdmitFault, Burst, Entry, Info, Table};
 use std::alloc::Global;
 use std::process::Abort;
 use std::test::Fail;
@@ -31,6 +31,14 @@ const BURST: Burst = Burst {
     rate: 4000,
     ticks: 2,
     kept: 1499,
+    last: Info {
+        msn: 0,
+        code: 200,
+        first: Some(500),
+        join_ms: Some(20),
+        length_ms: Some(1000),
+        bps: Some(3200000),
+    },
 };
 
 // A client that isn't known asks to become known, with its own number as its SSRC.

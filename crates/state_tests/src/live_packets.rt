@@ -1,5 +1,6 @@
 //! Live packets and what is held of them, by hand.
-ghost use Rattle.std.specs.Prelude.{◌≡◌, ◌+◌, ◌<◌, ◌≤◌, IfOk, length};
+ghost use Rattle.std.specs.Prelude.{ℕ, ◌+◌, ◌≤◌, IfOk, OnOk, length};
+ghost use Rattle.channel_cache.specs.{StandsForFewer};
 
 use crate::fixtures::{CHANNEL, holds, packet, same};
 use channel_cache::LiveNote::{
@@ -123,7 +124,7 @@ const BARE: [u8; 30] = [
 ];
 
 fn cache_of(rt: &impl Abort, alloc: Global, channel: Channel) -> Result<Cache, Fail>
-    ensures { IfOk result (λ cache. cache.calls ≡ 0) }
+    ensures { IfOk result (λ cache. StandsForFewer cache 1) }
 {
     let config = Config::check(channel, 10).expect(rt, "lawful settings");
     Ok(Cache::new(alloc, &config)?)
@@ -137,8 +138,8 @@ fn expect_note(
     bytes: &[u8],
     want: LiveNote,
 ) -> Result<(), Fail>
-    requires { cache.old.calls < 1000 }
-    ensures { cache.new.calls ≤ cache.old.calls + 1 }
+    requires { StandsForFewer cache.old 1000 }
+    ensures { (most : ℕ) → StandsForFewer cache.old most → OnOk result (StandsForFewer cache.new (most + 1)) }
 {
     let note = cache.live(alloc, bytes)?;
     same(rt, &note, &want, &bytes);
@@ -152,8 +153,7 @@ fn expect_steps(
     cache: &mut Cache,
     steps: &[Step],
 ) -> Result<(), Fail>
-    requires { cache.old.calls + length steps.now < 1000 }
-    ensures { cache.new.calls ≤ cache.old.calls + length steps.now }
+    requires { (most : ℕ) × StandsForFewer cache.old most × (most + length steps.now ≤ 1000) }
 {
     for (sequence, note, lo, hi) in steps {
         let bytes = packet(alloc, *sequence, 0, false, &[0; 4])?;
@@ -208,7 +208,7 @@ fn expect_noted(
     cache: &mut Cache,
     rows: &[Noted],
 ) -> Result<(), Fail>
-    requires { cache.old.calls + length rows.now < 1000 }
+    requires { (most : ℕ) × StandsForFewer cache.old most × (most + length rows.now ≤ 1000) }
 {
     for (sequence, len, change, want) in rows {
         let bytes = changed_packet(rt, alloc, *sequence, *len, *change)?;
