@@ -27,22 +27,36 @@ const TAKEN: Row = (Info(BEGINS), Told(InfoCame::Taken), &[]);
 /// Retransmissions: payload type 99 and a sequence number, timestamp, media source, the original's
 /// number in front of a payload of four zeros (RFC 4588, 4).
 const AGAIN_10: Words = &["806301f4", "00000000", "11223344", "000a0000", "0000"];
+
 const AGAIN_11: Words = &["806301f5", "00000000", "11223344", "000b0000", "0000"];
+
 const AGAIN_12: Words = &["806301f6", "00000000", "11223344", "000c0000", "0000"];
+
 const AGAIN_14: Words = &["806301f8", "00000000", "11223344", "000e0000", "0000"];
+
 const AGAIN_15: Words = &["806301f9", "00000000", "11223344", "000f0000", "0000"];
+
 const REPAIR_12: Words = &["806301fa", "00000000", "11223344", "000c0000", "0000"];
+
 const REPAIR_13: Words = &["806301fb", "00000000", "11223344", "000d0000", "0000"];
 
 /// Packets of the multicast, with payload type 33.
 const PACKET_9: Words = &["80210009", "00000000", "11223344", "00000000"];
+
 const PACKET_10: Words = &["8021000a", "00000000", "11223344", "00000000"];
+
 const PACKET_11: Words = &["8021000b", "00000000", "11223344", "00000000"];
+
 const PACKET_12: Words = &["8021000c", "00000000", "11223344", "00000000"];
+
 const PACKET_13: Words = &["8021000d", "00000000", "11223344", "00000000"];
+
 const PACKET_14: Words = &["8021000e", "00000000", "11223344", "00000000"];
+
 const PACKET_15: Words = &["8021000f", "00000000", "11223344", "00000000"];
+
 const PACKET_16: Words = &["80210010", "00000000", "11223344", "00000000"];
+
 const PACKET_17: Words = &["80210011", "00000000", "11223344", "00000000"];
 
 /// A burst is lost in part, the receiver joins the multicast, asks for what is missing, and presents
@@ -60,7 +74,9 @@ const HANDOVER: [Row; 13] = [
         // RAMS-T: the extended number of the first multicast packet (RFC 6285, 7.4)
         Joined(
             MediaCame::Took,
-            &["86cd0005", "0000c001", "11223344", "03000000", "3d000004", "00010010"],
+            &[
+                "86cd0005", "0000c001", "11223344", "03000000", "3d000004", "00010010",
+            ],
         ),
         &[],
     ),
@@ -113,7 +129,9 @@ const BEFORE: [Row; 10] = [
     (Info(BEGINS), Told(InfoCame::Repeated), &[]),
     // code 100, a new rate
     (
-        Info(&["86cd0005", "aabbccdd", "11223344", "02010064", "20000002", "01f40000"]),
+        Info(&[
+            "86cd0005", "aabbccdd", "11223344", "02010064", "20000002", "01f40000",
+        ]),
         Told(InfoCame::Updated),
         &[],
     ),
@@ -170,7 +188,9 @@ const ROOM: [Row; 6] = [
         Multicast(&["8021400a", "00000000", "11223344", "00000000"]),
         Joined(
             MediaCame::Took,
-            &["86cd0005", "0000c001", "11223344", "03000000", "3d000004", "0001400a"],
+            &[
+                "86cd0005", "0000c001", "11223344", "03000000", "3d000004", "0001400a",
+            ],
         ),
         &[],
     ),

@@ -17,7 +17,9 @@ pub const TUNED: Tuned = Tuned {
 
 /// With what each datagram of a receiver begins: a report, and its name, `stb` (RFC 3550, 6.4.2 and
 /// 6.5).
-const FRONT: &[&str] = &["80c90001", "0000c001", "81ca0003", "0000c001", "01037374", "62000000"];
+const FRONT: &[&str] = &[
+    "80c90001", "0000c001", "81ca0003", "0000c001", "01037374", "62000000",
+];
 
 /// Bytes, as words of hexadecimal digits.
 pub type Words = &'static [&'static str];
