@@ -34,7 +34,9 @@ const ROWS: [Row; 5] = [
             ACCESS_POINT,
             REQUEST,
             REQUEST_OF_6,
+            // NACK of 10
             "fb 7 6 81cd00030000c00111223344000a0000",
+            // BYE
             "fb 7 5 81cb00010000c001",
             REQUEST_OF_6,
             "end",
@@ -56,8 +58,10 @@ const ROWS: [Row; 5] = [
         changes: &[("share 10000", "share 8700")],
         lines: &[
             ACCESS_POINT,
+            // RAMS-R, at most 1,280,000 bit/s (TLV 4)
             "fb 7 5 86cd00060000c0011122334401000000040000080000000000138800",
             REQUEST_OF_6,
+            // RAMS-R, at most 2,560,000 bit/s (TLV 4)
             "fb 7 5 86cd00060000c0011122334401000000040000080000000000271000",
             "end",
         ],
@@ -74,8 +78,10 @@ const ROWS: [Row; 5] = [
         changes: &[("share 10000", "share 8699")],
         lines: &[
             ACCESS_POINT,
+            // RAMS-R, at most 1,280,000 bit/s (TLV 4)
             "fb 7 5 86cd00060000c0011122334401000000040000080000000000138800",
             REQUEST_OF_6,
+            // RAMS-R, at most 2,560,000 bit/s (TLV 4)
             "fb 7 5 86cd00060000c0011122334401000000040000080000000000271000",
             "end",
         ],
@@ -245,8 +251,11 @@ const SWELLS: [Row; 2] = [
         lines: &[
             "live 7 8021000a0000000011223344<1458>",
             "tick",
+            // NACK of 10
             "fb 7 5 81cd00030000c00111223344000a0000",
+            // NACK of 10
             "fb 7 6 81cd00030000c00111223344000a0000",
+            // NACK of 10
             "fb 7 7 81cd00030000c00111223344000a0000",
             "tick",
             "end",
@@ -273,8 +282,11 @@ const SWELLS: [Row; 2] = [
         lines: &[
             "live 7 8021000a0000000011223344<1458>",
             "tick",
+            // NACK of 10
             "fb 7 5 81cd00030000c00111223344000a0000",
+            // NACK of 10
             "fb 7 6 81cd00030000c00111223344000a0000",
+            // NACK of 10
             "fb 7 7 81cd00030000c00111223344000a0000",
             "tick",
             "tick",

@@ -20,10 +20,12 @@ const ROWS: [Row; 3] = [
             "channel 3 ssrc 55667788 pt 33 rtx 98 server 000000ff seq0 65535 ring 64 window 0 access marker share 10000 reserve 1500 burst 4000 declared 100 minwire 42 limit 100 idle 100 clients 4",
             "live 3 80a10014000000005566778800000000",
             "live 7 80a1000a000000001122334400000000",
+            // RAMS-R for media source 55667788
             "fb 3 5 86cd00030000c0015566778801000000",
             REQUEST,
             "live 3 80210015000000005566778800000000",
             "tick",
+            // BYE
             "fb 3 5 81cb00010000c001",
             "tick",
             "end",

@@ -45,6 +45,7 @@ const ROWS: [Row; 8] = [
         changes: &[],
         lines: &[
             ACCESS_POINT,
+            // RAMS-R, at most 1,280,000 bit/s (TLV 4)
             "fb 7 5 86cd00060000c0011122334401000000040000080000000000138800",
             "end",
         ],
@@ -59,6 +60,7 @@ const ROWS: [Row; 8] = [
         changes: &[],
         lines: &[
             ACCESS_POINT,
+            // RAMS-R, at most 1,279,999 bit/s (TLV 4)
             "fb 7 5 86cd00060000c00111223344010000000400000800000000001387ff",
             "end",
         ],
@@ -70,8 +72,11 @@ const ROWS: [Row; 8] = [
         changes: &[],
         lines: &[
             ACCESS_POINT,
+            // RR; SDES; RAMS-R
             "fb 7 5 80c900010000c00181ca00030000c001010373746200000086cd00030000c0011122334401000000",
+            // RR; SDES; RAMS-R cut short
             "fb 7 5 80c900010000c00181ca00030000c001010373746200000086cd00030000c00111223344010000",
+            // RR; SDES; RAMS-R
             "fb 7 5 80c900010000c00181ca00030000c001010373746200000086cd00030000c0011122334401000000",
             "end",
         ],
@@ -91,12 +96,18 @@ const ROWS: [Row; 8] = [
         name: "request refusals",
         changes: &[],
         lines: &[
+            // RAMS-R, TLV 2 of 3 bytes
             "fb 7 5 86cd00050000c00111223344010000000200000300000000",
+            // RAMS-R, preamble only (TLV 5)
             "fb 7 5 86cd00040000c001112233440100000005000000",
+            // RAMS-R, SSRCs 99999999
             "fb 7 5 86cd00050000c00111223344010000000100000499999999",
             REQUEST,
+            // RAMS-T, TLV 61 of 2 bytes
             "fb 7 5 86cd00050000c00111223344030000003d00000200010000",
+            // NACK of 10 of media source 99999999
             "fb 7 5 81cd00030000c00199999999000a0000",
+            // BYE
             "fb 7 5 81cb00010000c001",
             "end",
         ],
@@ -117,10 +128,14 @@ const ROWS: [Row; 8] = [
         changes: &[],
         lines: &[
             ACCESS_POINT,
+            // RAMS-R, at most 1,280,000 bit/s (TLV 4)
             "fb 7 5 86cd00060000c0011122334401000000040000080000000000138800",
+            // RAMS-R, at most 2,560,000 bit/s (TLV 4)
             "fb 7 5 86cd00060000c0011122334401000000040000080000000000271000",
             REQUEST,
+            // RAMS-R, at most 1,279,999 bit/s (TLV 4)
             "fb 7 5 86cd00060000c00111223344010000000400000800000000001387ff",
+            // RAMS-T, first multicast packet 10 (TLV 61)
             "fb 7 5 86cd00050000c00111223344030000003d0000040000000a",
             "end",
         ],
@@ -154,6 +169,7 @@ const BUFFER_FILL: [Row; 4] = [
             ACCESS_POINT,
             "live 7 80a1000b000023281122334400000000",
             "live 7 8021000c000046501122334400000000",
+            // RAMS-R, at least 150 ms of fill (TLV 2)
             "fb 7 5 86cd00050000c00111223344010000000200000400000096",
             "end",
         ],
@@ -172,6 +188,7 @@ const BUFFER_FILL: [Row; 4] = [
             ACCESS_POINT,
             "live 7 80a1000b000023281122334400000000",
             "live 7 8021000c000046501122334400000000",
+            // RAMS-R, at least 201 ms of fill (TLV 2)
             "fb 7 5 86cd00050000c001112233440100000002000004000000c9",
             "end",
         ],
@@ -190,6 +207,7 @@ const BUFFER_FILL: [Row; 4] = [
             ACCESS_POINT,
             "live 7 80a1000b000023281122334400000000",
             "live 7 8021000c000046501122334400000000",
+            // RAMS-R, at most 99 ms of fill (TLV 3)
             "fb 7 5 86cd00050000c00111223344010000000300000400000063",
             "end",
         ],
@@ -208,6 +226,7 @@ const BUFFER_FILL: [Row; 4] = [
             ACCESS_POINT,
             "live 7 80a1000b000023281122334400000000",
             "live 7 8021000c000046501122334400000000",
+            // RAMS-R, at least 100 ms of fill (TLV 2), at most 100 ms of fill (TLV 3)
             "fb 7 5 86cd00070000c001112233440100000002000004000000640300000400000064",
             "end",
         ],

@@ -13,6 +13,7 @@ pub const STOP_ACROSS_THE_WRAP: Row = Row {
         "live 7 80210000000007081122334400000000",
         "live 7 8021000100000a8c1122334400000000",
         REQUEST,
+        // RAMS-T, first multicast packet 1 (TLV 61)
         "fb 7 5 86cd00050000c00111223344030000003d00000400000001",
         "tick",
         "end",
@@ -50,7 +51,9 @@ const ROWS: [Row; 4] = [
             "live 7 8021000100000a8c1122334400000000",
             REQUEST,
             "tick",
+            // RAMS-T, first multicast packet 65,535 (TLV 61)
             "fb 7 5 86cd00050000c00111223344030000003d0000040000ffff",
+            // RAMS-T, first multicast packet 65,535 (TLV 61)
             "fb 7 5 86cd00050000c00111223344030000003d0000040000ffff",
             "end",
         ],
@@ -80,6 +83,7 @@ const ROWS: [Row; 4] = [
             "live 7 80210000000007081122334400000000",
             "live 7 8021000100000a8c1122334400000000",
             REQUEST,
+            // RAMS-T, first multicast packet 65,534 (TLV 61)
             "fb 7 5 86cd00050000c00111223344030000003d0000040000fffe",
             "tick",
             "end",
@@ -104,6 +108,7 @@ const ROWS: [Row; 4] = [
             "live 7 80210000000007081122334400000000",
             "live 7 8021000100000a8c1122334400000000",
             REQUEST,
+            // RAMS-T, first multicast packet 589,825 (TLV 61)
             "fb 7 5 86cd00050000c00111223344030000003d00000400090001",
             "tick",
             "end",
