@@ -1,0 +1,10 @@
+mod Rising
+mod Low
+mod Kept
+mod Readings
+mod Ordered
+mod Right
+mod Serving
+mod Listening
+mod Happened
+mod Told

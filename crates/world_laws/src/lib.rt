@@ -1,0 +1,15 @@
+//! Worlds: a server's channels, the datagrams that were sent, and receivers that get any of them, in
+//! any order and any number of times.
+//!
+//! What becomes of each event stands in `specs/`. A law is the contract of a function that does
+//! nothing.
+#![tactic(auto)]
+
+pub mod channels;
+pub mod laws;
+pub mod rows;
+mod world;
+
+pub use rams_model::{InfoCame, MediaCame, Note, Octets};
+pub use server_hub::HubEvent;
+pub use world::{WorldEvent, WorldItem, WorldNote};

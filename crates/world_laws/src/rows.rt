@@ -1,0 +1,15 @@
+//! Worked examples of worlds, which the checker computes.
+ghost use Rattle.world_laws.specs.Worked.{AHandover, NoBurstWithoutItsInfo, AnyPacketTellsTheFirst, WhatIsRefused, TooFarAway};
+
+/// A receiver of one channel, from its request on to the multicast.
+pub fn a_handover()
+    ensures { AHandover }
+{}
+
+/// What a receiver takes for its first packet, and what isn't delivered to it.
+pub fn receiver_edges()
+    ensures no_info { NoBurstWithoutItsInfo }
+    ensures first { AnyPacketTellsTheFirst }
+    ensures refused { WhatIsRefused }
+    ensures far { TooFarAway }
+{}
