@@ -1,0 +1,11 @@
+pub mod EventLines
+pub mod Modes
+pub mod Replays
+pub mod Served
+pub mod Heads
+pub mod Heard
+pub mod Channels
+pub mod Spelled
+pub mod Orders
+pub mod Turns
+pub mod Opened
