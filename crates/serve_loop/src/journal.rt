@@ -52,6 +52,7 @@ pub fn flush<K: Sink>(gather: &mut Gather, sink: &mut K) -> Result<(), Stop>
     ensures all { OnOk result (Passes (K.held sink.old) (K.held sink.new) gather.old []) }
     ensures empty { OnOk result (gather.new ≡ []) }
     ensures prefix { (rest : List ℕ) × Passes (K.held sink.old) (K.held sink.new) gather.old rest }
+    ensures front { IfErr result (StopsIn (K.held sink.old) (K.held sink.new) gather.old gather.new) }
     ensures cause { IsStoppedByWrite (K.faults sink.old) (K.faults sink.new) result }
 {
     match gather.flush(sink) {

@@ -2,6 +2,7 @@
 //! datagrams.
 #![tactic(auto)]
 
+mod hear;
 mod journal;
 mod send;
 mod stop;
