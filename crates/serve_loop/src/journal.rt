@@ -76,11 +76,7 @@ fn spell(digits: &mut Vec<u8>, bytes: &[u8]) -> Result<(), NoMemory>
 
 /// Appends the line of an event.
 #[tactic(auto, unfolding(journal_book::specs::Journal::event_line))]
-fn append_event(
-    text: &mut Vec<u8>,
-    digits: &mut Vec<u8>,
-    heard: Heard<'_>,
-) -> Result<(), NoMemory>
+fn append_event(text: &mut Vec<u8>, digits: &mut Vec<u8>, heard: Heard<'_>) -> Result<(), NoMemory>
     ensures { OnOk result (text.new.items ≡ text.old.items ++ event_line (event_of heard.entry)) }
 {
     match heard {
