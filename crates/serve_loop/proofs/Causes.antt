@@ -1,0 +1,34 @@
+-- Why an event stopped a server.
+use Rattle.std.proofs.Common.{◌≡◌, ℕ, ◌+◌, ◌-◌, ◌^◌, ◌≤◌, min, Result, Ok, Err, IfErr, arith}
+use Rattle.ram_io.specs.{Rose}
+use Rattle.serve_loop.specs.declared.stop.Stop.{Stop}
+use Rattle.serve_loop.specs.declared.stop.Stop.TheVariants.{Memory, Read, Write, Wire}
+use Rattle.serve_loop.specs.{IsOutStop, IsWireStop, IsWriteStop, IsStoppedByWire, IsStoppedByWrite, IsStoppedOutside}
+
+-- a count that rose later rose
+rose_later : (before mid now : ℕ) → before ≤ mid → Rose mid now → Rose before now
+rose_later before mid now less rose = omega (arith, less, rose)
+
+wire_out : (write writes wire mid wires : ℕ) (stop : Stop) → wire ≤ mid → IsWireStop mid wires stop → IsOutStop write writes wire wires stop
+wire_out write writes wire mid wires Memory less cause = tt
+wire_out write writes wire mid wires Read less cause = absurd cause
+wire_out write writes wire mid wires Write less cause = absurd cause
+wire_out write writes wire mid wires Wire less cause = rose_later wire mid wires less cause
+
+write_out : (write mid writes wire wires : ℕ) (stop : Stop) → write ≤ mid → IsWriteStop mid writes stop → IsOutStop write writes wire wires stop
+write_out write mid writes wire wires Memory less cause = tt
+write_out write mid writes wire wires Read less cause = absurd cause
+write_out write mid writes wire wires Write less cause = rose_later write mid writes less cause
+write_out write mid writes wire wires Wire less cause = absurd cause
+
+-- the wire stopped the call, or want of memory did
+pub stopped_by_wire : {T : Type 0} (write writes wire wires : ℕ) (r : Result T Stop) → write ≤ writes → IsStoppedByWire wire wires r → IsStoppedOutside write writes wire wires r
+stopped_by_wire write writes wire wires r less s = record { write_later = less; wire_later = s.later; cause = by r s.cause }
+  where
+    by : {T : Type 0} (x : Result T Stop) → IfErr x (IsWireStop wire wires) → IfErr x (IsOutStop write writes wire wires)
+    by (Ok t) h = tt
+    by (Err stop) h = wire_out write writes wire wire wires stop (omega arith) h
+
+-- the sink did, or want of memory
+pub write_stops : (write mid writes wire : ℕ) (stop : Stop) → write ≤ mid → IsWriteStop mid writes stop → IsOutStop write writes wire wire stop
+write_stops write mid writes wire stop less cause = write_out write mid writes wire wire stop less cause

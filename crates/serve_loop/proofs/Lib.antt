@@ -1,0 +1,5 @@
+pub mod GoingOut
+pub mod Writing
+pub mod Telling
+pub mod Steps
+pub mod Causes

@@ -1,0 +1,160 @@
+-- What is sent for the answers of the channels.
+use Rattle.std.proofs.Common.{◌≡◌, ◌≢◌, ◌≤◌, ℕ, zero, suc, ◌+◌, Bool, true, false, cond, eqb, List, [], ◌∷◌, ◌++◌, map, length, Option, None, Some, option_map, refl, sym, ap, subst, ◌∙◌, append_assoc, append-nil, arith}
+use Rattle.std.proofs.lemmas.List.{length-map}
+use Rattle.std.specs.Prelude.{All, AllPairs, slice_get}
+use Rattle.std.proofs.lemmas.Bool.{eq-eqb, ne_eqb}
+use Rattle.std.proofs.lemmas.Option.{slice_get-map}
+use Rattle.std.proofs.lemmas.List.Elements.{All-nil, All-map, All-cons}
+use Rattle.rams_model.specs.declared.event.Event.{Event}
+use Rattle.rams_model.specs.declared.event.Event.TheVariants as event
+use Rattle.rams_model.specs.Service.{Settings}
+use Rattle.order_datagrams.proofs.ReadPackets.{answer_renders}
+use Rattle.server_hub.specs.declared.event.At.{At}
+use Rattle.server_hub.specs.declared.event.HubEvent.{HubEvent}
+use Rattle.server_hub.specs.declared.event.HubEvent.TheVariants.{Live, Feedback, Tick}
+use Rattle.server_hub.specs.{IsHub, Serves, StandsFor, settings_of, ids_of, with_event, after_event, after_event_of, after_tick, id_of, channel_of, answer_to, answer_of, answer_at, answers_to_tick, told_of, told_to, answers_said, Pairwise}
+use Rattle.server_hub.specs.Seen.{Seen}
+use Rattle.server_hub.specs.Served.{Served}
+use Rattle.server_hub.proofs.Changing.{rest_once, later_differs}
+use Rattle.server_hub.proofs.Finding.{with_id, one_has, settings_found}
+use Rattle.trace_book.specs.Stages.{settings_of as settings_all}
+use Rattle.journal_book.specs.{AreApart, answer_datagrams, datagrams_of, behind}
+use Rattle.journal_book.proofs.Channels.{one_answers}
+use Rattle.serve_loop.specs.{AllRender, settled_datagrams, said_datagrams, AnswersFrom, numbers}
+
+-- a hub has the settings of the channels that it stands for
+pairs_settled : {A : Type 0} (f : A → Settings) (R : A → Served → Type 0) → ((v : A) (c : Served) → R v c → f v ≡ c.settings) → (vs : List A) (channels : List Served)
+    → Pairwise R vs channels → map f vs ≡ settings_all channels
+pairs_settled f R same [] [] all = refl
+pairs_settled f R same [] (c ∷ channels) all = absurd all
+pairs_settled f R same (v ∷ vs) [] all = absurd all
+pairs_settled f R same (v ∷ vs) (c ∷ channels) all = ap (λ s. s ∷ map f vs) (same v c all.0) ∙ ap (λ l. c.settings ∷ l) (pairs_settled f R same vs channels all.1)
+
+pub settings_stand : (v : Seen) (channels : List Served) → StandsFor v channels → settings_of v ≡ settings_all channels
+settings_stand v channels stands = pairs_settled (λ core. core.settings) Serves (λ core c serves. serves.settings) v.channels channels stands
+
+-- the channel at a place, by its number
+pub at_place : (channels : List Served) (place id : ℕ) → slice_get (numbers channels) place ≡ Some id → (c : Served) × (slice_get channels place ≡ Some c) × (id_of c ≡ id)
+at_place [] place id is = absurd cc
+at_place (c ∷ channels) zero id is = (c, refl, cc is)
+at_place (c ∷ channels) (suc place) id is = at_place channels place id is
+
+-- where no two have one number, it is found by that
+channel_there : (channels : List Served) (place id : ℕ) (c : Served) → slice_get channels place ≡ Some c → id_of c ≡ id → AreApart channels → channel_of id channels ≡ Some c
+channel_there [] place id c is its apart = absurd cc
+channel_there (b ∷ channels) zero id c is its apart =
+    let same : b ≡ c = cc is in
+    ap (λ t. cond t (Some b) (channel_of id channels)) (eq-eqb (id_of b) id (ap id_of same ∙ its)) ∙ ap Some same
+channel_there (b ∷ channels) (suc place) id c is its apart =
+    let number : slice_get (numbers channels) place ≡ Some (id_of c) =
+    slice_get-map (λ (s : Settings). s.channel.id) (settings_all channels) place
+    ∙ ap (option_map (λ (s : Settings). s.channel.id)) (slice_get-map (λ (x : Served). x.settings) channels place ∙ ap (option_map (λ (x : Served). x.settings)) is) in
+    let other : eqb (id_of b) id ≡ false = ne_eqb (id_of b) id (λ same. later_differs (id_of b) (numbers channels) place (id_of c) apart number (its ∙ sym same)) in
+    ap (λ t. cond t (Some b) (channel_of id channels)) other ∙ channel_there channels place id c is its (rest_once (id_of b) (numbers channels) apart)
+
+-- what one channel is said to answer
+one_said : (first : ℕ) (all : List Settings) (id : ℕ) (e : Event) (channels : List Served) (c : Served) → all ≡ settings_all channels → channel_of id channels ≡ Some c
+    → said_datagrams first all (answers_said (told_of id (answer_of id e channels))) ≡ answer_datagrams first c.settings (answer_to e c)
+unfolding said_datagrams
+one_said first all id e channels c is there =
+    let found : with_id id all ≡ Some c.settings = ap (with_id id) is ∙ (settings_found id channels ∙ ap (option_map (λ (x : Served). x.settings)) there) in
+    ap (λ (o : Option Served). said_datagrams first all (answers_said (told_of id (option_map (answer_to e) o)))) there
+    ∙ (append-nil (settled_datagrams first (answer_to e c) (with_id id all)) ∙ ap (settled_datagrams first (answer_to e c)) found)
+
+-- the channel at its place, behind those before it
+id_there : (before rest : List Served) (c : Served) → slice_get (numbers (before ++ c ∷ rest)) (length before) ≡ Some (id_of c)
+id_there [] rest c = refl
+id_there (b ∷ before) rest c = id_there before rest c
+
+settings_there : (before rest : List Served) (c : Served) → slice_get (settings_all (before ++ c ∷ rest)) (length before) ≡ Some c.settings
+settings_there [] rest c = refl
+settings_there (b ∷ before) rest c = settings_there before rest c
+
+-- what each is said to answer to a tick
+each_said : (first : ℕ) (all : List Settings) (before rest : List Served) → all ≡ settings_all (before ++ rest) → AllPairs (λ x y. x ≢ y) (ids_of all)
+    → said_datagrams first all (map (answer_at event.Tick) rest) ≡ datagrams_of first Tick rest
+unfolding said_datagrams
+each_said first all before [] is once = refl
+each_said first all before (c ∷ rest) is once =
+    let has = one_has (id_of c) all (length before) (ap (λ l. slice_get (ids_of l) (length before)) is ∙ id_there before rest c) once in
+    let found : with_id (id_of c) all ≡ Some c.settings = has.0 ∙ (ap (λ l. slice_get l (length before)) is ∙ settings_there before rest c) in
+    let later = each_said (first + 2) all (before ++ c ∷ []) rest (is ∙ ap settings_all (sym (append_assoc before (c ∷ []) rest))) once in
+    ap (λ (o : Option Settings). settled_datagrams first (answer_to event.Tick c) o ++ said_datagrams (first + 2) all (map (answer_at event.Tick) rest)) found
+    ∙ ap (λ l. answer_datagrams first c.settings (answer_to event.Tick c) ++ l) later
+
+-- What the channels are said to answer to an event is what is sent for it.
+pub said_is_sent : (live first : ℕ) (all : List Settings) (h : HubEvent) (channels : List Served) → all ≡ settings_all channels → AreApart channels → AnswersFrom live (numbers channels) h first
+    → said_datagrams first all (answers_said (told_to h channels)) ≡ datagrams_of (live + 1) h channels
+said_is_sent live first all (Live id bytes) channels is apart from =
+    let at = at_place channels from.0 id from.1 in
+    one_said first all id (event.Live bytes) channels at.0 is (channel_there channels from.0 id at.0 at.1 at.2 apart)
+    ∙ ap (λ p. answer_datagrams p at.0.settings (answer_to (event.Live bytes) at.0)) from.2
+    ∙ sym (one_answers (live + 1) from.0 0 channels at.0 bytes apart at.1).0
+    ∙ ap (λ i. datagrams_of (live + 1) (Live i bytes) channels) at.2
+said_is_sent live first all (Feedback id client bytes) channels is apart from =
+    let at = at_place channels from.0 id from.1 in
+    one_said first all id (event.Feedback client bytes) channels at.0 is (channel_there channels from.0 id at.0 at.1 at.2 apart)
+    ∙ ap (λ p. answer_datagrams p at.0.settings (answer_to (event.Feedback client bytes) at.0)) from.2
+    ∙ sym (one_answers (live + 1) from.0 client channels at.0 bytes apart at.1).1
+    ∙ ap (λ i. datagrams_of (live + 1) (Feedback i client bytes) channels) at.2
+said_is_sent live first all Tick channels is apart from =
+    ap (λ p. said_datagrams p all (answers_to_tick channels)) from
+    ∙ each_said (live + 1) all [] channels is (subst (λ (l : List Settings). AllPairs (λ x y. x ≢ y) (ids_of l)) (sym is) apart)
+
+-- each order of an answer has a datagram
+named_renders : (id : ℕ) (e : Event) (channels : List Served) → All AllRender (answers_said (told_of id (answer_of id e channels)))
+named_renders id e channels = by (channel_of id channels)
+  where
+    by : (o : Option Served) → All AllRender (answers_said (told_of id (option_map (answer_to e) o)))
+    by None = All-nil AllRender
+    by (Some c) = All-cons AllRender (record { id = id; answer = answer_to e c }) [] (answer_renders c.settings c.events e) (All-nil AllRender)
+
+ticks_at : (channels : List Served) → All (λ c. AllRender (answer_at event.Tick c)) channels
+ticks_at channels = λ k d less. answer_renders _ _ event.Tick
+
+pub said_renders : (h : HubEvent) (channels : List Served) → All AllRender (answers_said (told_to h channels))
+said_renders (Live id bytes) channels = named_renders id (event.Live bytes) channels
+said_renders (Feedback id client bytes) channels = named_renders id (event.Feedback client bytes) channels
+said_renders Tick channels = All-map AllRender (answer_at event.Tick) channels (ticks_at channels)
+
+-- no more channels answer than the hub has
+named_few : (id : ℕ) (e : Event) (channels : List Served) → length (answers_said (told_of id (answer_of id e channels))) ≤ 1
+named_few id e channels = by (channel_of id channels)
+  where
+    by : (o : Option Served) → length (answers_said (told_of id (option_map (answer_to e) o))) ≤ 1
+    by None = omega arith
+    by (Some c) = omega arith
+
+pub said_few : (h : HubEvent) (channels : List Served) (w : Seen) → StandsFor w (after_event h channels) → (h ≡ Tick → IsHub w) → length (answers_said (told_to h channels)) ≤ 64
+said_few (Live id bytes) channels w stands hub = let one = named_few id (event.Live bytes) channels in omega arith
+said_few (Feedback id client bytes) channels w stands hub = let one = named_few id (event.Feedback client bytes) channels in omega arith
+said_few Tick channels w stands hub =
+    let same : length (settings_of w) ≡ length (settings_all (after_tick channels)) = ap length (settings_stand w (after_tick channels) stands) in
+    let all : length (settings_all (after_tick channels)) ≡ length (after_tick channels) = length-map (after_tick channels) (λ (c : Served). c.settings) in
+    let ticked : length (after_tick channels) ≡ length channels = length-map channels (with_event event.Tick) in
+    let said : length (answers_to_tick channels) ≡ length channels = length-map channels (answer_at event.Tick) in
+    subst (λ n. n ≤ 64) (same ∙ (all ∙ (ticked ∙ sym said))) (hub refl).channels.few
+
+-- an event changes no channel's settings
+one_settled : (b : Bool) (e : Event) (c : Served) → (cond b (with_event e c) c).settings ≡ c.settings
+one_settled true e c = refl
+one_settled false e c = refl
+
+event_settled : (id : ℕ) (e : Event) (channels : List Served) → settings_all (after_event_of id e channels) ≡ settings_all channels
+event_settled id e [] = refl
+event_settled id e (c ∷ channels) =
+    ap (λ s. s ∷ settings_all (after_event_of id e channels)) (one_settled (eqb (id_of c) id) e c) ∙ ap (λ l. c.settings ∷ l) (event_settled id e channels)
+
+tick_settled : (channels : List Served) → settings_all (after_tick channels) ≡ settings_all channels
+tick_settled [] = refl
+tick_settled (c ∷ channels) = ap (λ l. c.settings ∷ l) (tick_settled channels)
+
+pub settled : (h : HubEvent) (channels : List Served) → settings_all (after_event h channels) ≡ settings_all channels
+settled (Live id bytes) channels = event_settled id (event.Live bytes) channels
+settled (Feedback id client bytes) channels = event_settled id (event.Feedback client bytes) channels
+settled Tick channels = tick_settled channels
+
+pub settled_behind : (events : List HubEvent) (channels : List Served) → settings_all (behind events channels) ≡ settings_all channels
+unfolding behind
+settled_behind [] channels = refl
+settled_behind (h ∷ events) channels = settled_behind events (after_event h channels) ∙ settled h channels

@@ -1,0 +1,98 @@
+use Rattle.std.proofs.Common.{◌≡◌, ℕ, List, [], ◌∷◌, ◌++◌, ◌+◌, ◌≤◌, Bool, false, not, Option, Result, IfErr, OnOk, sym, ap, subst, ◌∙◌, arith, length}
+use Rattle.std.specs.Prelude.{All, ◌==◌}
+use Rattle.std.specs.List.{list_any}
+use Rattle.std.proofs.lemmas.Result.{err_from_is_err_and}
+use Rattle.ram_io.specs.{Outgoing}
+use Rattle.server_hub.specs.{answers_said, event_of, after_event, settings_of, told, Told}
+use Rattle.server_hub.specs.declared.event.At.{At}
+use Rattle.line_io.proofs.Passing.{Passes-then}
+use Rattle.journal_book.specs.{behind, event_line}
+use Rattle.serve_loop.specs.declared.stop.Stop.{Stop}
+use Rattle.serve_loop.specs.{AllRender, Broken, IsOutStop, Sends, Serving, said_datagrams}
+use Rattle.serve_loop.proofs.Causes.{stopped_by_wire, write_stops}
+use Rattle.serve_loop.proofs.Steps.{StopsIn-then, quiet_goes_on, line_breaks, sent_goes_on, sending_breaks, none_ordered, each_error, where_ok, heard_sends, heard_stands}
+use Rattle.serve_loop.proofs.Telling.{said_few, said_renders}
+use Rattle.serve_loop.proofs.Writing.{unwritten}
+use Rattle.serve_loop.proofs.hear.hear.Goals as goal
+
+pub send_all-requires-clause-render : goal.send_all-requires-clause-render
+send_all-requires-clause-render g c =
+    let say = c.in_ok-answer.ensures.stands c.requires.stands.0 c.requires.stands.1 in
+    subst (All AllRender) (sym c.answers_of-answers.ensures) (subst (λ (t : Told). All AllRender (answers_said t)) (sym say.0) (said_renders (event_of c.args.heard) c.requires.stands.0))
+
+pub send_all-requires-clause-ports : goal.send_all-requires-clause-ports
+send_all-requires-clause-ports g c =
+    let say = c.in_ok-answer.ensures.stands c.requires.stands.0 c.requires.stands.1 in
+    let few : length c.answers_of-answers.result.now ≤ 64 =
+    subst (λ (l : List At). length l ≤ 64) (sym (c.answers_of-answers.ensures ∙ ap answers_said say.0)) (said_few (event_of c.args.heard) c.requires.stands.0 c.hear.new.self say.1 c.hear.ensures.lawful) in
+    let ports = c.requires.ports in
+    omega (arith, few, ports)
+
+pub returns-in_err-answer-clause-breaks : goal.returns-in_err-answer-clause-breaks
+returns-in_err-answer-clause-breaks g c = λ b events r.
+    let h = event_of c.args.heard in
+    let p = err_from_is_err_and c.from_residual.result c.from_residual.ensures.1 in
+    subst (λ (x : Result (Unit {0}) Stop). IfErr x (Broken b (events ++ h ∷ []) (g.K.Sink.held c.args.sink.now) c.args.server.now.journal.gather (g.W.Wire.sent c.args.wire.now))) (sym p.1)
+    (line_breaks b events h _ _ _ r.serving _ _ p.0 (unwritten (g.K.Sink.held c.args.sink.now) c.args.server.now.journal.gather (event_line h) p.0))
+
+pub returns-in_err-write_event-clause-breaks : goal.returns-in_err-write_event-clause-breaks
+returns-in_err-write_event-clause-breaks g c = λ b events r.
+    let h = event_of c.args.heard in
+    let p = err_from_is_err_and c.from_residual-in_err-write_event.result c.from_residual-in_err-write_event.ensures.1 in
+    let now = Broken b (events ++ h ∷ []) (g.K.Sink.held c.write_event.new.sink) c.write_event.new.journal.gather (g.W.Wire.sent c.args.wire.now) in
+    subst (λ (x : Result (Unit {0}) Stop). IfErr x now) (sym p.1)
+    (subst now (sym p.2) (line_breaks b events h _ _ _ r.serving _ _ c.in_err-write_event.field-0.0 c.in_err-write_event.ensures.front))
+
+pub returns-in_err-flush-clause-breaks : goal.returns-in_err-flush-clause-breaks
+returns-in_err-flush-clause-breaks g c = λ b events r.
+    let h = event_of c.args.heard in
+    let p = err_from_is_err_and c.from_residual-in_err-flush.result c.from_residual-in_err-flush.ensures.1 in
+    let now = Broken b (events ++ h ∷ []) (g.K.Sink.held c.flush.new.sink) c.flush.new.gather (g.W.Wire.sent c.args.wire.now) in
+    let stops = StopsIn-then _ _ _ _ _ _ c.in_err-flush.field-0.0 c.in_ok-write_event.ensures.all c.in_err-flush.ensures.front in
+    subst (λ (x : Result (Unit {0}) Stop). IfErr x now) (sym p.1)
+    (subst now (sym p.2) (line_breaks b events h _ _ _ r.serving _ _ c.in_err-flush.field-0.0 stops))
+
+pub returns-then-not-has_orders-clause-goes_on : goal.returns-then-not-has_orders-clause-goes_on
+returns-then-not-has_orders-clause-goes_on g c = λ b events r.
+    let h = event_of c.args.heard in
+    let say = c.in_ok-answer.ensures.stands (behind events b.channels) r.stands in
+    let sends = heard_sends b events h c.args.server.now.hub c.hear.new.self c.in_ok-answer.answer c.args.first _ _ _ r say.0 c.hear.ensures.settings.settings in
+    let none = none_ordered c.args.first (settings_of c.hear.new.self) (answers_said (told c.in_ok-answer.answer))
+    (subst (λ (l : List At). list_any (λ (at : At). not (length at.answer.orders == 0)) l ≡ false) c.answers_of-answers.ensures (sym c.has_orders.ensures ∙ c.if-not-has_orders.true)) in
+    record { stands = heard_stands b events h c.hear.new.self say.1; serving = quiet_goes_on b events h _ _ _ r.serving _ _ c.in_ok-write_event.ensures.all (sym sends ∙ none) }
+
+pub returns-clause-goes_on : goal.returns-clause-goes_on
+returns-clause-goes_on g c = λ b events r.
+    let h = event_of c.args.heard in
+    let say = c.in_ok-answer.ensures.stands (behind events b.channels) r.stands in
+    let sends = ap (said_datagrams c.args.first (settings_of c.hear.new.self)) c.answers_of-answers.ensures
+    ∙ heard_sends b events h c.args.server.now.hub c.hear.new.self c.in_ok-answer.answer c.args.first _ _ _ r say.0 c.hear.ensures.settings.settings in
+    let gone = Passes-then _ _ _ _ _ _ c.in_ok-write_event.ensures.all c.in_ok-flush.ensures.all in
+    let was = g.W.Wire.sent c.args.wire.now in
+    let is = g.W.Wire.sent c.send_all.new.wire in
+    where_ok c.send_all.result _ _
+    (λ all. record {
+      stands = heard_stands b events h c.hear.new.self say.1;
+      serving = subst (λ (l : List ℕ). Serving b (events ++ h ∷ []) (g.K.Sink.held c.flush.new.sink) l is) (sym c.in_ok-flush.ensures.empty)
+          (sent_goes_on b events h _ _ _ r.serving _ _ gone (subst (λ (l : List Outgoing). Sends was is l []) sends all));
+    })
+    c.send_all.ensures.all
+
+pub returns-clause-breaks : goal.returns-clause-breaks
+returns-clause-breaks g c = λ b events r.
+    let h = event_of c.args.heard in
+    let say = c.in_ok-answer.ensures.stands (behind events b.channels) r.stands in
+    let sends = ap (said_datagrams c.args.first (settings_of c.hear.new.self)) c.answers_of-answers.ensures
+    ∙ heard_sends b events h c.args.server.now.hub c.hear.new.self c.in_ok-answer.answer c.args.first _ _ _ r say.0 c.hear.ensures.settings.settings in
+    let gone = Passes-then _ _ _ _ _ _ c.in_ok-write_event.ensures.all c.in_ok-flush.ensures.all in
+    let was = g.W.Wire.sent c.args.wire.now in
+    let is = g.W.Wire.sent c.send_all.new.wire in
+    let front = c.send_all.ensures.front in
+    each_error c.send_all.result _
+    (λ stop. subst (λ (l : List ℕ). Broken b (events ++ h ∷ []) (g.K.Sink.held c.flush.new.sink) l is stop) (sym c.in_ok-flush.ensures.empty)
+    (sending_breaks b events h _ _ _ r.serving _ _ front.0 stop gone (subst (λ (l : List Outgoing). Sends was is l front.0) sends front.1)))
+
+pub returns-clause-stands : goal.returns-clause-stands
+returns-clause-stands g c =
+    let say = c.in_ok-answer.ensures.stands c.requires.stands.0 c.requires.stands.1 in
+    where_ok c.send_all.result _ _ (λ all. (after_event (event_of c.args.heard) c.requires.stands.0, say.1)) c.send_all.ensures.all
