@@ -13,7 +13,7 @@ use Rattle.serve_loop.proofs.Causes.{stopped_by_wire, write_stops}
 use Rattle.serve_loop.proofs.Steps.{StopsIn-then, quiet_goes_on, line_breaks, sent_goes_on, sending_breaks, none_ordered, each_error, where_ok, heard_sends, heard_stands}
 use Rattle.serve_loop.proofs.Telling.{said_few, said_renders}
 use Rattle.serve_loop.proofs.Writing.{unwritten}
-use Rattle.serve_loop.proofs.hear.hear.Goals as goal
+use Rattle.serve_loop.proofs.hearing.hear.Goals as goal
 
 pub send_all-requires-clause-render : goal.send_all-requires-clause-render
 send_all-requires-clause-render g c =
