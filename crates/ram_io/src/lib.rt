@@ -4,7 +4,7 @@
 //! rose in the call. What an object has left or holds is told by the objects in memory, and not by
 //! the real ones: the clauses on content hold where it is told.
 //!
-//! `Wire`, `Clock` and `Gate` have no caller yet: they wait for commands that are still to come.
+//! No command uses `Wire`, `Clock` and `Gate` yet: they wait for commands that are still to come.
 #![tactic(auto)]
 
 mod calls;
