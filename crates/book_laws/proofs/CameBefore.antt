@@ -35,13 +35,13 @@ use Rattle.book_laws.proofs.SentSources.{held_of_source}
 -- ---- where packets come from
 
 -- all that came in time
-abbrev all_of : Stream → List Held
+abbrev pub all_of : Stream → List Held
 all_of st = st.ended ++ st.present
 
-of_filter : (test : Held → Bool) (hs : List Held) (h : Held) → Contains (filter test hs) h → Contains hs h
+pub of_filter : (test : Held → Bool) (hs : List Held) (h : Held) → Contains (filter test hs) h → Contains hs h
 of_filter test hs h c = All-contains (Contains hs) (filter test hs) h (All-filter test (Contains hs) hs (All-contains_itself hs)) c
 
-came_in_time : (s : Settings) (history : History) (h : Held) → Contains (source s history) h → Contains (all_of (stream s history)) h
+pub came_in_time : (s : Settings) (history : History) (h : Held) → Contains (source s history) h → Contains (all_of (stream s history)) h
 unfolding sources.source
 came_in_time s history h c =
     let st = stream s history in
@@ -61,12 +61,12 @@ of_with new (k ∷ ks) h c =
     (λ r. ⊎_elim (λ e. inl (Contains-append_right (k ∷ []) ks h e)) (λ e. inr e) (of_with new ks h r)) (Contains-append_cases (k ∷ []) (with_packet new ks) h d)) c
 
 -- the packet that an arrival with this note adds
-abbrev IsNew : Arrival → LiveNote → Held → Type 0
+abbrev pub IsNew : Arrival → LiveNote → Held → Type 0
 IsNew a (Took n) h = held_as n a ≡ h
 IsNew a (Restart n) h = held_as n a ≡ h
 IsNew a _ h = ⊥
 
-old_or_new : (st : Stream) (a : Arrival) (n : LiveNote) (h : Held) → Contains (all_of (stream_after st a n)) h → Contains (all_of st) h ⊎ IsNew a n h
+pub old_or_new : (st : Stream) (a : Arrival) (n : LiveNote) (h : Held) → Contains (all_of (stream_after st a n)) h → Contains (all_of st) h ⊎ IsNew a n h
 old_or_new st a (Took n) h c =
     ⊎_elim (λ e. inl (Contains-append_left st.ended st.present h e))
     (λ p. ⊎_elim (λ o. inl (Contains-append_right st.ended st.present h o)) (λ e. inr e) (of_with (held_as n a) st.present h p))
@@ -130,7 +130,7 @@ live_read : (c : Channel) (bytes : List ℕ) → ReadSo c bytes (heard_live c by
 live_read c bytes = cond_both (ltb 1470 (length bytes)) (dropped TooBig) (heard_packet c (packet_at bytes)) (ReadSo c bytes) (λ t. tt) (λ f. packet_read c bytes (packet_at bytes) refl)
 
 -- no packet is heard of a datagram
-not_live : (s : Settings) (client : ℕ) (r : Result (List Framed) FrameFault) (history : History) → arrivals (began (heard_feedback client r) ∷ history) ≡ arrivals history
+pub not_live : (s : Settings) (client : ℕ) (r : Result (List Framed) FrameFault) (history : History) → arrivals (began (heard_feedback client r) ∷ history) ≡ arrivals history
 unfolding arrivals
 not_live s client (Err fault) history = refl
 not_live s client (Ok packets) history = refl
@@ -200,7 +200,7 @@ came_in s (e ∷ book) h l c =
 -- ---- the datagrams of packets
 
 -- a packet is read again as it was stripped
-again : (bytes : List ℕ) (p : Packet) (payload_type number : ℕ) → All (λ b. b < 256) bytes → packet_at bytes ≡ Ok p
+pub again : (bytes : List ℕ) (p : Packet) (payload_type number : ℕ) → All (λ b. b < 256) bytes → packet_at bytes ≡ Ok p
     → sent_again payload_type number (packet_at (stripped p)) ≡ retransmission p payload_type number
 again bytes p payload_type number small e =
     let is = (spelled_so bytes p (below_at bytes small) e).0 in

@@ -18,7 +18,7 @@ use Rattle.rams_model.proofs.Legal.{Allows, IsLegal}
 use Rattle.rams_model.proofs.Legality.{legal_history}
 use Rattle.book_laws.proofs.SentSources.{held_of_source, source_stays, source_after}
 use Rattle.world_laws.specs.{IsAgain}
-use Rattle.world_laws.proofs.Rising.{all_of}
+use Rattle.book_laws.proofs.CameBefore.{all_of}
 
 -- ---- what is of the source came in time, and stays
 

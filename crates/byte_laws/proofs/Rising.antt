@@ -9,14 +9,11 @@ use Rattle.rams_model.specs.declared.note.LiveNote.TheVariants.{Restart, Jump}
 use Rattle.rams_model.specs.Packets.{hi, ahead, following, is_kept, restart, jump, after_greatest, numbered, Arrival, Stream, held_as, awaited, greatest, note_of, live_note, stream_after, stream_of, source}
 use Rattle.rams_model.specs.Laws.{Rises}
 use Rattle.rams_model.proofs.Growing.{source_rises}
+use Rattle.book_laws.proofs.CameBefore.{all_of}
 
 front_rises : (n : ℕ) (hs ks : List Held) → Rises n (hs ++ ks) → Rises n hs
 front_rises n [] ks r = tt
 front_rises n (h ∷ hs) ks r = (r.0, front_rises (h.n + 1) hs ks r.1)
-
--- all that came in time
-abbrev pub all_of : Stream → List Held
-all_of s = s.ended ++ s.present
 
 -- as a new start begins, all that came in time is of the source
 after_restart : (window : ℕ) (s : Stream) (a : Arrival) (n : LiveNote) (m : ℕ) → n ≡ Restart m → Rises 0 (source window (stream_after s a n)) → Rises 0 (all_of s)

@@ -1,0 +1,4 @@
+mod Orders
+mod Repairs
+mod Runs
+mod Ticks

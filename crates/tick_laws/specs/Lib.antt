@@ -1,0 +1,5 @@
+pub mod Order
+pub mod Sends
+unfoldable pub use Rattle.tick_laws.specs.Order.{clients_served, Fall, BurstsAreServedByRisingClient, repairs_done, AreSomeOf, RepairsAreServedAsAsked}
+pub use Rattle.tick_laws.specs.Sends.{HadItsTurn}
+unfoldable pub use Rattle.tick_laws.specs.Sends.{EachWaitingRepairDidNotFit, RepairsGoneAreNotHeld, IsAtItsEnd, EachRunWentOn}
