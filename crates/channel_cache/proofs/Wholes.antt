@@ -1,11 +1,11 @@
 -- Packets that are held stay whole.
-use Rattle.std.proofs.Common.{◌≡◌, ℕ, zero, suc, ◌-◌, ◌≤◌, Bool, true, false, if◌then◌else◌, List, [], ◌∷◌, ◌++◌, length, drop, Option, Some, None, Bor, refl, sym, subst, inl}
+use Rattle.std.proofs.Common.{◌≡◌, ℕ, zero, suc, ◌-◌, ◌≤◌, min, arith, Bool, true, false, if◌then◌else◌, List, [], ◌∷◌, ◌++◌, length, drop, Option, Some, None, Bor, refl, sym, subst, inl}
 use Rattle.std.specs.Prelude.{find, IfSome, option_copied}
 use Rattle.rams_model.specs.declared.held.Held.{Held}
 use Rattle.rams_model.specs.Packets.{last_of}
 use Rattle.rams_model.specs.Formats.{Packet, stripped, IsPacket}
 use Rattle.rams_model.proofs.RtpPackets.{read_so}
-use Rattle.channel_cache.specs.{IsBare, IsWhole, AreWhole}
+use Rattle.channel_cache.specs.{IsBare, IsWhole, AreWhole, AreAtLeast}
 
 -- a packet without its padding is bare
 pub stripped_bare : (p : Packet) → IsPacket p → length (stripped p) ≤ 1470 → IsBare (stripped p)
@@ -47,3 +47,25 @@ found_whole test (h ∷ hs) all = find_step test h hs (test h) all.0 (found_whol
 pub lent_whole : (r : Option (Bor Held)) (found : Option Held) → option_copied r ≡ found → IfSome found IsWhole → IfSome r (λ h. IsWhole h.now)
 lent_whole None found is whole = tt
 lent_whole (Some h) found is whole = subst (λ (o : Option Held). IfSome o IsWhole) (sym is) whole
+
+-- ---- none is smaller
+least_weaker : (m n : ℕ) (hs : List Held) → m ≤ n → AreAtLeast n hs → AreAtLeast m hs
+least_weaker m n [] le all = tt
+least_weaker m n (h ∷ hs) le all = (omega (arith, all.0), least_weaker m n hs le all.1)
+
+least_drop : (n d : ℕ) (hs : List Held) → AreAtLeast n hs → AreAtLeast n (drop d hs)
+least_drop n zero hs all = all
+least_drop n (suc d) [] all = tt
+least_drop n (suc d) (h ∷ hs) all = least_drop n d hs all.1
+
+least_push : (n : ℕ) (hs : List Held) (h : Held) → AreAtLeast n hs → n ≤ h.wire → AreAtLeast n (hs ++ h ∷ [])
+least_push n [] h all one = (one, tt)
+least_push n (k ∷ hs) h all one = (all.0, least_push n hs h all.1 one)
+
+least_next : (n capacity : ℕ) (held : List Held) (h : Held) (b : Bool) → AreAtLeast n held → n ≤ h.wire → AreAtLeast n (if b then last_of capacity (held ++ h ∷ []) else h ∷ [])
+least_next n capacity held h true all one = least_drop n (length (held ++ h ∷ []) - capacity) (held ++ h ∷ []) (least_push n held h all one)
+least_next n capacity held h false all one = (one, tt)
+
+-- the least size after a packet was put in
+pub least_with : (least n capacity : ℕ) (held : List Held) (h : Held) (b : Bool) → n ≡ min least h.wire → AreAtLeast least held → AreAtLeast n (if b then last_of capacity (held ++ h ∷ []) else h ∷ [])
+least_with least n capacity held h b is all = least_next n capacity held h b (least_weaker n least held (omega arith) all) (omega arith)

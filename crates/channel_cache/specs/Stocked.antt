@@ -5,7 +5,7 @@ use Rattle.packet_ring.specs.{empty_ring, pushed, IsRing}
 use Rattle.packet_ring.specs.Seen as rings
 use Rattle.access_index.specs.Seen as indexes
 use Rattle.access_index.specs.{StandsFor}
-use Rattle.channel_cache.specs.Whole.{AreWhole}
+use Rattle.channel_cache.specs.Whole.{AreWhole, AreAtLeast}
 
 -- what is held
 pub record Seen : Type 0 where
@@ -21,9 +21,10 @@ empty_stock capacity = record { ring = empty_ring capacity; pushes = 0 }
 abbrev pub stocked : Seen → Held → Seen
 stocked v h = record { ring = pushed v.ring h; pushes = v.pushes + 1 }
 
--- the index stands for the packets of the ring
-pub record IsStock (ring : rings.Seen) (index : indexes.Seen) : Type 0 where
+-- the index stands for the packets of the ring, none of which is smaller than the least size
+pub record IsStock (ring : rings.Seen) (index : indexes.Seen) (least : ℕ) : Type 0 where
   pub lawful : IsRing ring
   pub marks : StandsFor index ring.held
   pub alike : index.capacity ≡ ring.capacity
   pub whole : AreWhole ring.held
+  pub large : AreAtLeast least ring.held

@@ -3,7 +3,7 @@ ghost use Rattle.std.specs.Prelude.{◌≡◌, ℕ, ◌+◌, ◌^◌, ◌<◌, �
 ghost use Rattle.rams_model.specs.Packets.{chosen, lo, hi, Arrival, live_note, stream_of};
 ghost use Rattle.packet_ring.specs.{packet_of, IsRing};
 ghost use Rattle.access_index.specs.{choice_of};
-ghost use Rattle.channel_cache.specs.{arrival_of, live_note_of, arrivals_after, UnlessTaken, new_cache, ring_of, StandsFor, StandsForFewer, DiffersInKept, AreInStep, Stand, Grows, count, kept_other, IsBare, IsWhole};
+ghost use Rattle.channel_cache.specs.{arrival_of, live_note_of, arrivals_after, UnlessTaken, new_cache, ring_of, StandsFor, StandsForFewer, DiffersInKept, AreInStep, Stand, Grows, count, kept_other, IsBare, IsWhole, AreAtLeast};
 
 use crate::incoming::{Incoming, read_live};
 use crate::intake::Intake;
@@ -87,6 +87,14 @@ impl Cache {
         ensures ring { IsRing (ring_of self.now) }
     {
         self.intake.stock.hi()
+    }
+
+    /// A size on the wire, in bytes, than which no packet that is held is smaller: that of the smallest
+    /// that ever came.
+    pub fn least_wire(&self) -> u32
+        ensures { AreAtLeast result self.now.held }
+    {
+        self.intake.stock.least_wire()
     }
 
     /// The packet of a number; `None` exactly outside of [`lo`, `hi`).

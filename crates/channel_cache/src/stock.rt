@@ -5,7 +5,7 @@ ghost use Rattle.rams_model.specs.Packets.{chosen, lo, hi};
 ghost use Rattle.packet_ring.specs.{packet_of, IsRing, StandsFor};
 ghost use Rattle.access_index.specs.{choice_of};
 ghost use Rattle.channel_cache.specs.Stocked.{empty_stock, stocked};
-ghost use Rattle.channel_cache.specs.{IsWhole};
+ghost use Rattle.channel_cache.specs.{IsWhole, AreAtLeast};
 
 use access_index::{Choice, Index};
 use channel_config::Channel;
@@ -20,6 +20,8 @@ use std::marker::Model;
 pub struct Stock {
     ring: Ring,
     index: Index,
+    // None of the packets is smaller on the wire.
+    least_wire: u32,
 }
 
 impl Model for Stock {
@@ -29,7 +31,7 @@ impl Model for Stock {
 
     ghost view = { λ s. record { ring = s.ring; pushes = s.index.calls } };
 
-    ghost invariant = { λ s. IsStock s.ring s.index };
+    ghost invariant = { λ s. IsStock s.ring s.index s.least_wire };
 }
 
 impl Stock {
@@ -42,6 +44,7 @@ impl Stock {
         Ok(Stock {
             ring: Ring::new(alloc, capacity)?,
             index: Index::new(alloc, capacity)?,
+            least_wire: u32::MAX,
         })
     }
 
@@ -59,6 +62,7 @@ impl Stock {
         self.ring.push(held);
         self.index.drop_below(self.ring.lo());
         self.index.push(n, ts, wire, access);
+        self.least_wire = self.least_wire.min(wire);
     }
 
     /// The number of the oldest packet; 0 while nothing is held.
@@ -75,6 +79,13 @@ impl Stock {
         ensures ring { IsRing self.now.ring }
     {
         self.ring.hi()
+    }
+
+    /// A size on the wire than which no packet is smaller: that of the smallest that ever came.
+    pub fn least_wire(&self) -> u32
+        ensures { AreAtLeast result self.now.ring.held }
+    {
+        self.least_wire
     }
 
     /// The packet of a number; `None` exactly outside of [`lo`, `hi`).

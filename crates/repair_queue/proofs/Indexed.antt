@@ -1,29 +1,93 @@
--- What one more pair does to the index.
-use Rattle.std.proofs.Common.{◌≡◌, ℕ, ◌+◌, ◌<◌, ◌≤◌, Bool, true, false, cond, ◌||◌, ◌&&◌, nat_eq, List, [], ◌∷◌, ◌++◌, length, refl, arith, length-append, Result, Ok, Err, IsOk, OnOk}
-use Rattle.std.specs.HashSet.{contains, hash_set_len, spare as set_spare}
-use Rattle.std.specs.HashMap.{hash_map_len, spare as map_spare}
-use Rattle.std.proofs.lemmas.List.Folds.{list_any-append}
+-- What one more pair and one less do to the index.
+use Rattle.std.proofs.Common.{Result, Ok, Err, OnOk, is_ok, ◌≡◌, ℕ, ◌+◌, ◌-◌, ◌<◌, ◌≤◌, Bool, true, false, cond, not, ◌||◌, ◌&&◌, nat_eq, List, [], ◌∷◌, ◌++◌, length, take, drop, get_or, refl, ap, sym, ◌∙◌, subst, arith, append_assoc, append-nil}
+use Rattle.std.proofs.lemmas.List.{drop_more, take_more, take-append-drop}
+use Rattle.std.proofs.lemmas.List.Elements.{filter-append}
+use Rattle.std.specs.List.{list_any, filter}
+use Rattle.std.proofs.lemmas.Bool.Decides.{nat_tests}
 use Rattle.rams_model.specs.Service.{Wanted, wanted, is_wanted}
 use Rattle.repair_queue.specs.declared.index.Index.{Index}
-use Rattle.repair_queue.specs.{is_of, Indexes, HasPlace, counted, same_pair}
-use Rattle.repair_queue.proofs.Pending.{filter_push, length-filter-le}
+use Rattle.repair_queue.specs.{is_of, count_of, without, Indexes, HasPlace, AreOnce}
+use Rattle.repair_queue.proofs.Pending.{length-filter-le}
 
 -- an index of fewer than 4,096 has a place
 pub place_of : (index : Index) (ws : List Wanted) (client : ℕ) → Indexes index ws → length ws < 4096 → HasPlace index client
-place_of index ws client is short = record {
-  pairs = omega (arith, is.room.pairs, is.pairs_few);
-  counts = omega (arith, is.room.counts, is.counts_few);
-  small = omega (arith, is.counts client, length-filter-le (is_of client) ws);
-}
+place_of index ws client is short = λ whole. omega (arith, is.counts whole client, length-filter-le (is_of client) ws)
 
--- what an insert that can't fail does
-pub done_if_ok : {T E P : Type 0} (r : Result T E) → IsOk r → OnOk r P → P
+module _ (p : Wanted → Bool) where
+  -- one in the middle
+  pub filter_middle : (front back : List Wanted) (w : Wanted) → length (filter p (front ++ w ∷ back)) ≡ length (filter p (front ++ back)) + cond (p w) 1 0
+  filter_middle [] back w = grind arith
+  filter_middle (v ∷ front) back w = grind (arith, filter_middle front back w)
+
+  pub any_middle : (front back : List Wanted) (w : Wanted) → list_any p (front ++ w ∷ back) ≡ (p w || list_any p (front ++ back))
+  any_middle [] back w = refl
+  any_middle (v ∷ front) back w = grind (arith, any_middle front back w)
+
+  -- where none counts none passes
+  pub none_counts : (ws : List Wanted) → length (filter p ws) ≡ 0 → list_any p ws ≡ false
+  none_counts [] h = refl
+  none_counts (w ∷ ws) h = grind (arith, none_counts ws)
+
+  pub filter_append : (front back : List Wanted) → length (filter p (front ++ back)) ≡ length (filter p front) + length (filter p back)
+  filter_append [] back = omega arith
+  filter_append (v ∷ front) back = grind (arith, filter_append front back)
+
+one_more : (b : Bool) → b ≡ true → (n : ℕ) → n ≡ cond b 1 0 → 1 ≤ n
+one_more b same n is = grind arith
+
+-- a pair that is pending once is gone without its repair; the others stay
+pub pair_less : (client n k m : ℕ) (front back : List Wanted) (b was : Bool) → is_wanted k m (wanted client n) ≡ b → AreOnce (front ++ wanted client n ∷ back)
+    → was ≡ list_any (is_wanted k m) (front ++ wanted client n ∷ back) → (not b && was) ≡ list_any (is_wanted k m) (front ++ back)
+pair_less client n k m front back true was same once is =
+    sym (none_counts (is_wanted k m) (front ++ back) (omega (arith, once k m, filter_middle (is_wanted k m) front back (wanted client n), one_more (is_wanted k m (wanted client n)) same _ refl)))
+pair_less client n k m front back false was same once is =
+    is ∙ (any_middle (is_wanted k m) front back (wanted client n) ∙ ap (λ (b : Bool). b || list_any (is_wanted k m) (front ++ back)) same)
+
+pub count_less : (client n k : ℕ) (front back : List Wanted) → count_of k (front ++ wanted client n ∷ back) - cond (nat_eq client k) 1 0 ≡ count_of k (front ++ back)
+count_less client n k front back = omega (arith, filter_middle (is_of k) front back (wanted client n))
+
+-- no pair is twice among some of the first and all others
+pub once_front : (ws front : List Wanted) (i : ℕ) → ((p : Wanted → Bool) → length (filter p front) ≤ length (filter p (take i ws))) → AreOnce ws → AreOnce (front ++ drop i ws)
+once_front ws front i less once = λ k m.
+    let p = is_wanted k m in
+    let all : length (filter p ws) ≡ length (filter p (take i ws)) + length (filter p (drop i ws)) = ap (λ (l : List Wanted). length (filter p l)) (sym (take-append-drop i ws)) ∙ filter_append p (take i ws) (drop i ws) in
+    omega (arith, less p, once k m, filter_append p front (drop i ws))
+
+pub rest_is : (ws : List Wanted) (i : ℕ) (w : Wanted) → i < length ws → get_or ws i w ≡ w → drop i ws ≡ w ∷ drop (i + 1) ws
+rest_is ws i w lt at = drop_more ws i w lt ∙ ap (λ (x : Wanted). x ∷ drop (i + 1) ws) at
+
+pub turn_same : (index : Index) (ws front next : List Wanted) (i : ℕ) (w : Wanted) → i < length ws → get_or ws i w ≡ w → next ≡ front ++ w ∷ [] → Indexes index (front ++ drop i ws) → Indexes index (next ++ drop (i + 1) ws)
+turn_same index ws front next i w lt at is indexed =
+    subst (λ (l : List Wanted). Indexes index l) (ap (λ (l : List Wanted). front ++ l) (rest_is ws i w lt at) ∙ (sym (append_assoc front (w ∷ []) (drop (i + 1) ws)) ∙ ap (λ (l : List Wanted). l ++ drop (i + 1) ws) (sym is))) indexed
+
+-- one more of the first is gone
+pub turn_less : (old new : Index) (ws front next : List Wanted) (i : ℕ) (w : Wanted) → ((f back : List Wanted) → AreOnce (f ++ w ∷ back) → Indexes old (f ++ w ∷ back) → Indexes new (f ++ back))
+    → i < length ws → w ≡ get_or ws i w → next ≡ front → AreOnce (front ++ drop i ws) → Indexes old (front ++ drop i ws) → Indexes new (next ++ drop (i + 1) ws)
+turn_less old new ws front next i w removes lt at is once indexed =
+    let split = rest_is ws i w lt (sym at) in
+    let made = removes front (drop (i + 1) ws) (subst (λ (l : List Wanted). AreOnce (front ++ l)) split once) (subst (λ (l : List Wanted). Indexes old (front ++ l)) split indexed) in
+    subst (λ (l : List Wanted). Indexes new (l ++ drop (i + 1) ws)) (sym is) made
+
+-- the first and one more of the client, without the client's
+pub without_more : (client i : ℕ) (ws : List Wanted) (w : Wanted) → i < length ws → w ≡ get_or ws i w → w.client ≡ client → without client (take (i + 1) ws) ≡ without client (take i ws)
+without_more client i ws w lt at of =
+    let p : Wanted → Bool = λ v. not (is_of client v) in
+    let isnt : p w ≡ false = grind (arith, nat_tests) in
+    ap (filter p) (take_more ws i w lt ∙ ap (λ (x : Wanted). take i ws ++ x ∷ []) (sym at))
+    ∙ (filter-append p (take i ws) (w ∷ []) ∙ (ap (λ (b : Bool). filter p (take i ws) ++ cond b (w ∷ []) []) isnt ∙ append-nil (filter p (take i ws))))
+
+-- what an insert that didn't fail does
+pub done_if_ok : {T E P : Type 0} (r : Result T E) → is_ok r ≡ true → OnOk r P → P
 done_if_ok (Ok x) ok done = done
 done_if_ok (Err e) ok done = cc
 
--- one more pair
+-- one more pair, and one less
 pub pair_put : (b old : Bool) → cond b true old ≡ (old || b)
 pair_put true true = refl
 pair_put true false = refl
 pair_put false true = refl
 pair_put false false = refl
+
+pub pair_taken : (b old : Bool) → cond b false old ≡ (not b && old)
+pair_taken true old = refl
+pair_taken false old = refl

@@ -1,6 +1,6 @@
 -- Dropping what is marked, in place.
 use Rattle.std.proofs.Common.{◌≡◌, ℕ, ◌+◌, ◌<◌, ◌≤◌, Bool, true, false, cond, List, [], ◌∷◌, ◌++◌, length, take, drop, get_or, set, refl, ap, sym, ◌∙◌, arith, length-set, append-nil}
-use Rattle.std.proofs.lemmas.List.{take_more, take_more_set, drop_more, drop-set-lt, length-take-le, take_all, get_or_default}
+use Rattle.std.proofs.lemmas.List.{take_more, take_more_set, drop_more, drop-set-lt, length-take-le, get_or_default}
 use Rattle.std.proofs.lemmas.Grind.{drop_more_same}
 use Rattle.rams_model.specs.Service.{Wanted, wanted}
 use Rattle.repair_queue.specs.{unmarked}
@@ -22,7 +22,7 @@ unmarked_push (v ∷ ws) (true ∷ done) w is_done h = unmarked_push ws done w i
 unmarked_push (v ∷ ws) (false ∷ done) w is_done h = ap (λ (vs : List Wanted). v ∷ vs) (unmarked_push ws done w is_done (omega arith))
 
 -- the first i + 1, where the repair and the flag at i are these
-unmarked_more : (ws : List Wanted) (done : List Bool) (i : ℕ) (w : Wanted) (is_done : Bool) → i < length ws → i < length done → get_or ws i w ≡ w → get_or done i false ≡ is_done
+pub unmarked_more : (ws : List Wanted) (done : List Bool) (i : ℕ) (w : Wanted) (is_done : Bool) → i < length ws → i < length done → get_or ws i w ≡ w → get_or done i false ≡ is_done
     → unmarked (take (i + 1) ws) (take (i + 1) done) ≡ unmarked (take i ws) (take i done) ++ cond is_done [] (w ∷ [])
 unmarked_more ws done i w is_done short short_flags at flag =
     let long : length (take i done) ≡ length (take i ws) = length-take-le i done (omega arith) ∙ sym (length-take-le i ws (omega arith)) in

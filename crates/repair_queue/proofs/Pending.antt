@@ -1,6 +1,7 @@
 -- What one repair more or some repairs less do to the pending ones.
 use Rattle.std.proofs.Common.{◌≡◌, ℕ, ◌+◌, ◌<◌, ◌≤◌, Bool, true, false, cond, not, List, [], ◌∷◌, ◌++◌, length, refl, ap, subst, arith, length-append}
-use Rattle.std.specs.List.{list_any, filter}
+use Rattle.std.specs.List.{list_any, filter, AllByRecursion as Each}
+use Rattle.std.proofs.lemmas.Bool.{cond_both}
 use Rattle.std.proofs.lemmas.Bool.Decides.{nat_tests}
 use Rattle.rams_model.specs.Service.{Wanted, wanted, is_wanted}
 use Rattle.repair_queue.specs.{is_of, count_of, unmarked, without, IsWithinLimits}
@@ -89,3 +90,15 @@ unmarked_none (w ∷ ws) (false ∷ done) h = ap (λ (vs : List Wanted). w ∷ v
 pub without_none : (client : ℕ) (ws : List Wanted) → count_of client ws ≡ 0 → without client ws ≡ ws
 without_none client [] h = refl
 without_none client (w ∷ ws) h = grind (arith, without_none client ws)
+
+-- what is true of each is true of some of them
+module _ (P : Wanted → Type 0) where
+  pub each_unmarked : (ws : List Wanted) (done : List Bool) → Each P ws → Each P (unmarked ws done)
+  each_unmarked [] done all = tt
+  each_unmarked (w ∷ ws) [] all = all
+  each_unmarked (w ∷ ws) (true ∷ done) all = each_unmarked ws done all.1
+  each_unmarked (w ∷ ws) (false ∷ done) all = (all.0, each_unmarked ws done all.1)
+
+  pub each_filtered : (p : Wanted → Bool) (ws : List Wanted) → Each P ws → Each P (filter p ws)
+  each_filtered p [] all = tt
+  each_filtered p (w ∷ ws) all = cond_both (p w) (w ∷ filter p ws) (filter p ws) (Each P) (λ t. (all.0, each_filtered p ws all.1)) (λ f. each_filtered p ws all.1)

@@ -1,6 +1,8 @@
 pub mod Queue
 pub mod Index
+pub mod Span
 unfoldable pub use Rattle.repair_queue.specs.Queue.{is_of, count_of, asked_of, answered, unmarked, without}
 pub use Rattle.repair_queue.specs.Queue.{IsWithinLimits}
-unfoldable pub use Rattle.repair_queue.specs.Index.{same_pair, counted}
-pub use Rattle.repair_queue.specs.Index.{HasRoom, Indexes, HasPlace}
+unfoldable pub use Rattle.repair_queue.specs.Index.{same_pair, counted, HasPlace, AreOnce}
+pub use Rattle.repair_queue.specs.Index.{Indexes}
+unfoldable pub use Rattle.repair_queue.specs.Span.{AreFrom, Spans}

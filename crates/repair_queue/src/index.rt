@@ -1,96 +1,191 @@
 //! What makes an ask quick: which pairs are pending, and how many of each client.
-ghost use Rattle.std.specs.Prelude.{◌≡◌, ℕ, ◌+◌, ◌<◌, ◌≤◌, ◌==◌, ◌&&◌, ◌||◌, if◌then◌else◌, List, [], ◌∷◌, ◌++◌, length, IfOk};
+ghost use Rattle.std.specs.Prelude.{◌≡◌, ℕ, ◌+◌, ◌-◌, ◌<◌, ◌≤◌, ◌==◌, ◌&&◌, ◌||◌, not, true, if◌then◌else◌, List, [], ◌∷◌, ◌++◌, length, IfOk};
 ghost use Rattle.std.specs.List.{list_any};
 ghost use Rattle.rams_model.specs.Service.{Wanted as Repair, wanted, is_wanted};
-ghost use Rattle.repair_queue.specs.{count_of, Indexes, HasRoom, HasPlace, counted, same_pair};
-ghost use Rattle.std.specs.HashSet.{contains, hash_set_len, spare as set_spare};
-ghost use Rattle.std.specs.HashMap.{hash_map_len, spare};
+ghost use Rattle.repair_queue.specs.{count_of, unmarked, without, AreOnce, Indexes, HasPlace, counted, same_pair};
+ghost use Rattle.std.specs.HashSet.{contains};
 
 use crate::wanted::Wanted;
 use ram_io::NoMemory;
 use std::alloc::Global;
 use std::collections::{HashMap, HashSet};
 
-/// The pending pairs of client and number, and how many pairs each client has.
+/// The pending pairs of client and number, and how many pairs each client has. An index that was
+/// refused memory is no longer whole: the pending repairs are walked in its place.
 #[derive(Drop)]
 pub(crate) struct Index {
     pairs: HashSet<(u64, u64)>,
     counts: HashMap<u64, u32>,
+    whole: bool,
 }
 
 impl Index {
     /// An index of nothing, with room for so many pairs.
     pub(crate) fn new(alloc: Global, room: usize) -> Result<Index, NoMemory>
-        requires { room ≡ 4096 }
         ensures { IfOk result (λ index. Indexes index []) }
     {
         Ok(Index {
             pairs: HashSet::with_capacity(alloc, room)?,
             counts: HashMap::with_capacity(alloc, room)?,
+            whole: true,
         })
     }
 
     /// Whether this number is pending for this client.
-    pub(crate) fn has(&self, client: u64, n: u64) -> bool
-        ensures { (ws : List Repair) → Indexes self.now ws → result ≡ list_any (is_wanted client n) ws }
+    pub(crate) fn has(&self, pending: &[Wanted], client: u64, n: u64) -> bool
+        requires { Indexes self.now pending.now }
+        ensures { result ≡ list_any (is_wanted client n) pending.now }
     {
-        self.pairs.contains(&(client, n))
+        if self.whole {
+            self.pairs.contains(&(client, n))
+        } else {
+            is_pending(pending, client, n)
+        }
     }
 
     /// How many numbers are pending for this client.
-    pub(crate) fn count(&self, client: u64) -> u32
-        ensures { (ws : List Repair) → Indexes self.now ws → result ≡ count_of client ws }
+    pub(crate) fn count(&self, pending: &[Wanted], client: u64) -> u32
+        requires indexed { Indexes self.now pending.now }
+        requires few { length pending.now ≤ 4096 }
+        ensures { result ≡ count_of client pending.now }
     {
-        self.counts.get(&client).copied().unwrap_or(0)
+        if self.whole {
+            self.counts.get(&client).copied().unwrap_or(0)
+        } else {
+            count_pending(pending, client)
+        }
     }
 
-    /// One more pair, for which there is room.
+    /// One more pair.
     pub(crate) fn add(&mut self, client: u64, n: u64)
         requires { HasPlace self.old client }
         ensures { (ws : List Repair) → Indexes self.old ws → Indexes self.new (ws ++ wanted client n ∷ []) }
     {
-        add_pair(&mut self.pairs, client, n);
-        add_one(&mut self.counts, client);
+        if self.whole {
+            let added = add_pair(&mut self.pairs, client, n);
+            self.whole = add_one(&mut self.counts, client) && added;
+        }
     }
 
-    /// The index of these, built anew in the room that it has.
-    pub(crate) fn rebuild(&mut self, pending: &[Wanted])
-        requires room { HasRoom self.old }
+    // One pair less, which is there.
+    fn remove(&mut self, client: u64, n: u64)
+        ensures { (front back : List Repair) → AreOnce (front ++ wanted client n ∷ back) → Indexes self.old (front ++ wanted client n ∷ back) → Indexes self.new (front ++ back) }
+    {
+        take_pair(&mut self.pairs, client, n);
+        take_one(&mut self.counts, client);
+    }
+
+    /// An index that isn't whole is built anew, where there is memory.
+    pub(crate) fn mend(&mut self, pending: &[Wanted])
+        requires few { length pending.now ≤ 4096 }
+        requires indexed { Indexes self.old pending.now }
+        ensures { Indexes self.new pending.now }
+    {
+        if !self.whole {
+            self.rebuild(pending);
+        }
+    }
+
+    // The index of these.
+    fn rebuild(&mut self, pending: &[Wanted])
         requires few { length pending.now ≤ 4096 }
         ensures { Indexes self.new pending.now }
     {
         self.pairs.clear();
         self.counts.clear();
+        self.whole = true;
         for w in pending {
             self.add(w.client, w.n);
         }
     }
-}
 
-// Puts a pair among the others, if it isn't there.
-fn add_pair(pairs: &mut HashSet<(u64, u64)>, client: u64, n: u64)
-    requires place { 0 < set_spare pairs.old }
-    ensures pairs { (k m : ℕ) → contains same_pair pairs.new (k, m) ≡ (contains same_pair pairs.old (k, m) || (client == k && n == m)) }
-    ensures len { hash_set_len pairs.new ≤ hash_set_len pairs.old + 1 }
-    ensures room { hash_set_len pairs.old + set_spare pairs.old ≤ hash_set_len pairs.new + set_spare pairs.new }
-{
-    if !pairs.contains(&(client, n)) {
-        let _ = pairs.insert((client, n));
-    }
-}
-
-// Counts one more of the client.
-fn add_one(counts: &mut HashMap<u64, u32>, client: u64)
-    requires place { 0 < spare counts.old }
-    requires small { counted counts.old client < 4096 }
-    ensures counts { (other : ℕ) → counted counts.new other ≡ counted counts.old other + (if client == other then 1 else 0) }
-    ensures len { hash_map_len counts.new ≤ hash_map_len counts.old + 1 }
-    ensures room { hash_map_len counts.old + spare counts.old ≤ hash_map_len counts.new + spare counts.new }
-{
-    match counts.get_mut(&client) {
-        Some(count) => *count += 1,
-        None => {
-            let _ = counts.insert(client, 1);
+    /// The pairs of the marked repairs go.
+    pub(crate) fn drop_marked(&mut self, pending: &[Wanted], done: &[bool])
+        requires one_each { length done.now ≡ length pending.now }
+        requires once { AreOnce pending.now }
+        requires indexed { Indexes self.old pending.now }
+        ensures { Indexes self.new (unmarked pending.now done.now) }
+    {
+        for (i, is_done) in done.iter().enumerate() {
+            if !*is_done {
+                continue;
+            }
+            let w = pending[i];
+            self.remove(w.client, w.n);
         }
     }
+
+    /// The pairs of a client go.
+    pub(crate) fn drop_client(&mut self, pending: &[Wanted], client: u64)
+        requires once { AreOnce pending.now }
+        requires indexed { Indexes self.old pending.now }
+        ensures { Indexes self.new (without client pending.now) }
+    {
+        for w in pending {
+            if w.client != client {
+                continue;
+            }
+            self.remove(w.client, w.n);
+        }
+    }
+}
+
+// Whether this number is pending for this client, by a walk.
+fn is_pending(pending: &[Wanted], client: u64, n: u64) -> bool
+    ensures { result ≡ list_any (is_wanted client n) pending.now }
+{
+    pending.iter().any(|w| w.client == client && w.n == n)
+}
+
+// How many numbers are pending for this client, by a walk.
+fn count_pending(pending: &[Wanted], client: u64) -> u32
+    requires { length pending.now ≤ 4096 }
+    ensures { result ≡ count_of client pending.now }
+{
+    let mut count = 0;
+    for w in pending {
+        if w.client == client {
+            count += 1;
+        }
+    }
+    count
+}
+
+// Puts a pair among the others. Whether there was memory for it.
+fn add_pair(pairs: &mut HashSet<(u64, u64)>, client: u64, n: u64) -> bool
+    ensures { result ≡ true → (k m : ℕ) → contains same_pair pairs.new (k, m) ≡ (contains same_pair pairs.old (k, m) || (client == k && n == m)) }
+{
+    pairs.insert((client, n)).is_ok()
+}
+
+// Counts one more of the client. Whether there was memory for it.
+fn add_one(counts: &mut HashMap<u64, u32>, client: u64) -> bool
+    requires small { counted counts.old client < 4096 }
+    ensures { result ≡ true → (other : ℕ) → counted counts.new other ≡ counted counts.old other + (if client == other then 1 else 0) }
+{
+    if let Some(count) = counts.get_mut(&client) {
+        *count += 1;
+        return true;
+    }
+    counts.insert(client, 1).is_ok()
+}
+
+// Takes a pair out, where it is there.
+fn take_pair(pairs: &mut HashSet<(u64, u64)>, client: u64, n: u64)
+    ensures { (k m : ℕ) → contains same_pair pairs.new (k, m) ≡ (not (client == k && n == m) && contains same_pair pairs.old (k, m)) }
+{
+    let _ = pairs.remove(&(client, n));
+}
+
+// Counts one less of the client.
+fn take_one(counts: &mut HashMap<u64, u32>, client: u64)
+    ensures { (other : ℕ) → counted counts.new other ≡ counted counts.old other - (if client == other then 1 else 0) }
+{
+    if let Some(count) = counts.get_mut(&client) {
+        if *count > 1 {
+            *count -= 1;
+            return;
+        }
+    }
+    let _ = counts.remove(&client);
 }

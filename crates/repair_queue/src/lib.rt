@@ -6,6 +6,7 @@
 
 mod index;
 mod queue;
+mod span;
 mod wanted;
 
 pub use queue::Queue;

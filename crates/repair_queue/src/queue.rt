@@ -1,5 +1,6 @@
 //! The queue of pending repairs.
 use crate::index::Index;
+use crate::span::Span;
 use crate::wanted::{Asked, Wanted};
 use ram_io::NoMemory;
 use std::alloc::Global;
@@ -17,6 +18,7 @@ const MOST_OF_CLIENT: u32 = 256;
 pub struct Queue {
     pending: Vec<Wanted>,
     index: Index,
+    span: Span,
 }
 
 impl Model for Queue {
@@ -25,29 +27,31 @@ impl Model for Queue {
 
     ghost Value = { List Repair };
 
-    ghost use Rattle.repair_queue.specs.{IsWithinLimits, Indexes};
+    ghost use Rattle.repair_queue.specs.{IsWithinLimits, Indexes, Spans};
 
     ghost view = { λ q. q.pending.items };
 
     ghost invariant = { λ q. record {
       limits : IsWithinLimits q.pending.items;
       indexed : Indexes q.index q.pending.items;
+      spanned : Spans q.span q.pending.items;
       room : 4096 ≤ vec_capacity q.pending;
     } };
 }
 
 impl Queue {
-    ghost use Rattle.std.specs.Prelude.{◌≡◌, ◌<◌, [], length, nat_lt, IfOk};
-    ghost use Rattle.repair_queue.specs.{asked_of, answered, unmarked, without, count_of, IsWithinLimits};
+    ghost use Rattle.std.specs.Prelude.{◌≡◌, ◌<◌, [], true, length, nat_lt, IfOk};
+    ghost use Rattle.repair_queue.specs.{asked_of, answered, unmarked, without, count_of, IsWithinLimits, AreFrom, Spans};
 
-    /// A queue in which nothing is pending. It takes room for 4,096 repairs, so that no other call takes
-    /// memory.
+    /// A queue in which nothing is pending. It takes room for 4,096 repairs, so that no other call fails
+    /// for want of memory.
     pub fn new(alloc: Global) -> Result<Queue, NoMemory>
         ensures { IfOk result (λ queue. queue ≡ []) }
     {
         Ok(Queue {
             pending: Vec::with_capacity(alloc, MOST_PENDING)?,
             index: Index::new(alloc, MOST_PENDING)?,
+            span: Span::new(),
         })
     }
 
@@ -58,18 +62,30 @@ impl Queue {
         ensures answer { result ≡ asked_of self.old client n }
         ensures pending { self.new ≡ answered result self.old client n }
     {
-        if self.index.has(client, n) {
+        if self.index.has(&self.pending, client, n) {
             return Asked::Already;
         }
-        if self.index.count(client) >= MOST_OF_CLIENT {
+        if self.index.count(&self.pending, client) >= MOST_OF_CLIENT {
             return Asked::ClientFull;
         }
         if self.pending.len() >= MOST_PENDING {
             return Asked::QueueFull;
         }
+        self.span = self.span_before().with(n);
         self.pending.push_reserved(Wanted { client, n });
         self.index.add(client, n);
         Asked::Queued
+    }
+
+    // The span of what is pending: of none, it is anew.
+    fn span_before(&self) -> Span
+        ensures { Spans result self.now }
+    {
+        if self.pending.is_empty() {
+            Span::new()
+        } else {
+            self.span
+        }
     }
 
     /// The pending repairs, the oldest first.
@@ -80,11 +96,19 @@ impl Queue {
         &self.pending
     }
 
+    /// Whether each pending number is at least `lo` and below `hi`. It looks at none of them, and where
+    /// some went it may say no although they are.
+    pub fn are_from(&self, lo: u64, hi: u64) -> bool
+        ensures { result ≡ true → AreFrom lo hi self.now }
+    {
+        self.span.is_within(lo, hi)
+    }
+
     /// Whether a repair is pending for this client.
     pub fn has(&self, client: u64) -> bool
         ensures { result ≡ nat_lt 0 (count_of client self.now) }
     {
-        !self.pending.is_empty() && self.index.count(client) > 0
+        !self.pending.is_empty() && self.index.count(&self.pending, client) > 0
     }
 
     /// The repairs whose flag is set are no longer pending; the others keep their order. There is one
@@ -96,19 +120,20 @@ impl Queue {
         if !is_any_set(done) {
             return;
         }
+        self.index.drop_marked(&self.pending, done);
         drop_marked(&mut self.pending, done);
-        self.index.rebuild(&self.pending);
+        self.index.mend(&self.pending);
     }
 
     /// Nothing is pending for this client any more; the repairs of the others keep their order.
     pub fn forget(&mut self, client: u64)
         ensures { self.new ≡ without client self.old }
     {
-        if self.index.count(client) == 0 {
+        if self.index.count(&self.pending, client) == 0 {
             return;
         }
+        self.index.drop_client(&self.pending, client);
         drop_client(&mut self.pending, client);
-        self.index.rebuild(&self.pending);
     }
 }
 

@@ -16,3 +16,4 @@ pub mod Adding
 pub mod Midway
 pub mod Closing
 pub mod Carrying
+pub mod Spent

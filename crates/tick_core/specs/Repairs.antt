@@ -52,6 +52,10 @@ abbrev pub with_wanted : Wanted → Option Held → Repaired → Repaired
 with_wanted w None r = record r { draft = with_note r.draft (Gone w.client w.n); done = r.done ++ true ∷ [] }
 with_wanted w (Some h) r = with_repair w h (allowance_for w.client r.allowances) r
 
+-- the channel has less left than any packet takes
+abbrev pub IsSpent : List Held → Repaired → Type 0
+IsSpent held r = AllByRecursion (λ h. r.draft.left < h.wire) held
+
 -- these repairs, one after another
 unfoldable pub with_all_wanted : List Held → List Wanted → Repaired → Repaired
 with_all_wanted held [] r = r

@@ -1,7 +1,7 @@
 //! The pending repairs.
-ghost use Rattle.std.specs.Prelude.{◌≡◌, ◌≤◌, ◌&&◌, nat_le, [], None, IfOk, MatchOption, slice_index_or};
+ghost use Rattle.std.specs.Prelude.{◌≡◌, ◌≤◌, ◌&&◌, nat_le, false, [], ◌++◌, length, drop, replicate, None, IfOk, MatchOption, slice_index_or};
 ghost use Rattle.tick_core.specs.declared.allowance.Allowance.{Allowance};
-ghost use Rattle.tick_core.specs.{Rise, clients_of, allowance_for, IsPlaceOf, waiting, with_taken, with_repair, with_wanted, with_all_wanted};
+ghost use Rattle.tick_core.specs.{Rise, clients_of, IsSpent, allowance_for, IsPlaceOf, waiting, with_taken, with_repair, with_wanted, with_all_wanted};
 ghost use Rattle.packet_ring.specs.{packet_of};
 
 use crate::allowance::Allowance;
@@ -89,6 +89,9 @@ impl Repairs {
         let Some(held) = cache.held(wanted.n) else {
             return self.drop_gone(wanted);
         };
+        if u64::from(held.wire) > self.draft.left() {
+            return self.wait();
+        }
         match place_of(&self.allowances, wanted.client) {
             Some(place) => self.send(place, wanted, held),
             None => self.wait(),
@@ -99,8 +102,52 @@ impl Repairs {
     pub fn repair_all(&mut self, cache: &Cache, queue: &Queue) -> Result<(), NoMemory>
         ensures { IfOk result (λ _. self.new ≡ with_all_wanted cache.now.held queue.now self.old) }
     {
-        for wanted in queue.pending() {
+        let least = u64::from(cache.least_wire());
+        for (i, wanted) in queue.pending().iter().enumerate() {
+            if self.draft.left() < least {
+                return self.pass_rest(cache, queue, i);
+            }
             self.repair(cache, wanted)?;
+        }
+        Ok(())
+    }
+
+    /// Nothing fits any more, from this place on: the others wait but for those whose packets are gone.
+    fn pass_rest(&mut self, cache: &Cache, queue: &Queue, from: usize) -> Result<(), NoMemory>
+        requires spent { IsSpent cache.now.held self.old }
+        requires within { from ≤ length queue.now }
+        ensures { IfOk result (λ _. self.new ≡ with_all_wanted cache.now.held (drop from queue.now) self.old) }
+    {
+        let rest = &queue.pending()[from..];
+        if queue.are_from(cache.lo(), cache.hi()) {
+            self.wait_all(rest.len())
+        } else {
+            self.pass_over(cache, rest)
+        }
+    }
+
+    /// So many repairs wait on.
+    fn wait_all(&mut self, count: usize) -> Result<(), NoMemory>
+        requires { count ≤ 4096 }
+        ensures { IfOk result (λ _. self.new ≡ record self.old { done = self.old.done ++ replicate count false }) }
+    {
+        let all = self.done.len() + count;
+        self.done.resize(all, false)?;
+        Ok(())
+    }
+
+    /// These repairs wait on but for those whose packets are gone.
+    fn pass_over(&mut self, cache: &Cache, pending: &[Wanted]) -> Result<(), NoMemory>
+        requires { IsSpent cache.now.held self.old }
+        ensures { IfOk result (λ _. self.new ≡ with_all_wanted cache.now.held pending.now self.old) }
+    {
+        let (lo, hi) = (cache.lo(), cache.hi());
+        for wanted in pending {
+            if lo <= wanted.n && wanted.n < hi {
+                self.wait()?;
+                continue;
+            }
+            self.drop_gone(wanted)?;
         }
         Ok(())
     }

@@ -1,10 +1,10 @@
-use Rattle.std.proofs.Common.{◌∙◌, nat_eq, ◌&&◌}
+use Rattle.std.proofs.Common.{◌∙◌, sym, nat_eq, ◌&&◌}
 use Rattle.std.specs.HashSet.{contains}
 use Rattle.repair_queue.specs.{same_pair}
 use Rattle.repair_queue.proofs.Indexed.{done_if_ok, pair_put}
 use Rattle.repair_queue.proofs.index.add_pair.Goals as goal
 
-pub returns-then-not-contains-clause-pairs : goal.returns-then-not-contains-clause-pairs
-returns-then-not-contains-clause-pairs c = λ k m.
-    (done_if_ok c.insert.result (c.insert.ensures.succeeds c.requires.place) c.insert.ensures.updates).0 (k, m)
+pub returns : goal.returns
+returns c = λ ok k m.
+    (done_if_ok c.insert.result (sym c.is_ok.ensures.value ∙ ok) c.insert.ensures.updates).0 (k, m)
     ∙ pair_put (nat_eq c.args.client k && nat_eq c.args.n m) (contains same_pair c.args.pairs.now (k, m))

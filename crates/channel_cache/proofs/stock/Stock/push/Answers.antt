@@ -4,8 +4,8 @@ use Rattle.rams_model.specs.Packets.{hi, from_number}
 use Rattle.access_index.specs.{StandsFor}
 use Rattle.packet_ring.specs.Seen as rings
 use Rattle.channel_cache.specs.Stocked.{Seen}
-use Rattle.channel_cache.specs.{AreWhole}
-use Rattle.channel_cache.proofs.Wholes.{AreWhole-with}
+use Rattle.channel_cache.specs.{AreWhole, AreAtLeast}
+use Rattle.channel_cache.proofs.Wholes.{AreWhole-with, least_with}
 use Rattle.channel_cache.proofs.Stocking.{pushed_marks, next_mark, room_left}
 use Rattle.channel_cache.proofs.stock.Stock.push.Goals as goal
 
@@ -39,4 +39,5 @@ invariant_of-self c =
           (c.push-2.ensures.stands (from_number c.lo.result ring.held) h refl refl refl refl (c.drop_below.ensures.stands ring.held c.self.invariant.marks));
       alike = ap (λ v. v.capacity) c.push-2.ensures.step ∙ (ap (λ v. v.capacity) c.drop_below.ensures.step ∙ (c.self.invariant.alike ∙ sym (ap (λ r. r.capacity) c.push.ensures.step)));
       whole = subst (λ (r : rings.Seen). AreWhole r.held) (sym c.push.ensures.step) (AreWhole-with ring.capacity ring.held h (h.n == hi ring.held) c.self.invariant.whole c.requires.whole);
+      large = subst (λ (r : rings.Seen). AreAtLeast c.min-self-inside.result r.held) (sym c.push.ensures.step) (least_with c.self.inside.least_wire c.min-self-inside.result ring.capacity ring.held h (h.n == hi ring.held) (omega (arith, c.min-self-inside.ensures)) c.self.invariant.large);
     }

@@ -1,0 +1,31 @@
+use Rattle.std.proofs.Common.{◌≡◌, ◌<◌, length, sym, ◌∙◌, subst, take, get_or, arith, append-nil}
+use Rattle.std.proofs.lemmas.List.{get_or_default}
+use Rattle.rams_model.specs.Service.{Wanted, wanted}
+use Rattle.repair_queue.specs.{unmarked}
+use Rattle.std.proofs.Common.{true, false}
+use Rattle.repair_queue.proofs.Pending.{filter-unmarked-le}
+use Rattle.repair_queue.proofs.Marked.{unmarked_more}
+use Rattle.repair_queue.proofs.Indexed.{turn_less, turn_same, once_front}
+use Rattle.repair_queue.proofs.index.Index.drop_marked.Goals as goal
+
+pub loop-i-preserved-then-not-is_done : goal.loop-i-preserved-then-not-is_done
+loop-i-preserved-then-not-is_done c =
+    let ws = c.args.pending.now in
+    let i = c.loop-i.i in
+    let w = get_or ws i (wanted 0 0) in
+    let short : i < length ws = omega arith in
+    let at : get_or ws i w ≡ w = get_or_default ws i _ _ short in
+    turn_same c.loop-i.self ws (unmarked (take i ws) (take i c.args.done.now)) _ i w short at (unmarked_more ws c.args.done.now i w false short c.loop-i-test.true at c.if-not-is_done.true) c.loop-i.invariant
+
+pub loop-i-preserved : goal.loop-i-preserved
+loop-i-preserved c =
+    let ws = c.args.pending.now in
+    let i = c.loop-i.i in
+    let w = wanted c.w.inside.client c.w.inside.n in
+    let short : i < length ws = omega arith in
+    let at : w ≡ get_or ws i w = subst (λ (x : Wanted). x ≡ get_or ws i x) (sym c.w.view_is) c.index-pending-i.is in
+    let front = unmarked (take i ws) (take i c.args.done.now) in
+    turn_less c.loop-i.self c.remove.new.self ws front _ i w c.remove.ensures short at
+    (unmarked_more ws c.args.done.now i w true short c.loop-i-test.true (sym at) c.if-not-is_done.false ∙ append-nil front)
+    (once_front ws front i (λ p. filter-unmarked-le p (take i ws) (take i c.args.done.now)) c.requires.once)
+    c.loop-i.invariant
