@@ -27,7 +27,7 @@ use Rattle.channel_parts.proofs.Opening.{none_of, opened_filter}
 use Rattle.rams_model.proofs.OpenBurst.{holds_of}
 use Rattle.channel_parts.proofs.Bounding.{bounded}
 use Rattle.channel_parts.proofs.Lasting.{ticks_left}
-use Rattle.channel_parts.proofs.Idling.{idle_less}
+use Rattle.tick_laws.proofs.Idling.{idle_less}
 use Rattle.channel_parts.proofs.Small.{held_small}
 use Rattle.channel_parts.proofs.Tables.{at_is, has_entry, entry_among}
 
