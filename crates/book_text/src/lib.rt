@@ -8,5 +8,6 @@ mod line;
 mod note;
 mod tail;
 
-pub use line::{append_count, append_no_channel, append_refused, append_send};
+pub use line::{append_count, append_hex, append_no_channel, append_refused, append_send, begin};
 pub use note::append_note;
+pub use tail::Tail;

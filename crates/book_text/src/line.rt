@@ -35,13 +35,13 @@ pub fn append_send(
     line.named(b"send", client);
     begin(&mut line, event, id);
     line.append_to(text)?;
-    hex(text, bytes)?;
+    append_hex(text, bytes)?;
     text.push(b'\n')?;
     Ok(())
 }
 
-// Bytes in hexadecimal digits, whose letters are small; `-` for none.
-fn hex(text: &mut Vec<u8>, bytes: &[u8]) -> Result<(), NoMemory>
+/// Bytes in hexadecimal digits, whose letters are small; `-` for none.
+pub fn append_hex(text: &mut Vec<u8>, bytes: &[u8]) -> Result<(), NoMemory>
     ensures { OnOk result (text.new.items ≡ text.old.items ++ hex_word bytes.now) }
 {
     if bytes.is_empty() {

@@ -1,7 +1,7 @@
 //! The receiver's numbers, which extend sequence numbers of 16 bits.
 ghost use Rattle.std.specs.Prelude.{◌≡◌, ◌+◌, ◌^◌, ◌<◌, ◌≤◌, IfSome};
 ghost use Rattle.rams_model.specs.Packets.{ahead};
-ghost use Rattle.rams_model.specs.Receiver.{nearest, first_number};
+ghost use Rattle.rams_model.specs.Receiver.{nearest, distance_from, first_number};
 
 use ext_seq::least_from;
 
@@ -38,6 +38,19 @@ pub(crate) fn nearest(n: u64, low: u16) -> u64
     }
 }
 
+/// How far a retransmission with this sequence number is ahead of the one that is `named` in the RAMS-I
+/// that was taken, where that is less than the room.
+pub(crate) fn distance_from(named: Option<u16>, sequence: u16) -> Option<u64>
+    ensures value { result ≡ distance_from named sequence }
+    ensures few { IfSome result (λ d. d < 16384) }
+{
+    let distance = ahead(sequence, u64::from(named?));
+    if distance >= ROOM {
+        return None;
+    }
+    Some(distance)
+}
+
 /// The first number, where a retransmission with this sequence number, of the packet with these
 /// low 16 bits, fixes it: its own is `named` in the RAMS-I that was taken, or less than the room
 /// ahead of it.
@@ -46,9 +59,6 @@ pub(crate) fn first_number(named: Option<u16>, sequence: u16, low: u16) -> Optio
     ensures high { IfSome result (λ n. 65536 ≤ n) }
     ensures limit { IfSome result (λ n. n < 131072) }
 {
-    let distance = ahead(sequence, u64::from(named?));
-    if distance >= ROOM {
-        return None;
-    }
+    let distance = distance_from(named, sequence)?;
     Some(SEQUENCE_NUMBERS + ahead(low, distance))
 }

@@ -1,6 +1,7 @@
 //! The receiver.
 use crate::asking::ask_in_play;
 use crate::datagrams::{bye_datagram, request_datagram};
+use crate::numbers::distance_from;
 use crate::playing::{arrive_again, arrive_by_multicast, present};
 use crate::reading::{
     BURST_BEGINS, original_of, read_again, read_multicast, read_told, tells_of_burst,
@@ -48,9 +49,9 @@ impl Model for Receiver {
 }
 
 impl Receiver {
-    ghost use Rattle.std.specs.Prelude.{◌≡◌, ◌<◌, ◌^◌, option_map, IfOk, IfErr, OnOk, OnErr};
+    ghost use Rattle.std.specs.Prelude.{◌≡◌, ◌<◌, ◌^◌, option_map, IfOk, IfErr, IfSome, OnOk, OnErr};
     ghost use Rattle.rams_model.specs.Receiver.{told_by, brought_again, brought_by_multicast, after_told, after_media, told_answer, media_answer, join_answer, shown_now, after_shown, asked, request_datagram, join_datagram, bye_datagram};
-    ghost use Rattle.receiver_core.specs.{just_tuned, with_got, with_call, as_shown};
+    ghost use Rattle.receiver_core.specs.{just_tuned, with_got, with_call, as_shown, distance_of};
 
     /// A receiver that has got nothing, and the datagram by which it asks for a burst: a RAMS-R (RFC
     /// 6285, 7.2) behind a report and its name. Payload types are below 128.
@@ -177,6 +178,18 @@ impl Receiver {
         match bye_datagram(alloc, &self.tuned) {
             Ok(text) => Ok(text),
             Err(e) => Err((self, e)),
+        }
+    }
+
+    /// How far a retransmission is ahead of the one with which the burst begins, where a burst was told
+    /// of and that is less than the room. Where no first number is fixed, such a packet fixes it.
+    pub fn distance(&self, bytes: &[u8]) -> Option<u64>
+        ensures value { result ≡ distance_of (brought_again self.now.tuned bytes.now) self.now.got }
+        ensures few { IfSome result (λ d. d < 16384) }
+    {
+        match read_again(&self.tuned, bytes) {
+            Ok(packet) => distance_from(self.named, packet.sequence()),
+            Err(_) => None,
         }
     }
 

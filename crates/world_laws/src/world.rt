@@ -1,4 +1,5 @@
 //! What happens in a world, and what is said of it.
+use bytes::Bytes;
 use rams_model::{InfoCame, MediaCame, Note, Octets};
 use server_hub::HubEvent;
 
@@ -27,9 +28,9 @@ pub enum WorldItem {
     /// A note of the channel.
     Note(Note),
     /// A datagram of the server to this client.
-    Send { client: u64, bytes: Octets },
+    Send { client: u64, bytes: Bytes },
     /// A datagram of this client's receiver to the feedback target (RFC 4585).
-    Post { client: u64, bytes: Octets },
+    Post { client: u64, bytes: Bytes },
     /// What became of a RAMS-I (RFC 6285, 7.3) that was delivered.
     Info { client: u64, came: InfoCame },
     /// What became of a retransmission or a multicast packet that was delivered.

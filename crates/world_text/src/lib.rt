@@ -1,0 +1,12 @@
+//! The lines of a world, each appended to a given text.
+//!
+//! A call appends its whole line; where memory runs out, a part of the line may stand behind the
+//! text.
+#![tactic(auto)]
+
+mod line;
+pub mod rows;
+
+pub use line::append_world_note;
+pub use ram_io::NoMemory;
+pub use world_laws::{WorldItem, WorldNote};
