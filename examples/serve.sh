@@ -11,10 +11,12 @@ trap 'kill $(jobs -p) 2>/dev/null || true; rm -rf "$room"' EXIT
 
 "$server" make 1 1 >/dev/null # (builds it, where it isn't there)
 
+stream=()
 if command -v ffmpeg >/dev/null; then
     echo "serve.sh: the stream is a test picture of ffmpeg"
+    stream=("$room/stream.ts")
     ffmpeg -loglevel error -f lavfi -i testsrc=size=720x576:rate=25 -t 12 -c:v mpeg2video -g 12 -b:v 3500k \
-        -f mpegts -muxrate 4211200 "$room/stream.ts"
+        -f mpegts -muxrate 4211200 "${stream[@]}"
 else
     echo "serve.sh: no ffmpeg here, so the stream is made up"
 fi
@@ -22,7 +24,7 @@ fi
 "$server" serve "$port" 14000 <"$here/serve.head" >"$room/journal" &
 serving=$!
 sleep 0.5
-python3 "$here/loopback.py" send "$port" "$((port + 999))" 9 ${room:+$([ -f "$room/stream.ts" ] && echo "$room/stream.ts")} &
+python3 "$here/loopback.py" send "$port" "$((port + 999))" 9 "${stream[@]}" &
 sleep 2
 python3 "$here/loopback.py" watch "$((port + 1))" "$((port + 999))" 6 "$loss" "$room/log" || failed=1
 wait "$serving"

@@ -44,7 +44,8 @@ CLIENT = """
     udpsrc name=again ! both.
     session.send_rtcp_src ! udpsink name=asks sync=false async=false
 """
-CAPS = "application/x-rtp,media=video,clock-rate=90000,encoding-name=%s,payload=%d"
+# (rtprtxreceive tells retransmissions by the type in the packet, so both ways have the same caps)
+CAPS = "application/x-rtp,media=video,clock-rate=90000,encoding-name=MP2T,payload=33"
 
 
 def packet(i):
@@ -72,8 +73,8 @@ def client(media, feedback):
     own = Gio.Socket.new(Gio.SocketFamily.IPV4, Gio.SocketType.DATAGRAM, Gio.SocketProtocol.UDP)
     own.bind(Gio.InetSocketAddress.new_from_string(HOST, 0), False)
     for name, properties in {
-        "media": {"address": HOST, "port": media, "buffer-size": 1 << 20, "caps": Gst.Caps.from_string(CAPS % ("MP2T", 33))},
-        "again": {"socket": own, "close-socket": False, "caps": Gst.Caps.from_string(CAPS % ("MP2T", 33))},
+        "media": {"address": HOST, "port": media, "buffer-size": 1 << 20, "caps": Gst.Caps.from_string(CAPS)},
+        "again": {"socket": own, "close-socket": False, "caps": Gst.Caps.from_string(CAPS)},
         "asks": {"socket": own, "close-socket": False, "host": HOST, "port": feedback},
     }.items():
         for key, value in properties.items():
@@ -84,7 +85,7 @@ def client(media, feedback):
     # (what is lost is asked for at once, not at the next report)
     inner.set_property("rtcp-min-interval", 1)
     inner.set_property("bandwidth", 8e6)
-    pipeline.get_by_name("session").connect("request-pt-map", lambda _, pt: Gst.Caps.from_string(CAPS % ("MP2T", pt)))
+    pipeline.get_by_name("session").connect("request-pt-map", lambda _, pt: Gst.Caps.from_string(CAPS))
 
     def take(sink):
         buffer = sink.emit("pull-sample").get_buffer()

@@ -12,7 +12,7 @@ use Rattle.rams_model.proofs.OpenBurst.{holds_of}
 use Rattle.rams_model.proofs.LastAccept.{opened_open}
 use Rattle.channel_parts.proofs.Bounding.{bounded}
 use Rattle.channel_parts.proofs.Lasting.{ticks_left}
-use Rattle.channel_parts.proofs.Idling.{idle_less}
+use Rattle.tick_laws.proofs.Idling.{idle_less}
 use Rattle.channel_parts.proofs.Reserving.{accept_reserves, update_reserves, end_releases, note_reserves_nothing, event_reserves_nothing, burst_reserved, leaves_reserve, left_within}
 use Rattle.channel_parts.proofs.Numbers.{hi_never_falls}
 use Rattle.channel_parts.proofs.Small.{held_small, reads_low}

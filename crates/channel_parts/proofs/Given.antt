@@ -27,7 +27,7 @@ use Rattle.channel_parts.proofs.Opening.{none_of, opened_filter}
 use Rattle.rams_model.proofs.OpenBurst.{holds_of}
 use Rattle.channel_parts.proofs.Bounding.{bounded}
 use Rattle.channel_parts.proofs.Lasting.{ticks_left}
-use Rattle.channel_parts.proofs.Idling.{idle_less}
+use Rattle.tick_laws.proofs.Idling.{idle_less}
 use Rattle.channel_parts.proofs.Small.{held_small}
 use Rattle.channel_parts.proofs.Tables.{at_is, has_entry, entry_among}
 
@@ -103,7 +103,7 @@ entries_are_in_bounds p events st k e found =
     (λ b o. (holds_of (IsWithinBounds s (hold s history)) (open_burst s k history) b (bounded s k history (legal_history s events)) o, ticks_left s k b events st.lawful.limit_least o)) in
     record {
       seq_most = omega (arith, is.seq_is);
-      idle_most = omega (arith, is.idle_is, idle_less s k events st.lawful.idle_least is_known);
+      idle_most = λ free. omega (arith, is.idle_is free, idle_less s k events st.lawful.idle_least is_known);
       burst = subst (λ (o : Option Burst). IfSome o (IsBurstInBounds s p.cache.held)) (sym is.burst_is)
           (subst (λ (hs : List Held). IfSome (option_map (burst_kept s) (open_burst s k history)) (IsBurstInBounds s hs)) (sym (held_is p events st)) bounds);
     }

@@ -4,7 +4,6 @@ pub mod Waiting
 pub mod Knowing
 pub mod Opening
 pub mod Lasting
-pub mod Idling
 pub mod Numbers
 pub mod Bounding
 pub mod Reserving

@@ -1,10 +1,10 @@
 -- What is true of the parts of a channel whenever they stand for some events.
-use Rattle.std.specs.Prelude.{◌≡◌, ℕ, ◌+◌, ◌^◌, ◌<◌, ◌≤◌, List, ◌∷◌, sum_by, All, Option, Some, None, IfSome, is_some, length}
+use Rattle.std.specs.Prelude.{◌≡◌, ℕ, ◌+◌, ◌^◌, ◌<◌, ◌≤◌, Bool, false, List, ◌∷◌, sum_by, All, Option, Some, None, IfSome, is_some, length}
 use Rattle.rams_model.specs.declared.event.Event.{Event}
 use Rattle.rams_model.specs.declared.held.Held.{Held}
 use Rattle.rams_model.specs.declared.note.LiveNote.{LiveNote}
 use Rattle.rams_model.specs.declared.event.Event.TheVariants.{Live, Feedback, Tick}
-use Rattle.rams_model.specs.Service.{Settings, History, arrivals, hold, known, is_among, pending, history_of}
+use Rattle.rams_model.specs.Service.{Settings, History, arrivals, hold, known, is_among, pending, is_busy, history_of}
 use Rattle.rams_model.specs.Packets.{lo, hi, Follows}
 use Rattle.channel_cache.specs.{live_note_of, arrivals_after}
 use Rattle.channel_cache.specs.Seen as caches
@@ -42,15 +42,15 @@ pub record IsBurstInBounds (s : Settings) (held : List Held) (b : Burst) : Type 
   pub ticks_most : b.ticks < s.channel.limit
   pub kept_most : b.kept ≤ s.channel.depth
 
--- The bounds of an entry.
-pub record IsEntryInBounds (s : Settings) (held : List Held) (e : Entry) : Type 0 where
+-- The bounds of an entry, of a client that is busy or not.
+pub record IsEntryInBounds (s : Settings) (held : List Held) (busy : Bool) (e : Entry) : Type 0 where
   pub seq_most : e.seq < 2 ^ 16
-  pub idle_most : e.idle < s.channel.idle
+  pub idle_most : busy ≡ false → e.idle < s.channel.idle
   pub burst : IfSome e.burst (IsBurstInBounds s held)
 
 abbrev pub EntriesAreInBounds : Type 0
 EntriesAreInBounds =
-    (p : Parts) (events : List Event) → StandsFor p events → (k : ℕ) (e : Entry) → entry_of p.table k ≡ Some e → IsEntryInBounds p.config p.cache.held e
+    (p : Parts) (events : List Event) → StandsFor p events → (k : ℕ) (e : Entry) → entry_of p.table k ≡ Some e → IsEntryInBounds p.config p.cache.held (is_busy p.config k (history_of p.config events)) e
 
 -- what an entry's burst reserves: its rate, and all that it may keep
 abbrev pub amount_of : Settings → Option Burst → ℕ

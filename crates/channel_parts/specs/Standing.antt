@@ -1,7 +1,7 @@
 -- What the parts of a channel keep between events, and the history that they stand for.
 use Rattle.std.specs.Prelude.{◌≡◌, ℕ, ◌^◌, ◌≤◌, false, true, List, [], length, All, Some, None, option_map}
 use Rattle.rams_model.specs.declared.event.Event.{Event}
-use Rattle.rams_model.specs.Service.{Settings, History, arrivals, known, is_among, sequence, ssrc, next, kept, open_burst, Wanted, pending, idle, reserved, channel_left, history_of}
+use Rattle.rams_model.specs.Service.{Settings, History, arrivals, known, is_among, sequence, ssrc, next, kept, open_burst, Wanted, pending, is_busy, idle, reserved, channel_left, history_of}
 use Rattle.rams_model.specs.Service.Bursts as model
 use Rattle.channel_config.specs.{IsLawful}
 use Rattle.channel_cache.specs.{new_cache}
@@ -19,11 +19,11 @@ use Rattle.channel_parts.specs.Facts.{HaveLowNumbers}
 abbrev pub burst_kept : Settings → model.Burst → Burst
 burst_kept s b = record { first = b.first; next = next b; stop = b.stop; rate = b.rate; ticks = b.ticks; kept = kept s b; last = b.last }
 
--- A known client's entry, between two events, is what the history says of it.
+-- A known client's entry, between two events, is what the history says of it. Its idle count is the client's where it isn't busy; one that is busy isn't idle, whatever its entry counts.
 pub record IsEntry (s : Settings) (k : ℕ) (history : History) (e : Entry) : Type 0 where
   pub ssrc_is : ssrc k history ≡ Some e.ssrc
   pub seq_is : e.seq ≡ sequence s k history
-  pub idle_is : e.idle ≡ idle s k history
+  pub idle_is : is_busy s k history ≡ false → e.idle ≡ idle s k history
   pub burst_is : e.burst ≡ option_map (burst_kept s) (open_burst s k history)
 
 -- The table has exactly the known clients, each with its entry; only known clients have open bursts.

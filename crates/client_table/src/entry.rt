@@ -32,7 +32,7 @@ pub struct Entry {
     pub ssrc: u32,
     /// The sequence number of the next packet of its retransmission stream (RFC 4588, 4).
     pub seq: u16,
-    /// The ticks for which it has been idle.
+    /// The ticks for which it has been idle; of one that is busy it says nothing.
     pub idle: u32,
     /// Its open burst.
     pub burst: Option<Burst>,

@@ -47,7 +47,7 @@ unfolding ssrc sendings bursts
 woken_entry s k ms history e is = record {
   ssrc_is = is.ssrc_is;
   seq_is = is.seq_is;
-  idle_is = sym (idle_none s k (at_datagram k ms history) (quiet_begun s k ms history));
+  idle_is = λ free. sym (idle_none s k (at_datagram k ms history) (quiet_begun s k ms history));
   burst_is = is.burst_is;
 }
 
@@ -68,6 +68,7 @@ client_begun p events k ms None st found =
 client_begun p events k ms (Some e) st found = record {
   is_known = ap (is_among k) (sym st.table.clients) ∙ entry_among p.table k e found;
   entry_is = woken_entry p.config k ms (history_of p.config events) e (st.table.entries k e found);
+  awake = refl;
 }
 
 -- as the datagram begins, nothing else has changed

@@ -49,9 +49,10 @@ updated s rate join before history v queue o budget is taken w =
       entry_is = record {
         ssrc_is = is.known.entry_is.ssrc_is;
         seq_is = is.known.entry_is.seq_is;
-        idle_is = is.known.entry_is.idle_is ∙ idle_none s v.client history w.quiet ∙ sym (idle_none s v.client (noted n None ∷ history) w.quiet);
+        idle_is = λ free. is.known.awake ∙ sym (idle_none s v.client (noted n None ∷ history) w.quiet);
         burst_is = ap (λ (c : Burst). Some (record c { rate = rate; last = update_info s c.last c.ticks rate join })) is.burst_is ∙ ap (option_map (burst_kept s)) (sym is_open);
       };
+      awake = is.known.awake;
     } in
     noted_visit s n before history v queue (Some e) budget queue refl w client is_budget w.queue_is
 
@@ -69,9 +70,10 @@ stop_at s n before history v queue o is w =
       entry_is = record {
         ssrc_is = is.known.entry_is.ssrc_is;
         seq_is = is.known.entry_is.seq_is;
-        idle_is = is.known.entry_is.idle_is ∙ idle_none s v.client history w.quiet ∙ sym (idle_none s v.client (noted m None ∷ history) w.quiet);
+        idle_is = λ free. is.known.awake ∙ sym (idle_none s v.client (noted m None ∷ history) w.quiet);
         burst_is = ap (λ (c : Burst). Some (record c { stop = Some n })) is.burst_is ∙ ap (option_map (burst_kept s)) (sym is_open);
       };
+      awake = is.known.awake;
     } in
     noted_visit s m before history v queue (Some e) v.budget queue refl w client
     (budget_same s history (noted m None ∷ history) v.budget (other_notes_reserve_nothing s m None history refl) (left_noted s m v.client None history refl) w.budget_is) w.queue_is
@@ -100,10 +102,11 @@ ended s why before history v queue o budget is taken w =
       entry_is = record {
         ssrc_is = is.known.entry_is.ssrc_is;
         seq_is = is.known.entry_is.seq_is;
-        idle_is = is.known.entry_is.idle_is ∙ idle_none s v.client history w.quiet
+        idle_is = λ free. is.known.awake
             ∙ sym (idle_none s v.client (noted n None ∷ history) (quiet_noted s n v.client None history w.quiet));
         burst_is = ap (option_map (burst_kept s)) (sym is_open);
       };
+      awake = is.known.awake;
     } in
     noted_visit s n before history v queue (Some e) budget queue refl w client (released s why history v o budget is w.budget_is taken) w.queue_is
 
@@ -199,9 +202,10 @@ queued s n sender before history v queue le from w =
       entry_is = record {
         ssrc_is = named s v.client n sender history v.entry w.client_is from;
         seq_is = seq_of s v.client history v.entry sender le w.client_is;
-        idle_is = idle_of s v.client history v.entry sender w.quiet w.client_is ∙ sym (idle_none s v.client (noted m None ∷ history) w.quiet);
+        idle_is = λ free. idle_of s v.client history v.entry sender w.client_is ∙ sym (idle_none s v.client (noted m None ∷ history) w.quiet);
         burst_is = bursts_queued s v.client n sender history v.entry w.client_is;
       };
+      awake = idle_of s v.client history v.entry sender w.client_is;
     } in
     noted_visit s m before history v queue (Some (entry_under v.entry sender s.channel.seq0)) v.budget (queue ++ wanted v.client n ∷ []) refl w client
     (budget_same s history (noted m None ∷ history) v.budget (other_notes_reserve_nothing s m None history refl) (left_noted s m v.client None history refl) w.budget_is)

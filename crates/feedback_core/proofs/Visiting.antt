@@ -21,12 +21,16 @@ use Rattle.channel_parts.proofs.Facts.{accepts_reserve, other_notes_reserve_noth
 idle_same : (a b c d : Bool) (q r : ℕ) → a ≡ c → b ≡ d → q ≡ r → cond (a || b) 0 q ≡ cond (c || d) 0 r
 idle_same a b c d q r e f g = cc
 
+busy_same : (a b c d : Bool) → a ≡ c → b ≡ d → (a || b) ≡ (c || d)
+busy_same a b c d e f = cc
+
 pub entry_as_before : (s : Settings) (k : ℕ) (before history : History) (e : Entry) → IsAsBefore s k before history → IsEntry s k before e → IsEntry s k history e
 entry_as_before s k before history e same was = record {
   ssrc_is = same.ssrc_is ∙ was.ssrc_is;
   seq_is = was.seq_is ∙ ap (λ (n : ℕ). (s.channel.seq0 + n) % 65536) (sym same.sendings_is);
-  idle_is = was.idle_is
-      ∙ idle_same _ _ _ _ _ _ (ap (λ (bs : List model.Burst). is_some (newest_open bs)) (sym same.bursts_is)) (sym same.waits_is) (sym same.quiet_is);
+  idle_is = λ free.
+      let opens = ap (λ (bs : List model.Burst). is_some (newest_open bs)) (sym same.bursts_is) in
+      was.idle_is (busy_same _ _ _ _ opens (sym same.waits_is) ∙ free) ∙ idle_same _ _ _ _ _ _ opens (sym same.waits_is) (sym same.quiet_is);
   burst_is = was.burst_is ∙ ap (λ (bs : List model.Burst). option_map (burst_kept s) (newest_open bs)) (sym same.bursts_is);
 }
 
@@ -41,6 +45,7 @@ client_as_before s k before history None same was = record {
 client_as_before s k before history (Some e) same was = record {
   is_known = same.known_is ∙ was.is_known;
   entry_is = entry_as_before s k before history e same was.entry_is;
+  awake = was.awake;
 }
 
 pub as_itself : (s : Settings) (j : ℕ) (history : History) → IsAsBefore s j history history
@@ -207,10 +212,9 @@ pub seq_of : (s : Settings) (k : ℕ) (history : History) (o : Option Entry) (ss
 seq_of s k history None ssrc' le c = low_bits s.channel.seq0 le ∙ ap (λ (n : ℕ). (s.channel.seq0 + n) % 65536) (sym c.unsent)
 seq_of s k history (Some e) ssrc' le c = c.entry_is.seq_is
 
-pub idle_of : (s : Settings) (k : ℕ) (history : History) (o : Option Entry) (ssrc' : ℕ) → quiet_ticks s k history ≡ 0 → IsClient s k history o
-    → (entry_under o ssrc' s.channel.seq0).idle ≡ 0
-idle_of s k history None ssrc' q c = refl
-idle_of s k history (Some e) ssrc' q c = c.entry_is.idle_is ∙ idle_none s k history q
+pub idle_of : (s : Settings) (k : ℕ) (history : History) (o : Option Entry) (ssrc' : ℕ) → IsClient s k history o → (entry_under o ssrc' s.channel.seq0).idle ≡ 0
+idle_of s k history None ssrc' c = refl
+idle_of s k history (Some e) ssrc' c = c.awake
 
 -- an Accept
 pub open_accepted : (s : Settings) (k first rate join : ℕ) (history : History)
@@ -241,10 +245,11 @@ accepted_client s k first rate join sender history o le q c from =
       entry_is = record {
         ssrc_is = cond-true (eqb k k) (newest_sender history) (ssrc k history) (eq-eqb k k refl) ∙ from;
         seq_is = seq;
-        idle_is = idle_of s k history o sender q c ∙ sym (idle_none s k now q);
+        idle_is = λ free. idle_of s k history o sender c ∙ sym (idle_none s k now q);
         burst_is = ap (λ (n : ℕ). Some (begun_burst first rate (accept_info s n rate join))) seq ∙ begun_kept s first rate join (sequence s k history)
             ∙ ap (option_map (burst_kept s)) (sym is_open);
       };
+      awake = idle_of s k history o sender c;
     }
 
 pub budget_changed : (s : Settings) (before history : History) (budget : Amounts) (r : ℕ) → r ≡ reserved s history → channel_left s history ≡ channel_left s before → IsBudget s before budget

@@ -14,10 +14,11 @@ pub record IsUnknown (s : Settings) (k : ℕ) (history : History) : Type 0 where
   pub closed : open_burst s k history ≡ None
   pub unasked : list_any (λ w. w.client == k) (pending history) ≡ false
 
--- A client is known, and its entry is what the history says.
+-- A client is known, and its entry is what the history says; it isn't idle.
 pub record IsKnown (s : Settings) (k : ℕ) (history : History) (e : Entry) : Type 0 where
   pub is_known : is_among k (known history) ≡ true
   pub entry_is : IsEntry s k history e
+  pub awake : e.idle ≡ 0
 
 -- What is kept of a client is what the history says.
 abbrev pub IsClient : Settings → ℕ → History → Option Entry → Type 0

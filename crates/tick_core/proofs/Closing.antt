@@ -1,8 +1,8 @@
 -- What the parts are after a tick, on the history.
-use Rattle.std.proofs.Common.{◌≡◌, ℕ, ◌+◌, ◌^◌, ◌≤◌, min, Bool, true, false, cond, not, ◌&&◌, ◌||◌, List, [], ◌∷◌, ◌++◌, length, map, Option, Some, None, refl, ap, sym, ◌∙◌, subst, arith, eqb, filter, All}
+use Rattle.std.proofs.Common.{◌≡◌, ℕ, ◌+◌, ◌^◌, ◌<◌, ◌≤◌, min, Bool, true, false, cond, not, ◌&&◌, ◌||◌, List, [], ◌∷◌, ◌++◌, length, map, Option, Some, None, refl, ap, sym, ◌∙◌, subst, arith, filter, All}
 use Rattle.std.specs.Option.{option_map}
 use Rattle.std.specs.Map.{keys_of}
-use Rattle.std.proofs.lemmas.Bool.{cond_both, cond-true, cond-false}
+use Rattle.std.proofs.lemmas.Bool.{cond-true, cond-false}
 use Rattle.std.proofs.lemmas.List.Folds.{list_any-append}
 use Rattle.std.proofs.lemmas.List.{length-map}
 use Rattle.rams_model.specs.declared.event.Event.{Event}
@@ -23,16 +23,17 @@ use Rattle.client_table.specs.Clients.{Clients}
 use Rattle.repair_queue.specs.{unmarked}
 use Rattle.channel_parts.specs.declared.parts.Parts.{Parts}
 use Rattle.channel_parts.specs.{HaveLowNumbers, burst_kept, IsEntry, IsTable, StandsFor}
-use Rattle.channel_parts.proofs.Facts.{opened_are_the_known_with_bursts, only_known_clients_have_bursts, repairs_are_of_known_clients, held_numbers_are_small, events_reserve_nothing}
+use Rattle.channel_parts.proofs.Facts.{known_clients_are_idle_for_less, opened_are_the_known_with_bursts, only_known_clients_have_bursts, repairs_are_of_known_clients, held_numbers_are_small, events_reserve_nothing}
 use Rattle.channel_parts.proofs.Ordered.{known_rise}
+use Rattle.channel_parts.proofs.Tables.{entry_among}
 use Rattle.channel_parts.proofs.Given.{held_is, moment}
 use Rattle.channel_parts.proofs.Staying.{cache_stays}
 use Rattle.tick_core.specs.declared.plan.TickPlan.{TickPlan}
-use Rattle.tick_core.specs.{idle_after, begun_left, ends_wait, is_over, IsPlanFor, Rise, opened_for_tick, entry_begun, burst_ended, entry_ended, AreAllChanged, committing, with_all_committed, MayCommitAll}
+use Rattle.tick_core.specs.{begun_left, ends_wait, is_over, IsPlanFor, Rise, opened_for_tick, entry_begun, burst_ended, entry_ended, AreAllChanged, committing, with_all_committed, MayCommitAll}
 use Rattle.tick_core.specs.Committed.{Committed}
 use Rattle.tick_core.proofs.Serving.{tick_open}
-use Rattle.tick_core.proofs.Idling.{idle_is, forgot_idle}
-use Rattle.tick_core.proofs.Planning.{tick_is, some_kept}
+use Rattle.tick_core.proofs.Idling.{idle_counted}
+use Rattle.tick_core.proofs.Planning.{tick_is}
 use Rattle.tick_core.proofs.Safe.{in_order}
 use Rattle.tick_core.proofs.Adding.{Fits, Adds, none, plus, then, all_served_adds, all_repaired_adds, all_forgotten_adds, steps}
 use Rattle.tick_core.proofs.Midway.{shown, IsMidEntry, IsMid, IsCarriedOut, all_mid, mapped_some}
@@ -42,27 +43,33 @@ begun_shown : (s : Settings) (burst : Option Burst) (o : Option model.Burst) →
 begun_shown s burst None is = ap (option_map opened_for_tick) is
 begun_shown s burst (Some b) is = ap (option_map opened_for_tick) is
 
-entry_begins : (s : Settings) (counts : ℕ → ℕ) (k : ℕ) (ws : List Wanted) (before : History) (e : Entry) → IsEntry s k before e → idle_after ws k e ≡ counts k → IsMidEntry s counts k (began tick ∷ before) (entry_begun ws k e)
+entry_begins : (s : Settings) (k : ℕ) (before : History) (e : Entry) → IsEntry s k before e → idle s k before < 4294967295 → IsMidEntry s k (began tick ∷ before) (entry_begun e)
 unfolding ssrc sendings
-entry_begins s counts k ws before e is count = record {
+entry_begins s k before e is small = record {
   ssrc_is = is.ssrc_is;
   seq_is = is.seq_is;
-  idle_is = count;
+  idle_is = idle_counted s k e.idle before is.idle_is small;
   burst_is = begun_shown s e.burst (open_burst s k before) is.burst_is ∙ ap (option_map shown) (sym (tick_open s k before));
 }
 
-mid_begins : (p : Parts) (events : List Event) (counts : ℕ → ℕ) (c : Committed) → StandsFor p events → ((k : ℕ) (e : Entry) → entry_of p.table k ≡ Some e → idle_after p.queue k e ≡ counts k)
-    → AreAllChanged (entry_begun p.queue) p.table c.table → c.budget ≡ record p.budget { left = begun_left p } → IsMid p.config counts (began tick ∷ history_of p.config events) c
+-- no known client was idle for long
+idle_small : (p : Parts) (events : List Event) (k : ℕ) (e : Entry) → StandsFor p events → entry_of p.table k ≡ Some e → idle p.config k (history_of p.config events) < 4294967295
+idle_small p events k e stands found =
+    let is_known : is_among k (known (history_of p.config events)) ≡ true = ap (is_among k) (sym stands.table.clients) ∙ entry_among p.table k e found in
+    omega (arith, known_clients_are_idle_for_less p.config k events stands.lawful is_known, stands.lawful.idle_most)
+
+mid_begins : (p : Parts) (events : List Event) (c : Committed) → StandsFor p events
+    → AreAllChanged (λ _. entry_begun) p.table c.table → c.budget ≡ record p.budget { left = begun_left p } → IsMid p.config (began tick ∷ history_of p.config events) c
 unfolding known channel_left
-mid_begins p events counts c stands count change budget =
+mid_begins p events c stands change budget =
     let s = p.config in
     let before = history_of s events in
     record {
       most = change.most ∙ stands.table.most;
       clients = change.clients ∙ stands.table.clients;
       entries = λ k e found.
-          let x = mapped_some (entry_begun p.queue k) (entry_of p.table k) e (sym (change.entries k) ∙ found) in
-          subst (IsMidEntry s counts k (began tick ∷ before)) x.2 (entry_begins s counts k p.queue before x.0 (stands.table.entries k x.0 x.1) (count k x.0 x.1));
+          let x = mapped_some entry_begun (entry_of p.table k) e (sym (change.entries k) ∙ found) in
+          subst (IsMidEntry s k (began tick ∷ before)) x.2 (entry_begins s k before x.0 (stands.table.entries k x.0 x.1) (idle_small p events k x.0 stands x.1));
       others = λ k out. tick_open s k before ∙ ap (option_map (in_tick s)) (stands.table.others k out);
       budget = budget ∙ (ap (λ (a : Amounts). record a { left = a.share + min a.swell a.left }) stands.budget
           ∙ ap (λ (r : ℕ). amounts s.channel.share s.channel.reserve s.channel.swell r (s.channel.share + min s.channel.swell (channel_left s before))) (sym (events_reserve_nothing s tick before)));
@@ -73,7 +80,7 @@ ended_shown : (s : Settings) (burst : Option Burst) (o : Option model.Burst) →
 ended_shown s burst None is = ap (option_map (burst_ended s.channel.depth)) is
 ended_shown s burst (Some b) is = ap (option_map (burst_ended s.channel.depth)) is
 
-table_ends : (s : Settings) (end : History) (c : Committed) (table : Clients) → IsMid s (λ k. idle s k end) end c → ((k : ℕ) → is_among k (known end) ≡ false → open_burst s k end ≡ None)
+table_ends : (s : Settings) (end : History) (c : Committed) (table : Clients) → IsMid s end c → ((k : ℕ) → is_among k (known end) ≡ false → open_burst s k end ≡ None)
     → AreAllChanged (λ k. entry_ended s.channel.depth) c.table table → IsTable s end table
 table_ends s end c table mid others change = record {
   most = change.most ∙ mid.most;
@@ -146,17 +153,10 @@ unfolding arrivals
 arrivals_by s held a _ none = refl
 arrivals_by s held a _ (plus note packet later fits on) = arrivals_by s held a later on
 
-idle_by : (s : Settings) (k : ℕ) (ks : List ℕ) (history : History) → idle s k (all_forgotten s ks history) ≡ idle s k history
-unfolding all_forgotten
-idle_by s k [] history = refl
-idle_by s k (j ∷ js) history =
-    idle_by s k js _ ∙ cond_both (eqb (idle s j history) s.channel.idle) (noted (Forgot j) None ∷ history) history (λ h. idle s k h ≡ idle s k history) (λ t. forgot_idle s k j history) (λ f. refl)
-
 -- what a tick's history is to the parts before it
 pub record IsTick (p : Parts) (events : List Event) (end : History) : Type 0 where
   pub end_is : end ≡ history_of p.config (Tick ∷ events)
   pub adds : Adds p.config p.cache.held (began tick ∷ history_of p.config events) end
-  pub counts : (k : ℕ) (e : Entry) → entry_of p.table k ≡ Some e → idle_after p.queue k e ≡ idle p.config k end
 
 pub is_tick : (p : Parts) (events : List Event) → StandsFor p events → IsTick p events (history_of p.config (Tick ∷ events))
 unfolding history_of heard_of after_hearing
@@ -179,15 +179,11 @@ is_tick p events stands =
     record {
       end_is = refl;
       adds = subst (Adds s held start) (sym of_tick.end_is) all;
-      counts = λ k e found.
-          let is = stands.table.entries k e found in
-          idle_is s k e p.queue before rep_history of_tick.served stands.queue.pending_is (some_kept s e.burst (open_burst s k before) is.burst_is) is.idle_is
-          ∙ (sym (idle_by s k ks rep_history) ∙ ap (idle s k) (sym of_tick.end_is));
     }
 
 -- the notes of a plan are carried out
-pub carried_out : (p : Parts) (events : List Event) (plan : TickPlan) (c : Committed) → StandsFor p events → IsPlanFor p events plan → AreAllChanged (entry_begun p.queue) p.table c.table
-    → c.budget ≡ record p.budget { left = begun_left p } → let end = history_of p.config (Tick ∷ events) in IsCarriedOut p.config p.cache.held (λ k. idle p.config k end) plan.answer.notes end c
+pub carried_out : (p : Parts) (events : List Event) (plan : TickPlan) (c : Committed) → StandsFor p events → IsPlanFor p events plan → AreAllChanged (λ _. entry_begun) p.table c.table
+    → c.budget ≡ record p.budget { left = begun_left p } → let end = history_of p.config (Tick ∷ events) in IsCarriedOut p.config p.cache.held plan.answer.notes end c
 unfolding newest_notes arrivals
 carried_out p events plan c stands is change budget =
     let s = p.config in
@@ -201,13 +197,13 @@ carried_out p events plan c stands is change budget =
     let same : arrivals end ≡ arrivals before = arrivals_by s held start end of_tick.adds in
     let small : hi (hold s end) ≤ 2 ^ 62 =
     held_numbers_are_small s end (subst HaveLowNumbers (sym same) stands.packets.low) (omega (arith, ap length same, stands.packets.few)) in
-    let begins = mid_begins p events (λ k. idle s k end) c stands of_tick.counts change budget in
-    subst (λ (notes : List Note). IsCarriedOut s held (λ k. idle s k end) notes end c) notes_are
-    (all_mid s stands.lawful held (λ k. idle s k end) taken.notes start end c taken.leads (moment s (Tick ∷ events)) small begins)
+    let begins = mid_begins p events c stands change budget in
+    subst (λ (notes : List Note). IsCarriedOut s held notes end c) notes_are
+    (all_mid s stands.lawful held taken.notes start end c taken.leads (moment s (Tick ∷ events)) small begins)
 
 -- the parts after it
 pub committed : (p : Parts) (events : List Event) (plan : TickPlan) (c : Committed) (table : Clients) (budget : Amounts) (queue : List Wanted) → StandsFor p events → IsPlanFor p events plan
-    → AreAllChanged (entry_begun p.queue) p.table c.table → c.budget ≡ record p.budget { left = begun_left p }
+    → AreAllChanged (λ _. entry_begun) p.table c.table → c.budget ≡ record p.budget { left = begun_left p }
     → let after = with_all_committed p.config p.cache.held plan.answer.notes c in
     AreAllChanged (λ k. entry_ended p.config.channel.depth) after.table table → budget ≡ after.budget → queue ≡ unmarked p.queue plan.done.items
     → StandsFor (record { config = p.config; cache = p.cache; budget = budget; queue = queue; table = table }) (Tick ∷ events)
@@ -242,7 +238,7 @@ committed p events plan c table budget queue stands is change budget_begun chang
 
 -- ---- as the calls make it
 pub may_carry_out : (p : Parts) (events : List Event) (plan : TickPlan) (notes : List Note) (table : Clients) (budget : Amounts) → StandsFor p events → IsPlanFor p events plan → notes ≡ plan.answer.notes
-    → AreAllChanged (entry_begun p.queue) p.table table → budget ≡ record p.budget { left = begun_left p } → MayCommitAll p.config p.cache.held notes (committing table budget)
+    → AreAllChanged (λ _. entry_begun) p.table table → budget ≡ record p.budget { left = begun_left p } → MayCommitAll p.config p.cache.held notes (committing table budget)
 may_carry_out p events plan notes table budget stands is notes_are change begun =
     subst (λ (l : List Note). MayCommitAll p.config p.cache.held l (committing table budget)) (sym notes_are) (carried_out p events plan (committing table budget) stands is change begun).may
 
@@ -252,7 +248,7 @@ flags_long p events plan done stands is same =
 
 pub made_parts : (p : Parts) (events : List Event) (plan : TickPlan) (notes : List Note) (done : List Bool) (table0 table1 table2 : Clients) (budget0 budget1 : Amounts) (queue : List Wanted) (depth : ℕ) → StandsFor p events → IsPlanFor p events plan
     → notes ≡ plan.answer.notes → done ≡ plan.done.items → depth ≡ p.config.channel.depth
-    → AreAllChanged (entry_begun p.queue) p.table table0 → budget0 ≡ record p.budget { left = begun_left p }
+    → AreAllChanged (λ _. entry_begun) p.table table0 → budget0 ≡ record p.budget { left = begun_left p }
     → committing table1 budget1 ≡ with_all_committed p.config p.cache.held notes (committing table0 budget0) → AreAllChanged (λ k. entry_ended depth) table1 table2 → queue ≡ unmarked p.queue done
     → StandsFor (record { config = p.config; cache = p.cache; budget = budget1; queue = queue; table = table2 }) (Tick ∷ events)
 made_parts p events plan notes done table0 table1 table2 budget0 budget1 queue depth stands is notes_are done_are depth_is change begun carried change_end settled =

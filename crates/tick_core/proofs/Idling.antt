@@ -1,17 +1,17 @@
 -- How long a client has been idle after the runs and the repairs of a tick, and who is forgotten.
-use Rattle.std.proofs.Common.{◌≡◌, ℕ, ◌+◌, Bool, true, false, cond, ◌||◌, List, [], ◌∷◌, length, Option, Some, None, is_some, inl, inr, refl, ap, sym, ◌∙◌, arith, eqb, ltb, filter}
+use Rattle.std.proofs.Common.{◌≡◌, ℕ, ◌+◌, ◌<◌, Bool, true, false, cond, ◌||◌, List, [], ◌∷◌, length, Option, Some, None, is_some, inl, inr, refl, ap, sym, ◌∙◌, arith, eqb, ltb, filter}
 use Rattle.std.specs.Option.{option_map}
 use Rattle.std.specs.List.{list_any, AllByRecursion as Each}
 use Rattle.std.specs.Map.{keys_of}
-use Rattle.std.proofs.lemmas.Bool.{cond-true, cases_Bool, not_from_false, or_parts, eqb-false, lt-ltb, false≢true}
+use Rattle.std.proofs.lemmas.Bool.{cond-true, cond-false, cases_Bool, not_from_false, or_parts, eqb-false, lt-ltb, false≢true}
 use Rattle.rams_model.specs.declared.held.Held.{Held}
 use Rattle.rams_model.specs.declared.note.Note.{Note}
 use Rattle.rams_model.specs.declared.note.Note.TheVariants.{Burst, Repair, Gone, End, Forgot}
-use Rattle.rams_model.specs.Service.{Settings, tick, began, noted, History, is_among, in_tick, newest_open, bursts, open_burst, has_open, Wanted, pending, is_busy, quiet_ticks, idle, all_forgotten}
+use Rattle.rams_model.specs.Service.{Settings, tick, began, noted, History, is_among, in_tick, newest_open, bursts, open_burst, has_open, Wanted, pending, is_busy, is_served, quiet_ticks, idle, all_forgotten}
 use Rattle.rams_model.specs.Service.Bursts as model
 use Rattle.client_table.specs.declared.entry.Entry.{Entry}
 use Rattle.repair_queue.specs.{is_of, count_of}
-use Rattle.tick_core.specs.{Drafted, with_note, idle_after, with_all_forgotten}
+use Rattle.tick_core.specs.{Drafted, with_note, idle_after, with_all_forgotten, counted_on}
 use Rattle.tick_core.proofs.Sparing.{GoesOn, same, more, one, spares, serves, IsSpared, spared}
 use Rattle.tick_core.proofs.Shown.{Shows, shows_forgot}
 use Rattle.tick_core.proofs.Serving.{tick_open}
@@ -21,7 +21,7 @@ use Rattle.tick_core.proofs.Rounds.{RunPasses, RepairPasses, run_spares, repair_
 abbrev idling : Bool → Bool → ℕ → ℕ
 idling is_open waits quiet = cond (is_open || waits) 0 quiet
 
-idle_same : (s : Settings) (k : ℕ) (a b : History) → IsSpared s k a b → idle s k b ≡ idle s k a
+pub idle_same : (s : Settings) (k : ℕ) (a b : History) → IsSpared s k a b → idle s k b ≡ idle s k a
 idle_same s k a b is =
     ap (λ (bs : List model.Burst). idling (is_some (newest_open bs)) (list_any (λ w. eqb w.client k) (pending b)) (quiet_ticks s k b)) is.bursts_same
     ∙ (ap (λ (t : Bool). idling (has_open s k a) t (quiet_ticks s k b)) is.waiting_same ∙ ap (λ (n : ℕ). idling (has_open s k a) (list_any (λ w. eqb w.client k) (pending a)) n) is.quiet_same)
@@ -97,12 +97,34 @@ has_count k (w ∷ ws) = count_step (eqb w.client k) w (filter (is_of k) ws) (li
     count_step true w l any e = lt-ltb 0 (length (w ∷ l)) (omega arith)
     count_step false w l any e = e
 
-pub idle_is : (s : Settings) (k : ℕ) (e : Entry) (ws : List Wanted) (before after : History) → IsServedIn s before after → ws ≡ pending before → is_some e.burst ≡ has_open s k before → e.idle ≡ idle s k before
-    → idle_after ws k e ≡ idle s k after
+-- the count of a client that is busy doesn't matter
+one_more : (b : Bool) (m n : ℕ) → (b ≡ false → m ≡ n) → cond b 0 (m + 1) ≡ cond b 0 (n + 1)
+one_more true m n count = refl
+one_more false m n count = ap (λ (k : ℕ). k + 1) (count refl)
+
+pub idle_is : (s : Settings) (k : ℕ) (e : Entry) (ws : List Wanted) (before after : History) → IsServedIn s before after → ws ≡ pending before → is_some e.burst ≡ has_open s k before
+    → (is_busy s k before ≡ false → e.idle ≡ idle s k before) → idle_after ws k e ≡ idle s k after
 idle_is s k e ws before after served queue_is burst_is count_is =
-    ap (λ (n : ℕ). cond (is_some e.burst || ltb 0 (count_of k ws)) 0 (n + 1)) count_is
-    ∙ (ap (λ (b : Bool). cond (b || ltb 0 (count_of k ws)) 0 (idle s k before + 1)) burst_is
-    ∙ (ap (λ (b : Bool). cond (has_open s k before || b) 0 (idle s k before + 1)) (has_count k ws ∙ ap (list_any (λ w. eqb w.client k)) queue_is) ∙ sym (idle_served s k before after served)))
+    ap (λ (b : Bool). cond (b || ltb 0 (count_of k ws)) 0 (e.idle + 1)) burst_is
+    ∙ (ap (λ (b : Bool). cond (has_open s k before || b) 0 (e.idle + 1)) (has_count k ws ∙ ap (list_any (λ w. eqb w.client k)) queue_is)
+    ∙ (one_more (is_busy s k before) e.idle (idle s k before) count_is ∙ sym (idle_served s k before after served)))
+
+-- ---- note by note
+pub busy_spared : (s : Settings) (k : ℕ) (a b : History) → IsSpared s k a b → is_busy s k b ≡ is_busy s k a
+busy_spared s k a b is =
+    ap (λ (bs : List model.Burst). is_some (newest_open bs) || list_any (λ w. eqb w.client k) (pending b)) is.bursts_same ∙ ap (λ (t : Bool). has_open s k a || t) is.waiting_same
+
+-- of a client that a note serves
+pub idle_anew : (s : Settings) (k : ℕ) (note : Note) (packet : Option Held) (history : History) → is_served k note ≡ true → idle s k (noted note packet ∷ history) ≡ 0
+unfolding quiet_ticks
+idle_anew s k note packet history served = never (is_busy s k (noted note packet ∷ history)) (quiet_ticks s k (noted note packet ∷ history)) (cond-true (is_served k note) 0 (quiet_ticks s k history) served)
+
+-- of one that isn't busy as a tick begins
+pub idle_counted : (s : Settings) (k n : ℕ) (history : History) → (is_busy s k history ≡ false → n ≡ idle s k history) → idle s k history < 4294967295 → is_busy s k (began tick ∷ history) ≡ false
+    → counted_on n ≡ idle s k (began tick ∷ history)
+idle_counted s k n history count small free =
+    let free_before : is_busy s k history ≡ false = sym (busy_same s k history) ∙ free in
+    omega (arith, count free_before, idle_begun s k history ∙ cond-false (is_busy s k history) 0 (idle s k history + 1) free_before)
 
 -- ---- who is forgotten
 pub forgot_idle : (s : Settings) (k client : ℕ) (history : History) → idle s k (noted (Forgot client) None ∷ history) ≡ idle s k history

@@ -1,8 +1,8 @@
 -- What the calls of a plan ask of the parts, which stand for some events.
-use Rattle.std.proofs.Common.{◌≡◌, ℕ, true, List, Option, Some, None, refl, ap, sym, ◌∙◌, subst, arith}
+use Rattle.std.proofs.Common.{◌≡◌, ℕ, List, Option, Some, None, refl, sym, subst, arith}
 use Rattle.std.specs.Option.{option_map}
 use Rattle.rams_model.specs.declared.event.Event.{Event}
-use Rattle.rams_model.specs.Service.{Settings, known, is_among, open_burst, history_of}
+use Rattle.rams_model.specs.Service.{Settings, open_burst, history_of}
 use Rattle.rams_model.specs.Service.Bursts as model
 use Rattle.rams_model.proofs.Holding.{held_follow}
 use Rattle.channel_config.specs.{IsLawful}
@@ -11,10 +11,9 @@ use Rattle.client_table.specs.declared.entry.Entry.{Entry}
 use Rattle.client_table.specs.{entry_of}
 use Rattle.channel_parts.specs.declared.parts.Parts.{Parts}
 use Rattle.channel_parts.specs.{burst_kept, StandsFor}
-use Rattle.channel_parts.proofs.Facts.{known_clients_are_idle_for_less, open_bursts_are_within_bounds, open_bursts_have_a_tick_left, held_numbers_are_small}
-use Rattle.channel_parts.proofs.Tables.{entry_among}
+use Rattle.channel_parts.proofs.Facts.{open_bursts_are_within_bounds, open_bursts_have_a_tick_left, held_numbers_are_small}
 use Rattle.channel_parts.proofs.Given.{held_is, moment}
-use Rattle.tick_core.specs.{AreInOrder, IsInTime, AreInTime, AreIdleInTime, IsSmallIfOpen, IsSmallIfKnown, AreSmall}
+use Rattle.tick_core.specs.{AreInOrder, IsInTime, AreInTime, IsSmallIfOpen, IsSmallIfKnown, AreSmall}
 
 pub in_order : (p : Parts) (events : List Event) → StandsFor p events → AreInOrder p.cache.held
 in_order p events stands =
@@ -37,19 +36,13 @@ pub in_time : (p : Parts) (events : List Event) → StandsFor p events → AreIn
 in_time p events stands client e found =
     burst_in_time p.config client events e.burst (open_burst p.config client (history_of p.config events)) stands.lawful refl (stands.table.entries client e found).burst_is
 
-pub idle_in_time : (p : Parts) (events : List Event) → StandsFor p events → AreIdleInTime p.table
-idle_in_time p events stands client e found =
-    let is_known : is_among client (known (history_of p.config events)) ≡ true = ap (is_among client) (sym stands.table.clients) ∙ entry_among p.table client e found in
-    let less = known_clients_are_idle_for_less p.config client events stands.lawful is_known in
-    omega (arith, (stands.table.entries client e found).idle_is, less, stands.lawful.idle_most)
-
 small_burst : (s : Settings) (o : Option Burst) → IsLawful s → IsInTime s o → IsSmallIfOpen o
 small_burst s None lawful time = tt
 small_burst s (Some b) lawful time = record { ticks = omega (arith, time.lasts, lawful.limit_most); budget = time.budget }
 
 small_entry : (p : Parts) (events : List Event) (client : ℕ) (o : Option Entry) → StandsFor p events → entry_of p.table client ≡ o → IsSmallIfKnown o
 small_entry p events client None stands is = tt
-small_entry p events client (Some e) stands is = record { idle = idle_in_time p events stands client e is; burst = small_burst p.config e.burst stands.lawful (in_time p events stands client e is) }
+small_entry p events client (Some e) stands is = small_burst p.config e.burst stands.lawful (in_time p events stands client e is)
 
 pub small_parts : (p : Parts) (events : List Event) → StandsFor p events → AreSmall p.table
 small_parts p events stands client = small_entry p events client (entry_of p.table client) stands refl

@@ -2,8 +2,8 @@
 use Rattle.std.specs.Prelude.{◌≡◌, ℕ, ◌+◌, ◌-◌, ◌^◌, ◌<◌, ◌≤◌, min, List, [], ◌∷◌, Option, Some, None, option_map}
 use Rattle.rams_model.specs.declared.held.Held.{Held}
 use Rattle.rams_model.specs.declared.note.Note.{Note}
-use Rattle.rams_model.specs.declared.note.Note.TheVariants.{Burst as BurstNote, Repair, End, Forgot}
-use Rattle.rams_model.specs.Service.{Settings, size_of, Wanted}
+use Rattle.rams_model.specs.declared.note.Note.TheVariants.{Burst as BurstNote, Repair, Gone, End, Forgot}
+use Rattle.rams_model.specs.Service.{Settings, size_of}
 use Rattle.rams_model.specs.Packets.{following}
 use Rattle.client_table.specs.declared.entry.Burst.{Burst}
 use Rattle.client_table.specs.declared.entry.Entry.{Entry}
@@ -11,14 +11,17 @@ use Rattle.client_table.specs.{clients_of, entry_of, with_entry, without}
 use Rattle.client_table.specs.Clients.{Clients}
 use Rattle.link_budget.specs.Amounts.{Amounts}
 use Rattle.packet_ring.specs.{packet_of}
-use Rattle.tick_core.specs.Forgetting.{idle_after}
 
 -- a burst as a tick begins: until the tick ends, `kept` is all that it may still be sent
 abbrev pub opened_for_tick : Burst → Burst
 opened_for_tick b = record b { ticks = b.ticks + 1; kept = b.rate + b.kept }
 
-abbrev pub entry_begun : List Wanted → ℕ → Entry → Entry
-entry_begun ws client e = record e { idle = idle_after ws client e; burst = option_map opened_for_tick e.burst }
+-- the idle count of an entry as a tick begins: one more, as far as it counts
+abbrev pub counted_on : ℕ → ℕ
+counted_on idle = min (idle + 1) 4294967295
+
+abbrev pub entry_begun : Entry → Entry
+entry_begun e = record e { idle = counted_on e.idle; burst = option_map opened_for_tick e.burst }
 
 -- no number of the entry is large
 pub record IsSmallBurst (b : Burst) : Type 0 where
@@ -29,13 +32,9 @@ abbrev pub IsSmallIfOpen : Option Burst → Type 0
 IsSmallIfOpen None = Unit {0}
 IsSmallIfOpen (Some b) = IsSmallBurst b
 
-pub record IsSmallEntry (e : Entry) : Type 0 where
-  pub idle : e.idle + 1 < 2 ^ 32
-  pub burst : IsSmallIfOpen e.burst
-
 abbrev pub IsSmallIfKnown : Option Entry → Type 0
 IsSmallIfKnown None = Unit {0}
-IsSmallIfKnown (Some e) = IsSmallEntry e
+IsSmallIfKnown (Some e) = IsSmallIfOpen e.burst
 
 -- nor of any other
 abbrev pub AreSmall : Clients → Type 0
@@ -48,12 +47,12 @@ burst_ended depth b = record b { kept = min depth b.kept }
 abbrev pub entry_ended : ℕ → Entry → Entry
 entry_ended depth e = record e { burst = option_map (burst_ended depth) e.burst }
 
--- a packet of this size was sent, and so many of the burst
+-- a packet of this size was sent, and so many of the burst. The client isn't idle
 abbrev pub burst_sent : ℕ → ℕ → Burst → Burst
 burst_sent count size b = record b { next = b.next + count; kept = b.kept - size }
 
 abbrev pub entry_sent : ℕ → ℕ → Entry → Entry
-entry_sent count size e = record e { seq = following e.seq; burst = option_map (burst_sent count size) e.burst }
+entry_sent count size e = record e { seq = following e.seq; idle = 0; burst = option_map (burst_sent count size) e.burst }
 
 -- the number of the next packet stays small
 abbrev pub IsNextSmall : ℕ → Option Burst → Type 0
@@ -64,9 +63,13 @@ abbrev pub IsNextSmallIfKnown : ℕ → Option Entry → Type 0
 IsNextSmallIfKnown count None = Unit {0}
 IsNextSmallIfKnown count (Some e) = IsNextSmall count e.burst
 
--- the burst has ended
+-- the burst has ended, and the client isn't idle
 abbrev pub entry_closed : Entry → Entry
-entry_closed e = record e { burst = None }
+entry_closed e = record e { idle = 0; burst = None }
+
+-- the client isn't idle
+abbrev pub entry_awake : Entry → Entry
+entry_awake e = record e { idle = 0 }
 
 -- the table with a client's entry changed, where it is known
 abbrev pub changed_by : (Entry → Entry) → Clients → ℕ → Option Entry → Clients
@@ -115,6 +118,7 @@ abbrev pub with_committed : Settings → List Held → Note → Committed → Co
 with_committed s held (BurstNote client n seq) c = with_sending client 1 (size_of (packet_of n held)) c
 with_committed s held (Repair client n seq) c = with_sending client 0 (size_of (packet_of n held)) c
 with_committed s held (End client cause) c = with_closed s.channel.depth client c
+with_committed s held (Gone client n) c = record c { table = changed entry_awake c.table client }
 with_committed s held (Forgot client) c = record c { table = without c.table client }
 with_committed s held _ c = c
 

@@ -1,14 +1,12 @@
 -- Who is forgotten in a tick.
-use Rattle.std.specs.Prelude.{◌≡◌, ℕ, ◌+◌, ◌<◌, ◌^◌, ◌||◌, ◌==◌, nat_lt, if◌then◌else◌, List, [], ◌∷◌, Some, is_some}
+use Rattle.std.specs.Prelude.{ℕ, ◌+◌, ◌||◌, ◌==◌, nat_lt, if◌then◌else◌, List, [], ◌∷◌, is_some}
 use Rattle.rams_model.specs.declared.note.Note.TheVariants.{Forgot}
 use Rattle.rams_model.specs.Service.{Settings, Wanted}
 use Rattle.client_table.specs.declared.entry.Entry.{Entry}
-use Rattle.client_table.specs.{entry_of}
-use Rattle.client_table.specs.Clients.{Clients}
 use Rattle.repair_queue.specs.{count_of}
 use Rattle.tick_core.specs.Drafts.{Drafted, with_note}
 
--- a client's idle count after a tick: one more, unless it had an open burst or a pending repair as the tick began
+-- a client's idle count after a tick, by what its entry counts: one more, unless it had an open burst or a pending repair as the tick began
 abbrev pub idle_after : List Wanted → ℕ → Entry → ℕ
 idle_after ws client e = if is_some e.burst || nat_lt 0 (count_of client ws) then 0 else e.idle + 1
 
@@ -20,7 +18,3 @@ with_forgotten s ws client e d = if idle_after ws client e == s.channel.idle the
 unfoldable pub with_all_forgotten : Settings → List Wanted → List (ℕ × Entry) → Drafted → Drafted
 with_all_forgotten s ws [] d = d
 with_all_forgotten s ws (e ∷ es) d = with_all_forgotten s ws es (with_forgotten s ws e.0 e.1 d)
-
--- no idle count is large
-abbrev pub AreIdleInTime : Clients → Type 0
-AreIdleInTime table = (client : ℕ) (e : Entry) → entry_of table client ≡ Some e → e.idle + 1 < 2 ^ 32

@@ -8,7 +8,7 @@ ghost use Rattle.tick_core.specs.{IsPlanFor, committing, amount_of, amount_for, 
 ghost use Rattle.client_table.specs.{entry_of, without};
 ghost use Rattle.packet_ring.specs.{packet_of};
 
-use crate::entries::{begin_entries, close_entry, end_entries, send_to};
+use crate::entries::{begin_entries, close_entry, end_entries, send_to, wake};
 use crate::plan::TickPlan;
 use channel_config::Config;
 use channel_parts::{Cache, Parts, Table};
@@ -92,6 +92,7 @@ fn commit_note(config: &Config, cache: &Cache, table: &mut Table, budget: &mut B
         Note::Burst { client, n, .. } => commit_sending(cache, table, budget, client, n, 1),
         Note::Repair { client, n, .. } => commit_sending(cache, table, budget, client, n, 0),
         Note::End { client, .. } => commit_end(config.channel().depth, table, budget, client),
+        Note::Gone { client, .. } => wake(table, client),
         Note::Forgot { client } => forget(table, client),
         _ => {}
     }
@@ -128,7 +129,7 @@ pub fn commit_tick(parts: &mut Parts, plan: &TickPlan)
     ensures settings { parts.new.config ≡ parts.old.config }
 {
     parts.budget.open_tick();
-    begin_entries(&mut parts.table, &parts.queue);
+    begin_entries(&mut parts.table);
     commit_notes(
         &parts.config,
         &parts.cache,

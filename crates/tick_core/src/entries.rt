@@ -1,11 +1,9 @@
 //! What is kept of the clients, as a tick begins, goes on and ends.
 ghost use Rattle.std.specs.Prelude.{◌≡◌, option_map};
 ghost use Rattle.client_table.specs.{entry_of};
-ghost use Rattle.tick_core.specs.{opened_for_tick, entry_begun, IsSmallIfOpen, IsSmallEntry, burst_ended, entry_ended, burst_sent, entry_sent, entry_closed, IsNextSmall, IsNextSmallIfKnown, changed, AreSmall, AreAllChanged};
+ghost use Rattle.tick_core.specs.{opened_for_tick, entry_begun, IsSmallIfOpen, burst_ended, entry_ended, burst_sent, entry_sent, entry_closed, entry_awake, IsNextSmall, IsNextSmallIfKnown, changed, AreSmall, AreAllChanged};
 
-use crate::forgetting::idle_after;
 use client_table::{Burst, Entry, Table};
-use repair_queue::Queue;
 
 /// An open burst as a tick begins. Until the tick ends, `kept` is all that it may still be sent.
 fn opened_for_tick(burst: Option<Burst>) -> Option<Burst>
@@ -44,13 +42,14 @@ fn sent_burst(count: u64, size: u64, burst: Option<Burst>) -> Option<Burst>
     })
 }
 
-/// What is kept of a client as a tick begins.
-fn begun_entry(queue: &Queue, client: u64, entry: &Entry) -> Entry
-    requires { IsSmallEntry entry.now }
-    ensures { result ≡ entry_begun queue.now client entry.now }
+/// What is kept of a client as a tick begins. Whether it is busy isn't looked at: a busy client is
+/// served before it can be idle, and then its count begins anew.
+fn begun_entry(entry: &Entry) -> Entry
+    requires { IsSmallIfOpen entry.now.burst }
+    ensures { result ≡ entry_begun entry.now }
 {
     Entry {
-        idle: idle_after(queue, client, entry),
+        idle: entry.idle.saturating_add(1),
         burst: opened_for_tick(entry.burst),
         ..*entry
     }
@@ -73,6 +72,7 @@ fn sent_entry(count: u64, size: u64, entry: &Entry) -> Entry
 {
     Entry {
         seq: entry.seq.wrapping_add(1),
+        idle: 0,
         burst: sent_burst(count, size, entry.burst),
         ..*entry
     }
@@ -94,15 +94,25 @@ pub fn close_entry(table: &mut Table, client: u64)
 {
     if let Some(entry) = table.find_mut(client) {
         entry.burst = None;
+        entry.idle = 0;
+    }
+}
+
+/// A client isn't idle.
+pub fn wake(table: &mut Table, client: u64)
+    ensures { table.new ≡ changed entry_awake table.old client }
+{
+    if let Some(entry) = table.find_mut(client) {
+        entry.idle = 0;
     }
 }
 
 /// What is kept of all clients as a tick begins.
-pub fn begin_entries(table: &mut Table, queue: &Queue)
+pub fn begin_entries(table: &mut Table)
     requires { AreSmall table.old }
-    ensures { AreAllChanged (entry_begun queue.now) table.old table.new }
+    ensures { AreAllChanged (λ _. entry_begun) table.old table.new }
 {
-    table.change_all(|client, entry| begun_entry(queue, client, &entry));
+    table.change_all(|_, entry| begun_entry(&entry));
 }
 
 /// What is kept of all clients as a tick ends.

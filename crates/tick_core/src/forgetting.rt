@@ -1,6 +1,6 @@
 //! The clients that are forgotten.
-ghost use Rattle.std.specs.Prelude.{◌≡◌, ◌+◌, ◌<◌, ◌^◌, ◌==◌, IfOk};
-ghost use Rattle.tick_core.specs.{idle_after, AreIdleInTime, with_forgotten, with_all_forgotten};
+ghost use Rattle.std.specs.Prelude.{◌≡◌, ◌==◌, IfOk};
+ghost use Rattle.tick_core.specs.{idle_after, with_forgotten, with_all_forgotten};
 
 use crate::draft::Draft;
 use channel_config::Config;
@@ -11,25 +11,23 @@ use repair_queue::Queue;
 
 /// A client's idle count after a tick: one more, unless it had an open burst or a pending repair as the
 /// tick began.
-pub fn idle_after(queue: &Queue, client: u64, entry: &Entry) -> u32
-    requires { entry.now.idle + 1 < 2 ^ 32 }
+fn idle_after(queue: &Queue, client: u64, entry: &Entry) -> u64
     ensures { result ≡ idle_after queue.now client entry.now }
 {
     if entry.burst.is_some() || queue.has(client) {
         0
     } else {
-        entry.idle + 1
+        u64::from(entry.idle) + 1
     }
 }
 
 /// Whether a client has been idle for so many ticks. An idle count is 0 or one more than it was, so the
 /// queue is asked only where one more is enough.
 fn is_idle(config: &Config, queue: &Queue, client: u64, entry: &Entry) -> bool
-    requires { entry.now.idle + 1 < 2 ^ 32 }
     ensures { result ≡ (idle_after queue.now client entry.now == config.now.channel.idle) }
 {
-    let idle = config.channel().idle;
-    entry.idle + 1 == idle && idle_after(queue, client, entry) == idle
+    let idle = u64::from(config.channel().idle);
+    u64::from(entry.idle) + 1 == idle && idle_after(queue, client, entry) == idle
 }
 
 /// Notes that a client is forgotten, where it has been idle for so many ticks.
@@ -40,7 +38,6 @@ fn forget_client(
     entry: &Entry,
     draft: &mut Draft,
 ) -> Result<(), NoMemory>
-    requires { entry.now.idle + 1 < 2 ^ 32 }
     ensures { IfOk result (λ _. draft.new ≡ with_forgotten config.now queue.now client entry.now draft.old) }
 {
     if is_idle(config, queue, client, entry) {
@@ -56,7 +53,6 @@ pub fn forget_clients(
     table: &Table,
     draft: &mut Draft,
 ) -> Result<(), NoMemory>
-    requires { AreIdleInTime table.now }
     ensures { IfOk result (λ _. draft.new ≡ with_all_forgotten config.now queue.now table.now.known draft.old) }
 {
     for (client, entry) in table.iter() {

@@ -2,7 +2,7 @@
 ghost use Rattle.std.specs.Prelude.{List, IfOk};
 ghost use Rattle.rams_model.specs.declared.event.Event.{Event};
 ghost use Rattle.channel_parts.specs.{StandsFor};
-ghost use Rattle.tick_core.specs.{AreInOrder, AreInTime, AreIdleInTime, IsPlanOf, IsPlanFor};
+ghost use Rattle.tick_core.specs.{AreInOrder, AreInTime, IsPlanOf, IsPlanFor};
 
 use crate::draft::Draft;
 use crate::forgetting::forget_clients;
@@ -38,7 +38,6 @@ pub fn plan_tick(alloc: Global, parts: &Parts) -> Result<TickPlan, NoMemory>
 fn plan_of(alloc: Global, parts: &Parts) -> Result<TickPlan, NoMemory>
     requires held { AreInOrder parts.now.cache.held }
     requires small { AreInTime parts.now.config parts.now.table }
-    requires idle { AreIdleInTime parts.now.table }
     ensures { IfOk result (λ plan. IsPlanOf parts.now plan) }
 {
     let Parts {

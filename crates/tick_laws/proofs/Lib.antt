@@ -1,3 +1,5 @@
+mod Forgetting
+pub mod Idling
 mod Orders
 mod Repairs
 mod Runs

@@ -3,5 +3,6 @@
 //! A law is the contract of a function that does nothing. Its words stand in `specs/`.
 #![tactic(auto)]
 
+pub mod forgets;
 pub mod order;
 pub mod sends;

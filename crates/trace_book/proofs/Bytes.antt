@@ -1,16 +1,17 @@
 -- The events of a trace are made of bytes.
 use Rattle.std.proofs.Common.{◌≡◌, ℕ, ◌<◌, List, [], ◌∷◌, Option, Some, None, suc, refl, eqb, arith}
 use Rattle.std.specs.Prelude.{All, IfSome, Result, Ok, Err, filter_map, option_and_then, if◌then◌else◌, ◌==◌}
-use Rattle.std.specs.List.{cons_option}
+use Rattle.std.specs.List.{AllByRecursion, cons_option}
 use mathlib.Core.List.{reverse_aux}
 use Rattle.std.proofs.lemmas.Bool.{cond_both}
-use Rattle.std.proofs.lemmas.List.Elements.{All-nil, All-cons}
+use Rattle.std.proofs.lemmas.List.Elements.{All-nil, All-cons, All-weaker, recursion_from_All}
 use Rattle.hex.specs.Hex.{IsBytes, decode_of}
 use Rattle.hex.specs.declared.error.FromHexError.{FromHexError}
 use Rattle.hex.proofs.HexLemmas.{decode_of-ok}
 use Rattle.rams_model.specs.declared.event.Event.{Event}
 use Rattle.rams_model.specs.declared.event.Event.TheVariants as event
 use Rattle.rams_model.specs.Texts.{decoded, bytes_in, TraceLine, head_line, channel_line, live_line, feedback_line, tick_line, end_line, tune_line, give_line, mcast_line, ask_line, drop_line, line_of}
+use Rattle.byte_laws.specs.{HasBytes}
 use Rattle.server_hub.specs.declared.event.HubEvent.{HubEvent}
 use Rattle.server_hub.specs.{events_of}
 use Rattle.server_hub.specs.declared.event.HubEvent.TheVariants.{Live, Feedback, Tick}
@@ -86,3 +87,12 @@ channel_gets id (Tick ∷ events) a = All-cons IsOfBytes event.Tick (events_of i
 -- what comes to a channel of a trace is made of bytes
 pub trace_bytes : (trace : List ℕ) (id : ℕ) → All IsOfBytes (events_of id (came trace))
 trace_bytes trace id = channel_gets id (came trace) (reversed (filter_map event_at (taken trace)) [] (lines_bring (taken trace)) (All-nil IsHubOfBytes))
+
+-- what came as live packets is bytes
+has_bytes : (e : Event) → IsOfBytes e → HasBytes e
+has_bytes (event.Live bytes) b = b
+has_bytes (event.Feedback client bytes) b = tt
+has_bytes event.Tick b = tt
+
+pub have_bytes : (events : List Event) → All IsOfBytes events → AllByRecursion HasBytes events
+have_bytes events a = recursion_from_All HasBytes events (All-weaker IsOfBytes HasBytes has_bytes events a)

@@ -1,5 +1,6 @@
 -- What each channel of a trace promises: the laws of every lawful book, said of the channel's own book and of the moments of its own history.
-use Rattle.std.specs.Prelude.{◌≡◌, ◌≢◌, ℕ, ◌+◌, ◌*◌, ◌<◌, ◌≤◌, min, Bool, ◌⊎◌, IsTrue, List, [], ◌∷◌, ◌++◌, filter_map, Option, Some, Result, All}
+use Rattle.std.specs.Prelude.{◌≡◌, ◌≢◌, ℕ, ◌+◌, ◌*◌, ◌<◌, ◌≤◌, min, Bool, ◌⊎◌, IsTrue, List, [], ◌∷◌, ◌++◌, filter_map, Option, Some, Result, All, Contains, true, false}
+use Rattle.rams_model.specs.declared.answer.Order.{Order}
 use Rattle.rams_model.specs.declared.event.Event.{Event}
 use Rattle.rams_model.specs.declared.fault.TlvFault.{TlvFault}
 use Rattle.rams_model.specs.declared.held.Held.{Held}
@@ -9,13 +10,15 @@ use Rattle.rams_model.specs.declared.note.Note.{Note}
 use Rattle.rams_model.specs.declared.event.Event.TheVariants.{Live, Feedback, Tick}
 use Rattle.rams_model.specs.declared.note.Cause.TheVariants as cause
 use Rattle.rams_model.specs.declared.note.Note.TheVariants as note
-use Rattle.rams_model.specs.Service.{Settings, bye, nack, asks, stops, Heard, tick, began, told, noted, History, hold, Burst, next, open_burst, has_open, reserved, channel_left, Entry, Book, history_of}
+use Rattle.rams_model.specs.Service.{Settings, bye, nack, asks, stops, Heard, tick, began, told, noted, History, hold, Burst, next, known, is_among, open_burst, has_open, reserved, channel_left, Wanted, wanted, pending, is_busy, order_of, Entry, Book, history_of}
 use Rattle.rams_model.specs.Packets.{hi}
 use Rattle.rams_model.specs.Formats.{Request, Framed}
 use Rattle.rams_model.specs.Laws.{source, IsQuietBurst, told_join, NoneIs, StandsWithout, is_accept_of, is_end_of, is_queued, ends_pending, is_event, is_sending, is_sending_to, sizes_sent, ticks_begun}
-use Rattle.book_laws.specs.{LastAccept, AnsweredBy, IsTheBook, TellsTheHistory, notes_in, notes_of, first_sendings, sending, AreNumberedFrom, IsPacketOf, BeginsAsAsked, IsOfTheSource, note_sends, order_sends, NamesWhatFollows, is_tick_start, may_be_sent, is_past_runs, BeginsWithATick, gains_in, IsOpenAtEachTick, line_of, Line, IsNumberAnswer, IsForeignNack, IsNackAnswered, AnswersStop, AnswersBye, CountsEachOnce, is_loss_of, ticks_since_told}
+use Rattle.book_laws.specs.{LastAccept, AnsweredBy, IsTheBook, TellsTheHistory, notes_in, orders_in, notes_of, first_sendings, sending, AreNumberedFrom, IsPacketOf, BeginsAsAsked, IsOfTheSource, note_sends, order_sends, NamesWhatFollows, is_tick_start, may_be_sent, is_past_runs, BeginsWithATick, gains_in, IsOpenAtEachTick, line_of, Line, IsNumberAnswer, IsForeignNack, IsNackAnswered, AnswersStop, AnswersBye, CountsEachOnce, is_loss_of, ticks_since_told}
 use Rattle.book_laws.specs.Stops.{Stands, EndsAtItsStop, HasEnded, EndsBecause, StopsAsNamed}
 use Rattle.book_laws.specs.Refusals.{IsRequestRefused, IsStopRefused, IsByTable, IsAnsweredExactly}
+use Rattle.byte_laws.specs.{TellsSo, WasOrdered, CameAs}
+use Rattle.tick_laws.specs.{HadItsTurn, IsAtItsEnd, clients_served, Fall, repairs_done, AreSomeOf, WasIdle, IsIdleAllThrough}
 use Rattle.server_hub.specs.Served.{Served}
 use Rattle.trace_book.specs.TraceText.{served_by}
 
@@ -177,6 +180,35 @@ pub record KeepsJoinTimes (c : Served) : Type 0 where
       → open_burst c.settings k history ≡ Some b → IsQuietBurst c.settings k accept.first history → told_join k history ≤ ticks_since_told k history
       → next b ≡ hi (hold c.settings history)
 
+-- What each note tells its client goes out, byte by byte, and nothing else does.
+pub record TellsItsClients (c : Served) (book : Book) : Type 0 where
+  -- a note's RAMS-I has the code, the times and the rate of the note; a note that tells nothing has none
+  pub notes : (one : Note) (packet : Option Held) (before : History) → WasSo c (noted one packet ∷ before) → TellsSo c.settings before one (order_of c.settings before one packet)
+  -- whatever goes out was ordered for a note
+  pub orders : (o : Order) → Contains (orders_in book) o → WasOrdered c.settings o
+
+-- A tick sends all that it may, in order, and forgets whoever was idle for long enough.
+pub record ServesEachTick (c : Served) (events : List Event) : Type 0 where
+  -- a repair that still waits after it had its turn, and didn't fit
+  pub waits : (w : Wanted) → Contains (pending (history_of c.settings (Tick ∷ events))) w → HadItsTurn c.settings (history_of c.settings events) (history_of c.settings (Tick ∷ events)) w
+  -- the next packet of an open burst isn't held, or isn't before the stop, or didn't fit
+  pub runs : (k : ℕ) (b : Burst) → open_burst c.settings k (history_of c.settings (Tick ∷ events)) ≡ Some b → IsAtItsEnd (hold c.settings (history_of c.settings events)) b
+  -- bursts by rising client, and repairs in the order in which they were asked for
+  pub clients : Fall (clients_served (history_of c.settings (Tick ∷ events)))
+  pub repairs : AreSomeOf (repairs_done (history_of c.settings (Tick ∷ events))) (pending (history_of c.settings events))
+
+-- What ticks give up and forget is as it should be.
+pub record GivesUpTruly (c : Served) : Type 0 where
+  -- a repair that is gone waited, and its packet isn't held
+  pub gone : (client n : ℕ) (packet : Option Held) (before : History) → WasSo c (noted (note.Gone client n) packet ∷ before)
+      → Contains (pending before) (wanted client n) × ((h : Held) → Contains (hold c.settings before) h → h.n ≡ n → ⊥)
+  -- a client that is forgotten was idle for as many ticks as the settings say
+  pub sooner : (k : ℕ) (packet : Option Held) (before : History) → 1 ≤ c.settings.channel.idle → WasSo c (noted (note.Forgot k) packet ∷ before) → WasIdle c.settings k before
+  -- and one that is known between two events was so for fewer
+  pub later : (after events : List Event) (k : ℕ) (stretch rest : History) → c.events ≡ after ++ events → 1 ≤ c.settings.channel.idle → history_of c.settings events ≡ stretch ++ rest
+      → IsIdleAllThrough c.settings k stretch rest → is_busy c.settings k (history_of c.settings events) ≡ false → is_among k (known (history_of c.settings events)) ≡ true
+      → ticks_begun stretch < c.settings.channel.idle
+
 -- what came is made of bytes
 abbrev pub IsOfBytes : Event → Type 0
 IsOfBytes (Live bytes) = All (λ b. b < 256) bytes
@@ -201,6 +233,11 @@ pub record KeepsPromises (c : Served) : Type 0 where
   -- known clients, open bursts and pending repairs are each counted once
   pub counts : (history : History) → WasSo c history → CountsEachOnce c.settings history
   pub join_times : KeepsJoinTimes c
+  -- what is held at a moment came in the channel's live packets, byte by byte
+  pub held : (history : History) → WasSo c history → (h : Held) → Contains (hold c.settings history) h → CameAs c.settings c.events h
+  pub tells : TellsItsClients c book.book
+  pub ticks : (later events : List Event) → c.events ≡ later ++ (Tick ∷ events) → ServesEachTick c events
+  pub given_up : GivesUpTruly c
 
 -- Whatever the trace, each channel that it is served by keeps its promises.
 abbrev pub TracesAreServedLawfully : Type 0

@@ -5,10 +5,12 @@ ghost use Rattle.std.specs.Prelude.{List};
 ghost use Rattle.trace_book.specs.{run, TracesStayWithinTheLink, TracesAreServedLawfully, TracesAreServedByTheirLines, TracesEndSo, TheOpeningIsAStage, StagesAreKept};
 
 use book_laws::{budgets, join_times, numbers, one_book, refusals, sendings, stops};
+use byte_laws::{held, told};
 use rams_model::clients_are_since;
 use server_hub::laws::{
     channels_get_their_events, channels_stay_within_the_link, ticks_stay_within_the_link,
 };
+use tick_laws::{forgets, order, sends};
 use trace_serving::laws::{Serves, stages_are_kept as serving_keeps_stages, traces_are_served_so};
 
 /// The command `run`, as what serves its traces.
@@ -57,6 +59,12 @@ pub fn traces_are_served_lawfully()
     refusals::stops_and_byes_are_answered_exactly();
     refusals::what_is_counted_stands_once();
     join_times::quiet_bursts_keep_their_join_times();
+    held::each_packet_came();
+    told::each_note_tells_its_client_so();
+    sends::each_waiting_repair_did_not_fit();
+    sends::each_run_went_on();
+    order::a_tick_serves_in_order();
+    forgets::a_client_is_forgotten_in_time();
     clients_are_since();
 }
 

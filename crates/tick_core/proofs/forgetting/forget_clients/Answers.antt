@@ -1,7 +1,7 @@
 use Rattle.std.proofs.Common.{ℕ, ap, ◌∙◌}
 use Rattle.client_table.specs.declared.entry.Entry.{Entry}
 use Rattle.client_table.specs.{clients_left}
-use Rattle.tick_core.proofs.Walking.{all_found, first_found, others_found, forgotten_start, forgotten_turn, forgotten_end}
+use Rattle.tick_core.proofs.Walking.{forgotten_start, forgotten_turn, forgotten_end}
 use Rattle.tick_core.proofs.forgetting.forget_clients.Goals as goal
 
 pub loop-client-init : goal.loop-client-init
@@ -11,14 +11,8 @@ loop-client-init c =
     record {
       can_next = tt;
       is_finite = tt;
-      found = all_found t _ all c.iter-client-items.ensures.found;
       draft = forgotten_start c.args.config.now c.args.queue.now _ t.known c.args.draft.now all;
     }
-
-pub forget_client-requires : goal.forget_client-requires
-forget_client-requires c =
-    let e : ℕ × Entry = (c.in-Some.client, c.in-Some.entry.now) in
-    c.requires e.0 e.1 (first_found c.args.table.now e (clients_left c.loop-client.client-iterator) (clients_left c.next.new.self) c.in-Some.ensures.steps c.loop-client.invariant.found)
 
 pub loop-client-preserved : goal.loop-client-preserved
 loop-client-preserved c =
@@ -28,7 +22,6 @@ loop-client-preserved c =
     record {
       can_next = tt;
       is_finite = tt;
-      found = others_found c.args.table.now e left later c.in-Some.ensures.steps c.loop-client.invariant.found;
       draft = forgotten_turn c.args.config.now c.args.queue.now e left later c.loop-client.draft c.forget_client.new.draft _ c.in-Some.ensures.steps c.in_ok-forget_client.ensures c.loop-client.invariant.draft;
     }
 

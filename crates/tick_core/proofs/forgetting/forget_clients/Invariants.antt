@@ -1,5 +1,5 @@
-use Rattle.std.proofs.Common.{◌≡◌, All, Some}
-use Rattle.client_table.specs.{entry_of, clients_left}
+use Rattle.std.proofs.Common.{◌≡◌}
+use Rattle.client_table.specs.{clients_left}
 use Rattle.tick_core.specs.{with_all_forgotten}
 use Rattle.tick_core.proofs.forgetting.forget_clients.Given as goal
 
@@ -8,6 +8,5 @@ abbrev pub invariant-loop-client : goal.invariant-loop-client
 invariant-loop-client l = record {
   can_next : (goal.iterator-loop-client).can_next l.client-iterator;
   is_finite : (goal.iterator-loop-client).is_finite l.client-iterator;
-  found : All (λ e. entry_of l.table e.0 ≡ Some e.1) (clients_left l.client-iterator);
   draft : with_all_forgotten l.config l.queue (clients_left l.client-iterator) l.draft ≡ with_all_forgotten l.config l.queue l.table.known l.fn.draft;
 }

@@ -1,5 +1,5 @@
 use Rattle.std.proofs.lemmas.Result.{IfOk-weaker}
-use Rattle.tick_core.proofs.Safe.{in_order, in_time, idle_in_time}
+use Rattle.tick_core.proofs.Safe.{in_order, in_time}
 use Rattle.tick_core.proofs.Made.{made_plan}
 use Rattle.tick_core.proofs.plan.plan_tick.Goals as goal
 
@@ -8,9 +8,6 @@ plan_of-requires-clause-held c = in_order c.args.parts.now c.requires.stands.0 c
 
 pub plan_of-requires-clause-small : goal.plan_of-requires-clause-small
 plan_of-requires-clause-small c = in_time c.args.parts.now c.requires.stands.0 c.requires.stands.1
-
-pub plan_of-requires-clause-idle : goal.plan_of-requires-clause-idle
-plan_of-requires-clause-idle c = idle_in_time c.args.parts.now c.requires.stands.0 c.requires.stands.1
 
 pub returns : goal.returns
 returns c = record {

@@ -3,13 +3,14 @@ use Rattle.std.proofs.Common.{◌≡◌, ℕ, List, [], ◌∷◌, ◌++◌, ⊎
 use Rattle.std.specs.Prelude.{All}
 use Rattle.rams_model.specs.declared.event.Event.{Event}
 use Rattle.rams_model.specs.Service.{tick, began, noted, History, Book, history_of, IsLawful}
+use Rattle.rams_model.specs.declared.event.Event.TheVariants.{Tick}
 use Rattle.rams_model.specs.declared.note.Note.TheVariants.{Repair}
 use Rattle.book_laws.specs.{LastAccept, is_tick_start, BeginsWithATick, notes_of}
 use Rattle.rams_model.specs.Laws.{NoneIs}
 use Rattle.server_hub.specs.Served.{Served}
-use Rattle.trace_book.specs.{WasSo, HasOneBook, RetransmitsTheSource, SendsInOrder, RespectsItsStop, TellsBurstsTruly, SendsWhatIsAsked, IsWithinBudgets, IsWithinBudgetsOverTicks, KeepsBudgets, RefusesTruly, AnswersByTheTable, KeepsJoinTimes, IsOfBytes, KeepsPromises}
+use Rattle.trace_book.specs.{WasSo, HasOneBook, RetransmitsTheSource, SendsInOrder, RespectsItsStop, TellsBurstsTruly, SendsWhatIsAsked, IsWithinBudgets, IsWithinBudgetsOverTicks, KeepsBudgets, RefusesTruly, AnswersByTheTable, KeepsJoinTimes, TellsItsClients, ServesEachTick, GivesUpTruly, IsOfBytes, KeepsPromises}
 use Rattle.trace_book.proofs.Moments.{moment, earlier, stands_in}
-use Rattle.trace_book.proofs.Bytes.{trace_bytes}
+use Rattle.trace_book.proofs.Bytes.{trace_bytes, have_bytes}
 use Rattle.trace_book.proofs.Repairs.{repair_waits, repair_held}
 use Rattle.trace_book.proofs.laws.traces_are_served_lawfully.Goals as goal
 
@@ -140,6 +141,27 @@ module _ (c : goal.After-clients_are_since) (ch : Served) where
     caught_up = λ later events k e accept b. c.quiet_bursts_keep_their_join_times.ensures.caught_up ch.settings events k accept b;
   }
 
+  tells_so : TellsItsClients ch one_book.book
+  tells_so = record {
+    notes = λ n packet before was. c.each_note_tells_its_client_so.ensures.told ch.settings n packet before (moment ch _ was);
+    orders = λ o has. c.each_note_tells_its_client_so.ensures.each ch.settings one_book.book o one_book.is_its.lawful has;
+  }
+
+  each_tick : (later events : List Event) → ch.events ≡ later ++ (Tick ∷ events) → ServesEachTick ch events
+  each_tick later events e = record {
+    waits = c.each_waiting_repair_did_not_fit.ensures.waits ch.settings events;
+    runs = c.each_run_went_on.ensures ch.settings events;
+    clients = c.a_tick_serves_in_order.ensures.bursts ch.settings events;
+    repairs = c.a_tick_serves_in_order.ensures.repairs ch.settings events;
+  }
+
+  gives_up : GivesUpTruly ch
+  gives_up = record {
+    gone = λ client n packet before was. c.each_waiting_repair_did_not_fit.ensures.gone ch.settings client n packet before (moment ch _ was);
+    sooner = λ k packet before some was. c.a_client_is_forgotten_in_time.ensures.sooner ch.settings k packet before some (moment ch _ was);
+    later = λ after events k stretch rest e. c.a_client_is_forgotten_in_time.ensures.later ch.settings k events stretch rest;
+  }
+
   promises : All IsOfBytes ch.events → KeepsPromises ch
   promises bytes = record {
     book = one_book;
@@ -155,6 +177,10 @@ module _ (c : goal.After-clients_are_since) (ch : Served) where
     answers = answered;
     counts = λ history was. c.what_is_counted_stands_once.ensures ch.settings history (moment ch history was);
     join_times = joined;
+    held = λ history was. c.each_packet_came.ensures.held ch.settings history (moment ch history was) (have_bytes ch.events bytes);
+    tells = tells_so;
+    ticks = each_tick;
+    given_up = gives_up;
   }
 
 pub returns : goal.returns
