@@ -202,6 +202,10 @@ pub record KeepsPromises (c : Served) : Type 0 where
   pub counts : (history : History) → WasSo c history → CountsEachOnce c.settings history
   pub join_times : KeepsJoinTimes c
 
+-- Whatever came to a channel, it keeps its promises, if that is made of bytes.
+abbrev pub ChannelsKeepTheirPromises : Type 0
+ChannelsKeepTheirPromises = (c : Served) → All IsOfBytes c.events → KeepsPromises c
+
 -- Whatever the trace, each channel that it is served by keeps its promises.
 abbrev pub TracesAreServedLawfully : Type 0
 TracesAreServedLawfully = (trace : List ℕ) → All KeepsPromises (served_by trace)

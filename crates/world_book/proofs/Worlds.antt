@@ -1,14 +1,14 @@
 -- The world that a trace is served by.
-use Rattle.std.proofs.Common.{◌≡◌, ℕ, ◌+◌, List, [], ◌∷◌, ◌++◌, map, length, Option, Some, None, refl, ap, ap₂, sym, ◌∙◌, subst, append_assoc, append-nil}
+use Rattle.std.proofs.Common.{◌≡◌, ℕ, suc, ◌+◌, arith, List, [], ◌∷◌, ◌++◌, map, length, Option, Some, None, refl, ap, ap₂, sym, ◌∙◌, subst, append_assoc, append-nil}
 use Rattle.std.specs.Prelude.{All, IfSome}
-use Rattle.std.proofs.lemmas.List.Elements.{All-nil}
+use Rattle.std.proofs.lemmas.List.Elements.{All-nil, All-cons, All-weaker}
 use Rattle.rams_model.specs.declared.channel.Channel.{Channel}
 use Rattle.rams_model.specs.Service.{Settings}
 use Rattle.rams_model.specs.Texts.{Head, TraceLine, head_line, channel_line, live_line, feedback_line, tick_line, end_line, tune_line, give_line, mcast_line, ask_line, drop_line}
 use Rattle.server_hub.specs.{served}
 use Rattle.server_hub.specs.Served.{Served}
 use Rattle.trace_serving.specs.{brought, ended, last_stage, Stand, opened_all, after_all, events_text, came, IsServedSo}
-use Rattle.trace_book.specs.{settings_of, new_channels}
+use Rattle.trace_book.specs.{settings_of, new_channels, IsOfBytes, KeepsPromises, ChannelsKeepTheirPromises}
 use Rattle.trace_book.proofs.Bytes.{hex_bytes}
 use Rattle.world_laws.specs.declared.world.WorldEvent.{WorldEvent}
 use Rattle.world_laws.specs.World.{World}
@@ -16,6 +16,7 @@ use Rattle.world_laws.specs.{new_world, happens, world_after, BringsBytes, IsNew
 use Rattle.world_text.specs.{first_line, event_lines, world_lines}
 use Rattle.world_book.specs.{meet, world_of, IsServedByAWorld, EndsSo, ReceiversPresent}
 use Rattle.trace_serving.proofs.Brought.{all_came}
+use Rattle.world_book.proofs.Promising.{IsWorldOfBytes, IsOf, happens_stays}
 use Rattle.world_book.proofs.Channels.{happens_keeps, new_of, settings_are, new_are, are_new}
 
 -- the channels are those of the lines
@@ -56,6 +57,29 @@ line_brings (give_line n) = tt
 line_brings (mcast_line id client n) = tt
 line_brings (ask_line id client) = tt
 line_brings (drop_line id client) = tt
+
+-- so of all that a channel may get
+bytes_come : (line : TraceLine) → IfSome (brought meet line) IsWorldOfBytes
+bytes_come (live_line id hex) = hex_bytes hex
+bytes_come (feedback_line id client hex) = hex_bytes hex
+bytes_come tick_line = tt
+bytes_come (head_line version tick link) = tt
+bytes_come (channel_line version c) = tt
+bytes_come end_line = tt
+bytes_come (tune_line id client ssrc) = tt
+bytes_come (give_line n) = tt
+bytes_come (mcast_line id client n) = tt
+bytes_come (ask_line id client) = tt
+bytes_come (drop_line id client) = tt
+
+new_have_none : (all : List Settings) → All (λ c. All IsOfBytes c.events) (new_of all)
+new_have_none [] = All-nil (λ c. All IsOfBytes c.events)
+new_have_none (s ∷ all) = All-cons (λ c. All IsOfBytes c.events) (served s []) (new_of all) (All-nil IsOfBytes) (new_have_none all)
+
+bytes_stay : (all : List Settings) (events : List WorldEvent) → All IsWorldOfBytes events → IsOf (world_after (new_of all) events)
+unfolding world_after
+bytes_stay all [] a = record { channels = new_have_none all; datagrams = λ k d less. absurd (omega (arith, less)) }
+bytes_stay all (e ∷ events) a = happens_stays e (world_after (new_of all) events) (a 0 e (omega arith)) (bytes_stay all events (λ k d less. a (suc k) d (omega (arith, less))))
 
 -- channels that stand under a head line
 new_under : (o : Option Head) (all : List Settings) → Stand o all → All (IsNew (new_of all)) (new_of all)
@@ -103,3 +127,9 @@ module _ (trace : List ℕ) (so : IsServedSo meet trace) where
         delivered = delivered (new_of so.all) (came meet trace) new bytes;
         media = media (new_of so.all) (came meet trace) new bytes;
       })
+
+  pub channels_are_lawful : ChannelsKeepTheirPromises → All KeepsPromises (world_of trace).channels
+  channels_are_lawful promises =
+      subst (λ (w : World). All KeepsPromises w.channels) (sym after_lines)
+      (All-weaker (λ c. All IsOfBytes c.events) KeepsPromises promises (world_after (new_of so.all) (came meet trace)).channels
+      (bytes_stay so.all (came meet trace) (all_came meet IsWorldOfBytes bytes_come trace)).channels)

@@ -9,7 +9,7 @@ use Rattle.world_laws.specs.World.{World}
 use Rattle.world_laws.specs.{source_of, PresentsWhatIsDelivered, AreMedia, world_after}
 use Rattle.world_text.specs.{first_line, world_lines}
 use Rattle.trace_serving.specs.{Outcome, ended, last_stage, head_at, channel_at, taken, came, EndsWith}
-use Rattle.trace_book.specs.{new_channels}
+use Rattle.trace_book.specs.{new_channels, KeepsPromises}
 use Rattle.world_book.specs.WorldText.{most_events, meet, meet_text, world_of}
 
 -- What a trace is served by, read off the lines that are taken.
@@ -49,3 +49,7 @@ pub record ReceiversPresent (w : World) : Type 0 where
 
 abbrev pub ReceiversPresentTheirSources : Type 0
 ReceiversPresentTheirSources = (trace : List ℕ) → ReceiversPresent (world_of trace)
+
+-- Each channel of a world keeps its promises.
+abbrev pub WorldsAreServedLawfully : Type 0
+WorldsAreServedLawfully = (trace : List ℕ) → All KeepsPromises (world_of trace).channels

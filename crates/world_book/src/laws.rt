@@ -1,8 +1,9 @@
 //! Laws of every trace that `meet` serves: of its world, its text, and its receivers.
 ghost use Rattle.world_laws.specs.World.{World};
 ghost use Rattle.world_laws.specs.declared.world.WorldEvent.{WorldEvent};
-ghost use Rattle.world_book.specs.{meet, WorldsAreServedByTheirLines, WorldsEndSo, ReceiversPresentTheirSources};
+ghost use Rattle.world_book.specs.{meet, WorldsAreServedByTheirLines, WorldsEndSo, ReceiversPresentTheirSources, WorldsAreServedLawfully};
 
+use trace_book::laws::channels_keep_their_promises;
 use trace_serving::laws::{Serves, traces_are_served_so};
 use world_laws::laws::{
     each_delivery_is_of_the_source, each_receiver_presents_a_prefix,
@@ -47,4 +48,13 @@ pub fn receivers_present_their_sources()
     each_receiver_presents_a_prefix();
     each_receiver_presents_what_is_delivered();
     each_delivery_is_of_the_source();
+}
+
+/// Whatever the trace, each channel of its world keeps its promises: the laws of every lawful book
+/// hold at each of its moments, whatever receivers send to it.
+pub fn worlds_are_served_lawfully()
+    ensures { WorldsAreServedLawfully }
+{
+    traces_are_served_so::<Meet>();
+    channels_keep_their_promises();
 }
