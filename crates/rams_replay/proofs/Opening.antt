@@ -1,27 +1,23 @@
 -- The turns of lines that bring no event.
-use Rattle.std.proofs.Common.{◌≡◌, ℕ, ◌+◌, ◌≤◌, Bool, true, false, not, ◌&&◌, ◌||◌, if◌then◌else◌, List, [], ◌∷◌, ◌++◌, map, length, Option, None, Some, Result, Ok, Err, is_some, refl, sym, subst, ap, ◌∙◌, eqb, ltb, leb}
+use Rattle.std.proofs.Common.{◌≡◌, ℕ, ◌+◌, ◌≤◌, Bool, true, false, not, ◌&&◌, ◌||◌, List, [], ◌∷◌, ◌++◌, map, length, Option, None, Some, Ok, is_some, refl, sym, subst, ap, ◌∙◌, eqb, ltb, leb}
 use Rattle.std.specs.Prelude.{IsSomeAnd, sum, sum_by}
 use Rattle.std.specs.List.{list_any}
-use Rattle.std.proofs.lemmas.Bool.{and_parts, leb-true}
+use Rattle.std.proofs.lemmas.Bool.{and_parts, leb-true, le-leb, lt-ltb}
 use Rattle.std.proofs.lemmas.List.{length-map, map-append}
 use Rattle.std.proofs.lemmas.List.Sums.{sum-map}
 use Rattle.rams_model.specs.declared.channel.Channel.{Channel}
-use Rattle.rams_model.specs.declared.fault.ConfigFault.{ConfigFault}
-use Rattle.rams_model.specs.declared.fault.LineFault.{LineFault}
-use Rattle.rams_model.specs.declared.fault.LineFault.TheVariants.{Rule}
 use Rattle.rams_model.specs.Service.{Settings, settings, checked}
-use Rattle.rams_model.specs.Texts.{head_line, channel_line, line_in_range, Claim, Head, Reached, tick_of, joined, with_channel, accepted}
+use Rattle.rams_model.specs.Texts.{head_line, channel_line, line_in_range, Claim, Head, Reached, tick_of, accepted}
 use Rattle.server_hub.specs.{AllServe, new_hub, settings_of, has_id, shares_of, refused, Serves as CoreServes, served}
 use Rattle.server_hub.specs.Seen.{Seen}
 use Rattle.server_hub.specs.Served.{Served}
 use Rattle.server_hub.proofs.Pairing.{same_length}
-use Rattle.trace_text.proofs.Checks.{checked_same}
+use Rattle.trace_serving.proofs.Judged.{IsAccepted, accepted_so, channel_so}
 use Rattle.trace_serving.specs.{Stage, eventless}
 use Rattle.trace_loop.specs.declared.turn.Turn.TheVariants.{GoesOn}
 use Rattle.trace_book.specs.{run}
 use Rattle.rams_replay.specs.{HubServes, Serves, Stands, CanOpen, OpensIn, Comes, Took, claim_of}
 use Rattle.rams_replay.proofs.Telling.{settings_all, settings_stand}
-use Rattle.rams_replay.proofs.Turning.{Accepted, accepted_parts}
 
 -- What a channel line that was accepted says of the lines before it.
 record Joined (r later : Reached) (c : Channel) : Type 0 where
@@ -33,30 +29,19 @@ record Joined (r later : Reached) (c : Channel) : Type 0 where
   few : ltb (length r.channels) 64 ≡ true
   is_later : record r { channels = r.channels ++ (record { id = c.id; share = c.share } ∷ []) } ≡ later
 
-rules : (fits few : Bool) (r later : Reached) → (if not fits then Err (Rule 4) else if not few then Err (Rule 5) else Ok r) ≡ Ok later → (fits ≡ true) × (few ≡ true) × (r ≡ later)
-rules true true r later h = (refl, refl, cc)
-rules true false r later h = absurd cc
-rules false few r later h = absurd cc
-
-module _ (r later : Reached) (c : Channel) where
-  of_settings : (head : Head) (checks : Result Settings ConfigFault) → checked (settings c head.tick) ≡ checks → r.head ≡ Some head → list_any (λ k. eqb k.id c.id) r.channels ≡ false
-      → joined r head c checks ≡ Ok later → Joined r later c
-  of_settings head (Err fault) checks is new h = absurd cc
-  of_settings head (Ok s) checks is new h =
-      let parts = rules (leb (sum_by (λ k. k.share) r.channels + c.share) head.link) (ltb (length r.channels) 64) _ later h in
-      record { head = head; is_head = is; lawful = checked_same (settings c head.tick) s (sym checks); new = new; fits = parts.0; few = parts.1; is_later = parts.2 }
-
-  of_twice : (head : Head) (twice : Bool) → list_any (λ k. eqb k.id c.id) r.channels ≡ twice → r.head ≡ Some head
-      → (if twice then Err LineFault.Twice else joined r head c (checked (settings c head.tick))) ≡ Ok later → Joined r later c
-  of_twice head true twice is h = absurd cc
-  of_twice head false new is h = of_settings head (checked (settings c head.tick)) refl is new h
-
-  of_head : (o : Option Head) → r.head ≡ o → with_channel r o c ≡ Ok later → Joined r later c
-  of_head None is h = absurd cc
-  of_head (Some head) is h = of_twice head (list_any (λ k. eqb k.id c.id) r.channels) refl is h
-
-  joins : (version : ℕ) → accepted r (channel_line version c) ≡ Ok later → Joined r later c
-  joins version h = of_head r.head refl (accepted_parts r later (channel_line version c) h).does
+joins : (r later : Reached) (c : Channel) (version : ℕ) → accepted r (channel_line version c) ≡ Ok later → Joined r later c
+joins r later c version h =
+    let found = channel_so r r.head c later (accepted_so r (channel_line version c) later h).gives in
+    let j = found.2 in
+    record {
+      head = found.0;
+      is_head = found.1;
+      lawful = j.lawful;
+      new = j.new;
+      fits = le-leb (sum_by (λ k. k.share) r.channels + c.share) found.0.link j.fits;
+      few = lt-ltb (length r.channels) 64 j.few;
+      is_later = j.gives;
+    }
 
 -- the numbers and shares of the channels are those that the lines kept
 ids_claimed : (id : ℕ) (channels : List Served) → has_id id (settings_all channels) ≡ list_any (λ k. eqb k.id id) (map claim_of channels)
@@ -144,12 +129,12 @@ pub head_turn : (hub : Option Seen) (events version tick link number : ℕ) (lat
     → Took (eventless run stage later (head_line version tick link)) (Some (new_hub tick link)) events later number GoesOn
 head_turn hub events version tick link number later stage comes = (by hub stage.reached.head refl comes.before.served, refl, refl)
   where
-    parts : Accepted stage.reached later (head_line version tick link)
-    parts = accepted_parts stage.reached later (head_line version tick link) comes.comes
+    parts : IsAccepted stage.reached (head_line version tick link) later
+    parts = accepted_so stage.reached (head_line version tick link) later comes.comes
 
     later_is : record stage.reached { head = Some (record { version = version; tick = tick; link = link }) } ≡ later
     later_is =
-        let does : Ok (record stage.reached { head = Some (record { version = version; tick = tick; link = link }) }) ≡ Ok later = parts.does in
+        let does : Ok (record stage.reached { head = Some (record { version = version; tick = tick; link = link }) }) ≡ Ok later = parts.gives in
         cc
 
     by : (o : Option Seen) (h : Option Head) → stage.reached.head ≡ h → HubServes o h stage.state stage.events
@@ -183,4 +168,4 @@ bounded version tick link h =
 
 pub head_bounds : (hub : Option Seen) (events version tick link : ℕ) (later : Reached) (stage : Stage (List Served)) → Comes hub events later (head_line version tick link) stage → Bounded tick link
 head_bounds hub events version tick link later stage comes =
-    bounded version tick link (accepted_parts stage.reached later (head_line version tick link) comes.comes).in_range
+    bounded version tick link (accepted_so stage.reached (head_line version tick link) later comes.comes).in_range

@@ -1,12 +1,11 @@
 -- The turns of lines.
-use Rattle.std.proofs.Common.{◌≡◌, ℕ, ◌+◌, ◌<◌, Bool, true, false, not, ◌&&◌, cond, if◌then◌else◌, List, [], ◌∷◌, map, Option, None, Some, Result, Ok, Err, is_some, refl, sym, subst, ap, ◌∙◌, arith, eqb, ltb, length, ◌⊎◌, inl, inr}
+use Rattle.std.proofs.Common.{◌≡◌, ℕ, ◌+◌, ◌<◌, Bool, true, false, cond, List, [], ◌∷◌, map, Option, None, Some, Result, Ok, Err, is_some, refl, sym, subst, ap, ◌∙◌, arith, eqb, ltb, length, ◌⊎◌, inl, inr}
 use Rattle.std.proofs.lemmas.Bool.{and_parts, lt-ltb}
 use Rattle.rams_model.specs.declared.channel.Channel.{Channel}
 use Rattle.rams_model.specs.declared.event.Event.{Event}
 use Rattle.rams_model.specs.declared.fault.LineFault.{LineFault}
 use Rattle.rams_model.specs.declared.mode.LineKind.{LineKind}
-use Rattle.rams_model.specs.declared.fault.LineFault.TheVariants.{Order, Range}
-use Rattle.rams_model.specs.Texts.{TraceLine, line_in_range, Claim, Head, Reached, accepted, has_channel, judged, judged_line, kind_of, kind_may_come, may_come, with_line, with_reached, line_is_served}
+use Rattle.rams_model.specs.Texts.{TraceLine, Claim, Head, Reached, accepted, has_channel, judged, judged_line, kind_of, kind_may_come, with_line, with_reached}
 use Rattle.rams_model.specs.declared.mode.LineKind.TheVariants as kind
 use Rattle.server_hub.specs.declared.event.HubAnswer.{HubAnswer}
 use Rattle.server_hub.specs.declared.event.HubEvent.{HubEvent}
@@ -14,6 +13,7 @@ use Rattle.server_hub.specs.{StandsFor, id_of, with_event, after_event, after_ev
 use Rattle.server_hub.specs.declared.event.HubEvent.TheVariants.{Live, Feedback, Tick}
 use Rattle.server_hub.specs.Seen.{Seen}
 use Rattle.server_hub.specs.Served.{Served}
+use Rattle.trace_serving.proofs.Judged.{accepted_so}
 use Rattle.trace_serving.specs.{Stage, goes_on, after_judging, after_line, counted, turn, brought}
 use Rattle.trace_serving.specs.Text as text
 use Rattle.trace_loop.specs.declared.turn.Turn.{Turn}
@@ -23,24 +23,6 @@ use Rattle.rams_replay.specs.{Comes, HubServes, Stands, CountsOne, Tells, Took, 
 use Rattle.trace_text.specs.declared.line.Line.{Line}
 use Rattle.trace_text.specs.{shown, IsOther}
 use Rattle.trace_text.specs.declared.line.Line.TheVariants.{Channel as ChannelLine, Tune, Give, Mcast, Ask, Drop}
-
--- What an accepted line says of the lines before it, and of those with it.
-pub record Accepted (r later : Reached) (line : TraceLine) : Type 0 where
-  pub may : may_come r line ≡ true
-  pub in_range : line_in_range line ≡ true
-  pub does : with_line r line ≡ Ok later
-
-tests : (m g s : Bool) (w : Result Reached LineFault) (later : Reached) → (if not m then Err Order else if not (g && s) then Err Range else w) ≡ Ok later → (m ≡ true) × (g ≡ true) × (w ≡ Ok later)
-tests true true true w later h = (refl, refl, h)
-tests true true false w later h = absurd cc
-tests true false s w later h = absurd cc
-tests false g s w later h = absurd cc
-
-pub accepted_parts : (r later : Reached) (line : TraceLine) → accepted r line ≡ Ok later → Accepted r later line
-unfolding accepted
-accepted_parts r later line h =
-    let parts = tests (may_come r line) (line_in_range line) (line_is_served r line) (with_line r line) later h in
-    record { may = parts.0; in_range = parts.1; does = parts.2 }
 
 -- what is judged well was accepted
 accepts : (line : TraceLine) (o : Result Reached LineFault) (read : TraceLine) (later : Reached) → with_reached line o ≡ Ok (read, later) → (line ≡ read) × (o ≡ Ok later)
@@ -119,7 +101,7 @@ stands_begun hub events stage later e stands =
 pub event_stage : (hub : Option Seen) (events : ℕ) (later : Reached) (line : TraceLine) (stage : Stage (List Served)) → Comes hub events later line stage → with_line stage.reached line ≡ Ok (begun stage.reached)
     → Stands hub events later (record stage { reached = later })
 event_stage hub events later line stage comes is =
-    let does : Ok (begun stage.reached) ≡ Ok later = sym is ∙ (accepted_parts stage.reached later line comes.comes).does in
+    let does : Ok (begun stage.reached) ≡ Ok later = sym is ∙ (accepted_so stage.reached line later comes.comes).gives in
     stands_begun hub events stage later (cc does) comes.before
 
 -- a line of a receiver, which no trace of `run` has, or of a channel
@@ -164,7 +146,7 @@ has_hub hub events r stage stands has = by hub stage.reached.head stands.served
 
 pub event_has_hub : (hub : Option Seen) (events : ℕ) (later : Reached) (line : TraceLine) (stage : Stage (List Served)) → Comes hub events later line stage → kind_of line ≡ kind.Event → is_some hub ≡ true
 event_has_hub hub events later line stage comes is =
-    let may = (and_parts _ _ (accepted_parts stage.reached later line comes.comes).may).0 in
+    let may = (and_parts _ _ (accepted_so stage.reached line later comes.comes).may).0 in
     let event : kind_may_come stage.reached kind.Event ≡ true = subst (λ (k : LineKind). kind_may_come stage.reached k ≡ true) is may in
     has_hub hub events stage.reached stage comes.before ((and_parts _ _ (and_parts _ _ event).1).0)
 

@@ -1,22 +1,22 @@
 -- The events of a trace are made of bytes.
-use Rattle.std.proofs.Common.{◌≡◌, ℕ, ◌<◌, List, [], ◌∷◌, Option, Some, None, suc, refl, eqb, arith}
-use Rattle.std.specs.Prelude.{All, IfSome, Result, Ok, Err, filter_map, option_and_then, if◌then◌else◌, ◌==◌}
-use Rattle.std.specs.List.{AllByRecursion, cons_option}
-use mathlib.Core.List.{reverse_aux}
+use Rattle.std.proofs.Common.{◌≡◌, ℕ, ◌<◌, List, [], ◌∷◌, suc, refl, eqb, arith}
+use Rattle.std.specs.Prelude.{All, IfSome, Result, Ok, Err, if◌then◌else◌, ◌==◌}
 use Rattle.std.proofs.lemmas.Bool.{cond_both}
+use Rattle.std.specs.List.{AllByRecursion}
 use Rattle.std.proofs.lemmas.List.Elements.{All-nil, All-cons, All-weaker, recursion_from_All}
 use Rattle.hex.specs.Hex.{IsBytes, decode_of}
 use Rattle.hex.specs.declared.error.FromHexError.{FromHexError}
 use Rattle.hex.proofs.HexLemmas.{decode_of-ok}
 use Rattle.rams_model.specs.declared.event.Event.{Event}
 use Rattle.rams_model.specs.declared.event.Event.TheVariants as event
-use Rattle.rams_model.specs.Texts.{decoded, bytes_in, TraceLine, head_line, channel_line, live_line, feedback_line, tick_line, end_line, tune_line, give_line, mcast_line, ask_line, drop_line, line_of}
+use Rattle.rams_model.specs.Texts.{decoded, bytes_in, TraceLine, head_line, channel_line, live_line, feedback_line, tick_line, end_line, tune_line, give_line, mcast_line, ask_line, drop_line}
 use Rattle.byte_laws.specs.{HasBytes}
 use Rattle.server_hub.specs.declared.event.HubEvent.{HubEvent}
 use Rattle.server_hub.specs.{events_of}
 use Rattle.server_hub.specs.declared.event.HubEvent.TheVariants.{Live, Feedback, Tick}
 use Rattle.trace_serving.specs.{brought}
-use Rattle.trace_book.specs.{run, IsOfBytes, event_at, taken, came}
+use Rattle.trace_serving.proofs.Brought.{all_came}
+use Rattle.trace_book.specs.{run, IsOfBytes, came}
 
 abbrev AreBytes : List ℕ → Type 0
 AreBytes bytes = All (λ b. b < 256) bytes
@@ -29,7 +29,7 @@ decoded_bytes : (word : List ℕ) (r : Result (List ℕ) FromHexError) → decod
 decoded_bytes word (Err fault) e = All-nil (λ b. b < 256)
 decoded_bytes word (Ok bytes) e = all_bytes bytes (decode_of-ok word bytes e).3
 
-hex_bytes : (word : List ℕ) → AreBytes (bytes_in word)
+pub hex_bytes : (word : List ℕ) → AreBytes (bytes_in word)
 hex_bytes word = decoded_bytes word (decode_of word) refl
 
 -- so of an event of the server
@@ -51,25 +51,9 @@ line_brings (mcast_line id client n) = tt
 line_brings (ask_line id client) = tt
 line_brings (drop_line id client) = tt
 
-read_brings : (o : Option TraceLine) → IfSome (option_and_then (brought run) o) IsHubOfBytes
-read_brings None = tt
-read_brings (Some line) = line_brings line
-
-one_more : (o : Option HubEvent) (events : List HubEvent) → IfSome o IsHubOfBytes → All IsHubOfBytes events → All IsHubOfBytes (cons_option o events)
-one_more None events i a = a
-one_more (Some e) events i a = All-cons IsHubOfBytes e events i a
-
-lines_bring : (lines : List (List ℕ)) → All IsHubOfBytes (filter_map event_at lines)
-lines_bring [] = All-nil IsHubOfBytes
-lines_bring (bytes ∷ lines) = one_more (event_at bytes) (filter_map event_at lines) (read_brings (line_of bytes)) (lines_bring lines)
-
 -- the rest of what holds of each
 others : (e : HubEvent) (events : List HubEvent) → All IsHubOfBytes (e ∷ events) → All IsHubOfBytes events
 others e events a = λ k d less. a (suc k) d (omega (arith, less))
-
-reversed : (events past : List HubEvent) → All IsHubOfBytes events → All IsHubOfBytes past → All IsHubOfBytes (reverse_aux events past)
-reversed [] past a b = b
-reversed (e ∷ events) past a b = reversed events (e ∷ past) (others e events a) (All-cons IsHubOfBytes e past (a 0 e (omega arith)) b)
 
 -- so of the events of a channel
 with_one : (id other : ℕ) (e : Event) (events : List Event) → IsOfBytes e → All IsOfBytes events → All IsOfBytes (if id == other then e ∷ events else events)
@@ -86,7 +70,7 @@ channel_gets id (Tick ∷ events) a = All-cons IsOfBytes event.Tick (events_of i
 
 -- what comes to a channel of a trace is made of bytes
 pub trace_bytes : (trace : List ℕ) (id : ℕ) → All IsOfBytes (events_of id (came trace))
-trace_bytes trace id = channel_gets id (came trace) (reversed (filter_map event_at (taken trace)) [] (lines_bring (taken trace)) (All-nil IsHubOfBytes))
+trace_bytes trace id = channel_gets id (came trace) (all_came run IsHubOfBytes line_brings trace)
 
 -- what came as live packets is bytes
 has_bytes : (e : Event) → IsOfBytes e → HasBytes e

@@ -239,6 +239,10 @@ pub record KeepsPromises (c : Served) : Type 0 where
   pub ticks : (later events : List Event) → c.events ≡ later ++ (Tick ∷ events) → ServesEachTick c events
   pub given_up : GivesUpTruly c
 
+-- Whatever came to a channel, it keeps its promises, if that is made of bytes.
+abbrev pub ChannelsKeepTheirPromises : Type 0
+ChannelsKeepTheirPromises = (c : Served) → All IsOfBytes c.events → KeepsPromises c
+
 -- Whatever the trace, each channel that it is served by keeps its promises.
 abbrev pub TracesAreServedLawfully : Type 0
 TracesAreServedLawfully = (trace : List ℕ) → All KeepsPromises (served_by trace)

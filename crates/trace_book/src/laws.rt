@@ -2,7 +2,7 @@
 ghost use Rattle.server_hub.specs.declared.event.HubEvent.{HubEvent};
 ghost use Rattle.server_hub.specs.Served.{Served};
 ghost use Rattle.std.specs.Prelude.{List};
-ghost use Rattle.trace_book.specs.{run, TracesStayWithinTheLink, TracesAreServedLawfully, TracesAreServedByTheirLines, TracesEndSo, TheOpeningIsAStage, StagesAreKept};
+ghost use Rattle.trace_book.specs.{run, TracesStayWithinTheLink, TracesAreServedLawfully, ChannelsKeepTheirPromises, TracesAreServedByTheirLines, TracesEndSo, TheOpeningIsAStage, StagesAreKept};
 
 use book_laws::{budgets, join_times, numbers, one_book, refusals, sendings, stops};
 use byte_laws::{held, told};
@@ -33,12 +33,11 @@ pub fn stages_are_kept()
     serving_keeps_stages::<Run>();
 }
 
-/// Whatever the trace, each channel that it is served by keeps its promises: the laws of every lawful
-/// book hold at each of its moments.
-pub fn traces_are_served_lawfully()
-    ensures { TracesAreServedLawfully }
+/// Whatever came to a channel, it keeps its promises, if that is made of bytes: the laws of every
+/// lawful book hold at each of its moments.
+pub fn channels_keep_their_promises()
+    ensures { ChannelsKeepTheirPromises }
 {
-    traces_are_served_by_their_lines();
     one_book::exactly_one_book();
     one_book::books_tell_the_history();
     sendings::first_sendings_are_consecutive();
@@ -66,6 +65,14 @@ pub fn traces_are_served_lawfully()
     order::a_tick_serves_in_order();
     forgets::a_client_is_forgotten_in_time();
     clients_are_since();
+}
+
+/// Whatever the trace, each channel that it is served by keeps its promises.
+pub fn traces_are_served_lawfully()
+    ensures { TracesAreServedLawfully }
+{
+    traces_are_served_by_their_lines();
+    channels_keep_their_promises();
 }
 
 /// Whatever the trace, its channels together stay within the link of its head line, in each tick and

@@ -17,7 +17,7 @@ pub record IsAccepted (r : Reached) (line : TraceLine) (later : Reached) : Type 
   pub in_range : line_in_range line ≡ true
   pub gives : with_line r line ≡ Ok later
 
-accepted_so : (r : Reached) (line : TraceLine) (later : Reached) → accepted r line ≡ Ok later → IsAccepted r line later
+pub accepted_so : (r : Reached) (line : TraceLine) (later : Reached) → accepted r line ≡ Ok later → IsAccepted r line later
 unfolding accepted
 accepted_so r line later e =
     let P : Result Reached LineFault → Type 0 = λ o. o ≡ Ok later → IsAccepted r line later in

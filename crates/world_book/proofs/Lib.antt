@@ -1,0 +1,4 @@
+pub mod Channels
+pub mod Worlds
+pub mod Posts
+pub mod Promising
