@@ -17,7 +17,8 @@ use Rattle.server_hub.specs.Seen.{Seen}
 use Rattle.ram_io.specs.{Outgoing}
 use Rattle.server_hub.specs.declared.event.HubEvent.{HubEvent}
 use Rattle.server_hub.specs.Served.{Served}
-use Rattle.trace_book.specs.{Outcome, done, ended, refused, trace_text}
+use Rattle.trace_serving.specs.{Outcome, done, ended, refused}
+use Rattle.trace_book.specs.{trace_text}
 use Rattle.journal_book.specs.{HasLine, IsJournal, event_lines, events_of, journal_of, replayed, sent_for, behind, FrontsReplay, HeadsOpenNewChannels, JournalsReplay, RunsWriteJournals}
 use Rattle.serve_loop.specs.declared.stop.Stop.{Stop}
 use Rattle.serve_loop.specs.declared.stop.Stop.TheVariants.{Memory, Read, Write, Wire}
@@ -155,13 +156,13 @@ gone_closed b events a c waits left sent Write s same p = subst (λ (o : Option 
 gone_closed b events a c waits left sent Wire s same p = gone_more b events a waits sent Wire s s.waiting.0 s.waiting.1 c left p
 
 -- What the head and the turns come to.
-pub served_is : (g : Given) → head_end g.source ≡ done 0 → (served_text g ≡ ended Done (given_journal g)) × (served_datagrams g ≡ sent_for (g.live + 1) (head_stage g.source).channels (given_events g))
+pub served_is : (g : Given) → head_end g.source ≡ done 0 → (served_text g ≡ ended Done (given_journal g)) × (served_datagrams g ≡ sent_for (g.live + 1) (head_stage g.source).state (given_events g))
 served_is g e =
-    (ap (λ (o : Outcome). text_by o.status o (given_journal g)) e, ap (λ (o : Outcome). datagrams_by o.status (sent_for (g.live + 1) (head_stage g.source).channels (given_events g))) e)
+    (ap (λ (o : Outcome). text_by o.status o (given_journal g)) e, ap (λ (o : Outcome). datagrams_by o.status (sent_for (g.live + 1) (head_stage g.source).state (given_events g))) e)
 
 pub refused_is : (g : Given) (number : ℕ) (fault : LineFault) → head_end g.source ≡ refused number fault → (served_text g ≡ refused number fault) × (served_datagrams g ≡ [])
 refused_is g number fault e =
-    (ap (λ (o : Outcome). text_by o.status o (given_journal g)) e, ap (λ (o : Outcome). datagrams_by o.status (sent_for (g.live + 1) (head_stage g.source).channels (given_events g))) e)
+    (ap (λ (o : Outcome). text_by o.status o (given_journal g)) e, ap (λ (o : Outcome). datagrams_by o.status (sent_for (g.live + 1) (head_stage g.source).state (given_events g))) e)
 
 first_lines : (past next : List HubEvent) → All HasLine (past ++ next) → All HasLine past
 first_lines past next all = subst (All HasLine) (take-append_seam past next) (All-take HasLine (length past) (past ++ next) all)
@@ -228,15 +229,15 @@ ok_weaker (Ok t) P Q f p = f t p
 ok_weaker (Err stop) P Q f p = p
 
 -- the events of the turns, by what is given
-pub events_given : (g : Given) (port turns tick : ℕ) → g.live ≡ port → g.turns ≡ turns → tick ≡ tick_of (head_stage g.source).reached.head → events_of port tick (head_stage g.source).channels turns g.arrivals g.moments ≡ given_events g
+pub events_given : (g : Given) (port turns tick : ℕ) → g.live ≡ port → g.turns ≡ turns → tick ≡ tick_of (head_stage g.source).reached.head → events_of port tick (head_stage g.source).state turns g.arrivals g.moments ≡ given_events g
 events_given g port turns tick live count ticks =
-    ap (λ p. events_of p tick (head_stage g.source).channels turns g.arrivals g.moments) (sym live)
-    ∙ ap (λ t. events_of g.live t (head_stage g.source).channels turns g.arrivals g.moments) ticks
-    ∙ ap (λ n. events_of g.live (tick_of (head_stage g.source).reached.head) (head_stage g.source).channels n g.arrivals g.moments) (sym count)
+    ap (λ p. events_of p tick (head_stage g.source).state turns g.arrivals g.moments) (sym live)
+    ∙ ap (λ t. events_of g.live t (head_stage g.source).state turns g.arrivals g.moments) ticks
+    ∙ ap (λ n. events_of g.live (tick_of (head_stage g.source).reached.head) (head_stage g.source).state n g.arrivals g.moments) (sym count)
 
 -- a server behind its head
 abbrev pub begun_with : Given → ℕ → List ℕ → Option (List ℕ) → Option (List Outgoing) → Begun
-begun_with g port text held went = record { live = port; head = text; channels = (head_stage g.source).channels; held = held; went = went }
+begun_with g port text held went = record { live = port; head = text; channels = (head_stage g.source).state; held = held; went = went }
 
 pub between_begins : HeadsOpenNewChannels → (g : Given) (port : ℕ) (hub now : Seen) (ids are text : List ℕ) (live : ℕ) (a c : Option (List ℕ)) (waits : List ℕ) (went : Option (List Outgoing)) → IsHeadOf g.source hub ids text
     → now ≡ hub → are ≡ ids → live ≡ port → Passes a c text [] → waits ≡ [] → IsBetween (begun_with g port text a went) [] live are now c waits went
@@ -244,9 +245,9 @@ unfolding behind
 between_begins new g port hub now ids are text live a c waits went head same_hub same_ids same_port p none = record {
   live_is = same_port;
   ids_are = same_ids ∙ head.ids_are;
-  apart = (new text (head_stage g.source).channels head.opens).apart;
-  stands = subst (λ (v : Seen). StandsFor v (head_stage g.source).channels) (sym same_hub) head.stands;
-  serving = serving_begins port text (head_stage g.source).channels a c waits went p none;
+  apart = (new text (head_stage g.source).state head.opens).apart;
+  stands = subst (λ (v : Seen). StandsFor v (head_stage g.source).state) (sym same_hub) head.stands;
+  serving = serving_begins port text (head_stage g.source).state a c waits went p none;
 }
 
 -- how the close of the turns ends them
@@ -282,24 +283,24 @@ text_begins g hub ids text head = text_is_journal g hub ids text head
 
 -- a server whose turns are over
 pub has_ended : JournalsReplay → RunsWriteJournals → (g : Given) (port : ℕ) (hub : Seen) (ids text : List ℕ) (events : List HubEvent) (a c d : Option (List ℕ)) (waits : List ℕ) (went sent : Option (List Outgoing))
-    (left : Option (List Incoming)) (status : Status) → IsHeadOf g.source hub ids text → g.live ≡ port → events ≡ given_events g → IsJournal text (head_stage g.source).channels events
+    (left : Option (List Incoming)) (status : Status) → IsHeadOf g.source hub ids text → g.live ≡ port → events ≡ given_events g → IsJournal text (head_stage g.source).state events
     → Ending (begun_with g port text a went) events c waits sent → Passes c d waits [] → left ≡ Some (drop g.turns g.arrivals) → status ≡ Done → HasEnded g a d went sent left status
 has_ended replays runs g port hub ids text events a c d waits went sent left status head live are journal e p arrivals done_is =
     let is = served_is g head.end in
     let whole = text_is_journal g hub ids text head in
     let text_was : journal_of text events ≡ (served_text g).text = ap (λ (es : List HubEvent). journal_of text es) are ∙ sym whole in
-    let sent_was : sent_for (port + 1) (head_stage g.source).channels events ≡ served_datagrams g =
-    ap (λ (es : List HubEvent). sent_for (port + 1) (head_stage g.source).channels es) are ∙ ap (λ n. sent_for (n + 1) (head_stage g.source).channels (given_events g)) (sym live) ∙ sym is.1 in
-    let given : IsJournal (head_text g.source) (head_stage g.source).channels (given_events g) =
-    subst (λ (t : List ℕ). IsJournal t (head_stage g.source).channels (given_events g)) head.text_is (subst (λ (es : List HubEvent). IsJournal text (head_stage g.source).channels es) are journal) in
+    let sent_was : sent_for (port + 1) (head_stage g.source).state events ≡ served_datagrams g =
+    ap (λ (es : List HubEvent). sent_for (port + 1) (head_stage g.source).state es) are ∙ ap (λ n. sent_for (n + 1) (head_stage g.source).state (given_events g)) (sym live) ∙ sym is.1 in
+    let given : IsJournal (head_text g.source) (head_stage g.source).state (given_events g) =
+    subst (λ (t : List ℕ). IsJournal t (head_stage g.source).state (given_events g)) head.text_is (subst (λ (es : List HubEvent). IsJournal text (head_stage g.source).state es) are journal) in
     record {
       status_is = done_is ∙ sym (ap (λ (o : Outcome). o.status) is.0);
       text = subst (Appends a d) text_was (passes_whole a d (journal_of text events) (Passes-then a c d (journal_of text events) waits [] e.text p));
       datagrams = subst (GoOut went sent) sent_was e.wire;
       arrivals = λ q. arrivals;
       journal = λ q. given;
-      replays = λ q. ap (replayed g.live) (ap (λ (o : Outcome). o.text) is.0) ∙ (replays g.live (head_text g.source) (head_stage g.source).channels (given_events g) given).1 ∙ sym is.1;
-      runs = λ q. ap trace_text (ap (λ (o : Outcome). o.text) is.0) ∙ runs (head_text g.source) (head_stage g.source).channels (given_events g) given;
+      replays = λ q. ap (replayed g.live) (ap (λ (o : Outcome). o.text) is.0) ∙ (replays g.live (head_text g.source) (head_stage g.source).state (given_events g) given).1 ∙ sym is.1;
+      runs = λ q. ap trace_text (ap (λ (o : Outcome). o.text) is.0) ∙ runs (head_text g.source) (head_stage g.source).state (given_events g) given;
     }
 
 -- the room for a head, and for what follows it

@@ -12,7 +12,8 @@ use Rattle.rams_model.specs.declared.status.Status.TheVariants.{Done, BadTrace}
 use Rattle.rams_model.specs.Texts.{TraceLine, Claim, Head, Reached, judged, lines_of, has_channel, may_come, end_line, tick_of}
 use Rattle.server_hub.specs.Seen.{Seen}
 use Rattle.server_hub.specs.Served.{Served}
-use Rattle.trace_book.specs.{Stage, Outcome, Turn, goes_on, ends, done, refused, turn, after_line, after_judging, event_of as brought, after_turn, text_from, stage_after, stage_from, taken_with, taken_from}
+use Rattle.trace_serving.specs.{Stage, Outcome, Turn, goes_on, ends, done, refused, turn, after_line, after_judging, after_turn, text_from, stage_after, stage_from, taken_with, taken_from, brought}
+use Rattle.trace_book.specs.{run}
 use Rattle.journal_book.specs.{Leads, line as leads_on, nothing, starting}
 use Rattle.serve_loop.specs.declared.head.HeadLine.{HeadLine}
 use Rattle.serve_loop.specs.declared.head.HeadLine.TheVariants.{GoesOn, Ends, Refused}
@@ -23,106 +24,106 @@ judged_by : (r : Reached) (bytes : List ℕ) → 4096 < length bytes → judged 
 unfolding judged
 judged_by r bytes long = rw (lt-ltb 4096 (length bytes) long) refl
 
-long_refused : (stage : Stage) (number : ℕ) (bytes : List ℕ) → 4096 < length bytes → turn stage number bytes ≡ ends (refused number Form)
+long_refused : (stage : Stage (List Served)) (number : ℕ) (bytes : List ℕ) → 4096 < length bytes → turn run stage number bytes ≡ ends (refused number Form)
 unfolding turn
-long_refused stage number bytes long = ap (after_judging stage number) (judged_by stage.reached bytes long)
+long_refused stage number bytes long = ap (after_judging run stage number) (judged_by stage.reached bytes long)
 
 -- the turn of a line that was judged
-pub judged_turn : (stage : Stage) (number : ℕ) (bytes : List ℕ) (read : TraceLine) (later now : Reached) (hub : Option Seen) (ids : List ℕ) (did : HeadLine) → judged stage.reached bytes ≡ Ok (read, later)
-    → Took stage (after_line stage later read (brought read)) hub ids now number did → Took stage (turn stage number bytes) hub ids now number did
+pub judged_turn : (stage : Stage (List Served)) (number : ℕ) (bytes : List ℕ) (read : TraceLine) (later now : Reached) (hub : Option Seen) (ids : List ℕ) (did : HeadLine) → judged stage.reached bytes ≡ Ok (read, later)
+    → Took stage (after_line run stage later read (brought run read)) hub ids now number did → Took stage (turn run stage number bytes) hub ids now number did
 unfolding turn
 judged_turn stage number bytes read later now hub ids did h took =
-    subst (λ (o : Result (TraceLine × Reached) LineFault). Took stage (after_judging stage number o) hub ids now number did) (sym h) took
+    subst (λ (o : Result (TraceLine × Reached) LineFault). Took stage (after_judging run stage number o) hub ids now number did) (sym h) took
 
-pub refused_turn : (stage : Stage) (number : ℕ) (bytes : List ℕ) (fault : LineFault) → judged stage.reached bytes ≡ Err fault → turn stage number bytes ≡ ends (refused number fault)
+pub refused_turn : (stage : Stage (List Served)) (number : ℕ) (bytes : List ℕ) (fault : LineFault) → judged stage.reached bytes ≡ Err fault → turn run stage number bytes ≡ ends (refused number fault)
 unfolding turn
-refused_turn stage number bytes fault h = ap (after_judging stage number) h
+refused_turn stage number bytes fault h = ap (after_judging run stage number) h
 
 -- whatever the turn was, something stands there
-pub took_stands : (stage : Stage) (was : Turn) (hub : Option Seen) (ids : List ℕ) (reached : Reached) (number : ℕ) (did : HeadLine) → Took stage was hub ids reached number did → StandsAfter did hub ids reached
+pub took_stands : (stage : Stage (List Served)) (was : Turn (List Served)) (hub : Option Seen) (ids : List ℕ) (reached : Reached) (number : ℕ) (did : HeadLine) → Took stage was hub ids reached number did → StandsAfter did hub ids reached
 took_stands stage was hub ids reached number GoesOn took = (took.0, took.2)
 took_stands stage was hub ids reached number Ends took = (stage, took.1, took.2)
 took_stands stage was hub ids reached number (Refused fault) took = tt
 
 -- a line that is refused neither goes on nor is the end
-never_goes_on : (o : Outcome) (stage : Stage) → ends o ≡ goes_on stage [] → ⊥
+never_goes_on : (o : Outcome) (stage : Stage (List Served)) → ends o ≡ goes_on stage [] → ⊥
 never_goes_on o stage e = cc
 
-same_end : (o p : Outcome) → ends o ≡ ends p → o ≡ p
+same_end : (o p : Outcome) → ◌≡◌ {A = Turn (List Served)} (ends o) (ends p) → o ≡ p
 same_end o p e = cc
 
-never_done : (o p : Outcome) → o.status ≡ BadTrace → p.status ≡ Done → ends o ≡ ends p → ⊥
+never_done : (o p : Outcome) → o.status ≡ BadTrace → p.status ≡ Done → ◌≡◌ {A = Turn (List Served)} (ends o) (ends p) → ⊥
 never_done o p bad done e = differ (sym bad ∙ ap (λ (x : Outcome). x.status) (same_end o p e) ∙ done)
   where
     differ : BadTrace ≡ Done → ⊥
     differ h = cc
 
-module _ (stage : Stage) (number : ℕ) (xs : List ℕ) (hub : Option Seen) (ids : List ℕ) (reached : Reached) (text texts ys : List ℕ) where
+module _ (stage : Stage (List Served)) (number : ℕ) (xs : List ℕ) (hub : Option Seen) (ids : List ℕ) (reached : Reached) (text texts ys : List ℕ) where
   -- the first line of xs is this one
-  one_line : (line : List ℕ) (did : HeadLine) → lines_of xs ≡ line ∷ lines_of ys → HasNoFeed line → Took stage (turn stage number line) hub ids reached number did → Grows did text texts line
+  one_line : (line : List ℕ) (did : HeadLine) → lines_of xs ≡ line ∷ lines_of ys → HasNoFeed line → Took stage (turn run stage number line) hub ids reached number did → Grows did text texts line
       → IsFirstLine stage number xs hub ids reached text texts did ys
   unfolding text_from stage_from taken_from
   one_line line GoesOn e clean took grows = record { line = line; clean = clean; lines = e; later = took.0; does = took.1; opened = took.2; text_is = grows }
   one_line line Ends e clean took grows = record {
-    end = ap (text_from stage number) e ∙ ap (λ (was : Turn). after_turn was (λ later. text_from later (number + 1) (lines_of ys))) took.0;
-    reaches = ap (stage_from stage number) e ∙ ap (λ (was : Turn). stage_after stage was (λ later. stage_from later (number + 1) (lines_of ys))) took.0;
-    takes = ap (taken_from stage number) e ∙ ap (λ (was : Turn). taken_with line was (λ later. taken_from later (number + 1) (lines_of ys))) took.0;
+    end = ap (text_from run stage number) e ∙ ap (λ (was : Turn (List Served)). after_turn was (λ later. text_from run later (number + 1) (lines_of ys))) took.0;
+    reaches = ap (stage_from run stage number) e ∙ ap (λ (was : Turn (List Served)). stage_after stage was (λ later. stage_from run later (number + 1) (lines_of ys))) took.0;
+    takes = ap (taken_from run stage number) e ∙ ap (λ (was : Turn (List Served)). taken_with line was (λ later. taken_from run later (number + 1) (lines_of ys))) took.0;
     opened = took.1;
     may = took.2;
     text_is = grows;
   }
   one_line line (Refused fault) e clean took grows =
-      ap (text_from stage number) e ∙ ap (λ (was : Turn). after_turn was (λ later. text_from later (number + 1) (lines_of ys))) took
+      ap (text_from run stage number) e ∙ ap (λ (was : Turn (List Served)). after_turn was (λ later. text_from run later (number + 1) (lines_of ys))) took
 
   -- the first line of xs is too long, and this is the front of it
   long_line : (first line : List ℕ) (rest : List (List ℕ)) (did : HeadLine) → lines_of xs ≡ first ∷ rest → 4096 < length first → line ≡ take 4097 first
-      → Took stage (turn stage number line) hub ids reached number did → IsFirstLine stage number xs hub ids reached text texts did ys
+      → Took stage (turn run stage number line) hub ids reached number did → IsFirstLine stage number xs hub ids reached text texts did ys
   unfolding text_from
   long_line first line rest did e long front took = by did took
     where
-      short : turn stage number line ≡ ends (refused number Form)
-      short = ap (turn stage number) front ∙ long_refused stage number (take 4097 first) (omega (arith, length-take 4097 first, long))
+      short : turn run stage number line ≡ ends (refused number Form)
+      short = ap (turn run stage number) front ∙ long_refused stage number (take 4097 first) (omega (arith, length-take 4097 first, long))
 
-      by : (d : HeadLine) → Took stage (turn stage number line) hub ids reached number d → IsFirstLine stage number xs hub ids reached text texts d ys
+      by : (d : HeadLine) → Took stage (turn run stage number line) hub ids reached number d → IsFirstLine stage number xs hub ids reached text texts d ys
       by GoesOn took = absurd (never_goes_on (refused number Form) took.0 (sym short ∙ took.1))
       by Ends took = absurd (never_done (refused number Form) (done 0) refl refl (sym short ∙ took.0))
       by (Refused fault) took =
           let outcome = same_end (refused number Form) (refused number fault) (sym short ∙ took) in
-          ap (text_from stage number) e ∙ ap (λ (was : Turn). after_turn was (λ later. text_from later (number + 1) rest)) (long_refused stage number first long) ∙ outcome
+          ap (text_from run stage number) e ∙ ap (λ (was : Turn (List Served)). after_turn was (λ later. text_from run later (number + 1) rest)) (long_refused stage number first long) ∙ outcome
 
-no_line : (stage : Stage) (number : ℕ) (xs : List ℕ) → lines_of xs ≡ [] → text_from stage number (lines_of xs) ≡ refused number Order
+no_line : (stage : Stage (List Served)) (number : ℕ) (xs : List ℕ) → lines_of xs ≡ [] → text_from run stage number (lines_of xs) ≡ refused number Order
 unfolding text_from
-no_line stage number xs e = ap (text_from stage number) e
+no_line stage number xs e = ap (text_from run stage number) e
 
 -- the same, where what is left is told
-pub line_is_told : (left leaves : Option (List ℕ)) (line : List ℕ) (stage : Stage) (number : ℕ) (hub : Option Seen) (ids : List ℕ) (reached : Reached) (text texts : List ℕ) (did : HeadLine) → TakesNext left leaves line Line
-    → Took stage (turn stage number line) hub ids reached number did → Grows did text texts line → IfBothTold left leaves (λ xs ys. IsFirstLine stage number xs hub ids reached text texts did ys)
+pub line_is_told : (left leaves : Option (List ℕ)) (line : List ℕ) (stage : Stage (List Served)) (number : ℕ) (hub : Option Seen) (ids : List ℕ) (reached : Reached) (text texts : List ℕ) (did : HeadLine) → TakesNext left leaves line Line
+    → Took stage (turn run stage number line) hub ids reached number did → Grows did text texts line → IfBothTold left leaves (λ xs ys. IsFirstLine stage number xs hub ids reached text texts did ys)
 line_is_told None leaves line stage number hub ids reached text texts did next took grows = tt
 line_is_told (Some xs) None line stage number hub ids reached text texts did next took grows = next
 line_is_told (Some xs) (Some ys) line stage number hub ids reached text texts did next took grows =
     one_line stage number xs hub ids reached text texts ys line did next.0 next.2.clean took grows
 
-pub long_is_told : (left leaves : Option (List ℕ)) (line : List ℕ) (stage : Stage) (number : ℕ) (hub : Option Seen) (ids : List ℕ) (reached : Reached) (text texts : List ℕ) (did : HeadLine) → TakesNext left leaves line Long
-    → Took stage (turn stage number line) hub ids reached number did → IfBothTold left leaves (λ xs ys. IsFirstLine stage number xs hub ids reached text texts did ys)
+pub long_is_told : (left leaves : Option (List ℕ)) (line : List ℕ) (stage : Stage (List Served)) (number : ℕ) (hub : Option Seen) (ids : List ℕ) (reached : Reached) (text texts : List ℕ) (did : HeadLine) → TakesNext left leaves line Long
+    → Took stage (turn run stage number line) hub ids reached number did → IfBothTold left leaves (λ xs ys. IsFirstLine stage number xs hub ids reached text texts did ys)
 long_is_told None leaves line stage number hub ids reached text texts did next took = tt
 long_is_told (Some xs) None line stage number hub ids reached text texts did next took = next
 long_is_told (Some xs) (Some ys) line stage number hub ids reached text texts did next took =
     long_line stage number xs hub ids reached text texts ys next.0 line next.1 did next.2 next.3 next.4 took
 
-pub end_is_told : (left leaves : Option (List ℕ)) (line : List ℕ) (stage : Stage) (number : ℕ) → TakesNext left leaves line End
-    → IfBothTold left leaves (λ xs ys. text_from stage number (lines_of xs) ≡ refused number Order)
+pub end_is_told : (left leaves : Option (List ℕ)) (line : List ℕ) (stage : Stage (List Served)) (number : ℕ) → TakesNext left leaves line End
+    → IfBothTold left leaves (λ xs ys. text_from run stage number (lines_of xs) ≡ refused number Order)
 end_is_told None leaves line stage number next = tt
 end_is_told (Some xs) None line stage number next = next
 end_is_told (Some xs) (Some ys) line stage number next = no_line stage number xs next
 
 -- What holds before a line of a head: the lines so far lead to a stage, from which the rest of it goes on.
 pub record IsReading (hub : Option Seen) (ids : List ℕ) (reached : Reached) (text : List ℕ) (number : ℕ) (xs ys : List ℕ) : Type 0 where
-  pub stage : Stage
+  pub stage : Stage (List Served)
   pub opened : HasOpenedBy hub ids reached stage
   pub leads : Leads text stage
-  pub ends : head_end xs ≡ text_from stage number (lines_of ys)
-  pub reaches : head_stage xs ≡ stage_from stage number (lines_of ys)
-  pub text_is : head_text xs ≡ text ++ flat_map with_feed (taken_from stage number (lines_of ys))
+  pub ends : head_end xs ≡ text_from run stage number (lines_of ys)
+  pub reaches : head_stage xs ≡ stage_from run stage number (lines_of ys)
+  pub text_is : head_text xs ≡ text ++ flat_map with_feed (taken_from run stage number (lines_of ys))
 
 pub reading_begins : (o : Option (List ℕ)) (kept : List ℕ) (hub : Option Seen) (ids : List ℕ) (reached : Reached) (text : List ℕ) → kept ≡ [] → text ≡ [] → HasOpenedBy hub ids reached (starting Serve)
     → IfBothTold o (prepend_known kept o) (IsReading hub ids reached text 1)
@@ -136,16 +137,16 @@ goes_past : (hub later_hub : Option Seen) (ids later_ids : List ℕ) (reached la
     → GoesOnAfter r.stage number ys later_hub later_ids later_reached text texts zs → IsReading later_hub later_ids later_reached texts (number + 1) xs zs
 unfolding text_from stage_from taken_from
 goes_past hub later_hub ids later_ids reached later_reached text texts number xs ys zs r g =
-    let more = taken_from g.later (number + 1) (lines_of zs) in
+    let more = taken_from run g.later (number + 1) (lines_of zs) in
     record {
       stage = g.later;
       opened = g.opened;
       leads = subst (λ (t : List ℕ). Leads t g.later) (sym g.text_is) (leads_on text r.stage g.later number g.line [] r.leads g.clean g.does);
-      ends = r.ends ∙ ap (text_from r.stage number) g.lines ∙ ap (λ (was : Turn). after_turn was (λ later. text_from later (number + 1) (lines_of zs))) g.does;
-      reaches = r.reaches ∙ ap (stage_from r.stage number) g.lines ∙ ap (λ (was : Turn). stage_after r.stage was (λ later. stage_from later (number + 1) (lines_of zs))) g.does;
+      ends = r.ends ∙ ap (text_from run r.stage number) g.lines ∙ ap (λ (was : Turn (List Served)). after_turn was (λ later. text_from run later (number + 1) (lines_of zs))) g.does;
+      reaches = r.reaches ∙ ap (stage_from run r.stage number) g.lines ∙ ap (λ (was : Turn (List Served)). stage_after r.stage was (λ later. stage_from run later (number + 1) (lines_of zs))) g.does;
       text_is =
           r.text_is
-          ∙ ap (λ (ls : List (List ℕ)). text ++ flat_map with_feed ls) (ap (taken_from r.stage number) g.lines ∙ ap (λ (was : Turn). taken_with g.line was (λ later. taken_from later (number + 1) (lines_of zs))) g.does)
+          ∙ ap (λ (ls : List (List ℕ)). text ++ flat_map with_feed ls) (ap (taken_from run r.stage number) g.lines ∙ ap (λ (was : Turn (List Served)). taken_with g.line was (λ later. taken_from run later (number + 1) (lines_of zs))) g.does)
           ∙ sym (append_assoc text (with_feed g.line) (flat_map with_feed more))
           ∙ ap (λ (t : List ℕ). t ++ flat_map with_feed more) (sym g.text_is);
     }
@@ -153,7 +154,7 @@ goes_past hub later_hub ids later_ids reached later_reached text texts number xs
 -- the next line, at whatever stage
 abbrev pub TakesLine : Option Seen → List ℕ → Reached → Option Seen → List ℕ → Reached → List ℕ → List ℕ → HeadLine → Option (List ℕ) → Option (List ℕ) → Type 0
 TakesLine hub ids reached later_hub later_ids later_reached text texts did left leaves =
-    (stage : Stage) (number : ℕ) → HasOpenedBy hub ids reached stage → IfBothTold left leaves (λ xs ys. IsFirstLine stage number xs later_hub later_ids later_reached text texts did ys)
+    (stage : Stage (List Served)) (number : ℕ) → HasOpenedBy hub ids reached stage → IfBothTold left leaves (λ xs ys. IsFirstLine stage number xs later_hub later_ids later_reached text texts did ys)
 
 pub reading_goes_on : (left leaves later : Option (List ℕ)) (hub later_hub : Option Seen) (ids later_ids : List ℕ) (reached later_reached : Reached) (text texts : List ℕ) (number : ℕ)
     → IfBothTold left leaves (IsReading hub ids reached text number) → TakesLine hub ids reached later_hub later_ids later_reached text texts GoesOn leaves later
@@ -184,9 +185,9 @@ reading_ends (Some xs) (Some ys) (Some zs) hub later_hub ids later_ids reached l
     record {
       end = r.ends ∙ e.end;
       text_is = e.text_is ∙ sym (r.text_is ∙ ap (λ (ls : List (List ℕ)). text ++ flat_map with_feed ls) e.takes ∙ append-nil text);
-      leads = subst (λ (s : Stage). Leads texts s) stage (subst (λ (t : List ℕ). Leads t r.stage) (sym e.text_is) r.leads);
-      may = subst (λ (s : Stage). may_come s.reached end_line ≡ true) stage e.may;
-      opened = subst (λ (s : Stage). HasOpened later_hub later_ids s) stage e.opened;
+      leads = subst (λ (s : Stage (List Served)). Leads texts s) stage (subst (λ (t : List ℕ). Leads t r.stage) (sym e.text_is) r.leads);
+      may = subst (λ (s : Stage (List Served)). may_come s.reached end_line ≡ true) stage e.may;
+      opened = subst (λ (s : Stage (List Served)). HasOpened later_hub later_ids s) stage e.opened;
     }
 
 pub reading_refuses : (left leaves later : Option (List ℕ)) (hub later_hub : Option Seen) (ids later_ids : List ℕ) (reached later_reached : Reached) (text texts : List ℕ) (number : ℕ) (fault : LineFault)
@@ -201,16 +202,16 @@ reading_refuses (Some xs) (Some ys) (Some zs) hub later_hub ids later_ids reache
 no_channel : (r : Reached) (channels : List Served) → r.channels ≡ map claim_of channels → channels ≡ [] → has_channel r ≡ false
 no_channel r channels claims none = ap (λ (l : List Claim). ltb 0 (length l)) (claims ∙ ap (map claim_of) none)
 
-pub has_hub : (hub : Option Seen) (ids : List ℕ) (stage : Stage) → HasOpened hub ids stage → may_come stage.reached end_line ≡ true → hub ≡ None → ⊥
-has_hub hub ids stage opened may none = by stage.reached.head (subst (λ (o : Option Seen). HubServes o stage.reached.head stage.channels) none opened.served)
+pub has_hub : (hub : Option Seen) (ids : List ℕ) (stage : Stage (List Served)) → HasOpened hub ids stage → may_come stage.reached end_line ≡ true → hub ≡ None → ⊥
+has_hub hub ids stage opened may none = by stage.reached.head (subst (λ (o : Option Seen). HubServes o stage.reached.head stage.state) none opened.served)
   where
     has : has_channel stage.reached ≡ true
     has = let both = and_parts (not stage.reached.ended && has_channel stage.reached) true may in (and_parts (not stage.reached.ended) (has_channel stage.reached) both.0).1
 
-    by : (h : Option Head) → HubServes None h stage.channels → ⊥
+    by : (h : Option Head) → HubServes None h stage.state → ⊥
     by None serves =
         let yes : has_channel stage.reached ≡ true = has in
-        let never : has_channel stage.reached ≡ false = no_channel stage.reached stage.channels opened.claims serves in
+        let never : has_channel stage.reached ≡ false = no_channel stage.reached stage.state opened.claims serves in
         absurd cc
     by (Some head) serves = serves
 
@@ -221,9 +222,9 @@ told_gives (Some xs) P Q gives p = gives xs p
 
 -- a head that was read whole
 pub head_is : (xs ids text numbered kept : List ℕ) (hub : Option Seen) (v : Seen) → Some v ≡ hub → numbered ≡ ids → kept ≡ text → IsWhole hub ids text xs → IsHeadOf xs v numbered kept
-head_is xs ids text numbered kept hub v is ids_are text_are w = by (head_stage xs).reached.head refl (subst (λ (o : Option Seen). HubServes o (head_stage xs).reached.head (head_stage xs).channels) (sym is) w.opened.served)
+head_is xs ids text numbered kept hub v is ids_are text_are w = by (head_stage xs).reached.head refl (subst (λ (o : Option Seen). HubServes o (head_stage xs).reached.head (head_stage xs).state) (sym is) w.opened.served)
   where
-    by : (h : Option Head) → (head_stage xs).reached.head ≡ h → HubServes (Some v) h (head_stage xs).channels → IsHeadOf xs v numbered kept
+    by : (h : Option Head) → (head_stage xs).reached.head ≡ h → HubServes (Some v) h (head_stage xs).state → IsHeadOf xs v numbered kept
     by None e serves = absurd serves
     by (Some head) e serves = record {
       end = w.end;

@@ -14,9 +14,10 @@ use Rattle.server_hub.specs.{AllServe, new_hub, settings_of, has_id, shares_of, 
 use Rattle.server_hub.specs.Seen.{Seen}
 use Rattle.server_hub.specs.Served.{Served}
 use Rattle.server_hub.proofs.Pairing.{same_length}
-use Rattle.trace_book.specs.{Stage, eventless, done, ends}
+use Rattle.trace_serving.specs.{Stage, eventless, done, ends}
+use Rattle.trace_book.specs.{run}
 use Rattle.trace_book.specs.Stages.{settings_of as settings_all}
-use Rattle.trace_book.proofs.Judged.{IsAccepted, IsJoined, judged_so, channel_so}
+use Rattle.trace_serving.proofs.Judged.{IsAccepted, IsJoined, judged_so, channel_so}
 use Rattle.trace_text.specs.declared.line.Line.{Line}
 use Rattle.trace_text.specs.{shown, IsOther}
 use Rattle.trace_text.specs.declared.line.Line.TheVariants as line
@@ -25,7 +26,7 @@ use Rattle.serve_loop.specs.{HasOpened, HubServes, Serves, CanOpen, OpensIn, Com
 use Rattle.serve_loop.proofs.Telling.{settings_stand}
 
 -- the line was accepted
-pub accepted_so : (hub : Option Seen) (ids : List ℕ) (reached : Reached) (read : TraceLine) (stage : Stage) → Comes hub ids reached read stage → IsAccepted stage.reached read reached
+pub accepted_so : (hub : Option Seen) (ids : List ℕ) (reached : Reached) (read : TraceLine) (stage : Stage (List Served)) → Comes hub ids reached read stage → IsAccepted stage.reached read reached
 accepted_so hub ids reached read stage comes = (judged_so stage.reached comes.bytes read reached comes.comes).accepts
 
 -- the numbers and shares of the channels are those that the lines kept
@@ -60,20 +61,20 @@ module _ (v : Seen) (r later : Reached) (head : Head) (c : Channel) (channels : 
   later_head is = ap (λ (x : Reached). x.head) (sym j.gives) ∙ is
 
 -- the hub serves under this head line
-served_under : (hub : Option Seen) (stage : Stage) (ids : List ℕ) (head : Head) → HasOpened hub ids stage → stage.reached.head ≡ Some head → HubServes hub (Some head) stage.channels
-served_under hub stage ids head opened is = subst (λ (h : Option Head). HubServes hub h stage.channels) is opened.served
+served_under : (hub : Option Seen) (stage : Stage (List Served)) (ids : List ℕ) (head : Head) → HasOpened hub ids stage → stage.reached.head ≡ Some head → HubServes hub (Some head) stage.state
+served_under hub stage ids head opened is = subst (λ (h : Option Head). HubServes hub h stage.state) is opened.served
 
 -- the channel can be opened
-pub opens_next : (hub : Option Seen) (ids : List ℕ) (version : ℕ) (later : Reached) (s : Settings) (stage : Stage) → s.tick ≡ tick_of later.head → Comes hub ids later (channel_line version s.channel) stage
+pub opens_next : (hub : Option Seen) (ids : List ℕ) (version : ℕ) (later : Reached) (s : Settings) (stage : Stage (List Served)) → s.tick ≡ tick_of later.head → Comes hub ids later (channel_line version s.channel) stage
     → IsSomeAnd hub (λ v. CanOpen v s)
 opens_next hub ids version later s stage tick comes =
     let j = channel_so stage.reached stage.reached.head s.channel later (accepted_so hub ids later (channel_line version s.channel) stage comes).gives in
     by j.0 j.1 j.2 hub (served_under hub stage ids j.0 comes.before j.1)
   where
-    by : (head : Head) → stage.reached.head ≡ Some head → IsJoined stage.reached head s.channel later → (o : Option Seen) → HubServes o (Some head) stage.channels → IsSomeAnd o (λ v. CanOpen v s)
+    by : (head : Head) → stage.reached.head ≡ Some head → IsJoined stage.reached head s.channel later → (o : Option Seen) → HubServes o (Some head) stage.state → IsSomeAnd o (λ v. CanOpen v s)
     by head is j None serves = absurd serves
     by head is j (Some v) serves =
-        record { tick = tick ∙ (ap tick_of (ap (λ (x : Reached). x.head) (sym j.gives) ∙ is) ∙ sym serves.tick); fits = fits v stage.reached later head s.channel stage.channels j comes.before.claims serves }
+        record { tick = tick ∙ (ap tick_of (ap (λ (x : Reached). x.head) (sym j.gives) ∙ is) ∙ sym serves.tick); fits = fits v stage.reached later head s.channel stage.state j comes.before.claims serves }
 
 numbers_append : (channels : List Served) (c : Served) → numbers (channels ++ c ∷ []) ≡ numbers channels ++ c.settings.channel.id ∷ []
 numbers_append [] c = refl
@@ -84,23 +85,23 @@ numbers_length [] = refl
 numbers_length (c ∷ channels) = ap suc (numbers_length channels)
 
 -- what stands behind the line of a channel
-pub opened_turn : (hub new : Option Seen) (ids : List ℕ) (version number : ℕ) (later : Reached) (s : Settings) (stage : Stage) → s.tick ≡ tick_of later.head → OpensIn s hub new
-    → Comes hub ids later (channel_line version s.channel) stage → Took stage (eventless stage later (channel_line version s.channel)) new (ids ++ s.channel.id ∷ []) later number GoesOn
+pub opened_turn : (hub new : Option Seen) (ids : List ℕ) (version number : ℕ) (later : Reached) (s : Settings) (stage : Stage (List Served)) → s.tick ≡ tick_of later.head → OpensIn s hub new
+    → Comes hub ids later (channel_line version s.channel) stage → Took stage (eventless run stage later (channel_line version s.channel)) new (ids ++ s.channel.id ∷ []) later number GoesOn
 opened_turn None new ids version number later s stage tick opens comes = absurd opens
 opened_turn (Some v) None ids version number later s stage tick opens comes = absurd opens
 opened_turn (Some v) (Some w) ids version number later s stage tick opens comes =
     let c = s.channel in
     let j = channel_so stage.reached stage.reached.head c later (accepted_so (Some v) ids later (channel_line version c) stage comes).gives in
-    let at : Serves v j.0 stage.channels = served_under (Some v) stage ids j.0 comes.before j.1 in
-    let head : later.head ≡ Some j.0 = later_head v stage.reached later j.0 c stage.channels j.2 comes.before.claims at j.1 in
+    let at : Serves v j.0 stage.state = served_under (Some v) stage ids j.0 comes.before j.1 in
+    let head : later.head ≡ Some j.0 = later_head v stage.reached later j.0 c stage.state j.2 comes.before.claims at j.1 in
     let one = served (settings c (tick_of later.head)) [] in
-    let more = stage.channels ++ one ∷ [] in
-    let stands = subst (λ (n : ℕ). AllServe w.channels (stage.channels ++ served (settings c n) [] ∷ [])) tick (opens.stands stage.channels at.stands) in
+    let more = stage.state ++ one ∷ [] in
+    let stands = subst (λ (n : ℕ). AllServe w.channels (stage.state ++ served (settings c n) [] ∷ [])) tick (opens.stands stage.state at.stands) in
     let ids_are = comes.before.ids_are in
     let few = j.2.few in
-    let claimed = ap length comes.before.claims ∙ length-map stage.channels claim_of in
-    let many = ap length ids_are ∙ numbers_length stage.channels in (
-      record { reached = later; channels = more; events = stage.events },
+    let claimed = ap length comes.before.claims ∙ length-map stage.state claim_of in
+    let many = ap length ids_are ∙ numbers_length stage.state in (
+      record { reached = later; state = more; events = stage.events },
       refl,
       (
         refl,
@@ -109,10 +110,10 @@ opened_turn (Some v) (Some w) ids version number later s stage tick opens comes 
               (record { stands = stands; tick = opens.tick ∙ at.tick; link = opens.link ∙ at.link; calls = opens.calls ∙ at.calls });
           claims =
               ap (λ (x : Reached). x.channels) (sym j.2.gives) ∙ ap (λ (l : List Claim). l ++ (record { id = c.id; share = c.share } ∷ [])) comes.before.claims
-              ∙ sym (map-append claim_of stage.channels (one ∷ []));
+              ∙ sym (map-append claim_of stage.state (one ∷ []));
           mode = ap (λ (x : Reached). x.mode) (sym j.2.gives) ∙ comes.before.mode;
           events = comes.before.events;
-          ids_are = ap (λ l. l ++ c.id ∷ []) ids_are ∙ sym (numbers_append stage.channels one);
+          ids_are = ap (λ l. l ++ c.id ∷ []) ids_are ∙ sym (numbers_append stage.state one);
           few = omega (arith, few, claimed, many, length-append ids (c.id ∷ []));
         },
       ),
@@ -124,10 +125,10 @@ none_before true head h = absurd cc
 none_before false true h = absurd cc
 none_before false false h = refl
 
-pub head_turn : (hub : Option Seen) (ids : List ℕ) (version tick link number : ℕ) (later : Reached) (stage : Stage) → Comes hub ids later (head_line version tick link) stage
-    → Took stage (eventless stage later (head_line version tick link)) (Some (new_hub tick link)) ids later number GoesOn
+pub head_turn : (hub : Option Seen) (ids : List ℕ) (version tick link number : ℕ) (later : Reached) (stage : Stage (List Served)) → Comes hub ids later (head_line version tick link) stage
+    → Took stage (eventless run stage later (head_line version tick link)) (Some (new_hub tick link)) ids later number GoesOn
 head_turn hub ids version tick link number later stage comes =
-    (record { reached = later; channels = stage.channels; events = stage.events }, refl, (refl, by hub stage.reached.head refl comes.before.served))
+    (record { reached = later; state = stage.state; events = stage.events }, refl, (refl, by hub stage.reached.head refl comes.before.served))
   where
     so : IsAccepted stage.reached (head_line version tick link) later
     so = accepted_so hub ids later (head_line version tick link) stage comes
@@ -137,10 +138,10 @@ head_turn hub ids version tick link number later stage comes =
         let does : Ok (record stage.reached { head = Some (record { version = version; tick = tick; link = link }) }) ≡ Ok later = so.gives in
         cc
 
-    by : (o : Option Seen) (h : Option Head) → stage.reached.head ≡ h → HubServes o h stage.channels
-        → HasOpened (Some (new_hub tick link)) ids (record { reached = later; channels = stage.channels; events = stage.events })
+    by : (o : Option Seen) (h : Option Head) → stage.reached.head ≡ h → HubServes o h stage.state
+        → HasOpened (Some (new_hub tick link)) ids (record { reached = later; state = stage.state; events = stage.events })
     by None None is serves = record {
-      served = subst (λ (h : Option Head). HubServes (Some (new_hub tick link)) h stage.channels) (ap (λ (x : Reached). x.head) later_is)
+      served = subst (λ (h : Option Head). HubServes (Some (new_hub tick link)) h stage.state) (ap (λ (x : Reached). x.head) later_is)
           (record { stands = subst (λ (l : List Served). AllServe [] l) (sym serves) tt; tick = refl; link = refl; calls = refl });
       claims = ap (λ (x : Reached). x.channels) (sym later_is) ∙ comes.before.claims;
       mode = ap (λ (x : Reached). x.mode) (sym later_is) ∙ comes.before.mode;
@@ -155,7 +156,7 @@ head_turn hub ids version tick link number later stage comes =
         absurd cc
 
 -- `end`
-pub end_turn : (hub : Option Seen) (ids : List ℕ) (number : ℕ) (later : Reached) (stage : Stage) → Comes hub ids later end_line stage → Took stage (eventless stage later end_line) hub ids later number Ends
+pub end_turn : (hub : Option Seen) (ids : List ℕ) (number : ℕ) (later : Reached) (stage : Stage (List Served)) → Comes hub ids later end_line stage → Took stage (eventless run stage later end_line) hub ids later number Ends
 end_turn hub ids number later stage comes = (ap (λ n. ends (done n)) comes.before.events, comes.before, (accepted_so hub ids later end_line stage comes).may)
 
 -- What the head line says is in its range.
@@ -172,7 +173,7 @@ bounded version tick link h =
     let links = and_parts _ _ both.1 in
     record { tick_least = leb-true 1 tick ticks.0; tick_most = leb-true tick 1000 ticks.1; link_least = leb-true 1500 link links.0; link_most = leb-true link 1000000000 links.1 }
 
-pub head_bounds : (hub : Option Seen) (ids : List ℕ) (version tick link : ℕ) (later : Reached) (stage : Stage) → Comes hub ids later (head_line version tick link) stage → Bounded tick link
+pub head_bounds : (hub : Option Seen) (ids : List ℕ) (version tick link : ℕ) (later : Reached) (stage : Stage (List Served)) → Comes hub ids later (head_line version tick link) stage → Bounded tick link
 head_bounds hub ids version tick link later stage comes = bounded version tick link (accepted_so hub ids later (head_line version tick link) stage comes).in_range
 
 -- a head has no event of a server or of a receiver
@@ -188,7 +189,7 @@ never_receiver r serve may =
     let none : has_receivers r.mode ≡ false = ap has_receivers serve in
     absurd cc
 
-pub no_other : (hub : Option Seen) (ids : List ℕ) (later : Reached) (stage : Stage) (l : Line) → Comes hub ids later (shown l) stage → IsOther l → (P : Type 0)
+pub no_other : (hub : Option Seen) (ids : List ℕ) (later : Reached) (stage : Stage (List Served)) (l : Line) → Comes hub ids later (shown l) stage → IsOther l → (P : Type 0)
     → ((version tick link : ℕ) → l ≡ line.Head version tick link → P) → (l ≡ line.End → P) → P
 no_other hub ids later stage l comes other P head end = by l (accepted_so hub ids later (shown l) stage comes).may other head end
   where

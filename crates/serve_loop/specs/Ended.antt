@@ -7,7 +7,8 @@ use Rattle.rams_model.specs.Texts.{tick_of}
 use Rattle.ram_io.specs.declared.wire.Incoming.{Incoming}
 use Rattle.ram_io.specs.{Outgoing, Rose}
 use Rattle.server_hub.specs.declared.event.HubEvent.{HubEvent}
-use Rattle.trace_book.specs.{Outcome, done, ended, first_line, trace_text}
+use Rattle.trace_serving.specs.{Outcome, done, ended}
+use Rattle.trace_book.specs.{first_line, trace_text}
 use Rattle.line_io.specs.Passes.{Passes}
 use Rattle.journal_book.specs.{CanArrive, IsJournal, event_lines, events_of, journal_of, replayed, sent_for, text_for}
 use Rattle.serve_loop.specs.declared.stop.Stop.{Stop}
@@ -35,7 +36,7 @@ pub record IsGiven (g : Given) (live turns : ℕ) (source : Option (List ℕ)) (
 
 -- what comes to the channels that the head opens, in its turns
 abbrev pub given_events : Given → List HubEvent
-given_events g = events_of g.live (tick_of (head_stage g.source).reached.head) (head_stage g.source).channels g.turns g.arrivals g.moments
+given_events g = events_of g.live (tick_of (head_stage g.source).reached.head) (head_stage g.source).state g.turns g.arrivals g.moments
 
 -- the journal of these events
 abbrev pub given_journal : Given → List ℕ
@@ -56,7 +57,7 @@ datagrams_by _ datagrams = []
 
 -- What it sends: what its channels answer to these events, or nothing.
 abbrev pub served_datagrams : Given → List Outgoing
-served_datagrams g = datagrams_by (head_end g.source).status (sent_for (g.live + 1) (head_stage g.source).channels (given_events g))
+served_datagrams g = datagrams_by (head_end g.source).status (sent_for (g.live + 1) (head_stage g.source).state (given_events g))
 
 -- A server stopped while these events came, or `end` behind them. The sink has the lines of the first of them whole, and a part of what stands behind; the wire has sent a front of the datagrams of these first ones.
 pub record Stopping (b : Begun) (events : List HubEvent) (holds : Option (List ℕ)) (waits : List ℕ) (sent : Option (List Outgoing)) (stop : Stop) : Type 0 where
@@ -91,12 +92,12 @@ pub record HasEnded (g : Given) (held holds : Option (List ℕ)) (went sent : Op
   pub datagrams : GoOut went sent (served_datagrams g)
   pub arrivals : status ≡ Done → left ≡ Some (drop g.turns g.arrivals)
   -- the text is a journal
-  pub journal : status ≡ Done → IsJournal (head_text g.source) (head_stage g.source).channels (given_events g)
+  pub journal : status ≡ Done → IsJournal (head_text g.source) (head_stage g.source).state (given_events g)
   -- its replay sends exactly these datagrams
   pub replays : status ≡ Done → replayed g.live (served_text g).text ≡ served_datagrams g
   -- `run` reads it to its end, and writes what its events are answered with
   pub runs : status ≡ Done
-      → trace_text (served_text g).text ≡ ended Done (first_line ++ (text_for 0 (head_stage g.source).channels (given_events g) ++ (done (length (given_events g))).text))
+      → trace_text (served_text g).text ≡ ended Done (first_line ++ (text_for 0 (head_stage g.source).state (given_events g) ++ (done (length (given_events g))).text))
 
 -- Something stopped a server: the sink got a front of its text, and the wire a front of the datagrams of the events whose lines are whole in that front.
 pub record HasStopped (g : Given) (held holds : Option (List ℕ)) (went sent : Option (List Outgoing)) : Type 0 where

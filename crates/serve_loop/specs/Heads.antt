@@ -10,7 +10,8 @@ use Rattle.line_io.specs.{HasNoFeed}
 use Rattle.server_hub.specs.{StandsFor, served, refused as refused_add}
 use Rattle.server_hub.specs.Seen.{Seen}
 use Rattle.server_hub.specs.Served.{Served}
-use Rattle.trace_book.specs.{Stage, Outcome, Turn, goes_on, ends, done, refused, turn, text_from, stage_from, taken_from}
+use Rattle.trace_serving.specs.{Stage, Outcome, Turn, goes_on, ends, done, refused, turn, text_from, stage_from, taken_from}
+use Rattle.trace_book.specs.{run}
 use Rattle.journal_book.specs.{Opens, starting}
 use Rattle.serve_loop.specs.declared.head.Head.{Head}
 use Rattle.serve_loop.specs.declared.head.Head.TheVariants.{Lawful, Unlawful}
@@ -22,11 +23,11 @@ use Rattle.serve_loop.specs.Progress.{numbers, StandsSomewhere}
 
 -- how it ends: with `end`, or with the first line that is refused
 abbrev pub head_end : List ℕ → Outcome
-head_end xs = text_from (starting Serve) 1 (lines_of xs)
+head_end xs = text_from run (starting Serve) 1 (lines_of xs)
 
 -- what stands behind its lines
-abbrev pub head_stage : List ℕ → Stage
-head_stage xs = stage_from (starting Serve) 1 (lines_of xs)
+abbrev pub head_stage : List ℕ → Stage (List Served)
+head_stage xs = stage_from run (starting Serve) 1 (lines_of xs)
 
 -- a line with its line feed
 abbrev pub with_feed : List ℕ → List ℕ
@@ -34,7 +35,7 @@ with_feed line = line ++ codes "\n"
 
 -- its text, in which each line has its line feed
 abbrev pub head_text : List ℕ → List ℕ
-head_text xs = flat_map with_feed (taken_from (starting Serve) 1 (lines_of xs))
+head_text xs = flat_map with_feed (taken_from run (starting Serve) 1 (lines_of xs))
 
 -- what a trace's lines keep of a channel
 abbrev pub claim_of : Served → Claim
@@ -54,21 +55,21 @@ HubServes (Some v) (Some head) channels = Serves v head channels
 HubServes _ _ channels = ⊥
 
 -- What the lines of a head have opened: a hub for the channels, with these numbers.
-pub record HasOpened (hub : Option Seen) (ids : List ℕ) (stage : Stage) : Type 0 where
-  pub served : HubServes hub stage.reached.head stage.channels
-  pub claims : stage.reached.channels ≡ map claim_of stage.channels
+pub record HasOpened (hub : Option Seen) (ids : List ℕ) (stage : Stage (List Served)) : Type 0 where
+  pub served : HubServes hub stage.reached.head stage.state
+  pub claims : stage.reached.channels ≡ map claim_of stage.state
   pub mode : stage.reached.mode ≡ Serve
   pub events : stage.events ≡ 0
-  pub ids_are : ids ≡ numbers stage.channels
+  pub ids_are : ids ≡ numbers stage.state
   pub few : length ids ≤ 64
 
 -- the same of what the lines so far have reached
-abbrev pub HasOpenedBy : Option Seen → List ℕ → Reached → Stage → Type 0
+abbrev pub HasOpenedBy : Option Seen → List ℕ → Reached → Stage (List Served) → Type 0
 HasOpenedBy hub ids reached stage = (reached ≡ stage.reached) × HasOpened hub ids stage
 
 -- some lines have opened it
 abbrev pub HasOpenedSome : Option Seen → List ℕ → Reached → Type 0
-HasOpenedSome hub ids reached = (stage : Stage) × HasOpenedBy hub ids reached stage
+HasOpenedSome hub ids reached = (stage : Stage (List Served)) × HasOpenedBy hub ids reached stage
 
 -- a channel with these settings can be opened: they are of the hub's tick, and it fits the link beside the others
 pub record CanOpen (v : Seen) (s : Settings) : Type 0 where
@@ -88,14 +89,14 @@ OpensIn s (Some old) (Some new) = OpensChannel s old new
 OpensIn s _ _ = ⊥
 
 -- this line was judged behind those of the stage, and may come
-pub record Comes (hub : Option Seen) (ids : List ℕ) (reached : Reached) (line : TraceLine) (stage : Stage) : Type 0 where
+pub record Comes (hub : Option Seen) (ids : List ℕ) (reached : Reached) (line : TraceLine) (stage : Stage (List Served)) : Type 0 where
   pub before : HasOpened hub ids stage
   pub bytes : List ℕ
   pub comes : judged stage.reached bytes ≡ Ok (line, reached)
 
 -- The turn of a line at some stage: it goes on to a stage of what is opened then, or is `end`, which may come, or is refused.
-abbrev pub Took : Stage → Turn → Option Seen → List ℕ → Reached → ℕ → HeadLine → Type 0
-Took stage was hub ids reached number GoesOn = (later : Stage) × (was ≡ goes_on later []) × HasOpenedBy hub ids reached later
+abbrev pub Took : Stage (List Served) → Turn (List Served) → Option Seen → List ℕ → Reached → ℕ → HeadLine → Type 0
+Took stage was hub ids reached number GoesOn = (later : Stage (List Served)) × (was ≡ goes_on later []) × HasOpenedBy hub ids reached later
 Took stage was hub ids reached number Ends = (was ≡ ends (done 0)) × HasOpened hub ids stage × (may_come stage.reached end_line ≡ true)
 Took stage was hub ids reached number (Refused fault) = was ≡ ends (refused number fault)
 
@@ -108,33 +109,33 @@ Grows (Refused fault) old new line = Unit {0}
 -- what stands behind a line that isn't refused
 abbrev pub StandsAfter : HeadLine → Option Seen → List ℕ → Reached → Type 0
 StandsAfter GoesOn hub ids reached = HasOpenedSome hub ids reached
-StandsAfter Ends hub ids reached = (stage : Stage) × HasOpened hub ids stage × (may_come stage.reached end_line ≡ true)
+StandsAfter Ends hub ids reached = (stage : Stage (List Served)) × HasOpened hub ids stage × (may_come stage.reached end_line ≡ true)
 StandsAfter (Refused fault) hub ids reached = Unit {0}
 
 -- The first line of xs is cut off, and goes on; it stands behind the text, and ys is left.
-pub record GoesOnAfter (stage : Stage) (number : ℕ) (xs : List ℕ) (hub : Option Seen) (ids : List ℕ) (reached : Reached) (text texts ys : List ℕ) : Type 0 where
+pub record GoesOnAfter (stage : Stage (List Served)) (number : ℕ) (xs : List ℕ) (hub : Option Seen) (ids : List ℕ) (reached : Reached) (text texts ys : List ℕ) : Type 0 where
   pub line : List ℕ
   pub clean : HasNoFeed line
   pub lines : lines_of xs ≡ line ∷ lines_of ys
-  pub later : Stage
-  pub does : turn stage number line ≡ goes_on later []
+  pub later : Stage (List Served)
+  pub does : turn run stage number line ≡ goes_on later []
   pub opened : HasOpenedBy hub ids reached later
   pub text_is : texts ≡ text ++ with_feed line
 
 -- Its first line is `end`.
-pub record EndsAt (stage : Stage) (number : ℕ) (xs : List ℕ) (hub : Option Seen) (ids text texts : List ℕ) : Type 0 where
-  pub end : text_from stage number (lines_of xs) ≡ done 0
-  pub reaches : stage_from stage number (lines_of xs) ≡ stage
-  pub takes : taken_from stage number (lines_of xs) ≡ []
+pub record EndsAt (stage : Stage (List Served)) (number : ℕ) (xs : List ℕ) (hub : Option Seen) (ids text texts : List ℕ) : Type 0 where
+  pub end : text_from run stage number (lines_of xs) ≡ done 0
+  pub reaches : stage_from run stage number (lines_of xs) ≡ stage
+  pub takes : taken_from run stage number (lines_of xs) ≡ []
   pub opened : HasOpened hub ids stage
   pub may : may_come stage.reached end_line ≡ true
   pub text_is : texts ≡ text
 
 -- What the first line of xs does, where ys comes after it.
-abbrev pub IsFirstLine : Stage → ℕ → List ℕ → Option Seen → List ℕ → Reached → List ℕ → List ℕ → HeadLine → List ℕ → Type 0
+abbrev pub IsFirstLine : Stage (List Served) → ℕ → List ℕ → Option Seen → List ℕ → Reached → List ℕ → List ℕ → HeadLine → List ℕ → Type 0
 IsFirstLine stage number xs hub ids reached text texts GoesOn ys = GoesOnAfter stage number xs hub ids reached text texts ys
 IsFirstLine stage number xs hub ids reached text texts Ends ys = EndsAt stage number xs hub ids text texts
-IsFirstLine stage number xs hub ids reached text texts (Refused fault) ys = text_from stage number (lines_of xs) ≡ refused number fault
+IsFirstLine stage number xs hub ids reached text texts (Refused fault) ys = text_from run stage number (lines_of xs) ≡ refused number fault
 
 -- P of the bytes, where they are told
 abbrev pub IfTold : Option (List ℕ) → (List ℕ → Type 0) → Type 0
@@ -151,10 +152,10 @@ IfBothTold (Some old) (Some new) P = P old new
 pub record IsHeadOf (xs : List ℕ) (hub : Seen) (ids text : List ℕ) : Type 0 where
   pub end : head_end xs ≡ done 0
   pub text_is : text ≡ head_text xs
-  pub opens : Opens text (head_stage xs).channels
-  pub stands : StandsFor hub (head_stage xs).channels
+  pub opens : Opens text (head_stage xs).state
+  pub stands : StandsFor hub (head_stage xs).state
   pub tick : hub.tick ≡ tick_of (head_stage xs).reached.head
-  pub ids_are : ids ≡ numbers (head_stage xs).channels
+  pub ids_are : ids ≡ numbers (head_stage xs).state
 
 -- What was read of a trace: its whole head, or up to the first line that is refused.
 abbrev pub HasRead : List ℕ → Head → Type 0

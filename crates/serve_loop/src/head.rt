@@ -5,7 +5,9 @@ ghost use Rattle.rams_model.specs.Texts.{Reached, tick_of, may_come, end_line};
 ghost use Rattle.journal_book.specs.{starting};
 ghost use Rattle.rams_model.specs.declared.mode.Mode.TheVariants.{Serve};
 ghost use Rattle.trace_text.specs.{shown, told, IsOther, IsSettled};
-ghost use Rattle.trace_book.specs.{Stage, turn, after_line, event_of as brought};
+ghost use Rattle.server_hub.specs.Served.{Served};
+ghost use Rattle.trace_serving.specs.{Stage, turn, after_line, brought};
+ghost use Rattle.trace_book.specs.{run};
 ghost use Rattle.serve_loop.specs.{CanOpen, Comes, Grows, HasOpened, HasOpenedBy, HasOpenedSome, HasRead, IfBothTold, IfTold, IsFirstLine, IsIdle, IsStoppedByRead, OnlyMemoryStops, OpensIn, StandsAfter, Took};
 
 use crate::stop::Stop;
@@ -80,9 +82,9 @@ fn open(alloc: Global, hub: &mut Option<Hub>, config: Config) -> Result<(), NoMe
 /// What a line does that may come and opens no channel.
 fn after_other(alloc: Global, hub: &mut Option<Hub>, line: Line<'_>) -> Result<HeadLine, NoMemory>
     requires other { IsOther line }
-    requires comes { (stage : Stage) × (ids : List ℕ) × (reached : Reached) × Comes hub.old ids reached (shown line) stage }
-    ensures { IfOk result (λ did. (stage : Stage) (ids : List ℕ) (reached : Reached) (number : ℕ) → Comes hub.old ids reached (shown line.entry) stage
-        → Took stage (after_line stage reached (shown line.entry) (brought (shown line.entry))) hub.new ids reached number did) }
+    requires comes { (stage : Stage (List Served)) × (ids : List ℕ) × (reached : Reached) × Comes hub.old ids reached (shown line) stage }
+    ensures { IfOk result (λ did. (stage : Stage (List Served)) (ids : List ℕ) (reached : Reached) (number : ℕ) → Comes hub.old ids reached (shown line.entry) stage
+        → Took stage (after_line run stage reached (shown line.entry) (brought run (shown line.entry))) hub.new ids reached number did) }
 {
     match line {
         Line::Head { tick_ms, link, .. } => {
@@ -98,9 +100,9 @@ fn after_other(alloc: Global, hub: &mut Option<Hub>, line: Line<'_>) -> Result<H
 /// What a line does that may come.
 fn after_line(alloc: Global, opening: &mut Opening, line: &Judged<'_>) -> Result<HeadLine, NoMemory>
     requires settled { IsSettled (tick_of opening.old.state.head) line.now }
-    requires comes { (stage : Stage) × Comes opening.old.hub opening.old.ids.items opening.old.state (told line.now) stage }
-    ensures took { IfOk result (λ did. (stage : Stage) (number : ℕ) → Comes opening.old.hub opening.old.ids.items opening.old.state (told line.now) stage
-        → Took stage (after_line stage opening.old.state (told line.now) (brought (told line.now))) opening.new.hub opening.new.ids.items opening.new.state number did) }
+    requires comes { (stage : Stage (List Served)) × Comes opening.old.hub opening.old.ids.items opening.old.state (told line.now) stage }
+    ensures took { IfOk result (λ did. (stage : Stage (List Served)) (number : ℕ) → Comes opening.old.hub opening.old.ids.items opening.old.state (told line.now) stage
+        → Took stage (after_line run stage opening.old.state (told line.now) (brought run (told line.now))) opening.new.hub opening.new.ids.items opening.new.state number did) }
     ensures text { opening.new.text ≡ opening.old.text }
 {
     match line {
@@ -116,8 +118,8 @@ fn after_line(alloc: Global, opening: &mut Opening, line: &Judged<'_>) -> Result
 /// What the next line does.
 fn judge_line(alloc: Global, opening: &mut Opening, line: &[u8]) -> Result<HeadLine, NoMemory>
     requires { HasOpenedSome opening.old.hub opening.old.ids.items opening.old.state }
-    ensures took { IfOk result (λ did. (stage : Stage) (number : ℕ) → HasOpenedBy opening.old.hub opening.old.ids.items opening.old.state stage
-        → Took stage (turn stage number line.now) opening.new.hub opening.new.ids.items opening.new.state number did) }
+    ensures took { IfOk result (λ did. (stage : Stage (List Served)) (number : ℕ) → HasOpenedBy opening.old.hub opening.old.ids.items opening.old.state stage
+        → Took stage (turn run stage number line.now) opening.new.hub opening.new.ids.items opening.new.state number did) }
     ensures text { opening.new.text ≡ opening.old.text }
 {
     match opening.state.judge(line) {
@@ -129,8 +131,8 @@ fn judge_line(alloc: Global, opening: &mut Opening, line: &[u8]) -> Result<HeadL
 /// The same, with the line at the end of the text where it goes on.
 fn take_line(alloc: Global, opening: &mut Opening, line: &[u8]) -> Result<HeadLine, NoMemory>
     requires { HasOpenedSome opening.old.hub opening.old.ids.items opening.old.state }
-    ensures took { IfOk result (λ did. (stage : Stage) (number : ℕ) → HasOpenedBy opening.old.hub opening.old.ids.items opening.old.state stage
-        → Took stage (turn stage number line.now) opening.new.hub opening.new.ids.items opening.new.state number did) }
+    ensures took { IfOk result (λ did. (stage : Stage (List Served)) (number : ℕ) → HasOpenedBy opening.old.hub opening.old.ids.items opening.old.state stage
+        → Took stage (turn run stage number line.now) opening.new.hub opening.new.ids.items opening.new.state number did) }
     ensures text { IfOk result (λ did. Grows did opening.old.text.items opening.new.text.items line.now) }
 {
     match judge_line(alloc, opening, line)? {
@@ -153,7 +155,7 @@ fn next_line<S: Source>(
     source: &mut S,
 ) -> Result<HeadLine, Stop>
     requires { HasOpenedSome opening.old.hub opening.old.ids.items opening.old.state }
-    ensures line { IfOk result (λ did. (stage : Stage) (number : ℕ) → HasOpenedBy opening.old.hub opening.old.ids.items opening.old.state stage
+    ensures line { IfOk result (λ did. (stage : Stage (List Served)) (number : ℕ) → HasOpenedBy opening.old.hub opening.old.ids.items opening.old.state stage
         → IfBothTold (prepend_known reader.old.kept (S.left source.old)) (prepend_known reader.new.kept (S.left source.new))
         (λ xs ys. IsFirstLine stage number xs opening.new.hub opening.new.ids.items opening.new.state opening.old.text.items opening.new.text.items did ys)) }
     ensures stands { IfOk result (λ did. StandsAfter did opening.new.hub opening.new.ids.items opening.new.state) }
@@ -170,7 +172,7 @@ fn next_line<S: Source>(
 
 /// What the whole head opened.
 fn finish(opening: Opening) -> Opened
-    requires { (stage : Stage) × HasOpened opening.hub opening.ids.items stage × (may_come stage.reached end_line ≡ true) }
+    requires { (stage : Stage (List Served)) × HasOpened opening.hub opening.ids.items stage × (may_come stage.reached end_line ≡ true) }
     ensures hub { Some result.hub ≡ opening.hub }
     ensures ids { result.ids.items ≡ opening.ids.items }
     ensures text { result.text.items ≡ opening.text.items }

@@ -1,7 +1,8 @@
 use Rattle.std.proofs.Common.{Some, sym, subst}
 use Rattle.server_hub.specs.Seen.{Seen}
 use Rattle.rams_model.specs.Texts.{head_line}
-use Rattle.trace_book.specs.{after_line, eventless, event_of as brought}
+use Rattle.trace_serving.specs.{after_line, eventless, brought}
+use Rattle.trace_book.specs.{run}
 use Rattle.trace_text.specs.declared.line.Line.{Line}
 use Rattle.trace_text.specs.{shown}
 use Rattle.serve_loop.specs.declared.head.HeadLine.TheVariants.{GoesOn, Ends}
@@ -33,13 +34,13 @@ pub returns-in_ok-new-in-Head : goal.returns-in_ok-new-in-Head
 returns-in_ok-new-in-Head c = λ stage ids reached number comes.
     let head = head_line c.in-Head.version c.in-Head.tick_ms c.in-Head.link in
     let come = subst (λ (l : Line). Comes c.args.hub.now ids reached (shown l) stage) c.in-Head.is comes in
-    subst (λ (l : Line). Took stage (after_line stage reached (shown l) (brought (shown l))) (Some c.in_ok-new-in-Head.field-0) ids reached number GoesOn) (sym c.in-Head.is)
-    (subst (λ (v : Seen). Took stage (eventless stage reached head) (Some v) ids reached number GoesOn) (sym c.in_ok-new-in-Head.ensures.value)
+    subst (λ (l : Line). Took stage (after_line run stage reached (shown l) (brought run (shown l))) (Some c.in_ok-new-in-Head.field-0) ids reached number GoesOn) (sym c.in-Head.is)
+    (subst (λ (v : Seen). Took stage (eventless run stage reached head) (Some v) ids reached number GoesOn) (sym c.in_ok-new-in-Head.ensures.value)
     (head_turn c.args.hub.now ids c.in-Head.version c.in-Head.tick_ms c.in-Head.link number reached stage come))
 
 pub returns-in-End : goal.returns-in-End
 returns-in-End c = λ stage ids reached number comes.
-    subst (λ (l : Line). Took stage (after_line stage reached (shown l) (brought (shown l))) c.args.hub.now ids reached number Ends) (sym c.in-End.is)
+    subst (λ (l : Line). Took stage (after_line run stage reached (shown l) (brought run (shown l))) c.args.hub.now ids reached number Ends) (sym c.in-End.is)
     (end_turn c.args.hub.now ids number reached stage (subst (λ (l : Line). Comes c.args.hub.now ids reached (shown l) stage) c.in-End.is comes))
 
 pub returns-in_default : goal.returns-in_default

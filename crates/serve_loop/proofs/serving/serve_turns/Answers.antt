@@ -73,9 +73,9 @@ returns-clause-ended g c = λ given is head.
     let b = begun_with given c.args.port text a (g.W.Wire.sent c.args.wire.now) in
     let ending = c.take_all-ended.ensures.ending b given.arrivals given.moments between is.arrivals_are is.moments_are in
     let tick = ap (λ (v : Seen). v.tick) c.new_server-server.ensures.hub ∙ head.tick in
-    let events = events_of c.args.port s.hub.tick (head_stage given.source).channels c.args.turns given.arrivals given.moments in
+    let events = events_of c.args.port s.hub.tick (head_stage given.source).state c.args.turns given.arrivals given.moments in
     let are = events_given given c.args.port c.args.turns s.hub.tick is.live_is is.turns_are tick in
-    let journal = c.turns_make_journals.ensures.journal c.args.port s.hub.tick c.args.turns text (head_stage given.source).channels given.arrivals given.moments head.opens is.can_arrive c.requires.turns in
+    let journal = c.turns_make_journals.ensures.journal c.args.port s.hub.tick c.args.turns text (head_stage given.source).state given.arrivals given.moments head.opens is.can_arrive c.requires.turns in
     ended_so c.take_all-ended.result c.close.result _ _ _ _ (HasEnded given a (g.K.Sink.held c.close.new.sink) (g.W.Wire.sent c.args.wire.now) (g.W.Wire.sent c.take_all-ended.new.wire) (g.W.Wire.arrivals c.take_all-ended.new.wire))
     c.close.ensures.ends ending c.close.ensures.all
     (λ e p status done.
@@ -98,9 +98,9 @@ returns-clause-stopped g c = λ given is head.
     let ending = c.take_all-ended.ensures.ending b given.arrivals given.moments between is.arrivals_are is.moments_are in
     let stopping = c.take_all-ended.ensures.stopping b given.arrivals given.moments between is.arrivals_are is.moments_are in
     let tick = ap (λ (v : Seen). v.tick) c.new_server-server.ensures.hub ∙ head.tick in
-    let events = events_of c.args.port s.hub.tick (head_stage given.source).channels c.args.turns given.arrivals given.moments in
+    let events = events_of c.args.port s.hub.tick (head_stage given.source).state c.args.turns given.arrivals given.moments in
     let are = events_given given c.args.port c.args.turns s.hub.tick is.live_is is.turns_are tick in
-    let journal = c.turns_make_journals.ensures.journal c.args.port s.hub.tick c.args.turns text (head_stage given.source).channels given.arrivals given.moments head.opens is.can_arrive c.requires.turns in
+    let journal = c.turns_make_journals.ensures.journal c.args.port s.hub.tick c.args.turns text (head_stage given.source).state given.arrivals given.moments head.opens is.can_arrive c.requires.turns in
     let front = c.close.ensures.prefix in
     let held = gone_so b events (g.K.Sink.held c.take_all-ended.new.sink) (g.K.Sink.held c.close.new.sink) c.take_all-ended.new.server.journal.gather front.0 (g.W.Wire.sent c.take_all-ended.new.wire) _ c.take_all-ended.result
     ending stopping (λ q. ap g.K.Sink.held (c.close.ensures.untouched q)) front.1 in
@@ -129,12 +129,12 @@ returns-clause-steady g c = λ given more is head h.
     let b = begun_with given c.args.port text a (g.W.Wire.sent c.args.wire.now) in
     let tick = ap (λ (v : Seen). v.tick) c.new_server-server.ensures.hub ∙ head.tick in
     let are = events_given given c.args.port c.args.turns s.hub.tick is.live_is is.turns_are tick in
-    let datagrams = (served_is given head.end).1 ∙ ap (λ n. sent_for (n + 1) (head_stage given.source).channels (given_events given)) is.live_is in
-    let first : HasRoom (g.K.Sink.is_steady c.flush.new.sink) (g.W.Wire.is_steady c.args.wire.now) lines (sent_for (c.args.port + 1) (head_stage given.source).channels (given_events given)) more =
+    let datagrams = (served_is given head.end).1 ∙ ap (λ n. sent_for (n + 1) (head_stage given.source).state (given_events given)) is.live_is in
+    let first : HasRoom (g.K.Sink.is_steady c.flush.new.sink) (g.W.Wire.is_steady c.args.wire.now) lines (sent_for (c.args.port + 1) (head_stage given.source).state (given_events given)) more =
     record { text_fits = flush_room; datagrams_fit = (subst (λ (l : List Outgoing). HasRoom (g.K.Sink.is_steady c.args.sink.now) (g.W.Wire.is_steady c.args.wire.now) (served_text given).text l more) datagrams h).datagrams_fit } in
-    let second = subst (λ (es : List HubEvent). HasRoom (g.K.Sink.is_steady c.flush.new.sink) (g.W.Wire.is_steady c.args.wire.now) (event_lines es ++ end_text) (sent_for (c.args.port + 1) (head_stage given.source).channels es) more) (sym are) first in
+    let second = subst (λ (es : List HubEvent). HasRoom (g.K.Sink.is_steady c.flush.new.sink) (g.W.Wire.is_steady c.args.wire.now) (event_lines es ++ end_text) (sent_for (c.args.port + 1) (head_stage given.source).state es) more) (sym are) first in
     let third = subst (λ (w : List ℕ). HasRoom (g.K.Sink.is_steady c.flush.new.sink) (g.W.Wire.is_steady c.args.wire.now)
-    (w ++ (event_lines (events_of c.args.port s.hub.tick (head_stage given.source).channels c.args.turns given.arrivals given.moments) ++ end_text))
-    (sent_for (c.args.port + 1) (head_stage given.source).channels (events_of c.args.port s.hub.tick (head_stage given.source).channels c.args.turns given.arrivals given.moments)) more) (sym empty) second in
+    (w ++ (event_lines (events_of c.args.port s.hub.tick (head_stage given.source).state c.args.turns given.arrivals given.moments) ++ end_text))
+    (sent_for (c.args.port + 1) (head_stage given.source).state (events_of c.args.port s.hub.tick (head_stage given.source).state c.args.turns given.arrivals given.moments)) more) (sym empty) second in
     closed_room c.take_all-ended.result c.close.result _ _ (g.K.Sink.is_steady c.take_all-ended.new.sink) (g.K.Sink.is_steady c.close.new.sink) (g.W.Wire.is_steady c.take_all-ended.new.wire) c.take_all-ended.new.server.journal.gather more
     c.close.ensures.ends (c.take_all-ended.ensures.steady b given.arrivals given.moments more between is.arrivals_are is.moments_are third) (c.close.ensures.steady more.text)
