@@ -33,7 +33,7 @@ StopsIn-then a c d text mid left Read p q = (q.0, Passes-then a c d text mid (le
 StopsIn-then a c d text mid left Write p q = (q.0, Passes-then a c d text mid q.0 p q.1)
 StopsIn-then a c d text mid left Wire p q = (q.0, Passes-then a c d text mid (left ++ q.0) p q.1)
 
-lines_append : (xs ys : List HubEvent) → event_lines (xs ++ ys) ≡ event_lines xs ++ event_lines ys
+pub lines_append : (xs ys : List HubEvent) → event_lines (xs ++ ys) ≡ event_lines xs ++ event_lines ys
 lines_append [] ys = refl
 lines_append (x ∷ xs) ys = ap (λ (l : List ℕ). event_line x ++ l) (lines_append xs ys) ∙ sym (append_assoc (event_line x) (event_lines xs) (event_lines ys))
 
@@ -195,7 +195,7 @@ pub heard_stands : (b : Begun) (events : List HubEvent) (h : HubEvent) (w : Seen
 heard_stands b events h w stands = subst (StandsFor w) (sym (journal_grows h 0 b.channels events).channels_are) stands
 
 -- More events behind those during which a server stopped.
-waits_more : (waits rest more : List ℕ) (stop : Stop) → WaitsIn waits rest stop → WaitsIn waits (rest ++ more) stop
+pub waits_more : (waits rest more : List ℕ) (stop : Stop) → WaitsIn waits rest stop → WaitsIn waits (rest ++ more) stop
 waits_more waits rest more Memory w = (w.0 ++ more, ap (λ (l : List ℕ). l ++ more) w.1 ∙ append_assoc waits w.0 more)
 waits_more waits rest more Read w = (w.0 ++ more, ap (λ (l : List ℕ). l ++ more) w.1 ∙ append_assoc waits w.0 more)
 waits_more waits rest more Write w = tt

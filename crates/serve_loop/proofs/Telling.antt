@@ -9,7 +9,6 @@ use Rattle.rams_model.specs.declared.event.Event.{Event}
 use Rattle.rams_model.specs.declared.event.Event.TheVariants as event
 use Rattle.rams_model.specs.Service.{Settings}
 use Rattle.order_datagrams.proofs.ReadPackets.{answer_renders}
-use Rattle.server_hub.specs.declared.event.At.{At}
 use Rattle.server_hub.specs.declared.event.HubEvent.{HubEvent}
 use Rattle.server_hub.specs.declared.event.HubEvent.TheVariants.{Live, Feedback, Tick}
 use Rattle.server_hub.specs.{IsHub, Serves, StandsFor, settings_of, ids_of, with_event, after_event, after_event_of, after_tick, id_of, channel_of, answer_to, answer_of, answer_at, answers_to_tick, told_of, told_to, answers_said, Pairwise}

@@ -7,7 +7,7 @@ use Rattle.ram_io.specs.{Outgoing, outgoing, Rose}
 use Rattle.order_datagrams.specs.{Renders}
 use Rattle.server_hub.specs.declared.event.At.{At}
 use Rattle.serve_loop.specs.declared.stop.Stop.{Stop}
-use Rattle.serve_loop.specs.declared.stop.Stop.TheVariants.{Memory, Read, Write, Wire}
+use Rattle.serve_loop.specs.declared.stop.Stop.TheVariants.{Memory, Write, Wire}
 
 -- these datagrams went out, where the wire tells them
 abbrev pub GoOut : Option (List Outgoing) → Option (List Outgoing) → List Outgoing → Type 0

@@ -3,7 +3,8 @@ ghost use Rattle.std.specs.Prelude.{◌≡◌, ◌+◌, ◌^◌, ◌<◌, ◌≤
 ghost use Rattle.std.specs.List.{list_any};
 ghost use Rattle.server_hub.specs.declared.event.HubEvent.{HubEvent};
 ghost use Rattle.server_hub.specs.{answers_said, event_of, told};
-ghost use Rattle.serve_loop.specs.{Begun, Ready, Broken, GoesOn, IsStoppedOutside, StandsSomewhere};
+ghost use Rattle.journal_book.specs.{behind, datagrams_of, event_line};
+ghost use Rattle.serve_loop.specs.{Begun, Ready, Broken, GoesOn, HasRoom, IsStoppedOutside, OnlyMemoryStops, Room, StandsSomewhere};
 
 use crate::journal::{Journal, flush, write_event};
 use crate::send::send_all;
@@ -86,6 +87,11 @@ pub fn hear<K: Sink, W: Wire>(
     ensures live { server.new.live ≡ server.old.live }
     ensures untaken { W.arrivals wire.new ≡ W.arrivals wire.old }
     ensures cause { IsStoppedOutside (K.faults sink.old) (K.faults sink.new) (W.faults wire.old) (W.faults wire.new) result }
+    ensures steady { (b : Begun) (events : List HubEvent) (more : Room)
+        → Ready b events server.old.hub (K.held sink.old) server.old.journal.gather (W.sent wire.old) (event_of heard.entry) first
+        → HasRoom (K.is_steady sink.old) (W.is_steady wire.old) (server.old.journal.gather ++ event_line (event_of heard.entry))
+        (datagrams_of (b.live + 1) (event_of heard.entry) (behind events b.channels)) more
+        → OnlyMemoryStops result (HasRoom (K.is_steady sink.new) (W.is_steady wire.new) server.new.journal.gather [] more) }
 {
     let answer = server.hub.hear(alloc, heard)?;
     write_event(&mut server.journal, sink, heard)?;

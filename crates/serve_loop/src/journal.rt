@@ -1,10 +1,10 @@
 //! The journal on its way to the sink.
-ghost use Rattle.std.specs.Prelude.{◌≡◌, ◌++◌, IfOk, IfErr, OnOk, List, ℕ, []};
+ghost use Rattle.std.specs.Prelude.{◌≡◌, ◌+◌, ◌++◌, IfOk, IfErr, OnOk, List, ℕ, [], length};
 ghost use Rattle.line_io.specs.Passes.{Passes};
 ghost use Rattle.rams_model.specs.Texts.{hex_word, refused_line};
 ghost use Rattle.server_hub.specs.{event_of};
 ghost use Rattle.journal_book.specs.{event_line};
-ghost use Rattle.serve_loop.specs.{IsStoppedByWrite, StopsIn};
+ghost use Rattle.serve_loop.specs.{IsStoppedByWrite, OnlyMemoryStops, StopsIn};
 
 use crate::stop::Stop;
 use book_text::append_refused;
@@ -40,6 +40,8 @@ pub fn put<K: Sink>(gather: &mut Gather, sink: &mut K, text: &[u8]) -> Result<()
     ensures all { OnOk result (Passes (K.held sink.old) (K.held sink.new) (gather.old ++ text.now) gather.new) }
     ensures front { IfErr result (StopsIn (K.held sink.old) (K.held sink.new) (gather.old ++ text.now) gather.new) }
     ensures cause { IsStoppedByWrite (K.faults sink.old) (K.faults sink.new) result }
+    ensures steady { (room : ℕ) → K.is_steady sink.old (length gather.old + length text.now + room)
+        → OnlyMemoryStops result (K.is_steady sink.new (length gather.new + room)) }
 {
     match gather.put(sink, text) {
         Ok(()) => Ok(()),
@@ -54,6 +56,8 @@ pub fn flush<K: Sink>(gather: &mut Gather, sink: &mut K) -> Result<(), Stop>
     ensures prefix { (rest : List ℕ) × Passes (K.held sink.old) (K.held sink.new) gather.old rest }
     ensures front { IfErr result (StopsIn (K.held sink.old) (K.held sink.new) gather.old gather.new) }
     ensures cause { IsStoppedByWrite (K.faults sink.old) (K.faults sink.new) result }
+    ensures steady { (room : ℕ) → K.is_steady sink.old (length gather.old + room)
+        → OnlyMemoryStops result (K.is_steady sink.new room) }
 {
     match gather.flush(sink) {
         Ok(()) => Ok(()),
@@ -104,6 +108,8 @@ pub fn write_event<K: Sink>(
     ensures all { OnOk result (Passes (K.held sink.old) (K.held sink.new) (journal.old.gather ++ event_line (event_of heard.entry)) journal.new.gather) }
     ensures front { IfErr result (StopsIn (K.held sink.old) (K.held sink.new) (journal.old.gather ++ event_line (event_of heard.entry)) journal.new.gather) }
     ensures cause { IsStoppedByWrite (K.faults sink.old) (K.faults sink.new) result }
+    ensures steady { (room : ℕ) → K.is_steady sink.old (length journal.old.gather + length (event_line (event_of heard.entry)) + room)
+        → OnlyMemoryStops result (K.is_steady sink.new (length journal.new.gather + room)) }
 {
     journal.line.clear();
     append_event(&mut journal.line, &mut journal.digits, heard)?;
@@ -120,6 +126,8 @@ pub fn write_refused<K: Sink>(
     ensures all { OnOk result (Passes (K.held sink.old) (K.held sink.new) (journal.old.gather ++ refused_line number fault) journal.new.gather) }
     ensures front { IfErr result (StopsIn (K.held sink.old) (K.held sink.new) (journal.old.gather ++ refused_line number fault) journal.new.gather) }
     ensures cause { IsStoppedByWrite (K.faults sink.old) (K.faults sink.new) result }
+    ensures steady { (room : ℕ) → K.is_steady sink.old (length journal.old.gather + length (refused_line number fault) + room)
+        → OnlyMemoryStops result (K.is_steady sink.new (length journal.new.gather + room)) }
 {
     journal.line.clear();
     append_refused(&mut journal.line, number, fault)?;

@@ -1,15 +1,19 @@
-//! A server over any source, sink, wire and clock: what it does for one event, from the step of its
-//! channels to the line in the journal and the datagrams on the wire.
-//!
-//! The turns, the head and the end stand on these, and wait for the command `serve`.
+//! A server over any source, sink, wire and clock: it reads a head, hears what comes to the ports of its
+//! channels, turn by turn, and writes the journal of it.
 #![tactic(auto)]
 
+mod head;
 mod hearing;
 mod journal;
 mod send;
+mod serving;
 mod stop;
+mod turns;
 
+pub use head::{Head, HeadLine, Opened, read_head};
 pub use hearing::{Server, hear, new_server};
 pub use journal::{Journal, new_journal, write_event, write_refused};
 pub use send::send_all;
+pub use serving::serve;
 pub use stop::Stop;
+pub use turns::take_turns;

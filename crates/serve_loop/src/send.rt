@@ -1,10 +1,10 @@
 //! The datagrams of answers, to the wire.
-ghost use Rattle.std.specs.Prelude.{◌≡◌, ◌+◌, ◌*◌, ◌<◌, ◌^◌, ◌∷◌, All, List, [], OnOk, length};
+ghost use Rattle.std.specs.Prelude.{◌≡◌, ◌+◌, ◌*◌, ◌<◌, ◌^◌, ◌∷◌, ℕ, All, List, [], OnOk, length};
 ghost use Rattle.ram_io.specs.{Outgoing};
 ghost use Rattle.order_datagrams.specs.{Renders};
 ghost use Rattle.rams_model.specs.Service.{client_of, datagram};
 ghost use Rattle.server_hub.specs.{settings_of};
-ghost use Rattle.serve_loop.specs.{Sends, IsStoppedByWire, AllRender, order_datagrams, at_datagrams, said_datagrams};
+ghost use Rattle.serve_loop.specs.{Sends, IsStoppedByWire, OnlyMemoryStops, AllRender, bytes_of, order_datagrams, at_datagrams, said_datagrams};
 
 use crate::stop::Stop;
 use order_datagrams::{Config, append_order};
@@ -33,6 +33,8 @@ fn send_order<W: Wire>(
     ensures front { (rest : List Outgoing) × Sends (W.sent wire.old) (W.sent wire.new) (order_datagrams config.now port (order.now ∷ [])) rest }
     ensures untaken { W.arrivals wire.new ≡ W.arrivals wire.old }
     ensures cause { IsStoppedByWire (W.faults wire.old) (W.faults wire.new) result }
+    ensures steady { (bytes count : ℕ) → W.is_steady wire.old (bytes_of (order_datagrams config.now port (order.now ∷ [])) + bytes) (length (order_datagrams config.now port (order.now ∷ [])) + count)
+        → OnlyMemoryStops result (W.is_steady wire.new bytes count) }
 {
     room.clear();
     append_order(room, config, order)?;
@@ -56,6 +58,8 @@ pub fn send_orders<W: Wire>(
     ensures front { (rest : List Outgoing) × Sends (W.sent wire.old) (W.sent wire.new) (order_datagrams config.now port orders.now) rest }
     ensures untaken { W.arrivals wire.new ≡ W.arrivals wire.old }
     ensures cause { IsStoppedByWire (W.faults wire.old) (W.faults wire.new) result }
+    ensures steady { (bytes count : ℕ) → W.is_steady wire.old (bytes_of (order_datagrams config.now port orders.now) + bytes) (length (order_datagrams config.now port orders.now) + count)
+        → OnlyMemoryStops result (W.is_steady wire.new bytes count) }
 {
     for order in orders.iter() {
         send_order(wire, room, config, port, order)?;
@@ -76,6 +80,8 @@ fn send_at<W: Wire>(
     ensures front { (rest : List Outgoing) × Sends (W.sent wire.old) (W.sent wire.new) (at_datagrams port (settings_of hub.now) at.now) rest }
     ensures untaken { W.arrivals wire.new ≡ W.arrivals wire.old }
     ensures cause { IsStoppedByWire (W.faults wire.old) (W.faults wire.new) result }
+    ensures steady { (bytes count : ℕ) → W.is_steady wire.old (bytes_of (at_datagrams port (settings_of hub.now) at.now) + bytes) (length (at_datagrams port (settings_of hub.now) at.now) + count)
+        → OnlyMemoryStops result (W.is_steady wire.new bytes count) }
 {
     match hub.config(at.id) {
         Some(config) => send_orders(wire, room, config, port, &at.answer.orders),
@@ -98,6 +104,8 @@ pub fn send_all<W: Wire>(
     ensures front { (rest : List Outgoing) × Sends (W.sent wire.old) (W.sent wire.new) (said_datagrams first (settings_of hub.now) all.now) rest }
     ensures untaken { W.arrivals wire.new ≡ W.arrivals wire.old }
     ensures cause { IsStoppedByWire (W.faults wire.old) (W.faults wire.new) result }
+    ensures steady { (bytes count : ℕ) → W.is_steady wire.old (bytes_of (said_datagrams first (settings_of hub.now) all.now) + bytes) (length (said_datagrams first (settings_of hub.now) all.now) + count)
+        → OnlyMemoryStops result (W.is_steady wire.new bytes count) }
 {
     let mut port = first;
     for at in all.iter() {

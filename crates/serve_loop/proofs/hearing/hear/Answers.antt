@@ -1,4 +1,4 @@
-use Rattle.std.proofs.Common.{◌≡◌, ℕ, List, [], ◌∷◌, ◌++◌, ◌+◌, ◌≤◌, Bool, false, not, Option, Result, IfErr, OnOk, sym, ap, subst, ◌∙◌, arith, length}
+use Rattle.std.proofs.Common.{◌≡◌, ℕ, List, [], ◌∷◌, ◌++◌, ◌+◌, ◌≤◌, false, not, Result, IfErr, sym, ap, subst, ◌∙◌, arith, length}
 use Rattle.std.specs.Prelude.{All, ◌==◌}
 use Rattle.std.specs.List.{list_any}
 use Rattle.std.proofs.lemmas.Result.{err_from_is_err_and}
@@ -6,10 +6,10 @@ use Rattle.ram_io.specs.{Outgoing}
 use Rattle.server_hub.specs.{answers_said, event_of, after_event, settings_of, told, Told}
 use Rattle.server_hub.specs.declared.event.At.{At}
 use Rattle.line_io.proofs.Passing.{Passes-then}
-use Rattle.journal_book.specs.{behind, event_line}
+use Rattle.journal_book.specs.{behind, datagrams_of, event_line}
 use Rattle.serve_loop.specs.declared.stop.Stop.{Stop}
-use Rattle.serve_loop.specs.{AllRender, Broken, IsOutStop, Sends, Serving, said_datagrams}
-use Rattle.serve_loop.proofs.Causes.{stopped_by_wire, write_stops}
+use Rattle.serve_loop.specs.{AllRender, Broken, HasRoom, Sends, Serving, bytes_of, said_datagrams}
+use Rattle.serve_loop.proofs.Rooms.{only_weaker, quiet_room, text_parts, wire_quiet}
 use Rattle.serve_loop.proofs.Steps.{StopsIn-then, quiet_goes_on, line_breaks, sent_goes_on, sending_breaks, none_ordered, each_error, where_ok, heard_sends, heard_stands}
 use Rattle.serve_loop.proofs.Telling.{said_few, said_renders}
 use Rattle.serve_loop.proofs.Writing.{unwritten}
@@ -96,3 +96,28 @@ pub returns-clause-stands : goal.returns-clause-stands
 returns-clause-stands g c =
     let say = c.in_ok-answer.ensures.stands c.requires.stands.0 c.requires.stands.1 in
     where_ok c.send_all.result _ _ (λ all. (after_event (event_of c.args.heard) c.requires.stands.0, say.1)) c.send_all.ensures.all
+
+pub returns-then-not-has_orders-clause-steady : goal.returns-then-not-has_orders-clause-steady
+returns-then-not-has_orders-clause-steady g c = λ b events more r h.
+    let e = event_of c.args.heard in
+    let say = c.in_ok-answer.ensures.stands (behind events b.channels) r.stands in
+    let sends = heard_sends b events e c.args.server.now.hub c.hear.new.self c.in_ok-answer.answer c.args.first _ _ _ r say.0 c.hear.ensures.settings.settings in
+    let none = none_ordered c.args.first (settings_of c.hear.new.self) (answers_said (told c.in_ok-answer.answer))
+    (subst (λ (l : List At). list_any (λ (at : At). not (length at.answer.orders == 0)) l ≡ false) c.answers_of-answers.ensures (sym c.has_orders.ensures ∙ c.if-not-has_orders.true)) in
+    quiet_room (g.K.Sink.is_steady c.write_event.new.sink) (g.W.Wire.is_steady c.args.wire.now) c.write_event.new.journal.gather more
+    (c.in_ok-write_event.ensures.steady more.text (text_parts (g.K.Sink.is_steady c.args.sink.now) c.args.server.now.journal.gather (event_line e) more.text h.text_fits))
+    (wire_quiet (g.W.Wire.is_steady c.args.wire.now) (datagrams_of (b.live + 1) e (behind events b.channels)) more (sym sends ∙ none) h.datagrams_fit)
+
+pub returns-clause-steady : goal.returns-clause-steady
+returns-clause-steady g c = λ b events more r h.
+    let e = event_of c.args.heard in
+    let say = c.in_ok-answer.ensures.stands (behind events b.channels) r.stands in
+    let sends = ap (said_datagrams c.args.first (settings_of c.hear.new.self)) c.answers_of-answers.ensures
+    ∙ heard_sends b events e c.args.server.now.hub c.hear.new.self c.in_ok-answer.answer c.args.first _ _ _ r say.0 c.hear.ensures.settings.settings in
+    let written = c.in_ok-write_event.ensures.steady more.text (text_parts (g.K.Sink.is_steady c.args.sink.now) c.args.server.now.journal.gather (event_line e) more.text h.text_fits) in
+    let gone = c.in_ok-flush.ensures.steady more.text written in
+    let fits = subst (λ (l : List Outgoing). g.W.Wire.is_steady c.args.wire.now (bytes_of l + more.bytes) (length l + more.datagrams)) (sym sends) h.datagrams_fit in
+    only_weaker c.send_all.result (g.W.Wire.is_steady c.send_all.new.wire more.bytes more.datagrams) _
+    (λ quiet. subst (λ (l : List ℕ). HasRoom (g.K.Sink.is_steady c.flush.new.sink) (g.W.Wire.is_steady c.send_all.new.wire) l [] more) (sym c.in_ok-flush.ensures.empty)
+    (quiet_room (g.K.Sink.is_steady c.flush.new.sink) (g.W.Wire.is_steady c.send_all.new.wire) [] more (subst (g.K.Sink.is_steady c.flush.new.sink) (let zero : more.text ≡ length {A = ℕ} [] + more.text = omega arith in zero) gone) quiet))
+    (c.send_all.ensures.steady more.bytes more.datagrams fits)

@@ -1,6 +1,6 @@
-use Rattle.std.proofs.Common.{◌≡◌, ◌∙◌, ◌∷◌, [], ◌++◌, ap, subst, List, ℕ}
-use Rattle.ram_io.specs.{Outgoing, outgoing}
-use Rattle.rams_model.specs.Service.{client_of, datagram}
+use Rattle.std.proofs.Common.{◌∙◌, ◌∷◌, [], ◌++◌, ap, subst, List, ℕ}
+use Rattle.ram_io.specs.{Outgoing}
+use Rattle.rams_model.specs.Service.{datagram}
 use Rattle.serve_loop.specs.{Sends}
 use Rattle.serve_loop.proofs.GoingOut.{Sends-none, sends_ok, sends_err, order_made}
 use Rattle.serve_loop.proofs.send.send_order.Goals as goal

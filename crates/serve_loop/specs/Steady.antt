@@ -1,0 +1,24 @@
+-- What a server needs of its sink and its wire so that nothing but want of memory stops it.
+use Rattle.std.specs.Prelude.{◌≡◌, ℕ, ◌+◌, List, length, sum_by, Result, MatchResult}
+use Rattle.ram_io.specs.{Outgoing}
+use Rattle.serve_loop.specs.declared.stop.Stop.{Stop}
+use Rattle.serve_loop.specs.declared.stop.Stop.TheVariants.{Memory}
+
+-- only want of memory stops the call, and P holds where nothing does
+abbrev pub OnlyMemoryStops : {T : Type 0} → Result T Stop → Type 0 → Type 0
+OnlyMemoryStops result P = MatchResult result (λ _. P) (λ stop. stop ≡ Memory)
+
+-- the bytes of these datagrams, together
+abbrev pub bytes_of : List Outgoing → ℕ
+bytes_of datagrams = sum_by (λ datagram. length datagram.bytes) datagrams
+
+-- Room beside what is said: so many bytes of text, and so many bytes in so many datagrams.
+pub record Room : Type 0 where
+  pub text : ℕ
+  pub bytes : ℕ
+  pub datagrams : ℕ
+
+-- A sink and a wire that are steady for so much have room for this text and these datagrams, and more.
+pub record HasRoom (sink : ℕ → Type 0) (wire : ℕ → ℕ → Type 0) (text : List ℕ) (datagrams : List Outgoing) (more : Room) : Type 0 where
+  pub text_fits : sink (length text + more.text)
+  pub datagrams_fit : wire (bytes_of datagrams + more.bytes) (length datagrams + more.datagrams)
