@@ -16,7 +16,8 @@ use Rattle.trace_text.proofs.Spelled.{digits_of, and_both, is_word}
 use Rattle.trace_text.proofs.Spelling.{spelled_is_read}
 use Rattle.server_hub.specs.declared.event.HubEvent.{HubEvent}
 use Rattle.server_hub.specs.declared.event.HubEvent.TheVariants.{Live, Feedback, Tick}
-use Rattle.trace_book.specs.{event_of}
+use Rattle.trace_serving.specs.{brought}
+use Rattle.trace_book.specs.{run}
 use Rattle.journal_book.specs.{line_of_event, HasLine}
 
 -- none of the bytes is a line feed, as a test
@@ -140,7 +141,7 @@ bytes_back (b ∷ bytes) h =
     let digits = word_digits (encode_lower (b ∷ bytes)) h (no_dash bytes b _ refl) in
     ap decoded (written_decodes (b ∷ bytes) (bytes_of_digits (b ∷ bytes) digits))
 
-brings_back : (event : HubEvent) → line_has_form (line_of_event event) ≡ true → event_of (line_of_event event) ≡ Some event
+brings_back : (event : HubEvent) → line_has_form (line_of_event event) ≡ true → brought run (line_of_event event) ≡ Some event
 brings_back (Live id bytes) h = ap (λ (bs : List ℕ). Some (Live id bs)) (bytes_back bytes (and_parts (is_short id) (is_hex (hex_word bytes)) h).1)
 brings_back (Feedback id client bytes) h =
     ap (λ (bs : List ℕ). Some (Feedback id client bs)) (bytes_back bytes (and_parts (is_short id && is_short client) (is_hex (hex_word bytes)) h).1)
@@ -151,7 +152,7 @@ pub record IsEventLine (event : HubEvent) : Type 0 where
   pub clean : HasNoFeed (line_text (line_of_event event))
   pub reads : line_of (line_text (line_of_event event)) ≡ Some (line_of_event event)
   pub in_range : line_in_range (line_of_event event) ≡ true
-  pub brings : event_of (line_of_event event) ≡ Some event
+  pub brings : brought run (line_of_event event) ≡ Some event
 
 pub event_line_is : (event : HubEvent) → HasLine event → IsEventLine event
 event_line_is event h =

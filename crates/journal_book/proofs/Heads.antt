@@ -2,14 +2,16 @@
 use Rattle.std.proofs.Common.{◌≡◌, ◌≢◌, ℕ, List, [], ◌++◌, Some, codes, true, refl, sym, ap, subst, ◌∙◌}
 use Rattle.rams_model.specs.Texts.{TraceLine, head_line, channel_line, live_line, feedback_line, tick_line, end_line, tune_line, give_line, mcast_line, ask_line, drop_line, line_of, line_at, ranged, line_in_range, line_text, Reached}
 use Rattle.trace_text.proofs.Spelling.{read_is_spelled}
-use Rattle.trace_book.specs.{Stage, goes_on, turn, after_line, after_judging, eventless}
-use Rattle.trace_book.proofs.Judged.{judged_so}
+use Rattle.server_hub.specs.Served.{Served}
+use Rattle.trace_serving.specs.{Stage, goes_on, turn, after_line, after_judging, eventless}
+use Rattle.trace_book.specs.{run}
+use Rattle.trace_serving.proofs.Judged.{judged_so}
 use Rattle.journal_book.specs.{Leads, line, stage_behind, HeadsGrow, HeadsEnd}
 use Rattle.journal_book.proofs.Modes.{head_line_is}
 use Rattle.journal_book.proofs.Replays.{head_passes}
 
 -- a line that isn't `end` goes on
-goes_behind : (stage : Stage) (reached : Reached) (read : TraceLine) → read ≢ end_line → eventless stage reached read ≡ goes_on (stage_behind stage read reached) []
+goes_behind : (stage : Stage (List Served)) (reached : Reached) (read : TraceLine) → read ≢ end_line → eventless run stage reached read ≡ goes_on (stage_behind stage read reached) []
 goes_behind stage reached (head_line version tick link) other = refl
 goes_behind stage reached (channel_line version c) other = refl
 goes_behind stage reached (live_line id hex) other = refl
@@ -32,8 +34,8 @@ unfolding turn
 heads_grow head bytes stage read reached leads clean j other =
     let is = judged_so stage.reached bytes read reached j in
     let silent = (head_line_is stage.reached bytes read reached (head_passes 0 head stage leads).mode j).silent in
-    let step : turn stage 0 bytes ≡ goes_on (stage_behind stage read reached) [] =
-    ap (after_judging stage 0) j ∙ (ap (after_line stage reached read) silent ∙ goes_behind stage reached read other) in
+    let step : turn run stage 0 bytes ≡ goes_on (stage_behind stage read reached) [] =
+    ap (after_judging run stage 0) j ∙ (ap (after_line run stage reached read) silent ∙ goes_behind stage reached read other) in
     subst (λ (bs : List ℕ). Leads (head ++ (bs ++ codes "\n")) (stage_behind stage read reached)) (sym (text_is bytes read is.reads is.accepts.in_range))
     (line head stage (stage_behind stage read reached) 0 bytes [] leads clean step)
 

@@ -11,15 +11,16 @@ use Rattle.rams_model.specs.declared.mode.Mode.TheVariants.{Run, Serve}
 use Rattle.rams_model.specs.Service.{Settings, settings, checked}
 use Rattle.rams_model.specs.Texts.{TraceLine, head_line, channel_line, live_line, feedback_line, tick_line, end_line, tune_line, give_line, mcast_line, ask_line, drop_line, line_in_range, line_of, Head, Reached, has_channel, may_come, line_is_served, joined, with_channel, with_line, accepted, with_reached, judged_line, judged}
 use Rattle.server_hub.specs.Served.{Served}
-use Rattle.trace_book.specs.{Stage, Turn, goes_on, ends, turn, event_of, with_opened, eventless, after_line, after_judging}
-use Rattle.trace_book.proofs.Judged.{judged_so}
+use Rattle.trace_serving.specs.{Stage, Turn, goes_on, ends, turn, with_opened, eventless, after_line, after_judging, brought}
+use Rattle.trace_book.specs.{run}
+use Rattle.trace_serving.proofs.Judged.{judged_so}
 
 -- how far the trace has come, where it is read for this
 abbrev pub read_for : Mode → Reached → Reached
 read_for mode r = record r { mode = mode }
 
 -- the same stage of a run
-abbrev pub stage_of_run : Stage → Stage
+abbrev pub stage_of_run : Stage (List Served) → Stage (List Served)
 stage_of_run stage = record stage { reached = read_for Run stage.reached }
 
 both_false : (b : Bool) → (b && false) ≡ true → ⊥
@@ -47,7 +48,7 @@ may_in_run r (ask_line id client) h = h
 may_in_run r (drop_line id client) h = h
 
 -- and brings no event
-brings_none : (r : Reached) (line : TraceLine) → may_come (read_for Serve r) line ≡ true → event_of line ≡ None
+brings_none : (r : Reached) (line : TraceLine) → may_come (read_for Serve r) line ≡ true → brought run line ≡ None
 brings_none r (head_line version tick link) h = refl
 brings_none r (channel_line version c) h = refl
 brings_none r (live_line id hex) h = absurd (refused_event (not r.ended) (has_channel r) h)
@@ -121,7 +122,7 @@ judges r bytes line later reads is = ap (judged_line r) reads ∙ ap (with_reach
 pub record IsHeadLine (r : Reached) (bytes : List ℕ) (line : TraceLine) (later : Reached) : Type 0 where
   pub mode : later.mode ≡ Serve
   pub runs : judged (read_for Run r) bytes ≡ Ok (line, read_for Run later)
-  pub silent : event_of line ≡ None
+  pub silent : brought run line ≡ None
 
 pub head_line_is : (r : Reached) (bytes : List ℕ) (line : TraceLine) (later : Reached) → r.mode ≡ Serve → judged r bytes ≡ Ok (line, later) → IsHeadLine r bytes line later
 head_line_is r bytes line later serves j =
@@ -137,30 +138,30 @@ head_line_is r bytes line later serves j =
     }
 
 -- A turn of a server's head: it answers nothing, counts nothing, and goes alike in a run, whatever the number of its line.
-pub record IsHeadTurn (stage later : Stage) (bytes : List ℕ) : Type 0 where
+pub record IsHeadTurn (stage later : Stage (List Served)) (bytes : List ℕ) : Type 0 where
   pub mode : later.reached.mode ≡ Serve
   pub events : later.events ≡ stage.events
   pub line : TraceLine
   pub reached : Reached
   pub judges_so : judged (read_for Run stage.reached) bytes ≡ Ok (line, reached)
-  pub silent : event_of line ≡ None
-  pub runs : (number : ℕ) → turn (stage_of_run stage) number bytes ≡ goes_on (stage_of_run later) []
+  pub silent : brought run line ≡ None
+  pub runs : (number : ℕ) → turn run (stage_of_run stage) number bytes ≡ goes_on (stage_of_run later) []
 
 -- a line without an event goes on, and is no `end`
-abbrev IsOn : Stage → Reached → Stage → List ℕ → TraceLine → Type 0
+abbrev IsOn : Stage (List Served) → Reached → Stage (List Served) → List ℕ → TraceLine → Type 0
 IsOn stage reached later text line =
-    (later ≡ record { reached = reached; channels = with_opened reached line stage.channels; events = stage.events })
-    × ((s : Stage) (r : Reached) → eventless s r line ≡ goes_on (record { reached = r; channels = with_opened r line s.channels; events = s.events }) [])
+    (later ≡ record { reached = reached; state = with_opened run reached line stage.state; events = stage.events })
+    × ((s : Stage (List Served)) (r : Reached) → eventless run s r line ≡ goes_on (record { reached = r; state = with_opened run r line s.state; events = s.events }) [])
 
 -- what went on went on to this
-went_to : (stage later next : Stage) (text more : List ℕ) → goes_on next more ≡ goes_on later text → later ≡ next
-went_to stage later next text more e = ap (λ (t : Turn). stage_in t) (sym e)
+went_to : (stage later next : Stage (List Served)) (text more : List ℕ) → goes_on next more ≡ goes_on later text → later ≡ next
+went_to stage later next text more e = ap (λ (t : Turn (List Served)). stage_in t) (sym e)
   where
-    stage_in : Turn → Stage
+    stage_in : Turn (List Served) → Stage (List Served)
     stage_in (goes_on s t) = s
     stage_in (ends o) = stage
 
-is_on : (stage : Stage) (reached : Reached) (later : Stage) (text : List ℕ) (line : TraceLine) → eventless stage reached line ≡ goes_on later text → IsOn stage reached later text line
+is_on : (stage : Stage (List Served)) (reached : Reached) (later : Stage (List Served)) (text : List ℕ) (line : TraceLine) → eventless run stage reached line ≡ goes_on later text → IsOn stage reached later text line
 is_on stage reached later text (head_line version tick link) e = (went_to stage later _ text [] e, λ s r. refl)
 is_on stage reached later text (channel_line version c) e = (went_to stage later _ text [] e, λ s r. refl)
 is_on stage reached later text (live_line id hex) e = (went_to stage later _ text [] e, λ s r. refl)
@@ -173,7 +174,7 @@ is_on stage reached later text (mcast_line id client n) e = (went_to stage later
 is_on stage reached later text (ask_line id client) e = (went_to stage later _ text [] e, λ s r. refl)
 is_on stage reached later text (drop_line id client) e = (went_to stage later _ text [] e, λ s r. refl)
 
-opened_alike : (mode : Mode) (r : Reached) (line : TraceLine) (channels : List Served) → with_opened (read_for mode r) line channels ≡ with_opened r line channels
+opened_alike : (mode : Mode) (r : Reached) (line : TraceLine) (channels : List Served) → with_opened run (read_for mode r) line channels ≡ with_opened run r line channels
 opened_alike mode r (head_line version tick link) channels = refl
 opened_alike mode r (channel_line version c) channels = refl
 opened_alike mode r (live_line id hex) channels = refl
@@ -186,31 +187,31 @@ opened_alike mode r (mcast_line id client n) channels = refl
 opened_alike mode r (ask_line id client) channels = refl
 opened_alike mode r (drop_line id client) channels = refl
 
-by_head_line : (stage later : Stage) (bytes text : List ℕ) (line : TraceLine) (reached : Reached) → IsHeadLine stage.reached bytes line reached → eventless stage reached line ≡ goes_on later text → IsHeadTurn stage later bytes
+by_head_line : (stage later : Stage (List Served)) (bytes text : List ℕ) (line : TraceLine) (reached : Reached) → IsHeadLine stage.reached bytes line reached → eventless run stage reached line ≡ goes_on later text → IsHeadTurn stage later bytes
 unfolding turn
 by_head_line stage later bytes text line reached is e =
     let on = is_on stage reached later text line e in
-    let runs : (number : ℕ) → turn (stage_of_run stage) number bytes ≡ goes_on (stage_of_run (record { reached = reached; channels = with_opened reached line stage.channels; events = stage.events })) [] =
-    λ number. ap (after_judging (stage_of_run stage) number) is.runs ∙ (ap (after_line (stage_of_run stage) (read_for Run reached) line) is.silent
+    let runs : (number : ℕ) → turn run (stage_of_run stage) number bytes ≡ goes_on (stage_of_run (record { reached = reached; state = with_opened run reached line stage.state; events = stage.events })) [] =
+    λ number. ap (after_judging run (stage_of_run stage) number) is.runs ∙ (ap (after_line run (stage_of_run stage) (read_for Run reached) line) is.silent
     ∙ (on.1 (stage_of_run stage) (read_for Run reached)
-    ∙ ap (λ (cs : List Served). goes_on (record { reached = read_for Run reached; channels = cs; events = stage.events }) []) (opened_alike Run reached line stage.channels))) in
+    ∙ ap (λ (cs : List Served). goes_on (record { reached = read_for Run reached; state = cs; events = stage.events }) []) (opened_alike Run reached line stage.state))) in
     record {
-      mode = ap (λ (s : Stage). s.reached.mode) on.0 ∙ is.mode;
-      events = ap (λ (s : Stage). s.events) on.0;
+      mode = ap (λ (s : Stage (List Served)). s.reached.mode) on.0 ∙ is.mode;
+      events = ap (λ (s : Stage (List Served)). s.events) on.0;
       line = line;
       reached = read_for Run reached;
       judges_so = is.runs;
       silent = is.silent;
-      runs = λ number. runs number ∙ ap (λ (s : Stage). goes_on (stage_of_run s) []) (sym on.0);
+      runs = λ number. runs number ∙ ap (λ (s : Stage (List Served)). goes_on (stage_of_run s) []) (sym on.0);
     }
 
-by_judging : (stage later : Stage) (number : ℕ) (bytes text : List ℕ) (o : Result (TraceLine × Reached) LineFault) → stage.reached.mode ≡ Serve → judged stage.reached bytes ≡ o
-    → after_judging stage number o ≡ goes_on later text → IsHeadTurn stage later bytes
+by_judging : (stage later : Stage (List Served)) (number : ℕ) (bytes text : List ℕ) (o : Result (TraceLine × Reached) LineFault) → stage.reached.mode ≡ Serve → judged stage.reached bytes ≡ o
+    → after_judging run stage number o ≡ goes_on later text → IsHeadTurn stage later bytes
 by_judging stage later number bytes text (Err fault) serves j e = absurd cc
 by_judging stage later number bytes text (Ok read) serves j e =
     let is = head_line_is stage.reached bytes read.0 read.1 serves j in
-    by_head_line stage later bytes text read.0 read.1 is (sym (ap (after_line stage read.1 read.0) is.silent) ∙ e)
+    by_head_line stage later bytes text read.0 read.1 is (sym (ap (after_line run stage read.1 read.0) is.silent) ∙ e)
 
-pub head_turn : (stage later : Stage) (number : ℕ) (bytes text : List ℕ) → stage.reached.mode ≡ Serve → turn stage number bytes ≡ goes_on later text → IsHeadTurn stage later bytes
+pub head_turn : (stage later : Stage (List Served)) (number : ℕ) (bytes text : List ℕ) → stage.reached.mode ≡ Serve → turn run stage number bytes ≡ goes_on later text → IsHeadTurn stage later bytes
 unfolding turn
 head_turn stage later number bytes text serves e = by_judging stage later number bytes text (judged stage.reached bytes) serves refl e

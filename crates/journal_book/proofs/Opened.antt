@@ -12,7 +12,8 @@ use Rattle.rams_model.specs.Texts.{Head}
 use Rattle.server_hub.specs.declared.event.HubEvent.{HubEvent}
 use Rattle.server_hub.specs.{id_of, ids_of, after_events}
 use Rattle.server_hub.specs.Served.{Served}
-use Rattle.trace_book.specs.{last_stage, served_by, settings_of, new_channels, AreLawful, came, IsServed, KeepsTheLink}
+use Rattle.trace_serving.specs.{last_stage, AreLawful}
+use Rattle.trace_book.specs.{run, served_by, settings_of, new_channels, came, IsServed, KeepsTheLink}
 use Rattle.journal_book.specs.{journal_of, behind, IsNumber, HasLine, AreApart, IsJournal, Opens}
 use Rattle.journal_book.proofs.Served.{journals_are_served}
 
@@ -74,9 +75,9 @@ pub record IsFit (channels : List Served) : Type 0 where
   pub apart : AreApart channels
 
 trace_fits : (trace : List ℕ) → KeepsTheLink trace → IsFit (served_by trace)
-trace_fits trace keeps = by (last_stage trace).reached.head refl
+trace_fits trace keeps = by (last_stage run trace).reached.head refl
   where
-    by : (o : Option Head) → (last_stage trace).reached.head ≡ o → IsFit (served_by trace)
+    by : (o : Option Head) → (last_stage run trace).reached.head ≡ o → IsFit (served_by trace)
     by None e = subst IsFit (sym (keeps.headless e)) (record { numbered = All-nil (λ c. IsNumber (id_of c)); apart = none_apart })
     by (Some head) e =
         let within = keeps.link head e in

@@ -8,7 +8,8 @@ use Rattle.ram_io.specs.{Outgoing}
 use Rattle.server_hub.specs.declared.event.HubEvent.{HubEvent}
 use Rattle.server_hub.specs.Served.{Served}
 use Rattle.server_hub.specs.{after_event}
-use Rattle.trace_book.specs.{Stage, Outcome, most_events, ended, done, first_line, opening, after_text, text_from, trace_text, last_stage, served_by}
+use Rattle.trace_serving.specs.{Stage, Outcome, ended, done, opening, after_text, text_from, served_text, last_stage}
+use Rattle.trace_book.specs.{run, most_events, first_line, trace_text, served_by}
 use Rattle.journal_book.specs.{event_line, event_lines, journal_of, behind, HasLine, datagrams_of, sent_for, replayed_from, replayed, text_for, IsJournal, JournalsReplay, RunsWriteJournals, JournalsAreServed, FrontsReplay, GrowsBy, ServedSo, FrontSo, HeadSo}
 use Rattle.journal_book.proofs.Modes.{stage_of_run}
 use Rattle.journal_book.proofs.Replays.{Passes, pass_on, head_passes, IsReady, events_pass, end_passes}
@@ -17,11 +18,11 @@ use Rattle.journal_book.proofs.Replays.{Passes, pass_on, head_passes, IsReady, e
 module _ (head : List ℕ) (channels : List Served) (events : List HubEvent) (is : IsJournal head channels events) where
   -- the head and the events lead to a stage where `end` may come
   record Front (port : ℕ) : Type 0 where
-    to : Stage
+    to : Stage (List Served)
     ready : IsReady to
-    channels_are : to.channels ≡ behind events channels
+    channels_are : to.state ≡ behind events channels
     count : to.events ≡ length events
-    passes : Passes port opening 1 (head ++ event_lines events) to (sent_for port channels events) (text_for 0 channels events)
+    passes : Passes port (opening run) 1 (head ++ event_lines events) to (sent_for port channels events) (text_for 0 channels events)
 
   front : (port : ℕ) → Front port
   front port =
@@ -38,9 +39,9 @@ module _ (head : List ℕ) (channels : List Served) (events : List HubEvent) (is
         channels_are = rest.channels ∙ ap (behind events) is.opens.opened;
         count = omega (arith, none, count);
         passes =
-            subst (λ n. Passes port opening 1 (head ++ event_lines events) rest.to (sent_for port channels events) (text_for n channels events)) none
-            (subst (λ (cs : List Served). Passes port opening 1 (head ++ event_lines events) rest.to (sent_for port cs events) (text_for stage.events cs events)) is.opens.opened
-            (pass_on port opening (stage_of_run stage) rest.to 1 head (event_lines events) [] (sent_for port stage.channels events) [] (text_for stage.events stage.channels events) first.passes rest.passes));
+            subst (λ n. Passes port (opening run) 1 (head ++ event_lines events) rest.to (sent_for port channels events) (text_for n channels events)) none
+            (subst (λ (cs : List Served). Passes port (opening run) 1 (head ++ event_lines events) rest.to (sent_for port cs events) (text_for stage.events cs events)) is.opens.opened
+            (pass_on port (opening run) (stage_of_run stage) rest.to 1 head (event_lines events) [] (sent_for port stage.state events) [] (text_for stage.events stage.state events) first.passes rest.passes));
       }
 
   behind_front : (rest : List ℕ) → (head ++ event_lines events) ++ rest ≡ head ++ (event_lines events ++ rest)
@@ -52,12 +53,12 @@ module _ (head : List ℕ) (channels : List Served) (events : List HubEvent) (is
       (replayed_from (live + 1) f.to f.passes.next (whole_lines rest), ap (replayed live) (sym (behind_front rest)) ∙ f.passes.replays rest)
 
   pub journal_written : trace_text (journal_of head events) ≡ ended Done (first_line ++ (text_for 0 channels events ++ (done (length events)).text))
-  unfolding journal_of trace_text
+  unfolding journal_of served_text
   journal_written =
       let f = front 0 in
       let e = end_passes 0 f.to f.passes.next f.ready in
       let split = sym (behind_front (codes "end\n")) in
-      ap (λ (bs : List ℕ). after_text first_line (text_from opening 1 (lines_of bs))) split ∙ ap (after_text first_line) (f.passes.outcome (codes "end\n"))
+      ap (λ (bs : List ℕ). after_text first_line (text_from run (opening run) 1 (lines_of bs))) split ∙ ap (after_text first_line) (f.passes.outcome (codes "end\n"))
       ∙ ap (λ (o : Outcome). after_text first_line (after_text (text_for 0 channels events) o)) (e.outcome ∙ ap done f.count)
 
   pub journal_replays : (live : ℕ) → ((trace_text (journal_of head events)).status ≡ Done) × (replayed live (journal_of head events) ≡ sent_for (live + 1) channels events)
@@ -70,13 +71,13 @@ module _ (head : List ℕ) (channels : List Served) (events : List HubEvent) (is
             ∙ append-nil (sent_for (live + 1) channels events),
       )
 
-  pub journal_serves : (served_by (journal_of head events) ≡ behind events channels) × ((last_stage (journal_of head events)).events ≡ length events)
+  pub journal_serves : (served_by (journal_of head events) ≡ behind events channels) × ((last_stage run (journal_of head events)).events ≡ length events)
   unfolding journal_of
   journal_serves =
       let f = front 0 in
       let e = end_passes 0 f.to f.passes.next f.ready in
-      let last : last_stage (head ++ (event_lines events ++ codes "end\n")) ≡ f.to = ap last_stage (sym (behind_front (codes "end\n"))) ∙ f.passes.stage (codes "end\n") ∙ e.stays in
-      (ap (λ (s : Stage). s.channels) last ∙ f.channels_are, ap (λ (s : Stage). s.events) last ∙ f.count)
+      let last : last_stage run (head ++ (event_lines events ++ codes "end\n")) ≡ f.to = ap (last_stage run) (sym (behind_front (codes "end\n"))) ∙ f.passes.stage (codes "end\n") ∙ e.stays in
+      (ap (λ (s : Stage (List Served)). s.state) last ∙ f.channels_are, ap (λ (s : Stage (List Served)). s.events) last ∙ f.count)
 
 pub journals_replay : JournalsReplay
 journals_replay live head channels events is = journal_replays head channels events is live

@@ -12,7 +12,8 @@ use Rattle.server_hub.specs.declared.event.HubEvent.{HubEvent}
 use Rattle.server_hub.specs.declared.event.HubEvent.TheVariants.{Live, Feedback}
 use Rattle.server_hub.specs.Served.{Served}
 use Rattle.server_hub.specs.{id_of, answer_to, after_event}
-use Rattle.trace_book.specs.{Stage, most_events, ended, done, first_line, with_opened, event_text, trace_text, last_stage, served_by, new_channels}
+use Rattle.trace_serving.specs.{Stage, ended, done, with_opened, last_stage}
+use Rattle.trace_book.specs.{run, most_events, first_line, event_text, trace_text, served_by, new_channels}
 use Rattle.journal_book.specs.Heard.{heard_from, heard, CanArrive, events_of}
 use Rattle.journal_book.specs.Journal.{IsNumber, HasLine, CanCome, event_line, event_lines, journal_of, behind}
 use Rattle.journal_book.specs.Sent.{AreApart, answer_datagrams, datagrams_of, sent_for}
@@ -42,7 +43,7 @@ RunsWriteJournals =
 abbrev pub JournalsAreServed : Type 0
 JournalsAreServed =
     (head : List ℕ) (channels : List Served) (events : List HubEvent) → IsJournal head channels events
-    → (served_by (journal_of head events) ≡ behind events channels) × ((last_stage (journal_of head events)).events ≡ length events)
+    → (served_by (journal_of head events) ≡ behind events channels) × ((last_stage run (journal_of head events)).events ≡ length events)
 
 -- Whatever stands behind the head and the lines of these events, the replay sends what was sent for them first.
 abbrev pub FrontsReplay : Type 0
@@ -51,18 +52,18 @@ FrontsReplay =
     → (more : List Outgoing) × (replayed live (head ++ (event_lines events ++ rest)) ≡ sent_for (live + 1) channels events ++ more)
 
 -- what a server reaches by a line of the head
-abbrev pub stage_behind : Stage → TraceLine → Reached → Stage
-stage_behind stage line reached = record { reached = reached; channels = with_opened reached line stage.channels; events = stage.events }
+abbrev pub stage_behind : Stage (List Served) → TraceLine → Reached → Stage (List Served)
+stage_behind stage line reached = record { reached = reached; state = with_opened run reached line stage.state; events = stage.events }
 
 -- A line that a server takes, and that isn't `end`, makes a longer head.
 abbrev pub HeadsGrow : Type 0
 HeadsGrow =
-    (head bytes : List ℕ) (stage : Stage) (line : TraceLine) (reached : Reached) → Leads head stage → HasNoFeed bytes → judged stage.reached bytes ≡ Ok (line, reached) → line ≢ end_line
+    (head bytes : List ℕ) (stage : Stage (List Served)) (line : TraceLine) (reached : Reached) → Leads head stage → HasNoFeed bytes → judged stage.reached bytes ≡ Ok (line, reached) → line ≢ end_line
     → Leads (head ++ (line_text line ++ codes "\n")) (stage_behind stage line reached)
 
 -- Where `end` is taken, the lines before it open the channels so far.
 abbrev pub HeadsEnd : Type 0
-HeadsEnd = (head bytes : List ℕ) (stage : Stage) (reached : Reached) → Leads head stage → judged stage.reached bytes ≡ Ok (end_line, reached) → Opens head stage.channels
+HeadsEnd = (head bytes : List ℕ) (stage : Stage (List Served)) (reached : Reached) → Leads head stage → judged stage.reached bytes ≡ Ok (end_line, reached) → Opens head stage.state
 
 -- Channels to which nothing has come, with numbers that channels may have, no two of them the same.
 pub record AreNew (channels : List Served) : Type 0 where

@@ -2,8 +2,4 @@ pub mod Writing
 pub mod Turning
 pub mod Telling
 pub mod Opening
-pub mod LongLines
-pub mod FirstTurn
-pub mod Reading
-pub mod Running
-pub mod Booking
+pub mod Ending

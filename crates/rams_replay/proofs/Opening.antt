@@ -1,5 +1,5 @@
 -- The turns of lines that bring no event.
-use Rattle.std.proofs.Common.{◌≡◌, ℕ, ◌+◌, ◌≤◌, Bool, true, false, not, ◌&&◌, ◌||◌, cond, if◌then◌else◌, List, [], ◌∷◌, ◌++◌, map, length, Option, None, Some, Result, Ok, Err, is_some, refl, sym, subst, ap, ◌∙◌, arith, eqb, ltb, leb, codes}
+use Rattle.std.proofs.Common.{◌≡◌, ℕ, ◌+◌, ◌≤◌, Bool, true, false, not, ◌&&◌, ◌||◌, if◌then◌else◌, List, [], ◌∷◌, ◌++◌, map, length, Option, None, Some, Result, Ok, Err, is_some, refl, sym, subst, ap, ◌∙◌, eqb, ltb, leb}
 use Rattle.std.specs.Prelude.{IsSomeAnd, sum, sum_by}
 use Rattle.std.specs.List.{list_any}
 use Rattle.std.proofs.lemmas.Bool.{and_parts, leb-true}
@@ -10,14 +10,15 @@ use Rattle.rams_model.specs.declared.fault.ConfigFault.{ConfigFault}
 use Rattle.rams_model.specs.declared.fault.LineFault.{LineFault}
 use Rattle.rams_model.specs.declared.fault.LineFault.TheVariants.{Rule}
 use Rattle.rams_model.specs.Service.{Settings, settings, checked}
-use Rattle.rams_model.specs.Texts.{spaced, TraceLine, head_line, channel_line, end_line, line_in_range, Claim, Head, Reached, tick_of, has_channel, joined, with_channel, accepted}
+use Rattle.rams_model.specs.Texts.{head_line, channel_line, line_in_range, Claim, Head, Reached, tick_of, joined, with_channel, accepted}
 use Rattle.server_hub.specs.{AllServe, new_hub, settings_of, has_id, shares_of, refused, Serves as CoreServes, served}
 use Rattle.server_hub.specs.Seen.{Seen}
 use Rattle.server_hub.specs.Served.{Served}
 use Rattle.server_hub.proofs.Pairing.{same_length}
 use Rattle.trace_text.proofs.Checks.{checked_same}
-use Rattle.trace_book.specs.{Stage, eventless}
-use Rattle.rams_replay.specs.declared.replay.Turn.TheVariants.{GoesOn, Done}
+use Rattle.trace_serving.specs.{Stage, eventless}
+use Rattle.trace_loop.specs.declared.turn.Turn.TheVariants.{GoesOn}
+use Rattle.trace_book.specs.{run}
 use Rattle.rams_replay.specs.{HubServes, Serves, Stands, CanOpen, OpensIn, Comes, Took, claim_of}
 use Rattle.rams_replay.proofs.Telling.{settings_all, settings_stand}
 use Rattle.rams_replay.proofs.Turning.{Accepted, accepted_parts}
@@ -92,40 +93,40 @@ module _ (v : Seen) (r later : Reached) (c : Channel) (channels : List Served) (
       record { tick = is; fits = subst (λ (n : ℕ). refused v (settings c n) ≡ None) (sym is) (fits at) }
 
 -- the channel can be opened
-pub opens_next : (hub : Option Seen) (events version : ℕ) (later : Reached) (s : Settings) (stage : Stage) → s.tick ≡ tick_of later.head → Comes hub events later (channel_line version s.channel) stage
+pub opens_next : (hub : Option Seen) (events version : ℕ) (later : Reached) (s : Settings) (stage : Stage (List Served)) → s.tick ≡ tick_of later.head → Comes hub events later (channel_line version s.channel) stage
     → IsSomeAnd hub (λ v. CanOpen v s)
 opens_next hub events version later s stage tick comes = by hub refl
   where
     j : Joined stage.reached later s.channel
     j = joins stage.reached later s.channel version comes.comes
 
-    nowhere : HubServes None (Some j.head) stage.channels stage.events → ⊥
+    nowhere : HubServes None (Some j.head) stage.state stage.events → ⊥
     nowhere serves = serves
 
     by : (o : Option Seen) → hub ≡ o → IsSomeAnd o (λ v. CanOpen v s)
     by None is =
-        absurd (nowhere (subst (λ (h : Option Head). HubServes None h stage.channels stage.events) j.is_head (subst (λ (o : Option Seen). HubServes o stage.reached.head stage.channels stage.events) is comes.before.served)))
-    by (Some v) is = can_open v stage.reached later s.channel stage.channels stage.events j comes.before.claims s.tick tick hub is comes.before.served
+        absurd (nowhere (subst (λ (h : Option Head). HubServes None h stage.state stage.events) j.is_head (subst (λ (o : Option Seen). HubServes o stage.reached.head stage.state stage.events) is comes.before.served)))
+    by (Some v) is = can_open v stage.reached later s.channel stage.state stage.events j comes.before.claims s.tick tick hub is comes.before.served
 
 -- what stands behind the line of a channel
-pub opened_turn : (hub new : Option Seen) (events version number : ℕ) (later : Reached) (s : Settings) (stage : Stage) → s.tick ≡ tick_of later.head → OpensIn s hub new
-    → Comes hub events later (channel_line version s.channel) stage → Took (eventless stage later (channel_line version s.channel)) new events later number GoesOn
+pub opened_turn : (hub new : Option Seen) (events version number : ℕ) (later : Reached) (s : Settings) (stage : Stage (List Served)) → s.tick ≡ tick_of later.head → OpensIn s hub new
+    → Comes hub events later (channel_line version s.channel) stage → Took (eventless run stage later (channel_line version s.channel)) new events later number GoesOn
 opened_turn None new events version number later s stage tick opens comes = absurd opens
 opened_turn (Some v) None events version number later s stage tick opens comes = absurd opens
 opened_turn (Some v) (Some w) events version number later s stage tick opens comes =
     let r = stage.reached in
     let c = s.channel in
     let j = joins r later c version comes.comes in
-    let at : Serves v j.head stage.channels stage.events = subst (λ (h : Option Head). HubServes (Some v) h stage.channels stage.events) j.is_head comes.before.served in
+    let at : Serves v j.head stage.state stage.events = subst (λ (h : Option Head). HubServes (Some v) h stage.state stage.events) j.is_head comes.before.served in
     let head = later_head r later c j in
-    let more = stage.channels ++ served (settings c (tick_of later.head)) [] ∷ [] in
-    let stands = subst (λ (n : ℕ). AllServe w.channels (stage.channels ++ served (settings c n) [] ∷ [])) tick (opens.stands stage.channels at.stands) in (
+    let more = stage.state ++ served (settings c (tick_of later.head)) [] ∷ [] in
+    let stands = subst (λ (n : ℕ). AllServe w.channels (stage.state ++ served (settings c n) [] ∷ [])) tick (opens.stands stage.state at.stands) in (
       record {
         served = subst (λ (h : Option Head). HubServes (Some w) h more stage.events) (sym head)
             (record { stands = stands; tick = opens.tick ∙ at.tick; link = opens.link ∙ at.link; calls = opens.calls ∙ at.calls });
         claims =
             ap (λ (x : Reached). x.channels) (sym j.is_later) ∙ ap (λ (l : List Claim). l ++ (record { id = c.id; share = c.share } ∷ [])) comes.before.claims
-            ∙ sym (map-append claim_of stage.channels (served (settings c (tick_of later.head)) [] ∷ []));
+            ∙ sym (map-append claim_of stage.state (served (settings c (tick_of later.head)) [] ∷ []));
         counted = comes.before.counted;
         lines = refl;
       },
@@ -139,8 +140,8 @@ none_before true head h = absurd cc
 none_before false true h = absurd cc
 none_before false false h = refl
 
-pub head_turn : (hub : Option Seen) (events version tick link number : ℕ) (later : Reached) (stage : Stage) → Comes hub events later (head_line version tick link) stage
-    → Took (eventless stage later (head_line version tick link)) (Some (new_hub tick link)) events later number GoesOn
+pub head_turn : (hub : Option Seen) (events version tick link number : ℕ) (later : Reached) (stage : Stage (List Served)) → Comes hub events later (head_line version tick link) stage
+    → Took (eventless run stage later (head_line version tick link)) (Some (new_hub tick link)) events later number GoesOn
 head_turn hub events version tick link number later stage comes = (by hub stage.reached.head refl comes.before.served, refl, refl)
   where
     parts : Accepted stage.reached later (head_line version tick link)
@@ -151,10 +152,10 @@ head_turn hub events version tick link number later stage comes = (by hub stage.
         let does : Ok (record stage.reached { head = Some (record { version = version; tick = tick; link = link }) }) ≡ Ok later = parts.does in
         cc
 
-    by : (o : Option Seen) (h : Option Head) → stage.reached.head ≡ h → HubServes o h stage.channels stage.events
-        → Stands (Some (new_hub tick link)) events later (record { reached = later; channels = stage.channels; events = stage.events })
+    by : (o : Option Seen) (h : Option Head) → stage.reached.head ≡ h → HubServes o h stage.state stage.events
+        → Stands (Some (new_hub tick link)) events later (record { reached = later; state = stage.state; events = stage.events })
     by None None is serves = record {
-      served = subst (λ (h : Option Head). HubServes (Some (new_hub tick link)) h stage.channels stage.events) (ap (λ (x : Reached). x.head) later_is)
+      served = subst (λ (h : Option Head). HubServes (Some (new_hub tick link)) h stage.state stage.events) (ap (λ (x : Reached). x.head) later_is)
           (record { stands = subst (λ (l : List Served). AllServe [] l) (sym serves.0) tt; tick = refl; link = refl; calls = sym serves.1 });
       claims = ap (λ (x : Reached). x.channels) (sym later_is) ∙ comes.before.claims;
       counted = comes.before.counted;
@@ -180,6 +181,6 @@ bounded version tick link h =
     let links = and_parts _ _ both.1 in
     record { tick_least = leb-true 1 tick ticks.0; tick_most = leb-true tick 1000 ticks.1; link_least = leb-true 1500 link links.0; link_most = leb-true link 1000000000 links.1 }
 
-pub head_bounds : (hub : Option Seen) (events version tick link : ℕ) (later : Reached) (stage : Stage) → Comes hub events later (head_line version tick link) stage → Bounded tick link
+pub head_bounds : (hub : Option Seen) (events version tick link : ℕ) (later : Reached) (stage : Stage (List Served)) → Comes hub events later (head_line version tick link) stage → Bounded tick link
 head_bounds hub events version tick link later stage comes =
     bounded version tick link (accepted_parts stage.reached later (head_line version tick link) comes.comes).in_range

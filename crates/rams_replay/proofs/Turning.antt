@@ -1,5 +1,5 @@
 -- The turns of lines.
-use Rattle.std.proofs.Common.{◌≡◌, ℕ, ◌+◌, ◌<◌, ◌≤◌, Bool, true, false, not, ◌&&◌, cond, if◌then◌else◌, List, [], ◌∷◌, ◌++◌, map, Option, None, Some, Result, Ok, Err, is_some, refl, sym, subst, ap, ◌∙◌, arith, eqb, ltb, length, ◌⊎◌, inl, inr}
+use Rattle.std.proofs.Common.{◌≡◌, ℕ, ◌+◌, ◌<◌, Bool, true, false, not, ◌&&◌, cond, if◌then◌else◌, List, [], ◌∷◌, map, Option, None, Some, Result, Ok, Err, is_some, refl, sym, subst, ap, ◌∙◌, arith, eqb, ltb, length, ◌⊎◌, inl, inr}
 use Rattle.std.proofs.lemmas.Bool.{and_parts, lt-ltb}
 use Rattle.rams_model.specs.declared.channel.Channel.{Channel}
 use Rattle.rams_model.specs.declared.event.Event.{Event}
@@ -14,11 +14,12 @@ use Rattle.server_hub.specs.{StandsFor, id_of, with_event, after_event, after_ev
 use Rattle.server_hub.specs.declared.event.HubEvent.TheVariants.{Live, Feedback, Tick}
 use Rattle.server_hub.specs.Seen.{Seen}
 use Rattle.server_hub.specs.Served.{Served}
-use Rattle.trace_book.specs.{Stage, goes_on, ends, too_long, most_events, after_judging, after_line, counted, event_text, turn, event_of as brought}
-use Rattle.rams_replay.specs.declared.replay.Turn.{Turn}
-use Rattle.rams_replay.specs.{Comes, HubServes, Stands, StandsSomewhere, CountsOne, Tells, Took, claim_of, ending, last_line, written}
-use Rattle.rams_replay.specs.declared.replay.Turn.TheVariants.{GoesOn, Said, Refused, TooLong, Done}
-use Rattle.trace_book.specs.TraceText as text
+use Rattle.trace_serving.specs.{Stage, goes_on, after_judging, after_line, counted, turn, brought}
+use Rattle.trace_serving.specs.Text as text
+use Rattle.trace_loop.specs.declared.turn.Turn.{Turn}
+use Rattle.trace_loop.specs.declared.turn.Turn.TheVariants.{GoesOn, Said, Refused}
+use Rattle.trace_book.specs.{run, most_events, event_text}
+use Rattle.rams_replay.specs.{Comes, HubServes, Stands, CountsOne, Tells, Took, claim_of}
 use Rattle.trace_text.specs.declared.line.Line.{Line}
 use Rattle.trace_text.specs.{shown, IsOther}
 use Rattle.trace_text.specs.declared.line.Line.TheVariants.{Channel as ChannelLine, Tune, Give, Mcast, Ask, Drop}
@@ -64,7 +65,7 @@ unfolding judged
 judged_accepts r bytes read later h = read_accepts r _ read later h
 
 -- the line that was read comes behind the stage
-pub comes_next : (hub : Option Seen) (events : ℕ) (reached later : Reached) (bytes : List ℕ) (read : TraceLine) (stage : Stage) → Stands hub events reached stage
+pub comes_next : (hub : Option Seen) (events : ℕ) (reached later : Reached) (bytes : List ℕ) (read : TraceLine) (stage : Stage (List Served)) → Stands hub events reached stage
     → judged reached bytes ≡ Ok (read, later) → Comes hub events later read stage
 comes_next hub events reached later bytes read stage stands h = record {
   before = record { served = stands.served; claims = stands.claims; counted = stands.counted; lines = refl };
@@ -72,18 +73,18 @@ comes_next hub events reached later bytes read stage stands h = record {
 }
 
 -- its turn is that of the line
-pub judged_turn : (stage : Stage) (number : ℕ) (bytes : List ℕ) (read : TraceLine) (later now : Reached) (hub : Option Seen) (events : ℕ) (t : Turn) → judged stage.reached bytes ≡ Ok (read, later)
-    → Took (after_line stage later read (brought read)) hub events now number t → Took (turn stage number bytes) hub events now number t
+pub judged_turn : (stage : Stage (List Served)) (number : ℕ) (bytes : List ℕ) (read : TraceLine) (later now : Reached) (hub : Option Seen) (events : ℕ) (t : Turn HubAnswer) → judged stage.reached bytes ≡ Ok (read, later)
+    → Took (after_line run stage later read (brought run read)) hub events now number t → Took (turn run stage number bytes) hub events now number t
 unfolding turn
 judged_turn stage number bytes read later now hub events t h took =
-    subst (λ (o : Result (TraceLine × Reached) LineFault). Took (after_judging stage number o) hub events now number t) (sym h) took
+    subst (λ (o : Result (TraceLine × Reached) LineFault). Took (after_judging run stage number o) hub events now number t) (sym h) took
 
 -- a line that is refused
-pub refused_turn : (stage : Stage) (number : ℕ) (bytes : List ℕ) (fault : LineFault) (hub : Option Seen) (events : ℕ) (reached : Reached) → judged stage.reached bytes ≡ Err fault
-    → Took (turn stage number bytes) hub events reached number (Refused fault)
+pub refused_turn : (stage : Stage (List Served)) (number : ℕ) (bytes : List ℕ) (fault : LineFault) (hub : Option Seen) (events : ℕ) (reached : Reached) → judged stage.reached bytes ≡ Err fault
+    → Took (turn run stage number bytes) hub events reached number (Refused fault)
 unfolding turn
 refused_turn stage number bytes fault hub events reached h =
-    subst (λ (o : Result (TraceLine × Reached) LineFault). Took (after_judging stage number o) hub events reached number (Refused fault)) (sym h) (refl, refl)
+    subst (λ (o : Result (TraceLine × Reached) LineFault). Took (after_judging run stage number o) hub events reached number (Refused fault)) (sym h) (refl, refl)
 
 -- an event changes no channel's number and share
 claim_kept : (b : Bool) (e : Event) (c : Served) → claim_of (cond b (with_event e c) c) ≡ claim_of c
@@ -108,14 +109,14 @@ claims_kept Tick channels = tick_kept channels
 abbrev pub begun : Reached → Reached
 begun r = record r { begun = true }
 
-pub stands_begun : (hub : Option Seen) (events : ℕ) (stage : Stage) (later : Reached) → begun stage.reached ≡ later → Stands hub events stage.reached stage
+pub stands_begun : (hub : Option Seen) (events : ℕ) (stage : Stage (List Served)) (later : Reached) → begun stage.reached ≡ later → Stands hub events stage.reached stage
     → Stands hub events later (record stage { reached = later })
 stands_begun hub events stage later e stands =
     subst (λ (r : Reached). Stands hub events r (record stage { reached = r })) e
     (record { served = stands.served; claims = stands.claims; counted = stands.counted; lines = refl })
 
 -- what stands behind an event line, but for the event
-pub event_stage : (hub : Option Seen) (events : ℕ) (later : Reached) (line : TraceLine) (stage : Stage) → Comes hub events later line stage → with_line stage.reached line ≡ Ok (begun stage.reached)
+pub event_stage : (hub : Option Seen) (events : ℕ) (later : Reached) (line : TraceLine) (stage : Stage (List Served)) → Comes hub events later line stage → with_line stage.reached line ≡ Ok (begun stage.reached)
     → Stands hub events later (record stage { reached = later })
 event_stage hub events later line stage comes is =
     let does : Ok (begun stage.reached) ≡ Ok later = sym is ∙ (accepted_parts stage.reached later line comes.comes).does in
@@ -127,21 +128,21 @@ IsReceiver l =
     ((x : ℕ) × (y : ℕ) × (z : ℕ) × (l ≡ Tune x y z)) ⊎ (((x : ℕ) × (l ≡ Give x)) ⊎ (((x : ℕ) × (y : ℕ) × (z : ℕ) × (l ≡ Mcast x y z))
     ⊎ (((x : ℕ) × (y : ℕ) × (l ≡ Ask x y)) ⊎ (((x : ℕ) × (y : ℕ) × (l ≡ Drop x y)) ⊎ ((x : ℕ) × (y : Channel) × (l ≡ ChannelLine x y))))))
 
-silent_turn : (hub : Option Seen) (events number : ℕ) (later : Reached) (stage : Stage) (line : TraceLine) → Comes hub events later line stage → with_line stage.reached line ≡ Ok (begun stage.reached)
-    → after_line stage later line (brought line) ≡ goes_on (record { reached = later; channels = stage.channels; events = stage.events }) []
-    → Took (after_line stage later line (brought line)) hub events later number GoesOn
+silent_turn : (hub : Option Seen) (events number : ℕ) (later : Reached) (stage : Stage (List Served)) (line : TraceLine) → Comes hub events later line stage → with_line stage.reached line ≡ Ok (begun stage.reached)
+    → after_line run stage later line (brought run line) ≡ goes_on (record { reached = later; state = stage.state; events = stage.events }) []
+    → Took (after_line run stage later line (brought run line)) hub events later number GoesOn
 silent_turn hub events number later stage line comes does is =
-    subst (λ (was : text.Turn). Took was hub events later number GoesOn) (sym is) (event_stage hub events later line stage comes does, refl, refl)
+    subst (λ (was : text.Turn (List Served)). Took was hub events later number GoesOn) (sym is) (event_stage hub events later line stage comes does, refl, refl)
 
-module _ (hub : Option Seen) (events number : ℕ) (later : Reached) (stage : Stage) (l : Line) (comes : Comes hub events later (shown l) stage) where
+module _ (hub : Option Seen) (events number : ℕ) (later : Reached) (stage : Stage (List Served)) (l : Line) (comes : Comes hub events later (shown l) stage) where
   as_line : (k : Line) → l ≡ k → with_line stage.reached (shown k) ≡ Ok (begun stage.reached)
-      → after_line stage later (shown k) (brought (shown k)) ≡ goes_on (record { reached = later; channels = stage.channels; events = stage.events }) []
-      → Took (after_line stage later (shown l) (brought (shown l))) hub events later number GoesOn
+      → after_line run stage later (shown k) (brought run (shown k)) ≡ goes_on (record { reached = later; state = stage.state; events = stage.events }) []
+      → Took (after_line run stage later (shown l) (brought run (shown l))) hub events later number GoesOn
   as_line k is does silent =
-      subst (λ (x : Line). Took (after_line stage later (shown x) (brought (shown x))) hub events later number GoesOn) (sym is)
+      subst (λ (x : Line). Took (after_line run stage later (shown x) (brought run (shown x))) hub events later number GoesOn) (sym is)
       (silent_turn hub events number later stage (shown k) (subst (λ (x : Line). Comes hub events later (shown x) stage) is comes) does silent)
 
-  pub receiver_turn : IsOther l → IsReceiver l → Took (after_line stage later (shown l) (brought (shown l))) hub events later number GoesOn
+  pub receiver_turn : IsOther l → IsReceiver l → Took (after_line run stage later (shown l) (brought run (shown l))) hub events later number GoesOn
   receiver_turn other (inl p) = as_line (Tune p.0 p.1 p.2) p.3 refl refl
   receiver_turn other (inr (inl p)) = as_line (Give p.0) p.1 refl refl
   receiver_turn other (inr (inr (inl p))) = as_line (Mcast p.0 p.1 p.2) p.3 refl refl
@@ -153,15 +154,15 @@ module _ (hub : Option Seen) (events number : ℕ) (later : Reached) (stage : St
 no_channel : (r : Reached) (channels : List Served) → r.channels ≡ map claim_of channels → channels ≡ [] → has_channel r ≡ false
 no_channel r channels claims none = ap (λ (l : List Claim). ltb 0 (length l)) (claims ∙ ap (map claim_of) none)
 
-pub has_hub : (hub : Option Seen) (events : ℕ) (r : Reached) (stage : Stage) → Stands hub events r stage → has_channel stage.reached ≡ true → is_some hub ≡ true
+pub has_hub : (hub : Option Seen) (events : ℕ) (r : Reached) (stage : Stage (List Served)) → Stands hub events r stage → has_channel stage.reached ≡ true → is_some hub ≡ true
 has_hub hub events r stage stands has = by hub stage.reached.head stands.served
   where
-    by : (o : Option Seen) (h : Option Head) → HubServes o h stage.channels stage.events → is_some o ≡ true
+    by : (o : Option Seen) (h : Option Head) → HubServes o h stage.state stage.events → is_some o ≡ true
     by (Some v) h serves = refl
     by None (Some head) serves = absurd serves
-    by None None serves = let none = no_channel stage.reached stage.channels stands.claims serves.0 in absurd cc
+    by None None serves = let none = no_channel stage.reached stage.state stands.claims serves.0 in absurd cc
 
-pub event_has_hub : (hub : Option Seen) (events : ℕ) (later : Reached) (line : TraceLine) (stage : Stage) → Comes hub events later line stage → kind_of line ≡ kind.Event → is_some hub ≡ true
+pub event_has_hub : (hub : Option Seen) (events : ℕ) (later : Reached) (line : TraceLine) (stage : Stage (List Served)) → Comes hub events later line stage → kind_of line ≡ kind.Event → is_some hub ≡ true
 event_has_hub hub events later line stage comes is =
     let may = (and_parts _ _ (accepted_parts stage.reached later line comes.comes).may).0 in
     let event : kind_may_come stage.reached kind.Event ≡ true = subst (λ (k : LineKind). kind_may_come stage.reached k ≡ true) is may in
@@ -170,36 +171,22 @@ event_has_hub hub events later line stage comes is =
 -- an event that is served
 pub served_turn : (v w : Seen) (events : ℕ) (e : HubEvent) (a : HubAnswer) → events < 1000000 → CountsOne v w
     → ((channels : List Served) → StandsFor v channels → Tells e channels w a)
-    → (stage : Stage) (number : ℕ) → Stands (Some v) events stage.reached stage → Took (counted stage stage.reached e) (Some w) (events + 1) stage.reached number (Said a)
+    → (stage : Stage (List Served)) (number : ℕ) → Stands (Some v) events stage.reached stage → Took (counted run stage stage.reached e) (Some w) (events + 1) stage.reached number (Said a)
 served_turn v w events e a few counts tells stage number stands = by_head stage.reached.head refl stands.served
   where
-    by_head : (h : Option Head) → stage.reached.head ≡ h → HubServes (Some v) h stage.channels stage.events
-        → Took (counted stage stage.reached e) (Some w) (events + 1) stage.reached number (Said a)
+    by_head : (h : Option Head) → stage.reached.head ≡ h → HubServes (Some v) h stage.state stage.events
+        → Took (counted run stage stage.reached e) (Some w) (events + 1) stage.reached number (Said a)
     by_head None is serves = absurd serves
     by_head (Some head) is serves =
-        let told = tells stage.channels serves.stands in
+        let told = tells stage.state serves.stands in
         rw (lt-ltb stage.events most_events (omega (arith, stands.counted))) (
           record {
-            served = subst (λ (h : Option Head). HubServes (Some w) h (after_event e stage.channels) (stage.events + 1)) (sym is)
+            served = subst (λ (h : Option Head). HubServes (Some w) h (after_event e stage.state) (stage.events + 1)) (sym is)
                 (record { stands = told.stands; tick = counts.tick ∙ serves.tick; link = counts.link ∙ serves.link; calls = counts.calls ∙ ap (λ n. n + 1) serves.calls });
-            claims = stands.claims ∙ sym (claims_kept e stage.channels);
+            claims = stands.claims ∙ sym (claims_kept e stage.state);
             counted = ap (λ n. n + 1) stands.counted;
             lines = refl;
           },
           refl,
-          told.text (events + 1) ∙ ap (λ n. event_text (n + 1) e stage.channels) stands.counted,
+          told.text (events + 1) ∙ ap (λ n. event_text (n + 1) e stage.state) stands.counted,
         )
-
--- where a turn goes on, the hub stands for the stage behind it
-pub goes_somewhere : (was : text.Turn) (hub : Option Seen) (events : ℕ) (reached : Reached) (number : ℕ) (t : Turn) → Took was hub events reached number t → ending t ≡ None
-    → StandsSomewhere hub events reached
-goes_somewhere (goes_on later bytes) hub events reached number t took none = (later, took.0)
-goes_somewhere (ends o) hub events reached number t took none = absurd cc
-
--- what is written for a turn that answers nothing
-pub written_last : (hub : Option Seen) (events number : ℕ) (t : Turn) → ((a : HubAnswer) → t ≡ Said a → ⊥) → last_line events number t ≡ written hub events number t
-written_last hub events number (Said a) none = absurd (none a refl)
-written_last hub events number GoesOn none = refl
-written_last hub events number (Refused fault) none = refl
-written_last hub events number TooLong none = refl
-written_last hub events number Done none = refl

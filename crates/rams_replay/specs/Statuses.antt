@@ -5,9 +5,11 @@ use Rattle.line_io.specs.Passes.{Passes}
 use Rattle.ram_io.specs.{Rose}
 use Rattle.rams_model.specs.declared.status.Status.{Status}
 use Rattle.rams_model.specs.declared.status.Status.TheVariants.{Done, NoMemory, Words, ReadFault, WriteFault, BadTrace, WireFault, TooLong}
-use Rattle.trace_book.specs.{Outcome}
-use Rattle.rams_replay.specs.declared.stop.Stop.{Stop}
-use Rattle.rams_replay.specs.declared.stop.Stop.TheVariants.{Memory, Read, Write}
+use Rattle.trace_serving.specs.{Outcome}
+use Rattle.trace_loop.specs.declared.stop.Stop.{Stop}
+use Rattle.trace_loop.specs.declared.stop.Stop.TheVariants.{Memory, Read, Write, Wire}
+use Rattle.trace_loop.specs.{HasReadText as HasReadTextOf}
+use Rattle.trace_book.specs.{run}
 
 -- the status of a run
 abbrev pub status_of : Result Status Stop → Status
@@ -15,6 +17,7 @@ status_of (Ok status) = status
 status_of (Err Memory) = NoMemory
 status_of (Err Read) = ReadFault
 status_of (Err Write) = WriteFault
+status_of (Err Wire) = WireFault
 
 -- the words are refused
 abbrev pub is_words : Status → Bool
@@ -27,6 +30,10 @@ HasText held holds o Done = (o.status ≡ Done) × Appends held holds o.text
 HasText held holds o BadTrace = (o.status ≡ BadTrace) × Appends held holds o.text
 HasText held holds o TooLong = (o.status ≡ TooLong) × Appends held holds o.text
 HasText held holds o _ = Unit {0}
+
+-- Of a trace xs the bytes in front of what is left were taken, and a front of the book of the lines that were read went to the sink.
+abbrev pub HasReadText : Option (List ℕ) → Option (List ℕ) → List ℕ → List ℕ → Type 0
+HasReadText held holds xs left = HasReadTextOf run held holds xs left
 
 -- The sink got exactly the text where the command is done, and else, where memory or the sink stopped it, a front of it. It ends in no other way.
 abbrev pub HasSummary : Option (List ℕ) → Option (List ℕ) → List ℕ → Status → Type 0

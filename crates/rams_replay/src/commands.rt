@@ -4,11 +4,11 @@ ghost use Rattle.line_io.specs.Passes.{Passes};
 ghost use Rattle.trace_book.specs.{KeepsTheLink, KeepsPromises, served_by, trace_text};
 ghost use Rattle.rams_model.specs.declared.status.Status.TheVariants.{Done, ReadFault};
 ghost use Rattle.summary.specs.{made_summary};
-ghost use Rattle.rams_replay.specs.{AreMake, AreRun, begins_with_plain, command_of, status_of, is_words, HasSummary, HasText, IsCaused, IsOrLacksMemory, IfTold, IfBothTold, HasReadText};
+ghost use Rattle.rams_replay.specs.{AreMake, AreRun, begins_with_plain, command_of, status_of, is_words, HasSummary, HasText, IsCaused, IsOrLacksMemory, HasReadText};
+ghost use Rattle.trace_loop.specs.{IfTold, IfBothTold};
 
-use crate::book::write_book;
 use crate::made::write_summary;
-use crate::stop::Stop;
+use crate::replay::new_replay;
 use crate::words::{Command, begins_with_plain, command_of};
 use ram_io::{Clock, Gate, Octets, Sink, Source, Wire};
 use rams_model::Status;
@@ -16,13 +16,14 @@ use std::alloc::Global;
 use std::sync::Wait;
 use std::thread::Threads;
 use trace_book::laws::{traces_are_served_lawfully, traces_stay_within_the_link};
+use trace_loop::{Stop, write_text};
 
 /// Runs a command over whatever it reads from, writes to, sends through and tells the time by.
 ///
 /// `words` are those of the command line behind the program's name. `run` reads a trace and writes
 /// its book; `make SEED BLOCKS` writes the summary of a generated trace and reads nothing. Any other
 /// words are refused, and nothing is read or written.
-#[tactic(auto, using(crate::proofs::Booking::not_plain))]
+#[tactic(auto, using(crate::proofs::Ending::not_plain))]
 pub fn run<R: Threads + Wait + Sync, S: Source, K: Sink, W: Wire, C: Clock, G: Gate + Sync>(
     _rt: &R,
     alloc: Global,
@@ -98,7 +99,8 @@ fn write_status<S: Source, K: Sink>(alloc: Global, source: &mut S, sink: &mut K)
     ensures whole { S.is_steady source.old → IfTold (S.left source.old)
         (λ xs. K.is_steady sink.old (length (trace_text xs).text) → IsOrLacksMemory (trace_text xs).status result) }
 {
-    status_of(write_book(alloc, source, sink))
+    let mut replay = new_replay(alloc);
+    status_of(write_text(alloc, &mut replay, b"rams-book 1\n", source, sink))
 }
 
 fn status_of(ended: Result<Status, Stop>) -> Status
@@ -109,5 +111,6 @@ fn status_of(ended: Result<Status, Stop>) -> Status
         Err(Stop::Memory) => Status::NoMemory,
         Err(Stop::Read) => Status::ReadFault,
         Err(Stop::Write) => Status::WriteFault,
+        Err(Stop::Wire) => Status::WireFault,
     }
 }

@@ -1,12 +1,10 @@
 //! The commands of the program, over whatever they read from and write to.
 #![tactic(auto)]
 
-mod book;
 mod commands;
 mod entry;
 mod made;
 mod replay;
-mod stop;
 mod words;
 mod writer;
 

@@ -4,14 +4,14 @@ ghost use Rattle.std.specs.Io.KnownBytes.{Appends};
 ghost use Rattle.line_io.specs.Passes.{Passes};
 ghost use Rattle.rams_model.specs.declared.status.Status.TheVariants.{Done};
 ghost use Rattle.summary.specs.{made_summary};
-ghost use Rattle.rams_replay.specs.{IsStoppedByWrite, OnlyMemoryStops};
+ghost use Rattle.trace_loop.specs.{IsStoppedByWrite, OnlyMemoryStops};
 
-use crate::stop::Stop;
 use generated_run::summary_of;
 use line_io::put_all;
 use ram_io::Sink;
 use rams_model::Status;
 use std::alloc::Global;
+use trace_loop::Stop;
 
 /// Writes the summary of the generated trace of this seed and of so many blocks.
 pub fn write_summary<K: Sink>(

@@ -1,49 +1,43 @@
 //! A trace, line by line.
 ghost use Rattle.std.specs.Prelude.{◌≡◌, ◌<◌, ◌^◌, ℕ, true, IfOk, OnOk, IsSomeAnd, None, is_some, List};
-ghost use Rattle.server_hub.specs.{StandsFor, event_of};
+ghost use Rattle.server_hub.specs.declared.event.HubEvent.{HubEvent};
+ghost use Rattle.server_hub.specs.{StandsFor, event_of, told as said};
 ghost use Rattle.server_hub.specs.Served.{Served};
 ghost use Rattle.rams_model.specs.Texts.{tick_of};
 ghost use Rattle.trace_text.specs.{shown, told, HasDigits, IsOther, IsSettled};
-ghost use Rattle.trace_book.specs.{Stage, opening, turn, after_line, counted, event_of as brought};
-ghost use Rattle.rams_replay.specs.{Stands, StandsSomewhere, Comes, CanOpen, OpensIn, CountsOne, Tells, Took, CanWrite, ending};
+ghost use Rattle.trace_serving.specs.{Stage, opening, turn, after_line, counted, brought};
+ghost use Rattle.trace_loop.specs.{StandsSomewhere, CanWrite, ending};
+ghost use Rattle.trace_loop.specs.declared.turn.Turn.TheVariants.{GoesOn};
+ghost use Rattle.trace_book.specs.{run};
+ghost use Rattle.rams_replay.specs.{Stands, Comes, CanOpen, OpensIn, CountsOne, Tells, Took, SaidRender, told_text};
 
+use crate::writer::write_said;
 use channel_config::Config;
-use ram_io::NoMemory;
+use ram_io::{NoMemory, Sink};
 use rams_model::LineFault;
 use server_hub::{Heard, Hub, HubAnswer};
 use std::alloc::Global;
+use trace_loop::{Stop, TraceServer, Writer};
 use trace_text::{Judged, Line, Mode, State, decode_to};
 
 /// Most events of a trace.
 const MOST_EVENTS: u64 = 1_000_000;
 
-/// What a line does.
-#[derive(Drop)]
-pub enum Turn {
-    /// Nothing is written.
-    GoesOn,
-    /// The channels answer its event.
-    Said(HubAnswer),
-    /// It is refused for this fault, and the run ends.
-    Refused(LineFault),
-    /// Its event is one too many, and the run ends.
-    TooLong,
-    /// It is the end of the trace.
-    Done,
-}
+/// What a line of a trace for `run` does.
+type Turn = trace_loop::Turn<HubAnswer>;
 
 /// What stands before a line: the channels, how many events there were, and the lines.
 #[derive(Drop)]
 pub struct Replay {
-    pub hub: Option<Hub>,
-    pub events: u64,
+    hub: Option<Hub>,
+    events: u64,
     state: State,
     bytes: Vec<u8>,
 }
 
 /// Before the first line.
 pub fn new_replay(alloc: Global) -> Replay
-    ensures { Stands result.hub result.events result.state opening }
+    ensures { Stands result.hub result.events result.state (opening run) }
 {
     Replay {
         hub: None,
@@ -53,13 +47,41 @@ pub fn new_replay(alloc: Global) -> Replay
     }
 }
 
+impl TraceServer for Replay {
+    type Answer = HubAnswer;
+
+    ghost state = { List Served };
+
+    ghost event = { HubEvent };
+
+    ghost serving = { run };
+
+    ghost stands = { λ r stage. Stands r.hub r.events r.state stage };
+
+    ghost lines = { λ r answer. told_text r.hub r.events (said answer) };
+
+    ghost can_write = { SaidRender };
+
+    fn take_line(&mut self, alloc: Global, line: &[u8]) -> Result<Turn, NoMemory> {
+        take_line(alloc, self, line)
+    }
+
+    fn write_answer<K: Sink>(
+        &self,
+        writer: &mut Writer,
+        sink: &mut K,
+        answer: &HubAnswer,
+    ) -> Result<(), Stop> {
+        write_said(writer, sink, &self.hub, self.events, answer)
+    }
+}
+
 /// What the next line does.
-pub fn take_line(alloc: Global, replay: &mut Replay, line: &[u8]) -> Result<Turn, NoMemory>
-    requires { StandsSomewhere replay.old.hub replay.old.events replay.old.state }
-    ensures turn { IfOk result (λ t. (stage : Stage) (number : ℕ) → Stands replay.old.hub replay.old.events replay.old.state stage
-        → Took (turn stage number line.now) replay.new.hub replay.new.events replay.new.state number t) }
-    ensures stands { IfOk result (λ t. ending t ≡ None → StandsSomewhere replay.new.hub replay.new.events replay.new.state) }
-    ensures write { IfOk result CanWrite }
+fn take_line(alloc: Global, replay: &mut Replay, line: &[u8]) -> Result<Turn, NoMemory>
+    requires { StandsSomewhere (Stands replay.old.hub replay.old.events replay.old.state) }
+    ensures turn { IfOk result (λ t. (stage : Stage (List Served)) (number : ℕ) → Stands replay.old.hub replay.old.events replay.old.state stage
+        → Took (turn run stage number line.now) replay.new.hub replay.new.events replay.new.state number t) }
+    ensures write { IfOk result (CanWrite SaidRender) }
 {
     match replay.state.judge(line) {
         Ok(read) => after_line(alloc, replay, &read),
@@ -70,16 +92,13 @@ pub fn take_line(alloc: Global, replay: &mut Replay, line: &[u8]) -> Result<Turn
 /// What a line does that may come.
 fn after_line(alloc: Global, replay: &mut Replay, line: &Judged<'_>) -> Result<Turn, NoMemory>
     requires settled { IsSettled (tick_of replay.old.state.head) line.now }
-    requires comes { (stage : Stage) × Comes replay.old.hub replay.old.events replay.old.state (told line.now) stage }
-    ensures turn { IfOk result (λ t. (stage : Stage) (number : ℕ) → Comes replay.old.hub replay.old.events replay.old.state (told line.now) stage
-        → Took (after_line stage replay.old.state (told line.now) (brought (told line.now))) replay.new.hub replay.new.events replay.new.state number t) }
-    ensures write { IfOk result CanWrite }
+    requires comes { (stage : Stage (List Served)) × Comes replay.old.hub replay.old.events replay.old.state (told line.now) stage }
+    ensures turn { IfOk result (λ t. (stage : Stage (List Served)) (number : ℕ) → Comes replay.old.hub replay.old.events replay.old.state (told line.now) stage
+        → Took (after_line run stage replay.old.state (told line.now) (brought run (told line.now))) replay.new.hub replay.new.events replay.new.state number t) }
+    ensures write { IfOk result (CanWrite SaidRender) }
 {
     match line {
-        Judged::Channel { config, .. } => {
-            open(alloc, &mut replay.hub, *config)?;
-            Ok(Turn::GoesOn)
-        }
+        Judged::Channel { config, .. } => open(alloc, &mut replay.hub, *config),
         Judged::Other(line) => after_other(alloc, replay, *line),
     }
 }
@@ -88,10 +107,10 @@ fn after_line(alloc: Global, replay: &mut Replay, line: &Judged<'_>) -> Result<T
 fn after_other(alloc: Global, replay: &mut Replay, line: Line<'_>) -> Result<Turn, NoMemory>
     requires other { IsOther line }
     requires digits { HasDigits line }
-    requires comes { (stage : Stage) × Comes replay.old.hub replay.old.events replay.old.state (shown line) stage }
-    ensures turn { IfOk result (λ t. (stage : Stage) (number : ℕ) → Comes replay.old.hub replay.old.events replay.old.state (shown line.entry) stage
-        → Took (after_line stage replay.old.state (shown line.entry) (brought (shown line.entry))) replay.new.hub replay.new.events replay.new.state number t) }
-    ensures write { IfOk result CanWrite }
+    requires comes { (stage : Stage (List Served)) × Comes replay.old.hub replay.old.events replay.old.state (shown line) stage }
+    ensures turn { IfOk result (λ t. (stage : Stage (List Served)) (number : ℕ) → Comes replay.old.hub replay.old.events replay.old.state (shown line.entry) stage
+        → Took (after_line run stage replay.old.state (shown line.entry) (brought run (shown line.entry))) replay.new.hub replay.new.events replay.new.state number t) }
+    ensures write { IfOk result (CanWrite SaidRender) }
 {
     match line {
         Line::Head { tick_ms, link, .. } => {
@@ -116,7 +135,7 @@ fn after_other(alloc: Global, replay: &mut Replay, line: Line<'_>) -> Result<Tur
             serve(alloc, &mut replay.hub, &mut replay.events, heard)
         }
         Line::Tick => serve(alloc, &mut replay.hub, &mut replay.events, Heard::Tick),
-        Line::End => Ok(Turn::Done),
+        Line::End => Ok(Turn::Done(replay.events)),
         // No trace of `run` has these, and a channel line is none of the others.
         Line::Tune { .. }
         | Line::Give { .. }
@@ -129,12 +148,15 @@ fn after_other(alloc: Global, replay: &mut Replay, line: Line<'_>) -> Result<Tur
 
 /// A channel line opens its channel. The lines before it have shown that it may stand there, so that
 /// only memory can be missing.
-fn open(alloc: Global, hub: &mut Option<Hub>, config: Config) -> Result<(), NoMemory>
+fn open(alloc: Global, hub: &mut Option<Hub>, config: Config) -> Result<Turn, NoMemory>
     requires { IsSomeAnd hub.old (λ v. CanOpen v config) }
-    ensures { OnOk result (OpensIn config hub.old hub.new) }
+    ensures { IfOk result (λ t. (t ≡ GoesOn) × OpensIn config hub.old hub.new) }
 {
-    let Some(hub) = hub else { unreachable!() };
-    hub.add(alloc, config).or(Err(NoMemory))
+    let Some(hub) = hub else {
+        return Ok(Turn::Refused(LineFault::Order));
+    };
+    hub.add(alloc, config).or(Err(NoMemory))?;
+    Ok(Turn::GoesOn)
 }
 
 /// An event of the server, unless it is one too many.
@@ -144,16 +166,18 @@ fn serve(
     events: &mut u64,
     heard: Heard<'_>,
 ) -> Result<Turn, NoMemory>
-    requires stands { (stage : Stage) × Stands hub.old events.old stage.reached stage }
+    requires stands { (stage : Stage (List Served)) × Stands hub.old events.old stage.reached stage }
     requires there { is_some hub.old ≡ true }
-    ensures turn { IfOk result (λ t. (stage : Stage) (number : ℕ) → Stands hub.old events.old stage.reached stage
-        → Took (counted stage stage.reached (event_of heard.entry)) hub.new events.new stage.reached number t) }
-    ensures write { IfOk result CanWrite }
+    ensures turn { IfOk result (λ t. (stage : Stage (List Served)) (number : ℕ) → Stands hub.old events.old stage.reached stage
+        → Took (counted run stage stage.reached (event_of heard.entry)) hub.new events.new stage.reached number t) }
+    ensures write { IfOk result (CanWrite SaidRender) }
 {
     if *events >= MOST_EVENTS {
         return Ok(Turn::TooLong);
     }
-    let Some(hub) = hub else { unreachable!() };
+    let Some(hub) = hub else {
+        return Ok(Turn::Refused(LineFault::Order));
+    };
     let answer = answer(alloc, hub, heard)?;
     *events += 1;
     Ok(Turn::Said(answer))

@@ -1,108 +1,23 @@
-//! The text of a book on its way to the sink.
-ghost use Rattle.std.specs.Prelude.{All, ◌≡◌, ℕ, ◌+◌, ◌++◌, IfOk, IfErr, OnOk, List, [], codes, length};
+//! The lines of answers on their way to the sink, note by note.
+ghost use Rattle.std.specs.Prelude.{All, ◌≡◌, ℕ, ◌+◌, ◌++◌, IfErr, OnOk, length};
 ghost use Rattle.std.specs.List.{flat_map};
 ghost use Rattle.line_io.specs.Passes.{Passes};
 ghost use Rattle.rams_model.specs.Texts.{answer_text};
 ghost use Rattle.order_datagrams.specs.{Renders};
 ghost use Rattle.server_hub.specs.{told};
 ghost use Rattle.book_text.specs.{no_channel_line};
-ghost use Rattle.rams_replay.specs.{entry_text, last_line, told_text, written, at_text, AllRender, SaidRender, CanWrite, IsStoppedByWrite, OnlyMemoryStops, StopsIn};
+ghost use Rattle.trace_loop.specs.{IsStoppedByWrite, OnlyMemoryStops, StopsIn};
+ghost use Rattle.rams_replay.specs.{entry_text, told_text, at_text, AllRender, SaidRender};
 
 use crate::entry::{after, append_entry};
-use crate::replay::{Replay, Turn};
-use crate::stop::Stop;
-use book_text::{append_count, append_no_channel, append_refused};
-use line_io::Gather;
-use ram_io::{NoMemory, Sink};
+use book_text::append_no_channel;
+use ram_io::Sink;
 use rams_model::{Answer, Note, Order};
 use server_hub::{At, Config, Hub, HubAnswer};
-use std::alloc::Global;
-
-/// The text that waits for the sink, and room for some lines and a datagram.
-#[derive(Drop)]
-pub struct Writer {
-    pub gather: Gather,
-    lines: Vec<u8>,
-    datagram: Vec<u8>,
-}
-
-/// A writer with which nothing waits.
-pub fn new_writer(alloc: Global) -> Result<Writer, NoMemory>
-    ensures { IfOk result (λ writer. writer.gather ≡ []) }
-{
-    Ok(Writer {
-        gather: Gather::new(alloc)?,
-        lines: Vec::new(alloc),
-        datagram: Vec::new(alloc),
-    })
-}
-
-/// Adds a text.
-pub fn put<K: Sink>(gather: &mut Gather, sink: &mut K, text: &[u8]) -> Result<(), Stop>
-    ensures all { OnOk result (Passes (K.held sink.old) (K.held sink.new) (gather.old ++ text.now) gather.new) }
-    ensures front { IfErr result (StopsIn (K.held sink.old) (K.held sink.new) (gather.old ++ text.now) gather.new) }
-    ensures cause { IsStoppedByWrite (K.faults sink.old) (K.faults sink.new) result }
-    ensures steady { (room : ℕ) → K.is_steady sink.old (length gather.old + length text.now + room)
-        → OnlyMemoryStops result (K.is_steady sink.new (length gather.new + room)) }
-{
-    match gather.put(sink, text) {
-        Ok(()) => Ok(()),
-        Err(_) => Err(Stop::Write),
-    }
-}
-
-/// Puts all that waits to the sink.
-pub fn flush<K: Sink>(gather: &mut Gather, sink: &mut K) -> Result<(), Stop>
-    ensures all { OnOk result (Passes (K.held sink.old) (K.held sink.new) gather.old []) }
-    ensures empty { OnOk result (gather.new ≡ []) }
-    ensures prefix { (rest : List ℕ) × Passes (K.held sink.old) (K.held sink.new) gather.old rest }
-    ensures cause { IsStoppedByWrite (K.faults sink.old) (K.faults sink.new) result }
-    ensures steady { (room : ℕ) → K.is_steady sink.old (length gather.old + room)
-        → OnlyMemoryStops result (K.is_steady sink.new room) }
-{
-    match gather.flush(sink) {
-        Ok(()) => Ok(()),
-        Err(_) => Err(Stop::Write),
-    }
-}
-
-/// Adds the line with which a turn ends the run, if it does.
-pub fn write_last<K: Sink>(
-    writer: &mut Writer,
-    sink: &mut K,
-    events: u64,
-    number: u64,
-    turn: &Turn,
-) -> Result<(), Stop>
-    ensures all { OnOk result (Passes (K.held sink.old) (K.held sink.new) (writer.old.gather ++ last_line events number turn.now) writer.new.gather) }
-    ensures front { IfErr result (StopsIn (K.held sink.old) (K.held sink.new) (writer.old.gather ++ last_line events number turn.now) writer.new.gather) }
-    ensures cause { IsStoppedByWrite (K.faults sink.old) (K.faults sink.new) result }
-    ensures steady { (room : ℕ) → K.is_steady sink.old (length writer.old.gather + length (last_line events number turn.now) + room)
-        → OnlyMemoryStops result (K.is_steady sink.new (length writer.new.gather + room)) }
-{
-    writer.lines.clear();
-    append_last(&mut writer.lines, events, number, turn)?;
-    put(&mut writer.gather, sink, &writer.lines)
-}
-
-/// Appends the line with which a turn ends the run, after so many events and at the line of this
-/// number; nothing where it goes on.
-fn append_last(text: &mut Vec<u8>, events: u64, number: u64, turn: &Turn) -> Result<(), NoMemory>
-    ensures { OnOk result (text.new.items ≡ text.old.items ++ last_line events number turn.now) }
-{
-    match turn {
-        Turn::GoesOn | Turn::Said(_) => Ok(()),
-        Turn::Refused(fault) => append_refused(text, number, *fault),
-        Turn::TooLong => {
-            text.extend_from_slice(b"too-long\n")?;
-            Ok(())
-        }
-        Turn::Done => append_count(text, b"done", events),
-    }
-}
+use trace_loop::{Stop, Writer, put};
 
 /// Adds the lines of an answer: each note, followed at once by the datagram that it asks for.
-pub fn write_answer<K: Sink>(
+fn write_answer<K: Sink>(
     writer: &mut Writer,
     sink: &mut K,
     config: &Config,
@@ -215,7 +130,7 @@ fn write_no_channel<K: Sink>(
 
 /// Adds the lines of what the channels say to an event.
 #[tactic(auto, using(crate::proofs::Telling::one_is_told))]
-fn write_said<K: Sink>(
+pub fn write_said<K: Sink>(
     writer: &mut Writer,
     sink: &mut K,
     hub: &Option<Hub>,
@@ -233,26 +148,5 @@ fn write_said<K: Sink>(
         HubAnswer::NoChannel(id) => write_no_channel(writer, sink, event, *id),
         HubAnswer::Answer(at) => write_at(writer, sink, hub, event, at),
         HubAnswer::Answers(all) => write_all(writer, sink, hub, event, all),
-    }
-}
-
-/// Adds what is written for a turn at the line of this number.
-pub fn write_turn<K: Sink>(
-    writer: &mut Writer,
-    sink: &mut K,
-    replay: &Replay,
-    number: u64,
-    turn: &Turn,
-) -> Result<(), Stop>
-    requires { CanWrite turn.now }
-    ensures all { OnOk result (Passes (K.held sink.old) (K.held sink.new) (writer.old.gather ++ written replay.now.hub replay.now.events number turn.now) writer.new.gather) }
-    ensures front { IfErr result (StopsIn (K.held sink.old) (K.held sink.new) (writer.old.gather ++ written replay.now.hub replay.now.events number turn.now) writer.new.gather) }
-    ensures cause { IsStoppedByWrite (K.faults sink.old) (K.faults sink.new) result }
-    ensures steady { (room : ℕ) → K.is_steady sink.old (length writer.old.gather + length (written replay.now.hub replay.now.events number turn.now) + room)
-        → OnlyMemoryStops result (K.is_steady sink.new (length writer.new.gather + room)) }
-{
-    match turn {
-        Turn::Said(answer) => write_said(writer, sink, &replay.hub, replay.events, answer),
-        _ => write_last(writer, sink, replay.events, number, turn),
     }
 }

@@ -14,7 +14,8 @@ use Rattle.rams_model.specs.Texts.{decoded, bytes_in, TraceLine, head_line, chan
 use Rattle.server_hub.specs.declared.event.HubEvent.{HubEvent}
 use Rattle.server_hub.specs.{events_of}
 use Rattle.server_hub.specs.declared.event.HubEvent.TheVariants.{Live, Feedback, Tick}
-use Rattle.trace_book.specs.{event_of, IsOfBytes, event_at, taken, came}
+use Rattle.trace_serving.specs.{brought}
+use Rattle.trace_book.specs.{run, IsOfBytes, event_at, taken, came}
 
 abbrev AreBytes : List ℕ → Type 0
 AreBytes bytes = All (λ b. b < 256) bytes
@@ -36,7 +37,7 @@ IsHubOfBytes (Live id bytes) = AreBytes bytes
 IsHubOfBytes (Feedback id client bytes) = AreBytes bytes
 IsHubOfBytes Tick = Unit {0}
 
-line_brings : (line : TraceLine) → IfSome (event_of line) IsHubOfBytes
+line_brings : (line : TraceLine) → IfSome (brought run line) IsHubOfBytes
 line_brings (live_line id hex) = hex_bytes hex
 line_brings (feedback_line id client hex) = hex_bytes hex
 line_brings tick_line = tt
@@ -49,7 +50,7 @@ line_brings (mcast_line id client n) = tt
 line_brings (ask_line id client) = tt
 line_brings (drop_line id client) = tt
 
-read_brings : (o : Option TraceLine) → IfSome (option_and_then event_of o) IsHubOfBytes
+read_brings : (o : Option TraceLine) → IfSome (option_and_then (brought run) o) IsHubOfBytes
 read_brings None = tt
 read_brings (Some line) = line_brings line
 

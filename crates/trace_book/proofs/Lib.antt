@@ -1,6 +1,4 @@
-pub mod Judged
-pub mod Steps
-pub mod Runs
+pub mod Served
 pub mod Links
 pub mod Moments
 pub mod Repairs

@@ -7,12 +7,7 @@ use Rattle.server_hub.specs.declared.event.HubEvent.{HubEvent}
 use Rattle.server_hub.specs.{all_swells, after_events}
 use Rattle.server_hub.specs.Served.{Served}
 use Rattle.trace_book.specs.{settings_of, new_channels}
-use Rattle.trace_book.proofs.Steps.{settings_after}
-
-pub settings_over : (events : List HubEvent) (cs : List Served) → settings_of (after_events events cs) ≡ settings_of cs
-unfolding after_events
-settings_over [] cs = refl
-settings_over (e ∷ events) cs = settings_after e (after_events events cs) ∙ settings_over events cs
+use Rattle.trace_book.proofs.Served.{settings_over}
 
 pub settings_new : (cs : List Served) → settings_of (new_channels cs) ≡ settings_of cs
 settings_new [] = refl

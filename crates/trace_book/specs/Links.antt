@@ -5,8 +5,9 @@ use Rattle.server_hub.specs.declared.event.HubEvent.{HubEvent}
 use Rattle.server_hub.specs.{answers_to_tick, FitLink, bytes_of_all, all_kept, all_swells, answers_to, after_events, sent_over, ticks_among}
 use Rattle.server_hub.specs.declared.event.HubEvent.TheVariants.{Tick}
 use Rattle.server_hub.specs.Served.{Served}
-use Rattle.trace_book.specs.TraceText.{last_stage, served_by}
-use Rattle.trace_book.specs.Stages.{settings_of, new_channels, AreLawful}
+use Rattle.trace_serving.specs.{last_stage, AreLawful}
+use Rattle.trace_book.specs.TraceText.{run, served_by}
+use Rattle.trace_book.specs.Stages.{settings_of, new_channels}
 use Rattle.trace_book.specs.Runs.{came}
 
 -- These channels, to which nothing had come, stay within the link while these events come, the newest first.
@@ -33,9 +34,9 @@ pub record StayWithinTheLink (head : Head) (events : List HubEvent) (channels : 
 pub record KeepsTheLink (trace : List ℕ) : Type 0 where
   -- they are what new channels are after the events of the trace
   pub after : served_by trace ≡ after_events (came trace) (new_channels (served_by trace))
-  pub link : (head : Head) → (last_stage trace).reached.head ≡ Some head → StayWithinTheLink head (came trace) (new_channels (served_by trace))
+  pub link : (head : Head) → (last_stage run trace).reached.head ≡ Some head → StayWithinTheLink head (came trace) (new_channels (served_by trace))
   -- without a head line there is no channel
-  pub headless : (last_stage trace).reached.head ≡ None → served_by trace ≡ []
+  pub headless : (last_stage run trace).reached.head ≡ None → served_by trace ≡ []
 
 abbrev pub TracesStayWithinTheLink : Type 0
 TracesStayWithinTheLink = (trace : List ℕ) → KeepsTheLink trace

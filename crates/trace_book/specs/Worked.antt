@@ -5,7 +5,9 @@ use Rattle.rams_model.specs.declared.status.Status.TheVariants.{Done, BadTrace, 
 use Rattle.rams_model.specs.Service.{settings}
 use Rattle.rams_model.specs.Worked.Setting.{channel}
 use Rattle.server_hub.specs.{served}
-use Rattle.trace_book.specs.TraceText.{Stage, goes_on, ends, ended, turn, last_stage, served_by, trace_text}
+use Rattle.server_hub.specs.Served.{Served}
+use Rattle.trace_serving.specs.{Stage, goes_on, ends, ended, turn, last_stage}
+use Rattle.trace_book.specs.TraceText.{run, served_by, trace_text}
 
 abbrev pub head_text : List ℕ
 head_text = codes "rams-trace 1 tick 10 link 100000\n"
@@ -136,12 +138,12 @@ SecondVersion =
     × (trace_text second_version ≡ ended Done (codes "rams-book 1\ndone 2\n"))
 
 -- a trace after its channel line, as if so many events had come
-abbrev pub after_events : ℕ → Stage
-after_events count = record (last_stage (head_text ++ plain_line)) { events = count }
+abbrev pub after_events : ℕ → Stage (List Served)
+after_events count = record (last_stage run (head_text ++ plain_line)) { events = count }
 
 -- An event number 1,000,000 is served, and none after it.
 abbrev pub OneEventTooMany : Type 0
 OneEventTooMany =
-    (turn (after_events 999999) 3 (codes "live 8 80")
-    ≡ goes_on (record { reached = record (after_events 0).reached { begun = Bool.true }; channels = (after_events 0).channels; events = 1000000 }) (codes "1000000 8 no-channel\n"))
-    × (turn (after_events 1000000) 3 (codes "tick") ≡ ends (ended TooLong (codes "too-long\n")))
+    (turn run (after_events 999999) 3 (codes "live 8 80")
+    ≡ goes_on (record { reached = record (after_events 0).reached { begun = Bool.true }; state = (after_events 0).state; events = 1000000 }) (codes "1000000 8 no-channel\n"))
+    × (turn run (after_events 1000000) 3 (codes "tick") ≡ ends (ended TooLong (codes "too-long\n")))

@@ -1,18 +1,35 @@
 //! Laws of every trace: of its stages, its channels, their link, and its text.
-ghost use Rattle.trace_book.specs.{TracesStayWithinTheLink, TracesAreServedLawfully, TracesAreServedByTheirLines, TracesEndSo, TheOpeningIsAStage, StagesAreKept};
+ghost use Rattle.server_hub.specs.declared.event.HubEvent.{HubEvent};
+ghost use Rattle.server_hub.specs.Served.{Served};
+ghost use Rattle.std.specs.Prelude.{List};
+ghost use Rattle.trace_book.specs.{run, TracesStayWithinTheLink, TracesAreServedLawfully, TracesAreServedByTheirLines, TracesEndSo, TheOpeningIsAStage, StagesAreKept};
 
 use book_laws::{budgets, join_times, numbers, one_book, refusals, sendings, stops};
 use rams_model::clients_are_since;
 use server_hub::laws::{
     channels_get_their_events, channels_stay_within_the_link, ticks_stay_within_the_link,
 };
+use trace_serving::laws::{Serves, stages_are_kept as serving_keeps_stages, traces_are_served_so};
+
+/// The command `run`, as what serves its traces.
+pub enum Run {}
+
+impl Serves for Run {
+    ghost state = { List Served };
+
+    ghost event = { HubEvent };
+
+    ghost serving = { run };
+}
 
 /// What holds of the stages of a trace holds before its first line, and each line that goes on keeps
 /// it.
 pub fn stages_are_kept()
     ensures opening { TheOpeningIsAStage }
     ensures kept { StagesAreKept }
-{}
+{
+    serving_keeps_stages::<Run>();
+}
 
 /// Whatever the trace, each channel that it is served by keeps its promises: the laws of every lawful
 /// book hold at each of its moments.
@@ -48,6 +65,7 @@ pub fn traces_are_served_lawfully()
 pub fn traces_stay_within_the_link()
     ensures { TracesStayWithinTheLink }
 {
+    traces_are_served_so::<Run>();
     ticks_stay_within_the_link();
     channels_stay_within_the_link();
 }
@@ -57,6 +75,7 @@ pub fn traces_stay_within_the_link()
 pub fn traces_are_served_by_their_lines()
     ensures { TracesAreServedByTheirLines }
 {
+    traces_are_served_so::<Run>();
     channels_get_their_events();
 }
 
@@ -64,4 +83,6 @@ pub fn traces_are_served_by_their_lines()
 /// missing, or with event 1,000,001. Its book is what its events are answered with.
 pub fn traces_end_so()
     ensures { TracesEndSo }
-{}
+{
+    traces_are_served_so::<Run>();
+}

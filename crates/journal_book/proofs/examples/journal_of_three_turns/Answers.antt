@@ -8,14 +8,16 @@ use Rattle.rams_model.specs.Service.{checked, message_of, messages, heard_of, ar
 use Rattle.rams_model.specs.Formats.{header, spelling, fields_of, packet_at, rams_info, pieces_from, words32, word_numbers, numbers_of, first_value}
 use Rattle.rams_model.specs.Packets.{hi, numbered, awaited, live_note, stream_of, source, consecutive_end, hold, has_access, chosen}
 use Rattle.rams_model.specs.Texts.{nothing_reached, note_line, send_line, notes_text, lines_of, whole_lines, words_of, head_in, kept_in, channel_in, live_in, feedback_in, line_text, accepted, judged}
-use Rattle.trace_book.specs.{Stage, goes_on, turn, text_from, trace_text, stage_from}
+use Rattle.server_hub.specs.Served.{Served}
+use Rattle.trace_serving.specs.{Stage, goes_on, turn, text_from, stage_from, served_text}
+use Rattle.trace_book.specs.{run as run_serving}
 use Rattle.trace_book.specs.Worked.{head_text}
 use Rattle.journal_book.specs.{starting, nothing, line, turns_of, events_of_turns, event_line, journal_of, sent_for, replayed_from}
 use Rattle.journal_book.specs.Worked.{seven, TheHeadOpens, JournalOfThreeTurns, ItsDatagrams, ACutLineIsNotReplayed, AnEndTooMany, EachFromItsOwnPort}
 use Rattle.journal_book.proofs.examples.journal_of_three_turns.Goals as goal
 
 computed : JournalOfThreeTurns × ItsDatagrams × ACutLineIsNotReplayed × AnEndTooMany × EachFromItsOwnPort
-unfolding digits encode_with decode_pairs checked header spelling fields_of packet_at rams_info pieces_from words32 word_numbers numbers_of first_value hi numbered awaited live_note stream_of source consecutive_end hold has_access chosen message_of messages heard_of arrivals as_tick_began known opened sendings newest_sender ssrc bursts pending quiet_ticks channel_left sent_now verdict number_answer after_numbers after_messages run send all_served all_repaired all_forgotten after_tick order_of newest_notes newest_orders datagram after_hearing history_of note_line send_line notes_text lines_of whole_lines words_of head_in kept_in channel_in live_in feedback_in line_text accepted judged turn text_from trace_text stage_from turns_of events_of_turns event_line journal_of sent_for replayed_from
+unfolding digits encode_with decode_pairs checked header spelling fields_of packet_at rams_info pieces_from words32 word_numbers numbers_of first_value hi numbered awaited live_note stream_of source consecutive_end hold has_access chosen message_of messages heard_of arrivals as_tick_began known opened sendings newest_sender ssrc bursts pending quiet_ticks channel_left sent_now verdict number_answer after_numbers after_messages run send all_served all_repaired all_forgotten after_tick order_of newest_notes newest_orders datagram after_hearing history_of note_line send_line notes_text lines_of whole_lines words_of head_in kept_in channel_in live_in feedback_in line_text accepted judged turn text_from served_text stage_from turns_of events_of_turns event_line journal_of sent_for replayed_from
 computed = (refl, (refl, refl, refl), refl, (refl, refl), refl)
 
 -- the head's lines without their line feeds
@@ -26,19 +28,19 @@ abbrev channel_bytes : List ℕ
 channel_bytes = codes "channel 7 ssrc 11223344 pt 33 rtx 99 server aabbccdd seq0 500 ring 64 window 0 access marker share 10000 reserve 1500 burst 4000 declared 100 minwire 42 limit 100 idle 100 clients 4"
 
 -- what a server reaches behind the first line
-abbrev behind_head : Stage
-behind_head = record { reached = record (nothing_reached Serve) { head = Some (record { version = 1; tick = 10; link = 100000 }) }; channels = []; events = 0 }
+abbrev behind_head : Stage (List Served)
+behind_head = record { reached = record (nothing_reached Serve) { head = Some (record { version = 1; tick = 10; link = 100000 }) }; state = []; events = 0 }
 
 -- and behind both
-abbrev behind_both : Stage
-behind_both = record { reached = record behind_head.reached { channels = record { id = 7; share = 10000 } ∷ [] }; channels = seven ∷ []; events = 0 }
+abbrev behind_both : Stage (List Served)
+behind_both = record { reached = record behind_head.reached { channels = record { id = 7; share = 10000 } ∷ [] }; state = seven ∷ []; events = 0 }
 
-head_turn : turn (starting Serve) 1 head_bytes ≡ goes_on behind_head []
-unfolding digits encode_with decode_pairs checked header spelling fields_of packet_at rams_info pieces_from words32 word_numbers numbers_of first_value hi numbered awaited live_note stream_of source consecutive_end hold has_access chosen message_of messages heard_of arrivals as_tick_began known opened sendings newest_sender ssrc bursts pending quiet_ticks channel_left sent_now verdict number_answer after_numbers after_messages run send all_served all_repaired all_forgotten after_tick order_of newest_notes newest_orders datagram after_hearing history_of note_line send_line notes_text lines_of whole_lines words_of head_in kept_in channel_in live_in feedback_in line_text accepted judged turn text_from trace_text stage_from turns_of events_of_turns event_line journal_of sent_for replayed_from
+head_turn : turn run_serving (starting Serve) 1 head_bytes ≡ goes_on behind_head []
+unfolding digits encode_with decode_pairs checked header spelling fields_of packet_at rams_info pieces_from words32 word_numbers numbers_of first_value hi numbered awaited live_note stream_of source consecutive_end hold has_access chosen message_of messages heard_of arrivals as_tick_began known opened sendings newest_sender ssrc bursts pending quiet_ticks channel_left sent_now verdict number_answer after_numbers after_messages run send all_served all_repaired all_forgotten after_tick order_of newest_notes newest_orders datagram after_hearing history_of note_line send_line notes_text lines_of whole_lines words_of head_in kept_in channel_in live_in feedback_in line_text accepted judged turn text_from served_text stage_from turns_of events_of_turns event_line journal_of sent_for replayed_from
 head_turn = refl
 
-channel_turn : turn behind_head 2 channel_bytes ≡ goes_on behind_both []
-unfolding digits encode_with decode_pairs checked header spelling fields_of packet_at rams_info pieces_from words32 word_numbers numbers_of first_value hi numbered awaited live_note stream_of source consecutive_end hold has_access chosen message_of messages heard_of arrivals as_tick_began known opened sendings newest_sender ssrc bursts pending quiet_ticks channel_left sent_now verdict number_answer after_numbers after_messages run send all_served all_repaired all_forgotten after_tick order_of newest_notes newest_orders datagram after_hearing history_of note_line send_line notes_text lines_of whole_lines words_of head_in kept_in channel_in live_in feedback_in line_text accepted judged turn text_from trace_text stage_from turns_of events_of_turns event_line journal_of sent_for replayed_from
+channel_turn : turn run_serving behind_head 2 channel_bytes ≡ goes_on behind_both []
+unfolding digits encode_with decode_pairs checked header spelling fields_of packet_at rams_info pieces_from words32 word_numbers numbers_of first_value hi numbered awaited live_note stream_of source consecutive_end hold has_access chosen message_of messages heard_of arrivals as_tick_began known opened sendings newest_sender ssrc bursts pending quiet_ticks channel_left sent_now verdict number_answer after_numbers after_messages run send all_served all_repaired all_forgotten after_tick order_of newest_notes newest_orders datagram after_hearing history_of note_line send_line notes_text lines_of whole_lines words_of head_in kept_in channel_in live_in feedback_in line_text accepted judged turn text_from served_text stage_from turns_of events_of_turns event_line journal_of sent_for replayed_from
 channel_turn = refl
 
 opens : TheHeadOpens

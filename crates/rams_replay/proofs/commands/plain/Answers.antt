@@ -1,6 +1,6 @@
 use Rattle.std.specs.Prelude.{All}
 use Rattle.trace_book.specs.{KeepsPromises, served_by}
-use Rattle.rams_replay.proofs.Booking.{told_all}
+use Rattle.trace_loop.proofs.Whole.{told_all}
 use Rattle.rams_replay.proofs.commands.plain.Goals as goal
 
 pub returns-in-Some-Run-clause-lawful : goal.returns-in-Some-Run-clause-lawful

@@ -3,10 +3,11 @@ use Rattle.std.proofs.lemmas.Result.{IfOk-weaker}
 use Rattle.server_hub.specs.declared.event.HubEvent.TheVariants as events
 use Rattle.server_hub.specs.Seen.{Seen}
 use Rattle.rams_model.specs.Texts.{head_line, live_line, feedback_line, tick_line}
-use Rattle.trace_book.specs.{after_line, counted, eventless, event_of as brought}
+use Rattle.trace_serving.specs.{after_line, counted, eventless, brought}
+use Rattle.trace_book.specs.{run}
 use Rattle.trace_text.specs.declared.line.Line.{Line}
 use Rattle.trace_text.specs.{shown}
-use Rattle.rams_replay.specs.declared.replay.Turn.TheVariants.{GoesOn}
+use Rattle.trace_loop.specs.declared.turn.Turn.TheVariants.{GoesOn}
 use Rattle.rams_replay.specs.{Comes, Took}
 use Rattle.rams_replay.proofs.Opening.{head_bounds, head_turn}
 use Rattle.rams_replay.proofs.Turning.{event_stage, event_has_hub, receiver_turn}
@@ -59,8 +60,8 @@ returns-in_ok-new-in-Head-clause-turn c = λ stage number comes.
     let r = c.args.replay.now in
     let head = head_line c.in-Head.version c.in-Head.tick_ms c.in-Head.link in
     let come = subst (λ (l : Line). Comes r.hub r.events r.state (shown l) stage) c.in-Head.is comes in
-    subst (λ (l : Line). Took (after_line stage r.state (shown l) (brought (shown l))) (Some c.in_ok-new-in-Head.field-0) r.events r.state number GoesOn) (sym c.in-Head.is)
-    (subst (λ (v : Seen). Took (eventless stage r.state head) (Some v) r.events r.state number GoesOn) (sym c.in_ok-new-in-Head.ensures.value)
+    subst (λ (l : Line). Took (after_line run stage r.state (shown l) (brought run (shown l))) (Some c.in_ok-new-in-Head.field-0) r.events r.state number GoesOn) (sym c.in-Head.is)
+    (subst (λ (v : Seen). Took (eventless run stage r.state head) (Some v) r.events r.state number GoesOn) (sym c.in_ok-new-in-Head.ensures.value)
     (head_turn r.hub r.events c.in-Head.version c.in-Head.tick_ms c.in-Head.link number r.state stage come))
 
 pub returns-in_ok-decode_to-in-Live-clause-turn : goal.returns-in_ok-decode_to-in-Live-clause-turn
@@ -71,8 +72,8 @@ returns-in_ok-decode_to-in-Live-clause-turn c =
     IfOk-weaker call.result _ _
     (λ t took stage number comes.
     let come = subst (λ (l : Line). Comes r.hub r.events r.state (shown l) stage) c.in-Live.is comes in
-    subst (λ (l : Line). Took (after_line stage r.state (shown l) (brought (shown l))) call.new.hub call.new.events r.state number t) (sym c.in-Live.is)
-    (subst (λ (b : List ℕ). Took (counted stage r.state (events.Live c.in-Live.id b)) call.new.hub call.new.events r.state number t)
+    subst (λ (l : Line). Took (after_line run stage r.state (shown l) (brought run (shown l))) call.new.hub call.new.events r.state number t) (sym c.in-Live.is)
+    (subst (λ (b : List ℕ). Took (counted run stage r.state (events.Live c.in-Live.id b)) call.new.hub call.new.events r.state number t)
     (c.deref.ensures.value ∙ c.in_ok-decode_to-in-Live.ensures)
     (took (record stage { reached = r.state }) number (event_stage r.hub r.events r.state line stage come refl))))
     call.ensures.turn
@@ -85,8 +86,8 @@ returns-in_ok-decode_to-in-Feedback-clause-turn c =
     IfOk-weaker call.result _ _
     (λ t took stage number comes.
     let come = subst (λ (l : Line). Comes r.hub r.events r.state (shown l) stage) c.in-Feedback.is comes in
-    subst (λ (l : Line). Took (after_line stage r.state (shown l) (brought (shown l))) call.new.hub call.new.events r.state number t) (sym c.in-Feedback.is)
-    (subst (λ (b : List ℕ). Took (counted stage r.state (events.Feedback c.in-Feedback.id c.in-Feedback.client b)) call.new.hub call.new.events r.state number t)
+    subst (λ (l : Line). Took (after_line run stage r.state (shown l) (brought run (shown l))) call.new.hub call.new.events r.state number t) (sym c.in-Feedback.is)
+    (subst (λ (b : List ℕ). Took (counted run stage r.state (events.Feedback c.in-Feedback.id c.in-Feedback.client b)) call.new.hub call.new.events r.state number t)
     (c.deref-in-Feedback.ensures.value ∙ c.in_ok-decode_to-in-Feedback.ensures)
     (took (record stage { reached = r.state }) number (event_stage r.hub r.events r.state line stage come refl))))
     call.ensures.turn
@@ -98,7 +99,7 @@ returns-in-Tick-clause-turn c =
     IfOk-weaker call.result _ _
     (λ t took stage number comes.
     let come = subst (λ (l : Line). Comes r.hub r.events r.state (shown l) stage) c.in-Tick.is comes in
-    subst (λ (l : Line). Took (after_line stage r.state (shown l) (brought (shown l))) call.new.hub call.new.events r.state number t) (sym c.in-Tick.is)
+    subst (λ (l : Line). Took (after_line run stage r.state (shown l) (brought run (shown l))) call.new.hub call.new.events r.state number t) (sym c.in-Tick.is)
     (took (record stage { reached = r.state }) number (event_stage r.hub r.events r.state tick_line stage come refl)))
     call.ensures.turn
 

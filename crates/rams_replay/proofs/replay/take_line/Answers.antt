@@ -2,7 +2,7 @@ use Rattle.std.proofs.Common.{◌≡◌, Ok, Err, subst}
 use Rattle.std.proofs.lemmas.Result.{IfOk-weaker}
 use Rattle.rams_model.specs.Texts.{Reached, judged}
 use Rattle.trace_text.specs.{told}
-use Rattle.rams_replay.proofs.Turning.{comes_next, judged_turn, refused_turn, goes_somewhere}
+use Rattle.rams_replay.proofs.Turning.{comes_next, judged_turn, refused_turn}
 use Rattle.rams_replay.proofs.replay.take_line.Goals as goal
 
 pub after_line-requires-clause-comes : goal.after_line-requires-clause-comes
@@ -16,14 +16,6 @@ returns-in-Ok-clause-turn c =
     judged_turn stage number c.args.line.now (told c.in-Ok.read) c.judge.new.self _ _ _ t
     (subst (λ (r : Reached). judged r c.args.line.now ≡ Ok (told c.in-Ok.read, c.judge.new.self)) stands.lines c.in-Ok.ensures.ok)
     (took stage number (comes_next _ _ _ c.judge.new.self c.args.line.now (told c.in-Ok.read) stage stands c.in-Ok.ensures.ok)))
-    c.after_line.ensures.turn
-
-pub returns-in-Ok-clause-stands : goal.returns-in-Ok-clause-stands
-returns-in-Ok-clause-stands c =
-    IfOk-weaker c.after_line.result _ _
-    (λ t took. λ none.
-    goes_somewhere _ _ _ _ 0 t
-    (took c.requires.0 0 (comes_next _ _ _ c.judge.new.self c.args.line.now (told c.in-Ok.read) c.requires.0 c.requires.1 c.in-Ok.ensures.ok)) none)
     c.after_line.ensures.turn
 
 pub returns-in-Err-clause-turn : goal.returns-in-Err-clause-turn

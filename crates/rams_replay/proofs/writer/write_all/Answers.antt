@@ -1,9 +1,11 @@
 use Rattle.std.proofs.Common.{◌+◌, ◌++◌, ap, length, Result, sym, IfErr, ◌∙◌, subst, length-append}
 use Rattle.std.proofs.lemmas.Result.{err_from_is_err_and}
 use Rattle.std.specs.List.{flat_map}
-use Rattle.rams_replay.specs.declared.stop.Stop.{Stop}
-use Rattle.rams_replay.specs.{OnlyMemoryStops, StopsIn, at_text}
-use Rattle.rams_replay.proofs.Writing.{writing_has_room, writing_goes_on, writing_stops, writing_ends, writing_ends_steadily, answers_text-more, answers_text-past}
+use Rattle.trace_loop.specs.declared.stop.Stop.{Stop}
+use Rattle.trace_loop.specs.{OnlyMemoryStops, StopsIn}
+use Rattle.rams_replay.specs.{at_text}
+use Rattle.trace_loop.proofs.Writing.{writing_has_room, writing_goes_on, writing_stops, writing_ends, writing_ends_steadily}
+use Rattle.rams_replay.proofs.Writing.{answers_text-more, answers_text-past}
 use Rattle.rams_replay.proofs.writer.write_all.Goals as goal
 
 pub returns-in_err-write_at-clause-front : goal.returns-in_err-write_at-clause-front

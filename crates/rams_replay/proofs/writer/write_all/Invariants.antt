@@ -1,7 +1,7 @@
 use Rattle.std.proofs.Common.{◌++◌, drop}
 use Rattle.std.specs.List.{flat_map}
 use Rattle.rams_replay.specs.{at_text}
-use Rattle.rams_replay.proofs.Writing.{IsWriting}
+use Rattle.trace_loop.proofs.Writing.{IsWriting}
 use Rattle.rams_replay.proofs.writer.write_all.Given as goal
 
 abbrev pub invariant-loop-at : goal.invariant-loop-at

@@ -2,7 +2,7 @@ use Rattle.std.proofs.Common.{◌++◌, drop}
 use Rattle.std.specs.Prelude.{All}
 use Rattle.rams_model.specs.Texts.{answer_text, notes_text}
 use Rattle.order_datagrams.specs.{Renders}
-use Rattle.rams_replay.proofs.Writing.{IsWriting}
+use Rattle.trace_loop.proofs.Writing.{IsWriting}
 use Rattle.rams_replay.proofs.writer.write_answer.Given as goal
 
 abbrev pub invariant-loop-note : goal.invariant-loop-note

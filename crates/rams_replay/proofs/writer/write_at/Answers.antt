@@ -1,7 +1,8 @@
 use Rattle.std.proofs.Common.{List, ℕ, Option, ◌++◌, IfErr, sym, subst}
 use Rattle.rams_model.specs.Service.{Settings}
 use Rattle.server_hub.specs.Seen.{Seen}
-use Rattle.rams_replay.specs.{StopsIn, at_text, settled_text}
+use Rattle.trace_loop.specs.{StopsIn}
+use Rattle.rams_replay.specs.{at_text, settled_text}
 use Rattle.rams_replay.proofs.writer.write_at.Goals as goal
 
 pub returns-in-Some-config-clause-front : goal.returns-in-Some-config-clause-front

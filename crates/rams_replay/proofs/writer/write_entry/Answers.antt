@@ -1,8 +1,9 @@
 use Rattle.std.proofs.Common.{◌++◌, Result, IfErr, sym, subst}
 use Rattle.std.proofs.lemmas.Result.{err_from_is_err_and}
-use Rattle.rams_replay.specs.declared.stop.Stop.{Stop}
-use Rattle.rams_replay.specs.{entry_text, StopsIn}
-use Rattle.rams_replay.proofs.Writing.{unwritten}
+use Rattle.trace_loop.specs.declared.stop.Stop.{Stop}
+use Rattle.trace_loop.specs.{StopsIn}
+use Rattle.rams_replay.specs.{entry_text}
+use Rattle.trace_loop.proofs.Writing.{unwritten}
 use Rattle.rams_replay.proofs.writer.write_entry.Goals as goal
 
 pub returns-in_err-append_entry-clause-front : goal.returns-in_err-append_entry-clause-front

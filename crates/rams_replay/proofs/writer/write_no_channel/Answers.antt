@@ -1,9 +1,9 @@
 use Rattle.std.proofs.Common.{◌++◌, Result, IfErr, sym, subst}
 use Rattle.std.proofs.lemmas.Result.{err_from_is_err_and}
-use Rattle.rams_replay.specs.declared.stop.Stop.{Stop}
-use Rattle.rams_replay.specs.{StopsIn}
+use Rattle.trace_loop.specs.declared.stop.Stop.{Stop}
+use Rattle.trace_loop.specs.{StopsIn}
 use Rattle.book_text.specs.{no_channel_line}
-use Rattle.rams_replay.proofs.Writing.{unwritten}
+use Rattle.trace_loop.proofs.Writing.{unwritten}
 use Rattle.rams_replay.proofs.writer.write_no_channel.Goals as goal
 
 pub returns-in_err-append_no_channel-clause-front : goal.returns-in_err-append_no_channel-clause-front

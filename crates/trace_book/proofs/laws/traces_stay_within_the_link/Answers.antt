@@ -5,9 +5,10 @@ use Rattle.rams_model.specs.Texts.{Head}
 use Rattle.server_hub.specs.declared.event.HubEvent.{HubEvent}
 use Rattle.server_hub.specs.{FitLink, shares_of, all_shares, after_events}
 use Rattle.server_hub.specs.Served.{Served}
-use Rattle.trace_book.specs.{last_stage, served_by, settings_of, new_channels, AreLawful, StandUnder, Stand, came, StayWithinTheLink}
-use Rattle.trace_book.proofs.Runs.{goes_all}
-use Rattle.trace_book.proofs.Links.{settings_over, settings_new, swells_over}
+use Rattle.trace_serving.specs.{last_stage, AreLawful, StandUnder, Stand}
+use Rattle.trace_book.specs.{run, served_by, settings_of, new_channels, came, StayWithinTheLink}
+use Rattle.trace_book.proofs.Served.{settings_over, all_are, served_after}
+use Rattle.trace_book.proofs.Links.{settings_new, swells_over}
 use Rattle.trace_book.proofs.laws.traces_stay_within_the_link.Goals as goal
 
 -- Channels that fit a link, to which nothing had come.
@@ -38,12 +39,13 @@ none_of (s ∷ cs) e = absurd cc
 
 pub returns : goal.returns
 returns c trace =
-    let g = goes_all trace in
+    let so = c.traces_are_served_so.ensures trace in
     let cs = served_by trace in
-    let stand = λ (o : Option Head) (e : (last_stage trace).reached.head ≡ o). subst (λ (p : Option Head). Stand p (settings_of cs)) e g.kept.stand in
+    let stands : Stand (last_stage run trace).reached.head (settings_of cs) = subst (Stand (last_stage run trace).reached.head) (sym (all_are trace so)) so.stand in
+    let stand = λ (o : Option Head) (e : (last_stage run trace).reached.head ≡ o). subst (λ (p : Option Head). Stand p (settings_of cs)) e stands in
     let same = sym (settings_new cs) in
     record {
-      after = g.stands.after;
+      after = served_after trace so;
       link = λ head e.
           let u : StandUnder head (settings_of cs) = stand (Some head) e in
           within c head (came trace) (new_channels cs) (subst (FitLink head.tick head.link) same u.fit) (subst (All AreLawful) same u.lawful);

@@ -1,0 +1,6 @@
+pub mod Writing
+pub mod LongLines
+pub mod FirstTurn
+pub mod Reading
+pub mod Running
+pub mod Whole

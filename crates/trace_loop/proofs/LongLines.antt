@@ -1,0 +1,23 @@
+-- A line that is too long does what its front does.
+use Rattle.std.proofs.Common.{◌≡◌, ℕ, ◌<◌, List, length, take, Err, refl, sym, ap, ◌∙◌, arith, length-take}
+use Rattle.std.proofs.lemmas.Bool.{lt-ltb}
+use Rattle.rams_model.specs.declared.fault.LineFault.TheVariants.{Form}
+use Rattle.rams_model.specs.Texts.{Reached, judged}
+use Rattle.trace_serving.specs.{Serving, Stage, Outcome, ends, refused, after_judging, turn}
+
+-- a line that is too long has no form
+judged_by : (r : Reached) (bytes : List ℕ) → 4096 < length bytes → judged r bytes ≡ Err Form
+unfolding judged
+judged_by r bytes long = rw (lt-ltb 4096 (length bytes) long) refl
+
+module _ {State Event : Type 0} (s : Serving State Event) where
+  pub turn_by_front : (stage : Stage State) (number : ℕ) (bytes : List ℕ) → 4096 < length bytes → turn s stage number bytes ≡ turn s stage number (take 4097 bytes)
+  unfolding turn
+  turn_by_front stage number bytes long =
+      let short : 4096 < length (take 4097 bytes) = omega (arith, length-take 4097 bytes) in
+      ap (after_judging s stage number) (judged_by stage.reached bytes long ∙ sym (judged_by stage.reached (take 4097 bytes) short))
+
+  -- a line that is too long ends the trace
+  pub long_ends : (stage : Stage State) (number : ℕ) (bytes : List ℕ) → 4096 < length bytes → (o : Outcome) × (turn s stage number bytes ≡ ends o)
+  unfolding turn
+  long_ends stage number bytes long = (refused number Form, ap (after_judging s stage number) (judged_by stage.reached bytes long))

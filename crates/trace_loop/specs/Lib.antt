@@ -1,0 +1,8 @@
+pub mod Stops
+pub mod Turns
+pub mod Told
+unfoldable pub use Rattle.trace_loop.specs.Stops.{IsWriteStop, OnlyMemoryStops, IsReadStop, IsStop, StopsIn, EndsAs}
+pub use Rattle.trace_loop.specs.Stops.{IsStoppedByWrite, IsStoppedByRead, IsStopped}
+unfoldable pub use Rattle.trace_loop.specs.Turns.{ending, IsEnd, last_line, written, CanWrite, StandsSomewhere, Took}
+unfoldable pub use Rattle.trace_loop.specs.Told.{IfTold, IfBothTold, EndsIn, IsFirstTurn, Ends, HasLinesText, HasReadText}
+pub use Rattle.trace_loop.specs.Told.{GoesOnAfter}

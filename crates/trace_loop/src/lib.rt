@@ -1,0 +1,18 @@
+//! The loop over the lines of a trace, whatever serves it: from the source's bytes to the sink's.
+#![tactic(auto)]
+
+mod lines;
+mod server;
+mod stop;
+mod text;
+mod turn;
+mod writer;
+
+pub use line_io::Gather;
+pub use ram_io::{NoMemory, Sink, Source};
+pub use rams_model::Status;
+pub use server::TraceServer;
+pub use stop::Stop;
+pub use text::write_text;
+pub use turn::Turn;
+pub use writer::{Writer, flush, put};
