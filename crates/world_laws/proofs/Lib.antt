@@ -1,10 +1,10 @@
-mod Rising
-mod Low
-mod Kept
-mod Readings
-mod Ordered
-mod Right
-mod Serving
-mod Listening
-mod Happened
-mod Told
+pub mod Rising
+pub mod Low
+pub mod Kept
+pub mod Readings
+pub mod Ordered
+pub mod Right
+pub mod Serving
+pub mod Listening
+pub mod Happened
+pub mod Told

@@ -32,7 +32,7 @@ unfolding presenting
 still_fair zero turns P more p = p
 still_fair (suc k) turns P more p = still_fair k (presents ∷ turns) P more (more turns p)
 
-as_often : (k : ℕ) (turns : List Turn) → reception (presenting k turns) ≡ presented_often k (reception turns)
+pub as_often : (k : ℕ) (turns : List Turn) → reception (presenting k turns) ≡ presented_often k (reception turns)
 unfolding presenting presented_often reception
 as_often zero turns = refl
 as_often (suc k) turns = as_often k (presents ∷ turns)

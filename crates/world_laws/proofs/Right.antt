@@ -91,7 +91,7 @@ abbrev pub all_change : (channels : List Served) → Changes channels (map (with
 all_change channels = record { f = with_event event.Tick; is_map = refl; goes = with_one event.Tick; bytes = λ c b. (tt, b) }
 
 -- a channel is found after an event where it was found before
-found_in_map : (f : Served → Served) → ((c : Served) → id_of (f c) ≡ id_of c) → (id : ℕ) (channels : List Served) → channel_of id (map f channels) ≡ option_map f (channel_of id channels)
+pub found_in_map : (f : Served → Served) → ((c : Served) → id_of (f c) ≡ id_of c) → (id : ℕ) (channels : List Served) → channel_of id (map f channels) ≡ option_map f (channel_of id channels)
 found_in_map f keeps id [] = refl
 found_in_map f keeps id (c ∷ cs) =
     ap (λ (i : ℕ). cond (eqb i id) (Some (f c)) (channel_of id (map f cs))) (keeps c)

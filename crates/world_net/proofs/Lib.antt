@@ -1,0 +1,11 @@
+pub mod Loops
+pub mod AllShown
+pub mod Turned
+pub mod Listeners
+pub mod Pairs
+pub mod Counting
+pub mod CameLive
+pub mod HighPackets
+pub mod Answered
+pub mod Steps
+pub mod Fresh

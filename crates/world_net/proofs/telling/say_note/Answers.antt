@@ -1,0 +1,12 @@
+use Rattle.std.proofs.Common.{◌∷◌, [], map, append_assoc, ap, ◌∙◌, ◌++◌, List}
+use Rattle.world_laws.specs.declared.world.WorldNote.{WorldNote}
+use Rattle.world_net.specs.{sent_note}
+use Rattle.world_net.proofs.Loops.{goes_on_one, ended, map_more, map_past}
+use Rattle.world_net.proofs.telling.say_note.Goals as goal
+
+pub loop-parcel-init : goal.loop-parcel-init
+loop-parcel-init c =
+    ap (λ (l : List WorldNote). l ++ map sent_note c.args.sent.now) c.in_ok-say.ensures ∙ append_assoc c.args.notes.now.items (_ ∷ []) (map sent_note c.args.sent.now)
+
+pub returns : goal.returns
+returns c = ended _ _ _ c.loop-parcel.invariant (map_past _ _ _ c.loop-parcel-test.false)

@@ -1,0 +1,93 @@
+//! What is delivered to a receiver.
+ghost use Rattle.std.specs.Prelude.{◌≡◌, ◌∷◌, [], ◌<◌, ◌≤◌, ◌+◌, ◌^◌, ℕ, OnOk, IsSome, IfSome, option_map};
+ghost use Rattle.std.specs.Option.{option_to_list};
+ghost use Rattle.rams_model.specs.Receiver.{hears, delivers, told_by, told_answer, brought_again, brought_by_multicast, media_answer, join_answer, join_datagram, reception};
+ghost use Rattle.world_laws.specs.World.{Listener};
+ghost use Rattle.world_laws.specs.declared.world.WorldItem.TheVariants as item;
+ghost use Rattle.world_net.specs.{Follows, IsAt, Took, HasFew};
+
+use crate::parcel::Parcel;
+use crate::posting::post_joined;
+use crate::presenting::present_all;
+use crate::seat::{Seat, first_with};
+use crate::telling::say;
+use ram_io::NoMemory;
+use std::alloc::Global;
+use world_laws::{WorldItem, WorldNote};
+
+/// A RAMS-I (RFC 6285, 7.3) is delivered to the client's receiver.
+pub(crate) fn hear_info(
+    seat: &mut Seat,
+    id: u16,
+    client: u64,
+    bytes: &[u8],
+    notes: &mut Vec<WorldNote>,
+) -> Result<(), NoMemory>
+    requires there { IsSome seat.old.receiver }
+    ensures takes { (l : Listener) → Follows seat.old l → IsAt id client l
+        → OnOk result (Took (item.Info l.tuned.client (told_answer (told_by l.tuned bytes.now) (reception l.turns))) (hears (told_by l.tuned bytes.now) ∷ l.turns) [] l
+        notes.old.items notes.new.items [] [] seat.new) }
+    ensures few { (n : ℕ) → HasFew n seat.old → HasFew n seat.new }
+{
+    let Some(receiver) = &mut seat.receiver else {
+        unreachable!()
+    };
+    let came = receiver.info(bytes);
+    say(notes, id, WorldItem::Info { client, came })?;
+    present_all(receiver, id, client, notes)
+}
+
+/// A retransmission (RFC 4588) of the source's packet `x` is delivered to it.
+pub(crate) fn hear_again(
+    alloc: Global,
+    seat: &mut Seat,
+    id: u16,
+    client: u64,
+    x: u64,
+    bytes: &[u8],
+    notes: &mut Vec<WorldNote>,
+) -> Result<(), NoMemory>
+    requires there { IsSome seat.old.receiver }
+    requires few { IfSome seat.old.receiver (λ r. r.calls < 2 ^ 40) }
+    ensures takes { (l : Listener) → Follows seat.old l → IsAt id client l
+        → OnOk result (Took (item.Media l.tuned.client (media_answer (brought_again l.tuned bytes.now) (reception l.turns))) (delivers x (brought_again l.tuned bytes.now) ∷ l.turns) [] l
+        notes.old.items notes.new.items [] [] seat.new) }
+    ensures few { (n : ℕ) → HasFew n seat.old → HasFew (n + 1) seat.new }
+{
+    let Some(receiver) = &mut seat.receiver else {
+        unreachable!()
+    };
+    let distance = receiver.distance(bytes);
+    let came = receiver.rtx(alloc, bytes)?;
+    seat.first = first_with(seat.first, x, distance);
+    say(notes, id, WorldItem::Media { client, came })?;
+    present_all(receiver, id, client, notes)
+}
+
+/// The source's packet `x` is delivered to it by multicast. It may join with it, and posts a RAMS-T
+/// (RFC 6285, 7.4) then.
+pub(crate) fn hear_multicast(
+    alloc: Global,
+    seat: &mut Seat,
+    id: u16,
+    client: u64,
+    bytes: &[u8],
+    notes: &mut Vec<WorldNote>,
+    parcels: &mut Vec<Parcel>,
+) -> Result<(), NoMemory>
+    requires there { IsSome seat.old.receiver }
+    requires few { IfSome seat.old.receiver (λ r. r.calls < 2 ^ 40) }
+    ensures takes { (l : Listener) (x : ℕ) → Follows seat.old l → IsAt id client l
+        → OnOk result (Took (item.Media l.tuned.client (media_answer (brought_by_multicast l.tuned bytes.now) (reception l.turns))) (delivers x (brought_by_multicast l.tuned bytes.now) ∷ l.turns)
+        (option_to_list (option_map (join_datagram l.tuned) (join_answer (brought_by_multicast l.tuned bytes.now) (reception l.turns)))) l
+        notes.old.items notes.new.items parcels.old.items parcels.new.items seat.new) }
+    ensures few { (n : ℕ) → HasFew n seat.old → HasFew (n + 1) seat.new }
+{
+    let Some(receiver) = &mut seat.receiver else {
+        unreachable!()
+    };
+    let (came, joined) = receiver.multicast(alloc, bytes)?;
+    say(notes, id, WorldItem::Media { client, came })?;
+    post_joined(id, client, joined, notes, parcels)?;
+    present_all(receiver, id, client, notes)
+}

@@ -1,0 +1,23 @@
+//! Worlds: a server's channels, the datagrams that were sent, and the receivers that they are
+//! delivered to, in any order and any number of times.
+//!
+//! It opens no socket and reads no clock: what happens is handed in, event by event.
+#![tactic(auto)]
+
+mod asking;
+mod delivering;
+mod hearing;
+mod parcel;
+mod parts;
+mod posting;
+mod presenting;
+mod seat;
+mod serving;
+mod telling;
+mod tuning;
+mod world;
+
+pub use ram_io::NoMemory;
+pub use server_hub::{AddFault, Config, Hub, HubEvent};
+pub use world::World;
+pub use world_laws::{WorldEvent, WorldItem, WorldNote};
