@@ -2,22 +2,27 @@
 //! status.
 #![tactic(auto)]
 
-ghost use Rattle.std.specs.Prelude.{◌≡◌};
+ghost use Rattle.std.specs.Prelude.{◌≡◌, ◌<◌, ◌≤◌};
 ghost use Rattle.rams_program.specs.{exit_number};
 
-use ram_io::{MemClock, MemWire, Octets, Open, StdSink, StdSource};
-use rams_replay::{Status, run};
+use ram_io::{Clock, MemClock, MemWire, Octets, Open, StdClock, StdSink, StdSource, Wire};
+use rams_replay::{Status, port_of, run};
 use std::alloc::Global;
+use std::net::Net;
 use std::process::ExitCode;
 use std::sync::Wait;
 use std::thread::Threads;
-use std::{env, io};
+use std::{env, io, rt};
+use udp_edge::{BindFault, FailedWire, UdpWire};
 
-const USAGE: &str = "usage: rams-replay run | make SEED BLOCKS";
+const USAGE: &str = "usage: rams-replay run | serve PORT TURNS | make SEED BLOCKS";
 
 fn main(rt: HostRuntime) -> ExitCode {
     let status = match words(&rt) {
-        Ok(words) => command(&rt, rt.alloc(), &words),
+        Ok(words) => match port_of(&words) {
+            Some(port) => served(&rt, rt.alloc(), &words, port),
+            None => unserved(&rt, rt.alloc(), &words),
+        },
         Err(status) => status,
     };
     if status == Status::Words {
@@ -43,8 +48,14 @@ fn words(rt: &HostRuntime) -> Result<Vec<Octets>, Status> {
     Ok(words)
 }
 
-/// Runs the command over this machine's input and output.
-fn command<R: Threads + Wait + Sync + Input + Print>(
+/// Most channels of a server.
+const CHANNELS: u16 = 64;
+
+/// Most time that a server waits for a datagram, in ms.
+const WAIT_MS: u32 = 1;
+
+/// Runs a command that has no wire.
+fn unserved<R: Threads + Wait + Sync + Input + Print>(
     rt: &R,
     alloc: Global,
     words: &[Octets],
@@ -53,18 +64,50 @@ fn command<R: Threads + Wait + Sync + Input + Print>(
         return Status::NoMemory;
     };
     let mut clock = MemClock::new(Vec::new(alloc));
+    command(rt, alloc, words, &mut wire, &mut clock)
+}
+
+/// Runs `serve` over the ports of 64 channels, since its head isn't read yet. Where one of them can't be
+/// had, its wire fails.
+fn served<R: Threads + Wait + Net + rt::Clock + Sync + Input + Print + Eprint>(
+    rt: &R,
+    alloc: Global,
+    words: &[Octets],
+    port: u16,
+) -> Status
+    requires first { 0 < port }
+    requires last { port ≤ 65000 }
+{
+    let last = port + (2 * CHANNELS - 1);
+    let mut clock = StdClock::new(rt);
+    match UdpWire::bind(&rt, alloc, port, CHANNELS, WAIT_MS) {
+        Ok(mut wire) => {
+            let _ = eprintln!(rt;
+                "rams-replay: listens on 127.0.0.1, ports {port} to {last}: a live port and a feedback port for each channel, in their order"
+            );
+            command(rt, alloc, words, &mut wire, &mut clock)
+        }
+        Err(BindFault::NoMemory) => Status::NoMemory,
+        Err(BindFault::Failed) => {
+            let _ = eprintln!(rt;
+                "rams-replay: the ports {port} to {last} of 127.0.0.1 can't all be had: free them, or name another PORT"
+            );
+            command(rt, alloc, words, &mut FailedWire::new(), &mut clock)
+        }
+    }
+}
+
+/// Runs the command over this machine's input and output.
+fn command<R: Threads + Wait + Sync + Input + Print, W: Wire, C: Clock>(
+    rt: &R,
+    alloc: Global,
+    words: &[Octets],
+    wire: &mut W,
+    clock: &mut C,
+) -> Status {
     let mut source = StdSource::new(rt.reader());
     let mut sink = StdSink::new(io::writer(rt));
-    run(
-        rt,
-        alloc,
-        words,
-        &mut source,
-        &mut sink,
-        &mut wire,
-        &mut clock,
-        &Open,
-    )
+    run(rt, alloc, words, &mut source, &mut sink, wire, clock, &Open)
 }
 
 /// The exit status that a status stands for.

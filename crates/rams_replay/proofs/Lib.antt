@@ -3,3 +3,5 @@ pub mod Turning
 pub mod Telling
 pub mod Opening
 pub mod Ending
+pub mod ServeWords
+pub mod Serving

@@ -3,7 +3,7 @@ use Rattle.std.specs.Prelude.{◌≡◌, ℕ, ◌-◌, ◌^◌, ◌||◌, if◌t
 use Rattle.std.specs.Int.{is_in_range}
 use Rattle.rams_model.specs.Texts.{number_in}
 use Rattle.rams_replay.specs.declared.words.Command.{Command}
-use Rattle.rams_replay.specs.declared.words.Command.TheVariants.{Run, Make}
+use Rattle.rams_replay.specs.declared.words.Command.TheVariants.{Run, Make, Serve}
 
 -- the number, where it is from low to high
 abbrev pub within : ℕ → ℕ → Option ℕ → Option ℕ
@@ -19,14 +19,20 @@ make_of None blocks = None
 make_of (Some seed) None = None
 make_of (Some seed) (Some blocks) = Some (Make seed blocks)
 
--- `run` alone, or `make SEED BLOCKS`
+abbrev pub serve_of : Option ℕ → Option ℕ → Option Command
+serve_of None turns = None
+serve_of (Some port) None = None
+serve_of (Some port) (Some turns) = Some (Serve port turns)
+
+-- `run` alone, `make SEED BLOCKS` or `serve PORT TURNS`
 abbrev pub command_of : List (List ℕ) → Option Command
 command_of [] = None
 command_of (word ∷ []) = if bytes_eq word (codes "run") then Some Run else None
-command_of (word ∷ seed ∷ []) = None
-command_of (word ∷ seed ∷ blocks ∷ []) =
-    if bytes_eq word (codes "make") then make_of (number_within 0 (2 ^ 32 - 1) seed) (number_within 1 50000 blocks) else None
-command_of (word ∷ seed ∷ blocks ∷ other ∷ rest) = None
+command_of (word ∷ first ∷ []) = None
+command_of (word ∷ first ∷ second ∷ []) =
+    if bytes_eq word (codes "make") then make_of (number_within 0 (2 ^ 32 - 1) first) (number_within 1 50000 second)
+    else if bytes_eq word (codes "serve") then serve_of (number_within 1024 65000 first) (number_within 1 500000 second) else None
+command_of (word ∷ first ∷ second ∷ other ∷ rest) = None
 
 -- the first word is that of a command which waits for nobody
 abbrev pub begins_with_plain : List (List ℕ) → Bool
@@ -40,3 +46,15 @@ AreRun words = command_of words ≡ Some Run
 -- the words are `make SEED BLOCKS`
 abbrev pub AreMake : List (List ℕ) → ℕ → ℕ → Type 0
 AreMake words seed blocks = command_of words ≡ Some (Make seed blocks)
+
+-- the words are `serve PORT TURNS`
+abbrev pub AreServe : List (List ℕ) → ℕ → ℕ → Type 0
+AreServe words port turns = command_of words ≡ Some (Serve port turns)
+
+abbrev pub port_in : Option Command → Option ℕ
+port_in (Some (Serve port turns)) = Some port
+port_in _ = None
+
+-- the live port of the first channel, where the words are `serve PORT TURNS`
+abbrev pub port_of : List (List ℕ) → Option ℕ
+port_of words = port_in (command_of words)

@@ -2,14 +2,16 @@
 ghost use Rattle.std.specs.Prelude.{◌≡◌, ◌≢◌, false, true, is_none, ℕ, All, List, None, length};
 ghost use Rattle.line_io.specs.Passes.{Passes};
 ghost use Rattle.trace_book.specs.{KeepsTheLink, KeepsPromises, served_by, trace_text};
-ghost use Rattle.rams_model.specs.declared.status.Status.TheVariants.{Done, ReadFault};
+ghost use Rattle.rams_model.specs.declared.status.Status.TheVariants.{BadTrace, Done, ReadFault};
+ghost use Rattle.serve_loop.specs.{Given, HasRoom, IsGiven, served_datagrams, served_text};
 ghost use Rattle.summary.specs.{made_summary};
-ghost use Rattle.rams_replay.specs.{AreMake, AreRun, begins_with_plain, command_of, status_of, is_words, HasSummary, HasText, IsCaused, IsOrLacksMemory, HasReadText};
+ghost use Rattle.rams_replay.specs.{AreMake, AreRun, AreServe, begins_with_plain, command_of, no_room, port_of, status_of, is_words, HasServed, HasSummary, HasText, IsCaused, IsCausedOverWire, IsOrLacksMemory, HasReadText};
 ghost use Rattle.trace_loop.specs.{IfTold, IfBothTold};
 
 use crate::made::write_summary;
 use crate::replay::new_replay;
-use crate::words::{Command, begins_with_plain, command_of};
+use crate::served::serve_status;
+use crate::words::{Command, begins_with_plain, command_of, serve_words};
 use ram_io::{Clock, Gate, Octets, Sink, Source, Wire};
 use rams_model::Status;
 use std::alloc::Global;
@@ -21,9 +23,10 @@ use trace_loop::{Stop, write_text};
 /// Runs a command over whatever it reads from, writes to, sends through and tells the time by.
 ///
 /// `words` are those of the command line behind the program's name. `run` reads a trace and writes
-/// its book; `make SEED BLOCKS` writes the summary of a generated trace and reads nothing. Any other
-/// words are refused, and nothing is read or written.
-#[tactic(auto, using(crate::proofs::Ending::not_plain))]
+/// its book; `make SEED BLOCKS` writes the summary of a generated trace and reads nothing; `serve PORT
+/// TURNS` reads a head, and serves its channels over the wire for so many turns. Any other words are
+/// refused, and nothing is read or written.
+#[tactic(auto, using(crate::proofs::ServeWords::no_command))]
 pub fn run<R: Threads + Wait + Sync, S: Source, K: Sink, W: Wire, C: Clock, G: Gate + Sync>(
     _rt: &R,
     alloc: Global,
@@ -40,22 +43,32 @@ pub fn run<R: Threads + Wait + Sync, S: Source, K: Sink, W: Wire, C: Clock, G: G
     ensures front { AreRun words.now → IfTold (S.left source.old) (λ xs. (rest : List ℕ) × Passes (K.held sink.old) (K.held sink.new) (trace_text xs).text rest) }
     ensures lawful { IfTold (S.left source.old) (λ xs. All KeepsPromises (served_by xs)) }
     ensures link { IfTold (S.left source.old) KeepsTheLink }
-    ensures read { result ≡ ReadFault → IfBothTold (S.left source.old) (S.left source.new) (HasReadText (K.held sink.old) (K.held sink.new)) }
-    ensures cause { IsCaused (S.faults source.old) (S.faults source.new) (K.faults sink.old) (K.faults sink.new) result }
+    ensures read { AreRun words.now → result ≡ ReadFault → IfBothTold (S.left source.old) (S.left source.new) (HasReadText (K.held sink.old) (K.held sink.new)) }
+    ensures cause { port_of words.now ≡ None → IsCaused (S.faults source.old) (S.faults source.new) (K.faults sink.old) (K.faults sink.new) result }
     ensures whole { AreRun words.now → S.is_steady source.old → IfTold (S.left source.old)
         (λ xs. K.is_steady sink.old (length (trace_text xs).text) → IsOrLacksMemory (trace_text xs).status result) }
     ensures summary { (seed blocks : ℕ) → AreMake words.now seed blocks →
         HasSummary (K.held sink.old) (K.held sink.new) (made_summary seed blocks) result × (source.new ≡ source.old) }
     ensures summed { (seed blocks : ℕ) → AreMake words.now seed blocks → K.is_steady sink.old (length (made_summary seed blocks)) → IsOrLacksMemory Done result }
-    ensures wire { wire.new ≡ wire.old }
-    ensures clock { clock.new ≡ clock.old }
+    ensures served { (port turns : ℕ) (g : Given) → AreServe words.now port turns → IsGiven g port turns (S.left source.old) (W.arrivals wire.old) (C.moments clock.old)
+        → HasServed g (K.held sink.old) (K.held sink.new) (W.sent wire.old) (W.sent wire.new) (W.arrivals wire.new) result }
+    ensures served_whole { (port turns : ℕ) (g : Given) → AreServe words.now port turns → IsGiven g port turns (S.left source.old) (W.arrivals wire.old) (C.moments clock.old) → S.is_steady source.old
+        → HasRoom (K.is_steady sink.old) (W.is_steady wire.old) (served_text g).text (served_datagrams g) no_room → IsOrLacksMemory (served_text g).status result }
+    ensures unserved { result ≡ BadTrace → (wire.new ≡ wire.old) × (clock.new ≡ clock.old) }
+    ensures unread { (port turns : ℕ) → AreServe words.now port turns → result ≡ ReadFault → (sink.new ≡ sink.old) × (wire.new ≡ wire.old) × (clock.new ≡ clock.old) }
+    ensures causes { IsCausedOverWire (S.faults source.old) (S.faults source.new) (K.faults sink.old) (K.faults sink.new) (W.faults wire.old) (W.faults wire.new) result }
+    ensures wire { port_of words.now ≡ None → wire.new ≡ wire.old }
+    ensures clock { port_of words.now ≡ None → clock.new ≡ clock.old }
 {
     if begins_with_plain(words) {
         return plain(alloc, words, source, sink);
     }
     traces_are_served_lawfully();
     traces_stay_within_the_link();
-    Status::Words
+    match serve_words(words) {
+        Some((port, turns)) => serve_status(alloc, source, sink, wire, clock, port, turns),
+        None => Status::Words,
+    }
 }
 
 /// Runs a command that waits for nobody: the first word is `run` or `make`.
@@ -85,6 +98,8 @@ pub fn plain<S: Source, K: Sink>(
     match command_of(words) {
         Some(Command::Run) => write_status(alloc, source, sink),
         Some(Command::Make { seed, blocks }) => status_of(write_summary(alloc, seed, blocks, sink)),
+        // Its first word is neither `run` nor `make`.
+        Some(Command::Serve { .. }) => Status::Words,
         None => Status::Words,
     }
 }

@@ -5,10 +5,11 @@ mod commands;
 mod entry;
 mod made;
 mod replay;
+mod served;
 mod words;
 mod writer;
 
 pub use commands::{plain, run};
 pub use ram_io::{NoMemory, Octets, Sink, Source};
 pub use rams_model::Status;
-pub use words::{Command, begins_with_plain, command_of};
+pub use words::{Command, begins_with_plain, command_of, port_of};

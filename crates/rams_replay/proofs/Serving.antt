@@ -1,0 +1,69 @@
+-- How a server ends, as a status.
+use Rattle.std.proofs.Common.{◌≡◌, ℕ, List, [], Option, Some, ◌≤◌, Result, Ok, Err, IfOk, IfErr, refl, sym, subst, ◌∙◌, arith}
+use Rattle.rams_model.specs.declared.status.Status.{Status}
+use Rattle.rams_model.specs.declared.status.Status.TheVariants.{Done, NoMemory, Words, ReadFault, WriteFault, BadTrace, WireFault, TooLong}
+use Rattle.ram_io.specs.declared.wire.Incoming.{Incoming}
+use Rattle.ram_io.specs.{Outgoing}
+use Rattle.serve_loop.specs.declared.stop.Stop.{Stop}
+use Rattle.serve_loop.specs.declared.stop.Stop.TheVariants.{Memory, Read, Write, Wire}
+use Rattle.serve_loop.specs.{Given, HasEnded, HasStopped, IsGiven, IsServeEnd, OnlyMemoryStops, served_text}
+use Rattle.rams_replay.specs.declared.words.Command.{Command}
+use Rattle.rams_replay.specs.declared.words.Command.TheVariants.{Serve}
+use Rattle.rams_replay.specs.{HasFault, HasFaultOf, HasServed, IsCaused, IsCausedOverWire, IsOrLacksMemory, served_status}
+
+pub has_served : (g : Given) (held holds : Option (List ℕ)) (went sent : Option (List Outgoing)) (left : Option (List Incoming)) (r : Result Status Stop) → IfOk r IsServeEnd → IfOk r (HasEnded g held holds went sent left)
+    → IfErr r (λ stop. HasStopped g held holds went sent) → HasServed g held holds went sent left (served_status r)
+has_served g held holds went sent left (Ok Done) end ended stopped = ended
+has_served g held holds went sent left (Ok BadTrace) end ended stopped = ended
+has_served g held holds went sent left (Ok NoMemory) end ended stopped = absurd end
+has_served g held holds went sent left (Ok Words) end ended stopped = absurd end
+has_served g held holds went sent left (Ok ReadFault) end ended stopped = absurd end
+has_served g held holds went sent left (Ok WriteFault) end ended stopped = absurd end
+has_served g held holds went sent left (Ok WireFault) end ended stopped = absurd end
+has_served g held holds went sent left (Ok TooLong) end ended stopped = absurd end
+has_served g held holds went sent left (Err Memory) end ended stopped = stopped
+has_served g held holds went sent left (Err Read) end ended stopped = stopped
+has_served g held holds went sent left (Err Write) end ended stopped = stopped
+has_served g held holds went sent left (Err Wire) end ended stopped = stopped
+
+pub or_lacks_memory : (g : Given) (held holds : Option (List ℕ)) (went sent : Option (List Outgoing)) (left : Option (List Incoming)) (P : Type 0) (r : Result Status Stop) → IfOk r IsServeEnd → IfOk r (HasEnded g held holds went sent left)
+    → OnlyMemoryStops r P → IsOrLacksMemory (served_text g).status (served_status r)
+or_lacks_memory g held holds went sent left P (Ok Done) end ended only = ended.status_is
+or_lacks_memory g held holds went sent left P (Ok BadTrace) end ended only = ended.status_is
+or_lacks_memory g held holds went sent left P (Ok NoMemory) end ended only = absurd end
+or_lacks_memory g held holds went sent left P (Ok Words) end ended only = absurd end
+or_lacks_memory g held holds went sent left P (Ok ReadFault) end ended only = absurd end
+or_lacks_memory g held holds went sent left P (Ok WriteFault) end ended only = absurd end
+or_lacks_memory g held holds went sent left P (Ok WireFault) end ended only = absurd end
+or_lacks_memory g held holds went sent left P (Ok TooLong) end ended only = absurd end
+or_lacks_memory g held holds went sent left P (Err stop) end ended only = subst (λ (s : Stop). IsOrLacksMemory (served_text g).status (served_status (Err s))) (sym only) tt
+
+-- a command that has no wire
+pub over_wire : (read reads write writes wire : ℕ) (status : Status) → IsCaused read reads write writes status → IsCausedOverWire read reads write writes wire wire status
+over_wire read reads write writes wire status is = record { read_later = is.read_later; write_later = is.write_later; wire_later = omega arith; cause = by status is.cause }
+  where
+    by : (s : Status) → HasFault read reads write writes s → HasFaultOf read reads write writes wire wire s
+    by Done h = tt
+    by NoMemory h = tt
+    by Words h = tt
+    by ReadFault h = h
+    by WriteFault h = h
+    by BadTrace h = tt
+    by WireFault h = absurd h
+    by TooLong h = tt
+
+-- one command has one port and one number of turns
+pub same_serve : (o : Option Command) (p t port turns : ℕ) → o ≡ Some (Serve p t) → o ≡ Some (Serve port turns) → (p ≡ port) × (t ≡ turns)
+same_serve o p t port turns a b =
+    let both : Serve p t ≡ Serve port turns = cc in
+    (by both, other both)
+  where
+    by : Serve p t ≡ Serve port turns → p ≡ port
+    by e = cc
+
+    other : Serve p t ≡ Serve port turns → t ≡ turns
+    other e = cc
+
+pub given_so : (g : Given) (p t port turns : ℕ) (source moments : Option (List ℕ)) (arrivals : Option (List Incoming)) → (p ≡ port) × (t ≡ turns) → IsGiven g port turns source arrivals moments → IsGiven g p t source arrivals moments
+given_so g p t port turns source moments arrivals same is =
+    record { live_is = is.live_is ∙ sym same.0; turns_are = is.turns_are ∙ sym same.1; source_is = is.source_is; arrivals_are = is.arrivals_are; moments_are = is.moments_are; can_arrive = is.can_arrive }

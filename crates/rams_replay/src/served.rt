@@ -1,0 +1,46 @@
+//! The command `serve`: a server over a wire, and how it ends.
+ghost use Rattle.std.specs.Prelude.{◌≡◌, ◌≤◌, false};
+ghost use Rattle.rams_model.specs.declared.status.Status.TheVariants.{BadTrace, ReadFault};
+ghost use Rattle.serve_loop.specs.{Given, HasRoom, IsGiven, served_datagrams, served_text};
+ghost use Rattle.rams_replay.specs.{HasServed, IsCausedOverWire, IsOrLacksMemory, is_words, no_room, served_status};
+
+use ram_io::{Clock, Sink, Source, Wire};
+use rams_model::Status;
+use serve_loop::{Stop, serve};
+use std::alloc::Global;
+
+/// Serves so many turns to the channels that a head opens, and says how that ended.
+pub fn serve_status<S: Source, K: Sink, W: Wire, C: Clock>(
+    alloc: Global,
+    source: &mut S,
+    sink: &mut K,
+    wire: &mut W,
+    clock: &mut C,
+    port: u16,
+    turns: u32,
+) -> Status
+    requires port { port ≤ 65000 }
+    requires turns { turns ≤ 500000 }
+    ensures words { is_words result ≡ false }
+    ensures served { (g : Given) → IsGiven g port turns (S.left source.old) (W.arrivals wire.old) (C.moments clock.old)
+        → HasServed g (K.held sink.old) (K.held sink.new) (W.sent wire.old) (W.sent wire.new) (W.arrivals wire.new) result }
+    ensures whole { (g : Given) → IsGiven g port turns (S.left source.old) (W.arrivals wire.old) (C.moments clock.old) → S.is_steady source.old
+        → HasRoom (K.is_steady sink.old) (W.is_steady wire.old) (served_text g).text (served_datagrams g) no_room → IsOrLacksMemory (served_text g).status result }
+    ensures unserved { result ≡ BadTrace → (wire.new ≡ wire.old) × (clock.new ≡ clock.old) }
+    ensures unread { result ≡ ReadFault → (sink.new ≡ sink.old) × (wire.new ≡ wire.old) × (clock.new ≡ clock.old) }
+    ensures cause { IsCausedOverWire (S.faults source.old) (S.faults source.new) (K.faults sink.old) (K.faults sink.new) (W.faults wire.old) (W.faults wire.new) result }
+{
+    status_of(serve(alloc, source, sink, wire, clock, port, turns))
+}
+
+fn status_of(ended: Result<Status, Stop>) -> Status
+    ensures { result ≡ served_status ended }
+{
+    match ended {
+        Ok(status) => status,
+        Err(Stop::Memory) => Status::NoMemory,
+        Err(Stop::Read) => Status::ReadFault,
+        Err(Stop::Write) => Status::WriteFault,
+        Err(Stop::Wire) => Status::WireFault,
+    }
+}
