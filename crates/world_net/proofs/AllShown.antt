@@ -1,5 +1,5 @@
 -- A receiver presents packet by packet.
-use Rattle.std.proofs.Common.{◌≡◌, ℕ, zero, suc, ◌+◌, ◌-◌, ◌<◌, List, [], ◌∷◌, ◌++◌, map, length, Option, None, Some, option_map, option_and_then, refl, sym, ap, ◌∙◌, subst, arith, append-nil}
+use Rattle.std.proofs.Common.{◌≡◌, ℕ, zero, suc, ◌<◌, List, [], ◌∷◌, ◌++◌, map, length, Option, None, Some, option_map, option_and_then, refl, sym, ap, ◌∙◌, subst, arith, append-nil}
 use Rattle.std.specs.Option.{option_to_list}
 use Rattle.rams_model.specs.Receiver.{Piece, Playing, presented, past, after_presenting, Reception, shown_now, after_shown, without_piece}
 use Rattle.rams_model.proofs.PieceCounts.{one_less}

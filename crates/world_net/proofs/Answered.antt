@@ -1,5 +1,5 @@
 -- What is said and sent for the answers of the hub is what the world's channels say and send.
-use Rattle.std.proofs.Common.{◌≡◌, ◌≢◌, ℕ, List, [], ◌∷◌, ◌++◌, map, take, drop, length, Option, None, Some, option_map, refl, sym, ap, ◌∙◌, subst, append_assoc, append-nil}
+use Rattle.std.proofs.Common.{◌≡◌, ◌≢◌, ℕ, List, [], ◌∷◌, ◌++◌, map, take, drop, length, Option, None, Some, option_map, refl, sym, ap, ◌∙◌, append_assoc, append-nil}
 use Rattle.std.specs.Prelude.{AllPairs, slice_get}
 use Rattle.std.specs.List.{flat_map}
 use Rattle.std.proofs.lemmas.List.{take-map}
@@ -7,19 +7,19 @@ use Rattle.rams_model.specs.declared.answer.Order.{Order}
 use Rattle.rams_model.specs.declared.event.Event.{Event}
 use Rattle.rams_model.specs.declared.event.Event.TheVariants as event
 use Rattle.rams_model.specs.declared.note.Note.{Note}
-use Rattle.rams_model.specs.Service.{Answered, Settings}
+use Rattle.rams_model.specs.Service.{Settings}
 use Rattle.rams_model.specs.Texts.{order_count}
 use Rattle.server_hub.specs.declared.event.At.{At}
 use Rattle.server_hub.specs.declared.event.HubEvent.{HubEvent}
 use Rattle.server_hub.specs.declared.event.HubEvent.TheVariants as hub
-use Rattle.server_hub.specs.{ids_of, id_of, answer_to, answer_at, answers_to_tick, channel_of, answer_of, told_of, told_to}
+use Rattle.server_hub.specs.{ids_of, id_of, answer_to, answer_at, channel_of, told_of, told_to}
 use Rattle.server_hub.specs.Served.{Served}
 use Rattle.server_hub.proofs.Finding.{with_id, one_has, settings_found}
 use Rattle.world_laws.specs.World.{Datagram, note}
 use Rattle.world_laws.specs.declared.world.WorldItem.TheVariants as item
 use Rattle.world_laws.specs.declared.world.WorldNote.{WorldNote}
-use Rattle.world_laws.specs.{sent, send_note, notes_with_orders, said_of, said_by, sent_by, said_where, sent_where, all_said, all_sent}
-use Rattle.world_net.specs.{sent_of, sent_note, note_with_sent, notes_with_sent, said_in, settled_notes, settled_sent, at_notes, at_sent, told_notes, told_sent}
+use Rattle.world_laws.specs.{send_note, notes_with_orders, said_by, sent_by, said_where, sent_where, all_said, all_sent}
+use Rattle.world_net.specs.{sent_of, sent_note, note_with_sent, notes_with_sent, settled_notes, settled_sent, at_notes, at_sent, told_notes, told_sent}
 
 -- the settings of channels
 abbrev pub settings_all : List Served → List Settings

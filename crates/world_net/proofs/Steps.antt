@@ -1,5 +1,5 @@
 -- What is kept stands for the world after each event.
-use Rattle.std.proofs.Common.{◌≡◌, ◌≢◌, ℕ, zero, suc, ◌+◌, ◌-◌, ◌^◌, ◌<◌, ◌≤◌, Bool, true, false, ◌&&◌, cond, eqb, ltb, List, [], ◌∷◌, ◌++◌, map, length, set, get_or, Option, None, Some, option_map, option_and_then, is_some, Result, Ok, Err, refl, sym, ap, ◌∙◌, subst, arith, append-nil}
+use Rattle.std.proofs.Common.{◌≡◌, ℕ, zero, suc, ◌+◌, ◌-◌, ◌^◌, ◌<◌, ◌≤◌, Bool, true, false, ◌&&◌, cond, eqb, ltb, List, [], ◌∷◌, ◌++◌, map, length, set, get_or, Option, None, Some, option_map, option_and_then, is_some, Result, Ok, Err, refl, sym, ap, ◌∙◌, subst, arith, append-nil}
 use Rattle.std.specs.Prelude.{if◌then◌else◌, slice_get, IsSome, IfSome, OnOk}
 use Rattle.std.specs.List.{list_any}
 use Rattle.std.specs.Option.{option_or, option_to_list}
@@ -26,7 +26,7 @@ use Rattle.world_laws.specs.World.{Way, Datagram, Listener, World, Step, note}
 use Rattle.world_laws.specs.declared.world.WorldItem.{WorldItem}
 use Rattle.world_laws.specs.declared.world.WorldItem.TheVariants as item
 use Rattle.world_laws.specs.declared.world.WorldNote.{WorldNote}
-use Rattle.world_laws.specs.{listener_of, listens, first_replaced, presented_all, posted, post_note, show_note, pieces_in, turns_to_present, after_turns, all_sent, serving, refused, if_listening, next_number, is_too_far, delivering, delivering_near, source_of, packet_of_source, as_it_came, post_all, leave, is_listener, tuned_to, new_listener, with_listener, tuning, datagram_at, giving, giving_by}
+use Rattle.world_laws.specs.{listener_of, listens, first_replaced, presented_all, posted, after_turns, all_sent, serving, refused, if_listening, next_number, is_too_far, delivering, delivering_near, source_of, packet_of_source, as_it_came, post_all, leave, is_listener, tuned_to, new_listener, with_listener, tuning, datagram_at, giving, giving_by}
 use Rattle.world_net.specs.declared.parts.Parts.{Parts}
 use Rattle.world_net.specs.declared.seat.Seat.{Seat}
 use Rattle.world_net.specs.{kept_of, AreFew, Goes, EndsAt, EndsSo, packet_below, seat_is_too_far, Kept, KeptFor, at_pair, if_there, listening_at, came_at, place_of, key_of, AreApart, Follows, FollowsBy, IsAt, Hears, HasFew, Took, KeepsHeard, told_notes, told_sent, post_at, posted_at}

@@ -1,5 +1,5 @@
 -- A receiver's turns, as a seat has them.
-use Rattle.std.proofs.Common.{◌≡◌, ℕ, zero, suc, ◌+◌, ◌-◌, Bool, true, false, cond, List, [], ◌∷◌, ◌++◌, map, length, Option, None, Some, option_map, Result, Ok, Err, refl, sym, ap, ◌∙◌, subst, append_assoc}
+use Rattle.std.proofs.Common.{◌≡◌, ℕ, zero, suc, ◌-◌, Bool, true, false, cond, List, [], ◌∷◌, ◌++◌, map, Option, None, Some, option_map, Result, Ok, Err, refl, sym, ap, ◌∙◌, subst, append_assoc}
 use Rattle.std.specs.Prelude.{OnOk}
 use Rattle.std.specs.Option.{option_or, option_to_list}
 use Rattle.rams_model.specs.declared.fault.RtpFault.{RtpFault}
@@ -8,12 +8,11 @@ use Rattle.rams_model.specs.declared.reception.MediaCame.{MediaCame}
 use Rattle.rams_model.specs.declared.reception.Tuned.{Tuned}
 use Rattle.rams_model.specs.declared.reception.MediaCame.TheVariants as came
 use Rattle.rams_model.specs.Formats.{Packet, packet_at, stripped}
-use Rattle.rams_model.specs.Receiver.{Piece, Playing, Reception, Media, again, multicast, unfit, Turn, hears, delivers, presents, reception, source_first, first_by, shown_now, after_shown, after_told, after_media, told_by, told_answer, brought_again, brought_by_multicast, read_multicast, is_of, media_answer, join_answer, join_datagram}
+use Rattle.rams_model.specs.Receiver.{Piece, Reception, Media, again, multicast, unfit, Turn, hears, delivers, presents, reception, source_first, first_by, shown_now, after_told, after_media, told_by, told_answer, brought_again, brought_by_multicast, read_multicast, is_of, media_answer, join_answer, join_datagram}
 use Rattle.receiver_core.specs.{with_got, with_call, distance_of}
 use Rattle.receiver_core.specs.States.{Seen}
-use Rattle.receiver_laws.specs.{presented_often}
 use Rattle.world_laws.specs.World.{Datagram, Listener, note}
-use Rattle.world_laws.specs.{waiting, presenting, pieces_in, turns_to_present, posted, post_note, show_note}
+use Rattle.world_laws.specs.{presenting, pieces_in, turns_to_present}
 use Rattle.world_laws.specs.declared.world.WorldItem.{WorldItem}
 use Rattle.world_laws.specs.declared.world.WorldItem.TheVariants as item
 use Rattle.world_laws.specs.declared.world.WorldNote.{WorldNote}

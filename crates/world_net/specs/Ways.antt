@@ -1,5 +1,4 @@
 -- Datagrams as code has them.
-use Rattle.std.specs.Prelude.{ℕ}
 use Rattle.rams_model.specs.declared.answer.Order.{Order}
 use Rattle.rams_model.specs.Service.{Settings, client_of, datagram}
 use Rattle.world_laws.specs.World.{Way, posts, tells, repeats, Datagram}

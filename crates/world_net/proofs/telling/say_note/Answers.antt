@@ -1,7 +1,7 @@
 use Rattle.std.proofs.Common.{◌∷◌, [], map, append_assoc, ap, ◌∙◌, ◌++◌, List}
 use Rattle.world_laws.specs.declared.world.WorldNote.{WorldNote}
 use Rattle.world_net.specs.{sent_note}
-use Rattle.world_net.proofs.Loops.{goes_on_one, ended, map_more, map_past}
+use Rattle.world_net.proofs.Loops.{ended, map_past}
 use Rattle.world_net.proofs.telling.say_note.Goals as goal
 
 pub loop-parcel-init : goal.loop-parcel-init

@@ -1,9 +1,7 @@
-use Rattle.std.proofs.Common.{◌≡◌, ℕ, List, Option, Some, None, map, ◌++◌, sym, ap, ◌∙◌, subst, arith}
-use Rattle.rams_model.specs.declared.reception.Tuned.{Tuned}
-use Rattle.rams_model.specs.Receiver.{Reception, asked, reception}
+use Rattle.std.proofs.Common.{◌≡◌, ℕ, List, Some, None, map, ◌++◌, sym, ap, ◌∙◌, arith}
+use Rattle.rams_model.specs.Receiver.{asked, reception}
 use Rattle.server_hub.specs.Served.{Served}
 use Rattle.server_hub.specs.{channel_of}
-use Rattle.world_laws.specs.World.{Listener, Step}
 use Rattle.world_laws.specs.{asking, post_all}
 use Rattle.world_net.specs.{Kept, kept_of, post_at, posted_at}
 use Rattle.world_net.proofs.Turned.{ok_both}

@@ -1,6 +1,5 @@
 use Rattle.std.proofs.Common.{◌≡◌, ℕ, List, [], ◌∷◌, ◌++◌, Option, Some, None, set, sym, ap, ◌∙◌, subst, arith}
 use Rattle.rams_model.specs.Receiver.{brought_by_multicast}
-use Rattle.server_hub.specs.Served.{Served}
 use Rattle.server_hub.specs.{channel_of}
 use Rattle.world_laws.specs.World.{note}
 use Rattle.world_laws.specs.declared.world.WorldItem.TheVariants as item

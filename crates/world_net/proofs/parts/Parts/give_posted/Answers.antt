@@ -1,4 +1,4 @@
-use Rattle.std.proofs.Common.{◌≡◌, ℕ, List, refl, ap, ◌∙◌}
+use Rattle.std.proofs.Common.{ℕ, List, refl, ap, ◌∙◌}
 use Rattle.server_hub.specs.declared.event.HubEvent.TheVariants.{Feedback}
 use Rattle.server_hub.specs.{told}
 use Rattle.world_laws.specs.{serving}

@@ -1,9 +1,7 @@
-use Rattle.std.proofs.Common.{◌≡◌, ℕ, List, Option, Some, None, set, sym, ap, ◌∙◌, subst, arith}
-use Rattle.rams_model.specs.Receiver.{bye_datagram}
+use Rattle.std.proofs.Common.{◌≡◌, Option, Some, None, set, sym, ◌∙◌, subst, arith}
 use Rattle.receiver_core.specs.States.{Seen}
 use Rattle.server_hub.specs.Served.{Served}
 use Rattle.server_hub.specs.{channel_of}
-use Rattle.world_laws.specs.World.{Listener, Step}
 use Rattle.world_laws.specs.{leaving, leave}
 use Rattle.world_net.specs.{Kept, kept_of}
 use Rattle.world_net.proofs.Turned.{ok_both}
