@@ -1,5 +1,3 @@
-pub mod Rising
-pub mod Low
 pub mod Kept
 pub mod Readings
 pub mod Ordered
