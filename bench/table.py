@@ -122,14 +122,25 @@ def generated(n):
 WORK = {"video": (video, 50_000), "prime_time": (prime_time, 100), "requests": (requests, 10_000), "jumping": (jumping, 1_000), "make": (generated, 25_000)}
 
 
-def count_lines(words, trace, program):
+def most_memory(pid):
+    """The most memory that a running process held so far, in MB, or 0 where it has ended. (What wait4 tells starts
+    from this script's own.)"""
+    with open(f"/proc/{pid}/status") as status:
+        return next((int(line.split()[1]) / 1000 for line in status if line.startswith("VmHWM:")), 0)
+
+
+def counted(words, trace, program):
+    """The lines out, and the most memory, in MB, looked at with each piece of the output."""
+    lines, memory = 0, 0
     with subprocess.Popen([program, *words], stdin=trace, stdout=subprocess.PIPE) as it:
-        return sum(piece.count(b"\n") for piece in iter(lambda: it.stdout.read(1 << 20), b""))
+        for piece in iter(lambda: it.stdout.read(1 << 16), b""):
+            lines, memory = lines + piece.count(b"\n"), max(memory, most_memory(it.pid))
+    return lines, memory
 
 
 def measured(words, path, program, runs):
     """The lines out, the least processor time of the runs, in s, and the most memory, in MB."""
-    least, memory = None, 0
+    least = None
     for _ in range(runs):
         with open(path, "rb") as trace:
             it = subprocess.Popen([program, *words], stdin=trace, stdout=subprocess.DEVNULL)
@@ -138,9 +149,10 @@ def measured(words, path, program, runs):
         if it.returncode:
             sys.exit(f"{words[0]} ended with status {it.returncode}")
         spent = used.ru_utime + used.ru_stime
-        least, memory = min(least or spent, spent), max(memory, used.ru_maxrss / 1000)
+        least = min(least or spent, spent)
     with open(path, "rb") as trace:
-        return count_lines(words, trace, program), least, memory
+        lines, memory = counted(words, trace, program)
+    return lines, least, memory
 
 
 def row(name, size, program, runs):
@@ -176,7 +188,8 @@ def main():
         work, size = WORK[name]
         _, _, _, once, _ = row(name, size, given.program, given.runs)
         lines, megabytes, out, twice, memory = row(name, 2 * size, given.program, given.runs)
-        print(f"| {name}, {2 * size:,} | {lines:,}, {out:,} | {megabytes:.0f} | {twice:.2f} s | {memory:.0f} MB | {twice / once:.2f} |", flush=True)
+        held = f"{memory:.0f} MB" if memory else "not seen"
+        print(f"| {name}, {2 * size:,} | {lines:,}, {out:,} | {megabytes:.0f} | {twice:.2f} s | {held} | {twice / once:.2f} |", flush=True)
 
 
 main()
