@@ -8,6 +8,7 @@ import subprocess
 import sys
 import time
 from concurrent.futures import FIRST_COMPLETED, ThreadPoolExecutor, wait
+from functools import cache
 
 FOLDER, KIT, *PLAIN = sys.argv[1:]
 LOG = "out/build.log"
@@ -55,6 +56,10 @@ class Build:
 
     def __init__(self, rtlib, line):
         rtlib.guarded()
+        # (The kit reckons a crate's sum anew for each way that leads down to it, of which there are
+        # thousands. What is edited meanwhile is seen by the next run.)
+        for name in ("stamp", "below"):
+            setattr(rtlib.Crate, name, cache(getattr(rtlib.Crate, name)))
         self.rtlib, self.line = rtlib, line
         *_, self.program = self.crates = rtlib.crates_below(FOLDER)
         self.held = rtlib.lock(self.crates)
@@ -101,12 +106,11 @@ class Build:
         """Builds a crate, with what rt says in its log, and returns rt's status."""
         os.makedirs(f"{crate.folder}/out", exist_ok=True)
         with open(f"{crate.folder}/{LOG}", "w") as crate.out:
+            flags = ["--jobs", str(jobs)]
             if crate != self.program:
-                return crate.build_rlib(["--jobs", str(jobs)], anew=False)
-            # (rt run keeps others out itself)
-            while self.held:
-                os.close(self.held.pop())
-            return run_program(crate.out)
+                return crate.build_rlib(flags, anew=False)
+            with open(f"{FOLDER}/stdin", "rb") as trace:
+                return crate.run(flags, ["run"], stdin=trace, stdout=subprocess.PIPE)
 
     def start(self):
         """Starts crates that wait for no other on idle lanes, first whatever has most above it."""

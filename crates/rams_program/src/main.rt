@@ -2,11 +2,14 @@
 //! status.
 #![tactic(auto)]
 
+mod report;
+
 ghost use Rattle.std.specs.Prelude.{◌≡◌, ◌<◌, ◌≤◌};
 ghost use Rattle.rams_program.specs.{exit_number};
 
-use ram_io::{Clock, MemClock, MemWire, Octets, Open, StdClock, StdSink, StdSource, Wire};
-use rams_replay::{Status, port_of, run};
+use crate::report::Report;
+use ram_io::{Clock, Gate, MemClock, MemWire, Octets, Open, StdClock, StdSink, StdSource, Wire};
+use rams_replay::{Status, Watch, port_of, run};
 use std::alloc::Global;
 use std::net::Net;
 use std::process::ExitCode;
@@ -64,7 +67,7 @@ fn unserved<R: Threads + Wait + Sync + Input + Print>(
         return Status::NoMemory;
     };
     let mut clock = MemClock::new(Vec::new(alloc));
-    command(rt, alloc, words, &mut wire, &mut clock)
+    command(rt, alloc, words, &mut wire, &mut clock, &Open)
 }
 
 /// Runs `serve` over the ports of 64 channels, since its head isn't read yet. Where one of them can't be
@@ -80,34 +83,43 @@ fn served<R: Threads + Wait + Net + rt::Clock + Sync + Input + Print + Eprint>(
 {
     let last = port + (2 * CHANNELS - 1);
     let mut clock = StdClock::new(rt);
+    let report = Report::new(rt, alloc);
     match UdpWire::bind(&rt, alloc, port, CHANNELS, WAIT_MS) {
         Ok(mut wire) => {
-            let _ = eprintln!(rt;
-                "rams-replay: listens on 127.0.0.1, ports {port} to {last}: a live port and a feedback port for each channel, in their order"
-            );
-            command(rt, alloc, words, &mut wire, &mut clock)
+            let _ = eprintln!(rt; "rams-replay: has the ports {port} to {last} of 127.0.0.1");
+            let status = command(rt, alloc, words, &mut wire, &mut clock, &report);
+            report.tell_end(status);
+            status
         }
         Err(BindFault::NoMemory) => Status::NoMemory,
         Err(BindFault::Failed) => {
             let _ = eprintln!(rt;
                 "rams-replay: the ports {port} to {last} of 127.0.0.1 can't all be had: free them, or name another PORT"
             );
-            command(rt, alloc, words, &mut FailedWire::new(), &mut clock)
+            command(
+                rt,
+                alloc,
+                words,
+                &mut FailedWire::new(),
+                &mut clock,
+                &report,
+            )
         }
     }
 }
 
 /// Runs the command over this machine's input and output.
-fn command<R: Threads + Wait + Sync + Input + Print, W: Wire, C: Clock>(
+fn command<R: Threads + Wait + Sync + Input + Print, W: Wire, C: Clock, G: Gate + Watch + Sync>(
     rt: &R,
     alloc: Global,
     words: &[Octets],
     wire: &mut W,
     clock: &mut C,
+    gate: &G,
 ) -> Status {
     let mut source = StdSource::new(rt.reader());
     let mut sink = StdSink::new(io::writer(rt));
-    run(rt, alloc, words, &mut source, &mut sink, wire, clock, &Open)
+    run(rt, alloc, words, &mut source, &mut sink, wire, clock, gate)
 }
 
 /// The exit status that a status stands for.

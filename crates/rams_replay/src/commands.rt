@@ -14,6 +14,7 @@ use crate::served::serve_status;
 use crate::words::{Command, begins_with_plain, command_of, serve_words};
 use ram_io::{Clock, Gate, Octets, Sink, Source, Wire};
 use rams_model::Status;
+use serve_loop::Watch;
 use std::alloc::Global;
 use std::sync::Wait;
 use std::thread::Threads;
@@ -24,10 +25,10 @@ use trace_loop::{Stop, write_text};
 ///
 /// `words` are those of the command line behind the program's name. `run` reads a trace and writes
 /// its book; `make SEED BLOCKS` writes the summary of a generated trace and reads nothing; `serve PORT
-/// TURNS` reads a head, and serves its channels over the wire for so many turns. Any other words are
-/// refused, and nothing is read or written.
+/// TURNS` reads a head, and serves its channels over the wire for so many turns, while the gate looks on.
+/// Any other words are refused, and nothing is read or written.
 #[tactic(auto, using(crate::proofs::ServeWords::no_command))]
-pub fn run<R: Threads + Wait + Sync, S: Source, K: Sink, W: Wire, C: Clock, G: Gate + Sync>(
+pub fn run<R: Threads + Wait + Sync, S: Source, K: Sink, W: Wire, C: Clock, G: Gate + Watch + Sync>(
     _rt: &R,
     alloc: Global,
     words: &[Octets],
@@ -35,7 +36,7 @@ pub fn run<R: Threads + Wait + Sync, S: Source, K: Sink, W: Wire, C: Clock, G: G
     sink: &mut K,
     wire: &mut W,
     clock: &mut C,
-    _gate: &G,
+    gate: &G,
 ) -> Status
     ensures words { is_words result ≡ is_none (command_of words.now) }
     ensures refused { command_of words.now ≡ None → (source.new ≡ source.old) × (sink.new ≡ sink.old) }
@@ -66,7 +67,7 @@ pub fn run<R: Threads + Wait + Sync, S: Source, K: Sink, W: Wire, C: Clock, G: G
     traces_are_served_lawfully();
     traces_stay_within_the_link();
     match serve_words(words) {
-        Some((port, turns)) => serve_status(alloc, source, sink, wire, clock, port, turns),
+        Some((port, turns)) => { serve_status(alloc, source, sink, wire, clock, port, turns, gate) }
         None => Status::Words,
     }
 }

@@ -12,4 +12,5 @@ mod writer;
 pub use commands::{plain, run};
 pub use ram_io::{NoMemory, Octets, Sink, Source};
 pub use rams_model::Status;
+pub use serve_loop::Watch;
 pub use words::{Command, begins_with_plain, command_of, port_of};

@@ -6,11 +6,11 @@ ghost use Rattle.rams_replay.specs.{HasServed, IsCausedOverWire, IsOrLacksMemory
 
 use ram_io::{Clock, Sink, Source, Wire};
 use rams_model::Status;
-use serve_loop::{Stop, serve};
+use serve_loop::{Stop, Watch, serve};
 use std::alloc::Global;
 
 /// Serves so many turns to the channels that a head opens, and says how that ended.
-pub fn serve_status<S: Source, K: Sink, W: Wire, C: Clock>(
+pub fn serve_status<S: Source, K: Sink, W: Wire, C: Clock, T: Watch>(
     alloc: Global,
     source: &mut S,
     sink: &mut K,
@@ -18,6 +18,7 @@ pub fn serve_status<S: Source, K: Sink, W: Wire, C: Clock>(
     clock: &mut C,
     port: u16,
     turns: u32,
+    watch: &T,
 ) -> Status
     requires port { port ≤ 65000 }
     requires turns { turns ≤ 500000 }
@@ -30,7 +31,7 @@ pub fn serve_status<S: Source, K: Sink, W: Wire, C: Clock>(
     ensures unread { result ≡ ReadFault → (sink.new ≡ sink.old) × (wire.new ≡ wire.old) × (clock.new ≡ clock.old) }
     ensures cause { IsCausedOverWire (S.faults source.old) (S.faults source.new) (K.faults sink.old) (K.faults sink.new) (W.faults wire.old) (W.faults wire.new) result }
 {
-    status_of(serve(alloc, source, sink, wire, clock, port, turns))
+    status_of(serve(alloc, source, sink, wire, clock, port, turns, watch))
 }
 
 fn status_of(ended: Result<Status, Stop>) -> Status

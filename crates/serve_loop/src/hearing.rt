@@ -9,6 +9,7 @@ ghost use Rattle.serve_loop.specs.{Begun, Ready, Broken, GoesOn, HasRoom, IsStop
 use crate::journal::{Journal, flush, write_event};
 use crate::send::send_all;
 use crate::stop::Stop;
+use crate::watch::Watch;
 use ram_io::{Sink, Wire};
 use server_hub::{At, Heard, Hub, HubAnswer};
 use std::alloc::Global;
@@ -63,13 +64,14 @@ fn has_orders(answers: &[At]) -> bool
 
 /// One event: a step of the channels, its line, and then its datagrams, before the first of which all
 /// that waits goes to the sink. The first channel that answers does so from the port `first`.
-pub fn hear<K: Sink, W: Wire>(
+pub fn hear<K: Sink, W: Wire, T: Watch>(
     alloc: Global,
     server: &mut Server,
     sink: &mut K,
     wire: &mut W,
     heard: Heard<'_>,
     first: u16,
+    watch: &T,
 ) -> Result<(), Stop>
     requires stands { StandsSomewhere server.old.hub }
     requires calls { server.old.hub.calls < 2 ^ 40 }
@@ -94,6 +96,7 @@ pub fn hear<K: Sink, W: Wire>(
         → OnlyMemoryStops result (HasRoom (K.is_steady sink.new) (W.is_steady wire.new) server.new.journal.gather [] more) }
 {
     let answer = server.hub.hear(alloc, heard)?;
+    watch.hears(heard, &answer);
     write_event(&mut server.journal, sink, heard)?;
     let answers = answers_of(&answer);
     if !has_orders(answers) {

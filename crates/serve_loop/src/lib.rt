@@ -9,6 +9,7 @@ mod send;
 mod serving;
 mod stop;
 mod turns;
+mod watch;
 
 pub use head::{Head, HeadLine, Opened, read_head};
 pub use hearing::{Server, hear, new_server};
@@ -17,3 +18,4 @@ pub use send::send_all;
 pub use serving::serve;
 pub use stop::Stop;
 pub use turns::take_turns;
+pub use watch::Watch;

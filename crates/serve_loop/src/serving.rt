@@ -14,6 +14,7 @@ use crate::hearing::{Server, new_server};
 use crate::journal::{flush, new_journal, put, write_refused};
 use crate::stop::Stop;
 use crate::turns::take_turns;
+use crate::watch::{Watch, tell_ports};
 use journal_book::laws::{
     heads_open_new_channels, journals_replay, runs_of_journals, turns_make_journals,
 };
@@ -63,13 +64,14 @@ fn close<K: Sink>(
 }
 
 /// The turns, and then `end`.
-fn take_all<K: Sink, W: Wire, C: Clock>(
+fn take_all<K: Sink, W: Wire, C: Clock, T: Watch>(
     alloc: Global,
     server: &mut Server,
     sink: &mut K,
     wire: &mut W,
     clock: &mut C,
     turns: u32,
+    watch: &T,
 ) -> Result<(), Stop>
     requires server { IsServer server.old.live server.old.ids.items server.old.hub }
     requires calls { server.old.hub.calls ≡ 0 }
@@ -90,12 +92,12 @@ fn take_all<K: Sink, W: Wire, C: Clock>(
         (sent_for (b.live + 1) b.channels (events_of b.live server.old.hub.tick b.channels turns arrivals moments)) more
         → OnlyMemoryStops result (HasRoom (K.is_steady sink.new) (W.is_steady wire.new) server.new.journal.gather [] more) }
 {
-    take_turns(alloc, server, sink, wire, clock, turns)?;
+    take_turns(alloc, server, sink, wire, clock, turns, watch)?;
     put(&mut server.journal.gather, sink, b"end\n")
 }
 
 /// Serves the turns behind a head: puts its text, and then the lines of the events as they come.
-fn serve_turns<K: Sink, W: Wire, C: Clock>(
+fn serve_turns<K: Sink, W: Wire, C: Clock, T: Watch>(
     alloc: Global,
     opened: Opened,
     sink: &mut K,
@@ -103,6 +105,7 @@ fn serve_turns<K: Sink, W: Wire, C: Clock>(
     clock: &mut C,
     port: u16,
     turns: u32,
+    watch: &T,
 ) -> Result<Status, Stop>
     requires stands { StandsSomewhere opened.hub }
     requires few { length opened.ids.items ≤ 64 }
@@ -125,8 +128,9 @@ fn serve_turns<K: Sink, W: Wire, C: Clock>(
     let mut journal = new_journal(alloc)?;
     put(&mut journal.gather, sink, &opened.text)?;
     flush(&mut journal.gather, sink)?;
+    tell_ports(watch, &opened.ids, port);
     let mut server = new_server(alloc, opened.hub, opened.ids, port, journal);
-    let ended = take_all(alloc, &mut server, sink, wire, clock, turns);
+    let ended = take_all(alloc, &mut server, sink, wire, clock, turns, watch);
     close(&mut server.journal.gather, sink, ended)
 }
 
@@ -136,8 +140,9 @@ fn serve_turns<K: Sink, W: Wire, C: Clock>(
 ///
 /// Before the head is read whole nothing is written, and nothing comes or is sent; where a line of it is
 /// refused, one line says so. Each event's line goes to the sink before the first datagram that follows
-/// from it. Whatever stops a server, what waits is put still, unless the sink failed.
-pub fn serve<S: Source, K: Sink, W: Wire, C: Clock>(
+/// from it. Whatever stops a server, what waits is put still, unless the sink failed. `watch` is told
+/// of the ports, of each event and of late ticks.
+pub fn serve<S: Source, K: Sink, W: Wire, C: Clock, T: Watch>(
     alloc: Global,
     source: &mut S,
     sink: &mut K,
@@ -145,6 +150,7 @@ pub fn serve<S: Source, K: Sink, W: Wire, C: Clock>(
     clock: &mut C,
     port: u16,
     turns: u32,
+    watch: &T,
 ) -> Result<Status, Stop>
     requires port { port ≤ 65000 }
     requires turns { turns ≤ 500000 }
@@ -160,7 +166,12 @@ pub fn serve<S: Source, K: Sink, W: Wire, C: Clock>(
         → HasRoom (K.is_steady sink.old) (W.is_steady wire.old) (served_text g).text (served_datagrams g) more → OnlyMemoryStops result (HasRoom (K.is_steady sink.new) (W.is_steady wire.new) [] [] more) }
 {
     match read_head(alloc, source)? {
-        Head::Unlawful { line, fault } => refuse(alloc, sink, line, fault),
-        Head::Lawful(opened) => serve_turns(alloc, opened, sink, wire, clock, port, turns),
+        Head::Unlawful { line, fault } => {
+            watch.refuses(line, fault);
+            refuse(alloc, sink, line, fault)
+        }
+        Head::Lawful(opened) => {
+            serve_turns(alloc, opened, sink, wire, clock, port, turns, watch)
+        }
     }
 }

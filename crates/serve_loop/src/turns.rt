@@ -11,6 +11,7 @@ ghost use Rattle.serve_loop.specs.{AnswersFrom, Begun, Broken, HasRoom, IsBetwee
 use crate::hearing::{Server, hear};
 use crate::journal::flush;
 use crate::stop::Stop;
+use crate::watch::Watch;
 use ram_io::{Arrival, Clock, Sink, Wire};
 use server_hub::Heard;
 use std::alloc::Global;
@@ -56,12 +57,13 @@ fn event_at<'a>(live: u16, ids: &[u16], arrival: Arrival, bytes: &'a [u8]) -> Op
 
 /// Takes what comes next, and hears it where it is an event. Where nothing comes, what waits goes to the
 /// sink.
-fn take_arrival<K: Sink, W: Wire>(
+fn take_arrival<K: Sink, W: Wire, T: Watch>(
     alloc: Global,
     server: &mut Server,
     sink: &mut K,
     wire: &mut W,
     room: &mut [u8],
+    watch: &T,
 ) -> Result<(), Stop>
     requires server { IsServer server.old.live server.old.ids.items server.old.hub }
     requires calls { server.old.hub.calls < 2 ^ 40 }
@@ -91,7 +93,7 @@ fn take_arrival<K: Sink, W: Wire>(
         Ok(None) => flush(&mut server.journal.gather, sink),
         Ok(Some(arrival)) => {
             match event_at(server.live, &server.ids, arrival, &room[..arrival.len]) {
-                Some(e) => hear(alloc, server, sink, wire, e.heard, e.feedback),
+                Some(e) => hear(alloc, server, sink, wire, e.heard, e.feedback, watch),
                 None => Ok(()),
             }
         }
@@ -99,13 +101,14 @@ fn take_arrival<K: Sink, W: Wire>(
 }
 
 /// A tick, where the moment has reached the due one. Answers when the next is due.
-fn hear_tick<K: Sink, W: Wire>(
+fn hear_tick<K: Sink, W: Wire, T: Watch>(
     alloc: Global,
     server: &mut Server,
     sink: &mut K,
     wire: &mut W,
     due: u64,
     moment: u64,
+    watch: &T,
 ) -> Result<u64, Stop>
     requires server { IsServer server.old.live server.old.ids.items server.old.hub }
     requires calls { server.old.hub.calls < 2 ^ 40 }
@@ -132,12 +135,15 @@ fn hear_tick<K: Sink, W: Wire>(
         return Ok(due);
     }
     let first = server.live + 1;
-    hear(alloc, server, sink, wire, Heard::Tick, first)?;
+    if moment - due >= u64::from(server.hub.tick_ms()) {
+        watch.lags();
+    }
+    hear(alloc, server, sink, wire, Heard::Tick, first, watch)?;
     Ok(moment + u64::from(server.hub.tick_ms()))
 }
 
 /// A turn: what comes, and then the clock. Answers when the next tick is due.
-fn take_turn<K: Sink, W: Wire, C: Clock>(
+fn take_turn<K: Sink, W: Wire, C: Clock, T: Watch>(
     alloc: Global,
     server: &mut Server,
     sink: &mut K,
@@ -145,6 +151,7 @@ fn take_turn<K: Sink, W: Wire, C: Clock>(
     clock: &mut C,
     room: &mut [u8],
     due: u64,
+    watch: &T,
 ) -> Result<u64, Stop>
     requires server { IsServer server.old.live server.old.ids.items server.old.hub }
     requires calls { server.old.hub.calls + 1 < 2 ^ 40 }
@@ -171,21 +178,22 @@ fn take_turn<K: Sink, W: Wire, C: Clock>(
         (sent_for (b.live + 1) (behind events b.channels) (next_events b arrivals ++ tick_at due (next_moment moments))) more
         → OnlyMemoryStops result (HasRoom (K.is_steady sink.new) (W.is_steady wire.new) server.new.journal.gather [] more) }
 {
-    take_arrival(alloc, server, sink, wire, room)?;
+    take_arrival(alloc, server, sink, wire, room, watch)?;
     let moment = clock.now_ms();
-    hear_tick(alloc, server, sink, wire, due, moment)
+    hear_tick(alloc, server, sink, wire, due, moment, watch)
 }
 
 /// Serves so many turns. The first tick is due one tick after the moment of the start. Whatever stops a
 /// server, the sink got the lines of the first events whole and a part of those behind, what waits goes
 /// on from there unless the sink itself failed, and the wire sent a front of the datagrams of the first.
-pub fn take_turns<K: Sink, W: Wire, C: Clock>(
+pub fn take_turns<K: Sink, W: Wire, C: Clock, T: Watch>(
     alloc: Global,
     server: &mut Server,
     sink: &mut K,
     wire: &mut W,
     clock: &mut C,
     turns: u32,
+    watch: &T,
 ) -> Result<(), Stop>
     requires server { IsServer server.old.live server.old.ids.items server.old.hub }
     requires calls { server.old.hub.calls ≡ 0 }
@@ -209,7 +217,7 @@ pub fn take_turns<K: Sink, W: Wire, C: Clock>(
     let mut room = [0; MOST];
     let mut due = clock.now_ms() + u64::from(server.hub.tick_ms());
     for _ in 0..turns {
-        due = take_turn(alloc, server, sink, wire, clock, &mut room, due)?;
+        due = take_turn(alloc, server, sink, wire, clock, &mut room, due, watch)?;
     }
     Ok(())
 }

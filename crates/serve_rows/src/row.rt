@@ -2,7 +2,7 @@
 ghost use Rattle.std.specs.Prelude.{◌^◌, ◌<◌, All, IfOk};
 ghost use Rattle.ram_io.specs.{IsFromClient};
 
-use ram_io::{Incoming, MemClock, MemSink, MemSource, MemWire, Octets};
+use ram_io::{Incoming, MemClock, MemSink, MemSource, MemWire, Octets, Open};
 use rams_model::Status;
 use serve_loop::{Stop, serve};
 use std::alloc::{AllocError, Global};
@@ -82,7 +82,7 @@ fn serve_row(
     let trace = joined(alloc, row.source)?;
     let mut source = MemSource::new(trace, 1_000, row.source_fails.to_vec(alloc)?);
     let mut clock = MemClock::new(moments_of(alloc, row)?);
-    Ok(serve(alloc, &mut source, sink, wire, &mut clock, 5000, 3))
+    Ok(serve(alloc, &mut source, sink, wire, &mut clock, 5000, 3, &Open))
 }
 
 /// The sink got the lines of the row.
