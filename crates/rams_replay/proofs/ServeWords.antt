@@ -4,7 +4,7 @@ use Rattle.std.proofs.lemmas.Bool.{and_parts, leb-true}
 use Rattle.rams_model.specs.Texts.{number_in}
 use Rattle.trace_text.proofs.Spelled.{is_word}
 use Rattle.rams_replay.specs.declared.words.Command.{Command}
-use Rattle.rams_replay.specs.declared.words.Command.TheVariants.{Run, Make, Serve}
+use Rattle.rams_replay.specs.declared.words.Command.TheVariants.{Run, Meet, Serve}
 use Rattle.rams_replay.specs.{begins_with_plain, command_of, make_of, serve_of, number_within, within}
 
 first_false : (a b : Bool) → (a || b) ≡ false → a ≡ false
@@ -26,13 +26,16 @@ serve_alone true (Some p) (Some t) c h = (p, t, cc)
 only_serve : (words : List (List ℕ)) (c : Command) → begins_with_plain words ≡ false → command_of words ≡ Some c → (port : ℕ) × (turns : ℕ) × (c ≡ Serve port turns)
 only_serve [] c plain h = absurd cc
 only_serve (word ∷ []) c plain h =
-    let none = ap (λ (t : Bool). if t then Some Run else None) (first_false (bytes_eq word (codes "run")) (bytes_eq word (codes "make")) plain) in
+    let either = first_false (bytes_eq word (codes "run") || bytes_eq word (codes "meet")) (bytes_eq word (codes "make")) plain in
+    let run = first_false (bytes_eq word (codes "run")) (bytes_eq word (codes "meet")) either in
+    let meet = last_false (bytes_eq word (codes "run")) (bytes_eq word (codes "meet")) either in
+    let none = ap (λ (t : Bool). if t then Some Run else if bytes_eq word (codes "meet") then Some Meet else None) run ∙ ap (λ (t : Bool). if t then Some Meet else None) meet in
     let no : None ≡ Some c = sym none ∙ h in
     absurd cc
 only_serve (word ∷ first ∷ []) c plain h = absurd cc
 only_serve (word ∷ first ∷ second ∷ []) c plain h =
     let served = if bytes_eq word (codes "serve") then serve_of (number_within 1024 65000 first) (number_within 1 500000 second) else None in
-    let other = ap (λ (t : Bool). if t then make_of (number_within 0 (2 ^ 32 - 1) first) (number_within 1 50000 second) else served) (last_false (bytes_eq word (codes "run")) (bytes_eq word (codes "make")) plain) in
+    let other = ap (λ (t : Bool). if t then make_of (number_within 0 (2 ^ 32 - 1) first) (number_within 1 50000 second) else served) (last_false (bytes_eq word (codes "run") || bytes_eq word (codes "meet")) (bytes_eq word (codes "make")) plain) in
     serve_alone (bytes_eq word (codes "serve")) (number_within 1024 65000 first) (number_within 1 500000 second) c (sym other ∙ h)
 only_serve (word ∷ first ∷ second ∷ other ∷ rest) c plain h = absurd cc
 
@@ -45,19 +48,21 @@ no_command words plain never = by (command_of words) refl
     by (Some c) is = let serve = only_serve words c plain is in absurd (never serve.0 serve.1 (is ∙ ap Some serve.2))
 
 -- and those that begin with one don't spell `serve`
-differs : (word : List ℕ) → bytes_eq word (codes "serve") ≡ true → (bytes_eq word (codes "run") || bytes_eq word (codes "make")) ≡ true → ⊥
-differs word serve plain = subst (λ (w : List ℕ). (bytes_eq w (codes "run") || bytes_eq w (codes "make")) ≡ true → ⊥) (sym (is_word word (codes "serve") serve)) (λ e. never e) plain
+differs : (word : List ℕ) → bytes_eq word (codes "serve") ≡ true → (bytes_eq word (codes "run") || bytes_eq word (codes "meet") || bytes_eq word (codes "make")) ≡ true → ⊥
+differs word serve plain =
+    subst (λ (w : List ℕ). (bytes_eq w (codes "run") || bytes_eq w (codes "meet") || bytes_eq w (codes "make")) ≡ true → ⊥) (sym (is_word word (codes "serve") serve)) (λ e. never e) plain
   where
     never : false ≡ true → ⊥
     never e = cc
 
 pub plain_serves_none : (words : List (List ℕ)) (port turns : ℕ) → begins_with_plain words ≡ true → command_of words ≡ Some (Serve port turns) → ⊥
 plain_serves_none [] port turns plain h = absurd cc
-plain_serves_none (word ∷ []) port turns plain h = alone (bytes_eq word (codes "run")) h
+plain_serves_none (word ∷ []) port turns plain h = by (bytes_eq word (codes "run")) (bytes_eq word (codes "meet")) h
   where
-    alone : (b : Bool) → (if b then Some Run else None) ≡ Some (Serve port turns) → ⊥
-    alone true e = cc
-    alone false e = cc
+    by : (r m : Bool) → (if r then Some Run else if m then Some Meet else None) ≡ Some (Serve port turns) → ⊥
+    by true m e = cc
+    by false true e = cc
+    by false false e = cc
 plain_serves_none (word ∷ first ∷ []) port turns plain h = absurd cc
 plain_serves_none (word ∷ first ∷ second ∷ []) port turns plain h =
     by (bytes_eq word (codes "make")) (bytes_eq word (codes "serve")) refl (make_of (number_within 0 (2 ^ 32 - 1) first) (number_within 1 50000 second)) (makes (number_within 0 (2 ^ 32 - 1) first) (number_within 1 50000 second)) h
@@ -111,11 +116,12 @@ bounds_of first second port turns e =
 
 pub in_bounds : (words : List (List ℕ)) (port turns : ℕ) → command_of words ≡ Some (Serve port turns) → AreInBounds port turns
 in_bounds [] port turns h = cc
-in_bounds (word ∷ []) port turns h = alone (bytes_eq word (codes "run")) h
+in_bounds (word ∷ []) port turns h = by (bytes_eq word (codes "run")) (bytes_eq word (codes "meet")) h
   where
-    alone : (b : Bool) → (if b then Some Run else None) ≡ Some (Serve port turns) → AreInBounds port turns
-    alone true e = cc
-    alone false e = cc
+    by : (r m : Bool) → (if r then Some Run else if m then Some Meet else None) ≡ Some (Serve port turns) → AreInBounds port turns
+    by true m e = cc
+    by false true e = cc
+    by false false e = cc
 in_bounds (word ∷ first ∷ []) port turns h = cc
 in_bounds (word ∷ first ∷ second ∷ []) port turns h =
     by (bytes_eq word (codes "make")) (bytes_eq word (codes "serve")) (number_within 0 (2 ^ 32 - 1) first) (number_within 1 50000 second) h

@@ -1,5 +1,5 @@
 -- How a server ends, as a status.
-use Rattle.std.proofs.Common.{◌≡◌, ℕ, List, [], Option, Some, ◌≤◌, Result, Ok, Err, IfOk, IfErr, refl, sym, subst, ◌∙◌, arith}
+use Rattle.std.proofs.Common.{◌≡◌, ℕ, List, Option, Some, Result, Ok, Err, IfOk, IfErr, sym, subst, ◌∙◌, arith}
 use Rattle.rams_model.specs.declared.status.Status.{Status}
 use Rattle.rams_model.specs.declared.status.Status.TheVariants.{Done, NoMemory, Words, ReadFault, WriteFault, BadTrace, WireFault, TooLong}
 use Rattle.ram_io.specs.declared.wire.Incoming.{Incoming}

@@ -1,7 +1,7 @@
 -- What the status of `serve` says.
-use Rattle.std.specs.Prelude.{◌≡◌, ℕ, ◌≤◌, List, Option, Result, Ok, Err}
+use Rattle.std.specs.Prelude.{ℕ, ◌≤◌, List, Option, Result, Ok, Err}
 use Rattle.rams_model.specs.declared.status.Status.{Status}
-use Rattle.rams_model.specs.declared.status.Status.TheVariants.{Done, NoMemory, Words, ReadFault, WriteFault, BadTrace, WireFault, TooLong}
+use Rattle.rams_model.specs.declared.status.Status.TheVariants.{Done, NoMemory, ReadFault, WriteFault, BadTrace, WireFault}
 use Rattle.ram_io.specs.declared.wire.Incoming.{Incoming}
 use Rattle.ram_io.specs.{Outgoing, Rose}
 use Rattle.serve_loop.specs.declared.stop.Stop.{Stop}

@@ -1,15 +1,14 @@
 -- What the status of a command says.
-use Rattle.std.specs.Prelude.{◌≡◌, ℕ, ◌≤◌, Bool, true, false, List, Option, Result, Ok, Err}
+use Rattle.std.specs.Prelude.{◌≡◌, ℕ, ◌≤◌, Bool, true, false, List, length, Option, Result, Ok, Err}
 use Rattle.std.specs.Io.KnownBytes.{Appends}
 use Rattle.line_io.specs.Passes.{Passes}
 use Rattle.ram_io.specs.{Rose}
 use Rattle.rams_model.specs.declared.status.Status.{Status}
 use Rattle.rams_model.specs.declared.status.Status.TheVariants.{Done, NoMemory, Words, ReadFault, WriteFault, BadTrace, WireFault, TooLong}
-use Rattle.trace_serving.specs.{Outcome}
+use Rattle.trace_serving.specs.{Serving, Outcome, served_text}
 use Rattle.trace_loop.specs.declared.stop.Stop.{Stop}
 use Rattle.trace_loop.specs.declared.stop.Stop.TheVariants.{Memory, Read, Write, Wire}
-use Rattle.trace_loop.specs.{HasReadText as HasReadTextOf}
-use Rattle.trace_book.specs.{run}
+use Rattle.trace_loop.specs.{IfTold, IfBothTold, HasReadText}
 
 -- the status of a run
 abbrev pub status_of : Result Status Stop → Status
@@ -30,10 +29,6 @@ HasText held holds o Done = (o.status ≡ Done) × Appends held holds o.text
 HasText held holds o BadTrace = (o.status ≡ BadTrace) × Appends held holds o.text
 HasText held holds o TooLong = (o.status ≡ TooLong) × Appends held holds o.text
 HasText held holds o _ = Unit {0}
-
--- Of a trace xs the bytes in front of what is left were taken, and a front of the book of the lines that were read went to the sink.
-abbrev pub HasReadText : Option (List ℕ) → Option (List ℕ) → List ℕ → List ℕ → Type 0
-HasReadText held holds xs left = HasReadTextOf run held holds xs left
 
 -- The sink got exactly the text where the command is done, and else, where memory or the sink stopped it, a front of it. It ends in no other way.
 abbrev pub HasSummary : Option (List ℕ) → Option (List ℕ) → List ℕ → Status → Type 0
@@ -59,3 +54,14 @@ pub record IsCaused (read reads write writes : ℕ) (status : Status) : Type 0 w
 abbrev pub IsOrLacksMemory : Status → Status → Type 0
 IsOrLacksMemory status NoMemory = Unit {0}
 IsOrLacksMemory status other = other ≡ status
+
+-- What a command leaves that writes the text of the trace that its source has: what that source had and has left, whether it was steady, what the sink held and holds, and for how many bytes it was steady.
+pub record Writes {State Event : Type 0} (s : Serving State Event) (left leaves : Option (List ℕ)) (calm : Type 0) (held holds : Option (List ℕ)) (room : ℕ → Type 0) (status : Status) : Type 0 where
+  -- where it came to an end of its own, the sink got exactly the text, and the status is the text's
+  pub text : IfTold left (λ xs. HasText held holds (served_text s xs) status)
+  -- whatever ended it, the sink got a front of the text
+  pub front : IfTold left (λ xs. (rest : List ℕ) × Passes held holds (served_text s xs).text rest)
+  -- where the source failed, that is a front of the text of the lines that were read
+  pub read : status ≡ ReadFault → IfBothTold left leaves (HasReadText s held holds)
+  -- over a steady source, and a sink that is steady for the whole text, it comes to its end, unless memory is lacking
+  pub whole : calm → IfTold left (λ xs. room (length (served_text s xs).text) → IsOrLacksMemory (served_text s xs).status status)

@@ -1,32 +1,41 @@
 //! The commands.
-ghost use Rattle.std.specs.Prelude.{◌≡◌, ◌≢◌, false, true, is_none, ℕ, All, List, None, length};
-ghost use Rattle.line_io.specs.Passes.{Passes};
-ghost use Rattle.trace_book.specs.{KeepsTheLink, KeepsPromises, served_by, trace_text};
+ghost use Rattle.std.specs.Prelude.{◌≡◌, ◌≢◌, false, true, is_none, ℕ, All, None, length};
+ghost use Rattle.trace_book.specs.{EndsSo, IsServed, KeepsTheLink, KeepsPromises, served_by, run as book};
 ghost use Rattle.rams_model.specs.declared.status.Status.TheVariants.{BadTrace, Done, ReadFault};
 ghost use Rattle.serve_loop.specs.{Given, HasRoom, IsGiven, served_datagrams, served_text};
 ghost use Rattle.summary.specs.{made_summary};
-ghost use Rattle.rams_replay.specs.{AreMake, AreRun, AreServe, begins_with_plain, command_of, no_room, port_of, status_of, is_words, HasServed, HasSummary, HasText, IsCaused, IsCausedOverWire, IsOrLacksMemory, HasReadText};
-ghost use Rattle.trace_loop.specs.{IfTold, IfBothTold};
+ghost use Rattle.world_book.specs.{EndsSo as WorldEndsSo, IsServedByAWorld, ReceiversPresent, meet as world, world_of};
+ghost use Rattle.rams_replay.specs.{AreMake, AreMeet, AreRun, AreServe, begins_with_plain, command_of, no_room, port_of, status_of, is_words, HasServed, HasSummary, IsCaused, IsCausedOverWire, IsOrLacksMemory, Writes};
+ghost use Rattle.trace_loop.specs.{IfTold};
 
 use crate::made::write_summary;
 use crate::replay::new_replay;
 use crate::served::serve_status;
 use crate::words::{Command, begins_with_plain, command_of, serve_words};
+use meet_loop::write_world;
 use ram_io::{Clock, Gate, Octets, Sink, Source, Wire};
 use rams_model::Status;
 use serve_loop::Watch;
 use std::alloc::Global;
 use std::sync::Wait;
 use std::thread::Threads;
-use trace_book::laws::{traces_are_served_lawfully, traces_stay_within_the_link};
+use trace_book::laws::{
+    traces_are_served_by_their_lines, traces_are_served_lawfully, traces_end_so,
+    traces_stay_within_the_link,
+};
 use trace_loop::{Stop, write_text};
+use world_book::laws::{
+    receivers_present_their_sources, worlds_are_served_by_their_lines,
+    worlds_are_served_lawfully, worlds_end_so,
+};
 
 /// Runs a command over whatever it reads from, writes to, sends through and tells the time by.
 ///
 /// `words` are those of the command line behind the program's name. `run` reads a trace and writes
-/// its book; `make SEED BLOCKS` writes the summary of a generated trace and reads nothing; `serve PORT
-/// TURNS` reads a head, and serves its channels over the wire for so many turns, while the gate looks on.
-/// Any other words are refused, and nothing is read or written.
+/// its book; `meet` does so of a trace with set-tops, the trace of a world; `make SEED BLOCKS` writes
+/// the summary of a generated trace and reads nothing; `serve PORT TURNS` reads a head, and serves its
+/// channels over the wire for so many turns, while the gate looks on. Any other words are refused, and
+/// nothing is read or written.
 #[tactic(auto, using(crate::proofs::ServeWords::no_command))]
 pub fn run<R: Threads + Wait + Sync, S: Source, K: Sink, W: Wire, C: Clock, G: Gate + Watch + Sync>(
     _rt: &R,
@@ -40,14 +49,17 @@ pub fn run<R: Threads + Wait + Sync, S: Source, K: Sink, W: Wire, C: Clock, G: G
 ) -> Status
     ensures words { is_words result ≡ is_none (command_of words.now) }
     ensures refused { command_of words.now ≡ None → (source.new ≡ source.old) × (sink.new ≡ sink.old) }
-    ensures text { AreRun words.now → IfTold (S.left source.old) (λ xs. HasText (K.held sink.old) (K.held sink.new) (trace_text xs) result) }
-    ensures front { AreRun words.now → IfTold (S.left source.old) (λ xs. (rest : List ℕ) × Passes (K.held sink.old) (K.held sink.new) (trace_text xs).text rest) }
+    ensures book { AreRun words.now → Writes book (S.left source.old) (S.left source.new) (S.is_steady source.old) (K.held sink.old) (K.held sink.new) (K.is_steady sink.old) result }
+    ensures world { AreMeet words.now → Writes world (S.left source.old) (S.left source.new) (S.is_steady source.old) (K.held sink.old) (K.held sink.new) (K.is_steady sink.old) result }
+    ensures served_by { IfTold (S.left source.old) IsServed }
+    ensures ends { IfTold (S.left source.old) EndsSo }
     ensures lawful { IfTold (S.left source.old) (λ xs. All KeepsPromises (served_by xs)) }
     ensures link { IfTold (S.left source.old) KeepsTheLink }
-    ensures read { AreRun words.now → result ≡ ReadFault → IfBothTold (S.left source.old) (S.left source.new) (HasReadText (K.held sink.old) (K.held sink.new)) }
+    ensures world_served_by { IfTold (S.left source.old) IsServedByAWorld }
+    ensures world_ends { IfTold (S.left source.old) WorldEndsSo }
+    ensures lawful_world { IfTold (S.left source.old) (λ xs. All KeepsPromises (world_of xs).channels) }
+    ensures receivers { IfTold (S.left source.old) (λ xs. ReceiversPresent (world_of xs)) }
     ensures cause { port_of words.now ≡ None → IsCaused (S.faults source.old) (S.faults source.new) (K.faults sink.old) (K.faults sink.new) result }
-    ensures whole { AreRun words.now → S.is_steady source.old → IfTold (S.left source.old)
-        (λ xs. K.is_steady sink.old (length (trace_text xs).text) → IsOrLacksMemory (trace_text xs).status result) }
     ensures summary { (seed blocks : ℕ) → AreMake words.now seed blocks →
         HasSummary (K.held sink.old) (K.held sink.new) (made_summary seed blocks) result × (source.new ≡ source.old) }
     ensures summed { (seed blocks : ℕ) → AreMake words.now seed blocks → K.is_steady sink.old (length (made_summary seed blocks)) → IsOrLacksMemory Done result }
@@ -64,15 +76,14 @@ pub fn run<R: Threads + Wait + Sync, S: Source, K: Sink, W: Wire, C: Clock, G: G
     if begins_with_plain(words) {
         return plain(alloc, words, source, sink);
     }
-    traces_are_served_lawfully();
-    traces_stay_within_the_link();
+    promise(source);
     match serve_words(words) {
         Some((port, turns)) => { serve_status(alloc, source, sink, wire, clock, port, turns, gate) }
         None => Status::Words,
     }
 }
 
-/// Runs a command that waits for nobody: the first word is `run` or `make`.
+/// Runs a command that waits for nobody: the first word is `run`, `meet` or `make`.
 pub fn plain<S: Source, K: Sink>(
     alloc: Global,
     words: &[Octets],
@@ -82,41 +93,70 @@ pub fn plain<S: Source, K: Sink>(
     requires { begins_with_plain words.now ≡ true }
     ensures words { is_words result ≡ is_none (command_of words.now) }
     ensures refused { command_of words.now ≡ None → (source.new ≡ source.old) × (sink.new ≡ sink.old) }
-    ensures text { AreRun words.now → IfTold (S.left source.old) (λ xs. HasText (K.held sink.old) (K.held sink.new) (trace_text xs) result) }
-    ensures front { AreRun words.now → IfTold (S.left source.old) (λ xs. (rest : List ℕ) × Passes (K.held sink.old) (K.held sink.new) (trace_text xs).text rest) }
+    ensures book { AreRun words.now → Writes book (S.left source.old) (S.left source.new) (S.is_steady source.old) (K.held sink.old) (K.held sink.new) (K.is_steady sink.old) result }
+    ensures world { AreMeet words.now → Writes world (S.left source.old) (S.left source.new) (S.is_steady source.old) (K.held sink.old) (K.held sink.new) (K.is_steady sink.old) result }
+    ensures served_by { IfTold (S.left source.old) IsServed }
+    ensures ends { IfTold (S.left source.old) EndsSo }
     ensures lawful { IfTold (S.left source.old) (λ xs. All KeepsPromises (served_by xs)) }
     ensures link { IfTold (S.left source.old) KeepsTheLink }
-    ensures read { result ≡ ReadFault → IfBothTold (S.left source.old) (S.left source.new) (HasReadText (K.held sink.old) (K.held sink.new)) }
+    ensures world_served_by { IfTold (S.left source.old) IsServedByAWorld }
+    ensures world_ends { IfTold (S.left source.old) WorldEndsSo }
+    ensures lawful_world { IfTold (S.left source.old) (λ xs. All KeepsPromises (world_of xs).channels) }
+    ensures receivers { IfTold (S.left source.old) (λ xs. ReceiversPresent (world_of xs)) }
     ensures cause { IsCaused (S.faults source.old) (S.faults source.new) (K.faults sink.old) (K.faults sink.new) result }
-    ensures whole { AreRun words.now → S.is_steady source.old → IfTold (S.left source.old)
-        (λ xs. K.is_steady sink.old (length (trace_text xs).text) → IsOrLacksMemory (trace_text xs).status result) }
     ensures summary { (seed blocks : ℕ) → AreMake words.now seed blocks →
         HasSummary (K.held sink.old) (K.held sink.new) (made_summary seed blocks) result × (source.new ≡ source.old) }
     ensures summed { (seed blocks : ℕ) → AreMake words.now seed blocks → K.is_steady sink.old (length (made_summary seed blocks)) → IsOrLacksMemory Done result }
 {
-    traces_are_served_lawfully();
-    traces_stay_within_the_link();
+    promise(source);
     match command_of(words) {
-        Some(Command::Run) => write_status(alloc, source, sink),
+        Some(Command::Run) => book_status(alloc, source, sink),
+        Some(Command::Meet) => world_status(alloc, source, sink),
         Some(Command::Make { seed, blocks }) => status_of(write_summary(alloc, seed, blocks, sink)),
-        // Its first word is neither `run` nor `make`.
+        // Its first word is none of `run`, `meet` and `make`.
         Some(Command::Serve { .. }) => Status::Words,
         None => Status::Words,
     }
 }
 
+/// What holds of every trace, and so of the one that the source has left.
+fn promise<S: Source>(_source: &S)
+    ensures served_by { IfTold (S.left _source.now) IsServed }
+    ensures ends { IfTold (S.left _source.now) EndsSo }
+    ensures lawful { IfTold (S.left _source.now) (λ xs. All KeepsPromises (served_by xs)) }
+    ensures link { IfTold (S.left _source.now) KeepsTheLink }
+    ensures world_served_by { IfTold (S.left _source.now) IsServedByAWorld }
+    ensures world_ends { IfTold (S.left _source.now) WorldEndsSo }
+    ensures lawful_world { IfTold (S.left _source.now) (λ xs. All KeepsPromises (world_of xs).channels) }
+    ensures receivers { IfTold (S.left _source.now) (λ xs. ReceiversPresent (world_of xs)) }
+{
+    traces_are_served_by_their_lines();
+    traces_end_so();
+    traces_are_served_lawfully();
+    traces_stay_within_the_link();
+    worlds_are_served_by_their_lines();
+    worlds_end_so();
+    worlds_are_served_lawfully();
+    receivers_present_their_sources();
+}
+
 /// Writes the book of the trace that the source has left, and says how that ended.
-fn write_status<S: Source, K: Sink>(alloc: Global, source: &mut S, sink: &mut K) -> Status
+fn book_status<S: Source, K: Sink>(alloc: Global, source: &mut S, sink: &mut K) -> Status
     ensures words { is_words result ≡ false }
-    ensures text { IfTold (S.left source.old) (λ xs. HasText (K.held sink.old) (K.held sink.new) (trace_text xs) result) }
-    ensures front { IfTold (S.left source.old) (λ xs. (rest : List ℕ) × Passes (K.held sink.old) (K.held sink.new) (trace_text xs).text rest) }
-    ensures read { result ≡ ReadFault → IfBothTold (S.left source.old) (S.left source.new) (HasReadText (K.held sink.old) (K.held sink.new)) }
+    ensures writes { Writes book (S.left source.old) (S.left source.new) (S.is_steady source.old) (K.held sink.old) (K.held sink.new) (K.is_steady sink.old) result }
     ensures cause { IsCaused (S.faults source.old) (S.faults source.new) (K.faults sink.old) (K.faults sink.new) result }
-    ensures whole { S.is_steady source.old → IfTold (S.left source.old)
-        (λ xs. K.is_steady sink.old (length (trace_text xs).text) → IsOrLacksMemory (trace_text xs).status result) }
 {
     let mut replay = new_replay(alloc);
     status_of(write_text(alloc, &mut replay, b"rams-book 1\n", source, sink))
+}
+
+/// Writes the book of the world whose trace the source has left, and says how that ended.
+fn world_status<S: Source, K: Sink>(alloc: Global, source: &mut S, sink: &mut K) -> Status
+    ensures words { is_words result ≡ false }
+    ensures writes { Writes world (S.left source.old) (S.left source.new) (S.is_steady source.old) (K.held sink.old) (K.held sink.new) (K.is_steady sink.old) result }
+    ensures cause { IsCaused (S.faults source.old) (S.faults source.new) (K.faults sink.old) (K.faults sink.new) result }
+{
+    status_of(write_world(alloc, source, sink))
 }
 
 fn status_of(ended: Result<Status, Stop>) -> Status

@@ -10,13 +10,15 @@ use trace_text::number;
 pub enum Command {
     /// The book of a trace.
     Run,
+    /// The book of a world.
+    Meet,
     /// The summary of the generated trace of this seed and of so many blocks.
     Make { seed: u32, blocks: u32 },
     /// So many turns of a server over a wire, with this live port of its first channel.
     Serve { port: u16, turns: u32 },
 }
 
-/// The command that the words spell: `run`; `make SEED BLOCKS` with a seed of up to 2^32 - 1 and 1 to
+/// The command that the words spell: `run`; `meet`; `make SEED BLOCKS` with a seed of up to 2^32 - 1 and 1 to
 /// 50,000 blocks; or `serve PORT TURNS` with a port from 1,024 to 65,000 and 1 to 500,000 turns. Numbers
 /// stand in decimal digits without a zero in front. `None` exactly where the words spell none.
 pub fn command_of(words: &[Octets]) -> Option<Command>
@@ -24,6 +26,7 @@ pub fn command_of(words: &[Octets]) -> Option<Command>
 {
     match words {
         [word] if word.bytes() == b"run".as_slice() => Some(Command::Run),
+        [word] if word.bytes() == b"meet".as_slice() => Some(Command::Meet),
         [word, seed, blocks] if word.bytes() == b"make".as_slice() => Some(Command::Make {
             seed: number_within(0, u32::MAX, seed.bytes())?,
             blocks: number_within(1, 50_000, blocks.bytes())?,
@@ -61,7 +64,7 @@ pub fn port_of(words: &[Octets]) -> Option<u16>
 {
     match command_of(words) {
         Some(Command::Serve { port, .. }) => Some(port),
-        Some(Command::Run | Command::Make { .. }) | None => None,
+        Some(Command::Run | Command::Meet | Command::Make { .. }) | None => None,
     }
 }
 
@@ -74,16 +77,20 @@ pub fn serve_words(words: &[Octets]) -> Option<(u16, u32)>
 {
     match command_of(words) {
         Some(Command::Serve { port, turns }) => Some((port, turns)),
-        Some(Command::Run | Command::Make { .. }) | None => None,
+        Some(Command::Run | Command::Meet | Command::Make { .. }) | None => None,
     }
 }
 
-/// Whether the first word is that of a command which waits for nobody: `run` or `make`.
+/// Whether the first word is that of a command which waits for nobody: `run`, `meet` or `make`.
 pub fn begins_with_plain(words: &[Octets]) -> bool
     ensures { result ≡ begins_with_plain words.now }
 {
     match words {
-        [word, ..] => word.bytes() == b"run".as_slice() || word.bytes() == b"make".as_slice(),
+        [word, ..] => {
+            word.bytes() == b"run".as_slice()
+                || word.bytes() == b"meet".as_slice()
+                || word.bytes() == b"make".as_slice()
+        }
         [] => false,
     }
 }

@@ -42,6 +42,7 @@ impl World {
     pub fn new(alloc: Global, hub: Hub) -> World
         requires { hub.calls ≡ 0 }
         ensures stands { (channels : List Served) → hubs.StandsFor hub channels → All (λ c. c.events ≡ []) channels → StandsFor result (new_world channels) }
+        ensures hub { result.kept.hub ≡ hub }
         ensures calls { result.calls ≡ 0 }
     {
         World {

@@ -1,7 +1,4 @@
 use Rattle.std.proofs.Common.{sym, ◌∙◌}
-use Rattle.std.specs.Prelude.{All}
-use Rattle.trace_book.specs.{KeepsPromises, served_by}
-use Rattle.trace_loop.proofs.Whole.{told_all}
 use Rattle.rams_replay.specs.{command_of}
 use Rattle.rams_replay.proofs.ServeWords.{plain_serves_none}
 use Rattle.rams_replay.proofs.Serving.{given_so, over_wire, same_serve}
@@ -26,9 +23,3 @@ returns-in-Some-clause-served g c = λ port turns given serves is.
 pub returns-in-Some-clause-served_whole : goal.returns-in-Some-clause-served_whole
 returns-in-Some-clause-served_whole g c = λ port turns given serves is.
     c.serve_status.ensures.whole given (given_so given _ _ port turns _ _ _ (same_serve (command_of c.args.words.now) _ _ port turns c.in-Some.ensures.asked serves) is)
-
-pub returns-in-Some-clause-lawful : goal.returns-in-Some-clause-lawful
-returns-in-Some-clause-lawful g c = told_all (g.S.Source.left c.args.source.now) (λ xs. All KeepsPromises (served_by xs)) c.traces_are_served_lawfully.ensures
-
-pub returns-in-None-clause-lawful : goal.returns-in-None-clause-lawful
-returns-in-None-clause-lawful g c = told_all (g.S.Source.left c.args.source.now) (λ xs. All KeepsPromises (served_by xs)) c.traces_are_served_lawfully.ensures

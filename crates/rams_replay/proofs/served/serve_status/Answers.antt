@@ -1,4 +1,4 @@
-use Rattle.std.proofs.Common.{◌≡◌, sym, subst}
+use Rattle.std.proofs.Common.{sym, subst}
 use Rattle.rams_model.specs.declared.status.Status.{Status}
 use Rattle.serve_loop.specs.{served_text}
 use Rattle.rams_replay.specs.{HasServed, IsOrLacksMemory, no_room}

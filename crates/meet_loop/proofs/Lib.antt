@@ -1,0 +1,4 @@
+pub mod Claims
+pub mod Opening
+pub mod Turning
+pub mod Writing

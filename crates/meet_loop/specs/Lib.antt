@@ -1,0 +1,3 @@
+pub mod Turns
+unfoldable pub use Rattle.meet_loop.specs.Turns.{WorldServes, OpensIn, Happens, Took}
+pub use Rattle.meet_loop.specs.Turns.{Serves, Stands, Comes, CanOpen, Opens, IsUnder}

@@ -1,0 +1,45 @@
+//! What the lines of a trace bring to a world.
+ghost use Rattle.std.specs.Prelude.{◌≡◌, IfOk, IsTrue};
+ghost use Rattle.rams_model.specs.Texts.{is_hex, bytes_in};
+ghost use Rattle.trace_text.specs.{shown, HasDigits};
+ghost use Rattle.trace_serving.specs.{brought};
+ghost use Rattle.world_book.specs.{meet};
+
+use ram_io::NoMemory;
+use rams_model::Octets;
+use server_hub::HubEvent;
+use std::alloc::Global;
+use trace_text::{Line, decode};
+use world_net::WorldEvent;
+
+/// The event that a line brings; `None` exactly where it is a head line, a channel line or `end`.
+pub(crate) fn event_of(alloc: Global, line: Line<'_>) -> Result<Option<WorldEvent>, NoMemory>
+    requires { HasDigits line }
+    ensures { IfOk result (λ event. event ≡ brought meet (shown line.entry)) }
+{
+    match line {
+        Line::Live { id, hex } => {
+            let bytes = octets(alloc, hex)?;
+            Ok(Some(WorldEvent::Hub(HubEvent::Live { id, bytes })))
+        }
+        Line::Feedback { id, client, hex } => {
+            let bytes = octets(alloc, hex)?;
+            Ok(Some(WorldEvent::Hub(HubEvent::Feedback { id, client, bytes })))
+        }
+        Line::Tick => Ok(Some(WorldEvent::Hub(HubEvent::Tick))),
+        Line::Tune { id, client, ssrc } => Ok(Some(WorldEvent::Tune { id, client, ssrc })),
+        Line::Give { number } => Ok(Some(WorldEvent::Give { number })),
+        Line::Mcast { id, client, n } => Ok(Some(WorldEvent::Mcast { id, client, n })),
+        Line::Ask { id, client } => Ok(Some(WorldEvent::Ask { id, client })),
+        Line::Drop { id, client } => Ok(Some(WorldEvent::Drop { id, client })),
+        Line::Head { .. } | Line::Channel { .. } | Line::End => Ok(None),
+    }
+}
+
+/// The bytes of a word of hexadecimal digits.
+fn octets(alloc: Global, hex: &[u8]) -> Result<Octets, NoMemory>
+    requires { IsTrue (is_hex hex.now) }
+    ensures { IfOk result (λ bytes. bytes ≡ bytes_in hex.now) }
+{
+    Ok(Octets::of(decode(alloc, hex)?))
+}

@@ -1,0 +1,208 @@
+//! The trace of a world, line by line.
+ghost use Rattle.std.specs.Prelude.{◌≡◌, ◌<◌, ◌≤◌, ◌+◌, ◌^◌, ℕ, true, IfOk, IsSomeAnd, is_some, None};
+ghost use Rattle.rams_model.specs.Texts.{tick_of};
+ghost use Rattle.trace_text.specs.{shown, told, HasDigits, IsOther, IsSettled};
+ghost use Rattle.trace_serving.specs.{Stage, opening, turn, after_line, eventless, counted, brought};
+ghost use Rattle.trace_loop.specs.{StandsSomewhere};
+ghost use Rattle.trace_loop.specs.declared.turn.Turn.TheVariants.{GoesOn};
+ghost use Rattle.world_laws.specs.World.{World as Worlds};
+ghost use Rattle.world_laws.specs.declared.world.WorldEvent.{WorldEvent};
+ghost use Rattle.world_net.specs.{StandsFor};
+ghost use Rattle.world_text.specs.{notes_lines};
+ghost use Rattle.world_book.specs.{meet};
+ghost use Rattle.meet_loop.specs.{Stands, Comes, CanOpen, OpensIn, IsUnder, Happens, Took};
+
+use crate::event::event_of;
+use crate::writer::write_notes;
+use channel_config::Config;
+use ram_io::{NoMemory, Sink};
+use rams_model::LineFault;
+use std::alloc::Global;
+use trace_loop::{Stop, TraceServer, Writer};
+use trace_text::{Judged, Line, Mode, State};
+use world_net::{Hub, World, WorldEvent, WorldNote};
+
+/// Most events of a trace.
+const MOST_EVENTS: u64 = 100_000;
+
+/// Most datagrams that are sent in a world, by the server and by receivers.
+const MOST_DATAGRAMS: u64 = 400_000;
+
+/// What a line of a trace for `meet` does.
+type Turn = trace_loop::Turn<Vec<WorldNote>>;
+
+/// What stands before a line: the world, how many events there were, and the lines.
+#[derive(Drop)]
+pub(crate) struct Meeting {
+    /// `None` before the head line.
+    world: Option<World>,
+    events: u64,
+    state: State,
+}
+
+/// Before the first line.
+pub(crate) fn new_meeting() -> Meeting
+    ensures { Stands result.world result.events result.state (opening meet) }
+{
+    Meeting {
+        world: None,
+        events: 0,
+        state: State::new(Mode::Meet),
+    }
+}
+
+impl TraceServer for Meeting {
+    type Answer = Vec<WorldNote>;
+
+    ghost state = { Worlds };
+
+    ghost event = { WorldEvent };
+
+    ghost serving = { meet };
+
+    ghost stands = { λ m stage. Stands m.world m.events m.state stage };
+
+    ghost lines = { λ m answer. notes_lines m.events answer.items };
+
+    ghost can_write = { λ answer. Unit {0} };
+
+    fn take_line(&mut self, alloc: Global, line: &[u8]) -> Result<Turn, NoMemory> {
+        take_line(alloc, self, line)
+    }
+
+    fn write_answer<K: Sink>(
+        &self,
+        writer: &mut Writer,
+        sink: &mut K,
+        answer: &Vec<WorldNote>,
+    ) -> Result<(), Stop> {
+        write_notes(writer, sink, self.events, answer)
+    }
+}
+
+/// What the next line does.
+fn take_line(alloc: Global, meeting: &mut Meeting, line: &[u8]) -> Result<Turn, NoMemory>
+    requires { StandsSomewhere (Stands meeting.old.world meeting.old.events meeting.old.state) }
+    ensures { IfOk result (λ t. (stage : Stage Worlds) (number : ℕ) → Stands meeting.old.world meeting.old.events meeting.old.state stage
+        → Took (turn meet stage number line.now) meeting.new.world meeting.new.events meeting.new.state number t) }
+{
+    match meeting.state.judge(line) {
+        Ok(read) => after_line(alloc, meeting, &read),
+        Err(fault) => Ok(Turn::Refused(fault)),
+    }
+}
+
+/// What a line does that may come.
+fn after_line(alloc: Global, meeting: &mut Meeting, line: &Judged<'_>) -> Result<Turn, NoMemory>
+    requires settled { IsSettled (tick_of meeting.old.state.head) line.now }
+    requires comes { (stage : Stage Worlds) × Comes meeting.old.world meeting.old.events meeting.old.state (told line.now) stage }
+    ensures { IfOk result (λ t. (stage : Stage Worlds) (number : ℕ) → Comes meeting.old.world meeting.old.events meeting.old.state (told line.now) stage
+        → Took (after_line meet stage meeting.old.state (told line.now) (brought meet (told line.now))) meeting.new.world meeting.new.events meeting.new.state number t) }
+{
+    match line {
+        Judged::Channel { config, .. } => open(alloc, &mut meeting.world, *config),
+        Judged::Other(line) => after_other(alloc, meeting, *line),
+    }
+}
+
+/// What a line does that opens no channel.
+fn after_other(alloc: Global, meeting: &mut Meeting, line: Line<'_>) -> Result<Turn, NoMemory>
+    requires other { IsOther line }
+    requires digits { HasDigits line }
+    requires comes { (stage : Stage Worlds) × Comes meeting.old.world meeting.old.events meeting.old.state (shown line) stage }
+    ensures { IfOk result (λ t. (stage : Stage Worlds) (number : ℕ) → Comes meeting.old.world meeting.old.events meeting.old.state (shown line.entry) stage
+        → Took (after_line meet stage meeting.old.state (shown line.entry) (brought meet (shown line.entry))) meeting.new.world meeting.new.events meeting.new.state number t) }
+{
+    match event_of(alloc, line)? {
+        Some(event) => serve(alloc, &mut meeting.world, &mut meeting.events, &event),
+        None => begin_or_end(alloc, meeting, line),
+    }
+}
+
+/// A head line begins the world, and `end` ends the trace; every other line opens a channel or brings
+/// an event.
+fn begin_or_end(alloc: Global, meeting: &mut Meeting, line: Line<'_>) -> Result<Turn, NoMemory>
+    requires other { IsOther line }
+    requires silent { brought meet (shown line) ≡ None }
+    requires comes { (stage : Stage Worlds) × Comes meeting.old.world meeting.old.events meeting.old.state (shown line) stage }
+    ensures { IfOk result (λ t. (stage : Stage Worlds) (number : ℕ) → Comes meeting.old.world meeting.old.events meeting.old.state (shown line.entry) stage
+        → Took (eventless meet stage meeting.old.state (shown line.entry)) meeting.new.world meeting.new.events meeting.new.state number t) }
+{
+    match line {
+        Line::Head { tick_ms, link, .. } => {
+            meeting.world = Some(new_world(alloc, tick_ms, link)?);
+            Ok(Turn::GoesOn)
+        }
+        Line::End => Ok(Turn::Done(meeting.events)),
+        _ => unreachable!(),
+    }
+}
+
+/// A world without channels, for ticks of `tick_ms` ms and a link of so many bytes a tick.
+fn new_world(alloc: Global, tick_ms: u32, link: u64) -> Result<World, NoMemory>
+    requires tick_least { 1 ≤ tick_ms }
+    requires tick_most { tick_ms ≤ 1000 }
+    requires link_least { 1500 ≤ link }
+    requires link_most { link ≤ 1000000000 }
+    ensures { IfOk result (IsUnder tick_ms link) }
+{
+    let hub = Hub::new(alloc, tick_ms, link)?;
+    Ok(World::new(alloc, hub))
+}
+
+/// A channel line opens its channel. The lines before it have shown that it may stand there, so that
+/// only memory can be missing.
+fn open(alloc: Global, world: &mut Option<World>, config: Config) -> Result<Turn, NoMemory>
+    requires { IsSomeAnd world.old (λ v. CanOpen v config) }
+    ensures { IfOk result (λ t. (t ≡ GoesOn) × OpensIn config world.old world.new) }
+{
+    let Some(world) = world else {
+        return Ok(Turn::Refused(LineFault::Order));
+    };
+    world.add(alloc, config).or(Err(NoMemory))?;
+    Ok(Turn::GoesOn)
+}
+
+/// An event of the world, unless it is one too many, or brings a datagram too many.
+fn serve(
+    alloc: Global,
+    world: &mut Option<World>,
+    events: &mut u64,
+    event: &WorldEvent,
+) -> Result<Turn, NoMemory>
+    requires stands { (stage : Stage Worlds) × Stands world.old events.old stage.reached stage }
+    requires there { is_some world.old ≡ true }
+    ensures { IfOk result (λ t. (stage : Stage Worlds) (number : ℕ) → Stands world.old events.old stage.reached stage → stage.reached.begun ≡ true
+        → Took (counted meet stage stage.reached event.now) world.new events.new stage.reached number t) }
+{
+    if *events >= MOST_EVENTS {
+        return Ok(Turn::TooLong);
+    }
+    let Some(world) = world else {
+        return Ok(Turn::Refused(LineFault::Order));
+    };
+    match happen(alloc, world, event)? {
+        Some(notes) => {
+            *events += 1;
+            Ok(Turn::Said(notes))
+        }
+        None => Ok(Turn::TooLong),
+    }
+}
+
+/// What is said of an event; `None` exactly where it brings a datagram too many.
+fn happen(
+    alloc: Global,
+    world: &mut World,
+    event: &WorldEvent,
+) -> Result<Option<Vec<WorldNote>>, NoMemory>
+    requires { world.old.calls < 2 ^ 40 }
+    ensures said { IfOk result (λ notes. (w : Worlds) → StandsFor world.old w → Happens event.now w world.new notes) }
+    ensures calls { world.new.calls ≡ world.old.calls + 1 }
+{
+    let notes = world.step(alloc, event)?;
+    if world.datagrams() > MOST_DATAGRAMS {
+        return Ok(None);
+    }
+    Ok(Some(notes))
+}

@@ -1,0 +1,17 @@
+use Rattle.std.specs.Prelude.{All}
+use Rattle.trace_book.specs.{KeepsPromises, KeepsTheLink, served_by}
+use Rattle.trace_loop.proofs.Whole.{told_all}
+use Rattle.world_book.specs.{ReceiversPresent, world_of}
+use Rattle.rams_replay.proofs.commands.promise.Goals as goal
+
+pub returns-clause-lawful : goal.returns-clause-lawful
+returns-clause-lawful g c = told_all (g.S.Source.left c.args._source.now) (λ xs. All KeepsPromises (served_by xs)) c.traces_are_served_lawfully.ensures
+
+pub returns-clause-link : goal.returns-clause-link
+returns-clause-link g c = told_all (g.S.Source.left c.args._source.now) KeepsTheLink c.traces_stay_within_the_link.ensures
+
+pub returns-clause-lawful_world : goal.returns-clause-lawful_world
+returns-clause-lawful_world g c = told_all (g.S.Source.left c.args._source.now) (λ xs. All KeepsPromises (world_of xs).channels) c.worlds_are_served_lawfully.ensures
+
+pub returns-clause-receivers : goal.returns-clause-receivers
+returns-clause-receivers g c = told_all (g.S.Source.left c.args._source.now) (λ xs. ReceiversPresent (world_of xs)) c.receivers_present_their_sources.ensures
