@@ -25,8 +25,8 @@ use trace_book::laws::{
 };
 use trace_loop::{Stop, write_text};
 use world_book::laws::{
-    receivers_present_their_sources, worlds_are_served_by_their_lines,
-    worlds_are_served_lawfully, worlds_end_so,
+    receivers_present_their_sources, worlds_are_served_by_their_lines, worlds_are_served_lawfully,
+    worlds_end_so,
 };
 
 /// Runs a command over whatever it reads from, writes to, sends through and tells the time by.
@@ -51,11 +51,11 @@ pub fn run<R: Threads + Wait + Sync, S: Source, K: Sink, W: Wire, C: Clock, G: G
     ensures refused { command_of words.now ≡ None → (source.new ≡ source.old) × (sink.new ≡ sink.old) }
     ensures book { AreRun words.now → Writes book (S.left source.old) (S.left source.new) (S.is_steady source.old) (K.held sink.old) (K.held sink.new) (K.is_steady sink.old) result }
     ensures world { AreMeet words.now → Writes world (S.left source.old) (S.left source.new) (S.is_steady source.old) (K.held sink.old) (K.held sink.new) (K.is_steady sink.old) result }
-    ensures served_by { IfTold (S.left source.old) IsServed }
+    ensures lines { IfTold (S.left source.old) IsServed }
     ensures ends { IfTold (S.left source.old) EndsSo }
     ensures lawful { IfTold (S.left source.old) (λ xs. All KeepsPromises (served_by xs)) }
     ensures link { IfTold (S.left source.old) KeepsTheLink }
-    ensures world_served_by { IfTold (S.left source.old) IsServedByAWorld }
+    ensures world_lines { IfTold (S.left source.old) IsServedByAWorld }
     ensures world_ends { IfTold (S.left source.old) WorldEndsSo }
     ensures lawful_world { IfTold (S.left source.old) (λ xs. All KeepsPromises (world_of xs).channels) }
     ensures receivers { IfTold (S.left source.old) (λ xs. ReceiversPresent (world_of xs)) }
@@ -95,11 +95,11 @@ pub fn plain<S: Source, K: Sink>(
     ensures refused { command_of words.now ≡ None → (source.new ≡ source.old) × (sink.new ≡ sink.old) }
     ensures book { AreRun words.now → Writes book (S.left source.old) (S.left source.new) (S.is_steady source.old) (K.held sink.old) (K.held sink.new) (K.is_steady sink.old) result }
     ensures world { AreMeet words.now → Writes world (S.left source.old) (S.left source.new) (S.is_steady source.old) (K.held sink.old) (K.held sink.new) (K.is_steady sink.old) result }
-    ensures served_by { IfTold (S.left source.old) IsServed }
+    ensures lines { IfTold (S.left source.old) IsServed }
     ensures ends { IfTold (S.left source.old) EndsSo }
     ensures lawful { IfTold (S.left source.old) (λ xs. All KeepsPromises (served_by xs)) }
     ensures link { IfTold (S.left source.old) KeepsTheLink }
-    ensures world_served_by { IfTold (S.left source.old) IsServedByAWorld }
+    ensures world_lines { IfTold (S.left source.old) IsServedByAWorld }
     ensures world_ends { IfTold (S.left source.old) WorldEndsSo }
     ensures lawful_world { IfTold (S.left source.old) (λ xs. All KeepsPromises (world_of xs).channels) }
     ensures receivers { IfTold (S.left source.old) (λ xs. ReceiversPresent (world_of xs)) }
@@ -121,11 +121,11 @@ pub fn plain<S: Source, K: Sink>(
 
 /// What holds of every trace, and so of the one that the source has left.
 fn promise<S: Source>(_source: &S)
-    ensures served_by { IfTold (S.left _source.now) IsServed }
+    ensures lines { IfTold (S.left _source.now) IsServed }
     ensures ends { IfTold (S.left _source.now) EndsSo }
     ensures lawful { IfTold (S.left _source.now) (λ xs. All KeepsPromises (served_by xs)) }
     ensures link { IfTold (S.left _source.now) KeepsTheLink }
-    ensures world_served_by { IfTold (S.left _source.now) IsServedByAWorld }
+    ensures world_lines { IfTold (S.left _source.now) IsServedByAWorld }
     ensures world_ends { IfTold (S.left _source.now) WorldEndsSo }
     ensures lawful_world { IfTold (S.left _source.now) (λ xs. All KeepsPromises (world_of xs).channels) }
     ensures receivers { IfTold (S.left _source.now) (λ xs. ReceiversPresent (world_of xs)) }
