@@ -1,8 +1,9 @@
 -- Line feeds among bytes, and the lines that they end.
 use Rattle.std.proofs.Common.{◌≡◌, ℕ, zero, suc, ◌+◌, ◌<◌, ◌≤◌, ◌==◌, Bool, true, false, List, [], ◌∷◌, ◌++◌, length, get_or, take, drop, refl, sym, ap, subst, ◌∙◌, arith, take-append-drop, take-add, drop-drop, get_or-take, length-take, length-drop}
 use Rattle.std.proofs.lemmas.Bool.{eqb-true, eq-eqb}
+use Rattle.std.specs.Prelude.{if◌then◌else◌}
 use Rattle.std.proofs.lemmas.List.{drop_more}
-use Rattle.rams_model.specs.Texts.{lines_of, whole_lines, lines_read, onto_first}
+use Rattle.rams_model.specs.Texts.{lines_of, whole_lines, lines_read, onto_first, into_first}
 use Rattle.memchr.specs.Find.{is_byte, Nowhere, NoneBefore, Passes}
 use Rattle.line_io.specs.{HasNoFeed, IsCutAt}
 
@@ -67,6 +68,18 @@ whole_lines-cut (b ∷ front) rest clean = rw (clean.0, whole_lines-cut front re
 pub lines_read-cut : (front rest left : List ℕ) → HasNoFeed front → lines_read (front ++ 10 ∷ rest) left ≡ front ∷ lines_read rest left
 lines_read-cut front rest [] clean = lines_of-cut front rest clean
 lines_read-cut front rest (b ∷ left) clean = whole_lines-cut front rest clean
+
+-- bytes with no feed are no whole line
+whole_lines-none : (xs : List ℕ) → HasNoFeed xs → whole_lines xs ≡ []
+unfolding whole_lines
+whole_lines-none [] clean = refl
+whole_lines-none (b ∷ xs) clean = rw (clean.0, whole_lines-none xs clean.1) refl
+
+-- nor do they make one behind others
+pub whole_lines-kept : (xs kept : List ℕ) → HasNoFeed kept → whole_lines (xs ++ kept) ≡ whole_lines xs
+unfolding whole_lines
+whole_lines-kept [] kept clean = whole_lines-none kept clean
+whole_lines-kept (b ∷ xs) kept clean = ap (λ (t : List (List ℕ)). if b == 10 then [] ∷ t else into_first b t) (whole_lines-kept xs kept clean)
 
 -- bytes with no feed are one line
 pub lines_of-all : (xs : List ℕ) → HasNoFeed xs → 0 < length xs → lines_of xs ≡ xs ∷ []

@@ -1,5 +1,5 @@
 -- The next line of what is kept and what the source has left.
-use Rattle.std.proofs.Common.{◌≡◌, ℕ, ◌+◌, ◌<◌, ◌≤◌, List, [], ◌∷◌, ◌++◌, length, take, drop, Option, Some, None, refl, sym, ap, ◌∙◌, arith, append_assoc, append-nil, length-take, length-append, take-append-drop, inl, inr}
+use Rattle.std.proofs.Common.{◌≡◌, ℕ, ◌+◌, ◌<◌, ◌≤◌, List, [], ◌∷◌, ◌++◌, length, take, drop, Option, Some, None, refl, sym, ap, ◌∙◌, arith, append_assoc, append-nil, length-take, length-append, take-append-drop, inl, inr, Result, Ok, Err, OnErr}
 use Rattle.std.proofs.lemmas.List.{take-append-le}
 use Rattle.std.specs.Io.KnownBytes.{Keeps, Consumes, IsAtEnd, prepend_known}
 use Rattle.rams_model.specs.Texts.{lines_of}
@@ -80,3 +80,8 @@ pub Keeps-kept : (kept now : List ℕ) (a b : Option (List ℕ)) → now ≡ kep
 Keeps-kept kept now None b is same = tt
 Keeps-kept kept now (Some xs) None is same = absurd same
 Keeps-kept kept now (Some xs) (Some ys) is same = rw (is, same) refl
+
+-- what holds anyway holds where a call fails
+pub on_failure : {T E : Type 0} (r : Result T E) (P : Type 0) → P → OnErr r P
+on_failure (Ok value) P p = tt
+on_failure (Err e) P p = p

@@ -76,8 +76,8 @@ impl LineReader {
     /// Reads the next line; a last line may lack its line feed. Takes up to 4,096 bytes of the
     /// source at a time, and none where a whole line is kept.
     ///
-    /// Where the source fails, nothing is lost: the next call goes on. After `Long` the reader is of
-    /// no more use.
+    /// Where the source fails, nothing is lost, and no whole line is kept: the next call goes on. After
+    /// `Long` the reader is of no more use.
     pub fn advance<S: Source>(&mut self, source: &mut S) -> Result<Next, Failed>
         ensures next { IfOk result (λ next. TakesNext
             (prepend_known self.old.kept (S.left source.old))
@@ -86,6 +86,7 @@ impl LineReader {
         ensures same { OnErr result (Keeps
             (prepend_known self.old.kept (S.left source.old))
             (prepend_known self.new.kept (S.left source.new))) }
+        ensures unread { OnErr result (HasNoFeed self.new.kept) }
         ensures no_call { Contains self.old.kept 10 → source.new ≡ source.old }
         ensures cause { HasCause (S.faults source.old) (S.faults source.new) result }
         ensures steady { S.is_steady source.old → IsOkAnd result (λ _. S.is_steady source.new) }
@@ -112,6 +113,7 @@ impl LineReader {
         ensures same { OnErr result (Keeps
             (prepend_known self.old.kept (S.left source.old))
             (prepend_known self.new.kept (S.left source.new))) }
+        ensures unread { OnErr result (HasNoFeed self.new.kept) }
         ensures cause { HasCause (S.faults source.old) (S.faults source.new) result }
         ensures steady { S.is_steady source.old → IsOkAnd result (λ _. S.is_steady source.new) }
     {
@@ -133,6 +135,7 @@ impl LineReader {
     fn refill<S: Source>(&mut self, source: &mut S) -> Result<usize, Failed>
         requires { length self.old.kept ≤ 4096 }
         ensures grown { IfOk result (IsGrown self.old.kept self.new.kept) }
+        ensures unread { OnErr result (self.new.kept ≡ self.old.kept) }
         ensures end { IfOk result (λ n. n ≡ 0 → IsAtEnd (S.left source.new)) }
         ensures whole { Keeps
             (prepend_known self.old.kept (S.left source.old))

@@ -1,5 +1,6 @@
 //! The whole text of a world's trace, from the source's bytes to the sink's.
-ghost use Rattle.std.specs.Prelude.{◌≡◌, Err, List, ℕ, IfOk, length};
+ghost use Rattle.ram_io.specs.{Rose};
+ghost use Rattle.std.specs.Prelude.{◌≡◌, ◌⊎◌, Err, List, ℕ, IfOk, length};
 ghost use Rattle.std.specs.Io.KnownBytes.{Appends};
 ghost use Rattle.line_io.specs.Passes.{Passes};
 ghost use Rattle.trace_loop.specs.declared.stop.Stop.TheVariants.{Read};
@@ -14,7 +15,8 @@ use trace_loop::{Stop, write_text};
 
 /// Writes the text of the world's trace that the source has left, and says how it ended.
 ///
-/// Its first line goes to the sink before the first byte is taken.
+/// Its first line goes to the sink before the first byte is taken. Where the source fails, the sink gets
+/// all of the text of the lines that were read, unless it fails too.
 pub fn write_world<S: Source, K: Sink>(
     alloc: Global,
     source: &mut S,
@@ -25,7 +27,7 @@ pub fn write_world<S: Source, K: Sink>(
         (λ xs. (status ≡ (meet_text xs).status) × Appends (K.held sink.old) (K.held sink.new) (meet_text xs).text)) }
     ensures front { IfTold (S.left source.old)
         (λ xs. (rest : List ℕ) × Passes (K.held sink.old) (K.held sink.new) (meet_text xs).text rest) }
-    ensures read { result ≡ Err Read → IfBothTold (S.left source.old) (S.left source.new) (HasReadText meet (K.held sink.old) (K.held sink.new)) }
+    ensures read { result ≡ Err Read → IfBothTold (S.left source.old) (S.left source.new) (HasReadText meet (K.held sink.old) (K.held sink.new)) ⊎ Rose (K.faults sink.old) (K.faults sink.new) }
     ensures cause { IsStopped (S.faults source.old) (S.faults source.new) (K.faults sink.old) (K.faults sink.new) result }
     ensures steady { S.is_steady source.old → IfTold (S.left source.old)
         (λ xs. K.is_steady sink.old (length (meet_text xs).text) → OnlyMemoryStops result (Unit {0})) }

@@ -1,4 +1,6 @@
 -- How a command ends that writes the text of a trace.
+use Rattle.std.specs.Prelude.{◌⊎◌}
+use Rattle.ram_io.specs.{Rose}
 use Rattle.std.proofs.Common.{◌≡◌, ℕ, List, length, Option, None, Some, Result, Ok, Err, IfOk, refl, sym, subst}
 use Rattle.std.specs.Io.KnownBytes.{Appends}
 use Rattle.line_io.specs.Passes.{Passes}
@@ -47,7 +49,7 @@ or_lacks_memory held holds o (Ok WriteFault) text only = text.0
 or_lacks_memory held holds o (Ok WireFault) text only = text.0
 or_lacks_memory held holds o (Err stop) text only = subst (λ (s : Stop). IsOrLacksMemory o.status (status_of (Err s))) (sym only) tt
 
-module _ {State Event : Type 0} (s : Serving State Event) (leaves : Option (List ℕ)) (calm : Type 0) (held holds : Option (List ℕ)) (room : ℕ → Type 0) where
+module _ {State Event : Type 0} (s : Serving State Event) (leaves : Option (List ℕ)) (calm : Type 0) (held holds : Option (List ℕ)) (before now : ℕ) (room : ℕ → Type 0) where
   texts : (left : Option (List ℕ)) (r : Result Status Stop) → IfOk r (λ status. IfTold left (λ xs. IsWhole held holds (served_text s xs) status)) → IfTold left (λ xs. HasText held holds (served_text s xs) (status_of r))
   texts None r text = tt
   texts (Some xs) r text = has_text held holds (served_text s xs) r text
@@ -59,8 +61,8 @@ module _ {State Event : Type 0} (s : Serving State Event) (leaves : Option (List
 
   -- what a run over the lines of the trace leaves
   pub writes : (left : Option (List ℕ)) (r : Result Status Stop) → IfOk r IsEnd → IfOk r (λ status. IfTold left (λ xs. IsWhole held holds (served_text s xs) status))
-      → IfTold left (λ xs. (rest : List ℕ) × Passes held holds (served_text s xs).text rest) → (r ≡ Err Read → IfBothTold left leaves (HasReadText s held holds))
-      → (calm → IfTold left (λ xs. room (length (served_text s xs).text) → OnlyMemoryStops r (Unit {0}))) → Writes s left leaves calm held holds room (status_of r)
+      → IfTold left (λ xs. (rest : List ℕ) × Passes held holds (served_text s xs).text rest) → (r ≡ Err Read → IfBothTold left leaves (HasReadText s held holds) ⊎ Rose before now)
+      → (calm → IfTold left (λ xs. room (length (served_text s xs).text) → OnlyMemoryStops r (Unit {0}))) → Writes s left leaves calm held holds before now room (status_of r)
   writes left r ends text front read steady = record {
     text = texts left r text;
     front = front;

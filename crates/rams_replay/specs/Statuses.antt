@@ -1,5 +1,5 @@
 -- What the status of a command says.
-use Rattle.std.specs.Prelude.{◌≡◌, ℕ, ◌≤◌, Bool, true, false, List, length, Option, Result, Ok, Err}
+use Rattle.std.specs.Prelude.{◌≡◌, ℕ, ◌≤◌, ◌⊎◌, Bool, true, false, List, length, Option, Result, Ok, Err}
 use Rattle.std.specs.Io.KnownBytes.{Appends}
 use Rattle.line_io.specs.Passes.{Passes}
 use Rattle.ram_io.specs.{Rose}
@@ -55,13 +55,13 @@ abbrev pub IsOrLacksMemory : Status → Status → Type 0
 IsOrLacksMemory status NoMemory = Unit {0}
 IsOrLacksMemory status other = other ≡ status
 
--- What a command leaves that writes the text of the trace that its source has: what that source had and has left, whether it was steady, what the sink held and holds, and for how many bytes it was steady.
-pub record Writes {State Event : Type 0} (s : Serving State Event) (left leaves : Option (List ℕ)) (calm : Type 0) (held holds : Option (List ℕ)) (room : ℕ → Type 0) (status : Status) : Type 0 where
+-- What a command leaves that writes the text of the trace that its source has: what that source had and has left, whether it was steady, what the sink held and holds, its counts of faults, and for how many bytes it was steady.
+pub record Writes {State Event : Type 0} (s : Serving State Event) (left leaves : Option (List ℕ)) (calm : Type 0) (held holds : Option (List ℕ)) (before now : ℕ) (room : ℕ → Type 0) (status : Status) : Type 0 where
   -- where it came to an end of its own, the sink got exactly the text, and the status is the text's
   pub text : IfTold left (λ xs. HasText held holds (served_text s xs) status)
   -- whatever ended it, the sink got a front of the text
   pub front : IfTold left (λ xs. (rest : List ℕ) × Passes held holds (served_text s xs).text rest)
-  -- where the source failed, that is a front of the text of the lines that were read
-  pub read : status ≡ ReadFault → IfBothTold left leaves (HasReadText s held holds)
+  -- where the source failed, it got all of the text of the lines that were read whole, unless it failed too
+  pub read : status ≡ ReadFault → IfBothTold left leaves (HasReadText s held holds) ⊎ Rose before now
   -- over a steady source, and a sink that is steady for the whole text, it comes to its end, unless memory is lacking
   pub whole : calm → IfTold left (λ xs. room (length (served_text s xs).text) → IsOrLacksMemory (served_text s xs).status status)

@@ -49,8 +49,8 @@ pub fn run<R: Threads + Wait + Sync, S: Source, K: Sink, W: Wire, C: Clock, G: G
 ) -> Status
     ensures words { is_words result ≡ is_none (command_of words.now) }
     ensures refused { command_of words.now ≡ None → (source.new ≡ source.old) × (sink.new ≡ sink.old) }
-    ensures book { AreRun words.now → Writes book (S.left source.old) (S.left source.new) (S.is_steady source.old) (K.held sink.old) (K.held sink.new) (K.is_steady sink.old) result }
-    ensures world { AreMeet words.now → Writes world (S.left source.old) (S.left source.new) (S.is_steady source.old) (K.held sink.old) (K.held sink.new) (K.is_steady sink.old) result }
+    ensures book { AreRun words.now → Writes book (S.left source.old) (S.left source.new) (S.is_steady source.old) (K.held sink.old) (K.held sink.new) (K.faults sink.old) (K.faults sink.new) (K.is_steady sink.old) result }
+    ensures world { AreMeet words.now → Writes world (S.left source.old) (S.left source.new) (S.is_steady source.old) (K.held sink.old) (K.held sink.new) (K.faults sink.old) (K.faults sink.new) (K.is_steady sink.old) result }
     ensures lines { IfTold (S.left source.old) IsServed }
     ensures ends { IfTold (S.left source.old) EndsSo }
     ensures lawful { IfTold (S.left source.old) (λ xs. All KeepsPromises (served_by xs)) }
@@ -93,8 +93,8 @@ pub fn plain<S: Source, K: Sink>(
     requires { begins_with_plain words.now ≡ true }
     ensures words { is_words result ≡ is_none (command_of words.now) }
     ensures refused { command_of words.now ≡ None → (source.new ≡ source.old) × (sink.new ≡ sink.old) }
-    ensures book { AreRun words.now → Writes book (S.left source.old) (S.left source.new) (S.is_steady source.old) (K.held sink.old) (K.held sink.new) (K.is_steady sink.old) result }
-    ensures world { AreMeet words.now → Writes world (S.left source.old) (S.left source.new) (S.is_steady source.old) (K.held sink.old) (K.held sink.new) (K.is_steady sink.old) result }
+    ensures book { AreRun words.now → Writes book (S.left source.old) (S.left source.new) (S.is_steady source.old) (K.held sink.old) (K.held sink.new) (K.faults sink.old) (K.faults sink.new) (K.is_steady sink.old) result }
+    ensures world { AreMeet words.now → Writes world (S.left source.old) (S.left source.new) (S.is_steady source.old) (K.held sink.old) (K.held sink.new) (K.faults sink.old) (K.faults sink.new) (K.is_steady sink.old) result }
     ensures lines { IfTold (S.left source.old) IsServed }
     ensures ends { IfTold (S.left source.old) EndsSo }
     ensures lawful { IfTold (S.left source.old) (λ xs. All KeepsPromises (served_by xs)) }
@@ -143,7 +143,7 @@ fn promise<S: Source>(_source: &S)
 /// Writes the book of the trace that the source has left, and says how that ended.
 fn book_status<S: Source, K: Sink>(alloc: Global, source: &mut S, sink: &mut K) -> Status
     ensures words { is_words result ≡ false }
-    ensures writes { Writes book (S.left source.old) (S.left source.new) (S.is_steady source.old) (K.held sink.old) (K.held sink.new) (K.is_steady sink.old) result }
+    ensures writes { Writes book (S.left source.old) (S.left source.new) (S.is_steady source.old) (K.held sink.old) (K.held sink.new) (K.faults sink.old) (K.faults sink.new) (K.is_steady sink.old) result }
     ensures cause { IsCaused (S.faults source.old) (S.faults source.new) (K.faults sink.old) (K.faults sink.new) result }
 {
     let mut replay = new_replay(alloc);
@@ -153,7 +153,7 @@ fn book_status<S: Source, K: Sink>(alloc: Global, source: &mut S, sink: &mut K) 
 /// Writes the book of the world whose trace the source has left, and says how that ended.
 fn world_status<S: Source, K: Sink>(alloc: Global, source: &mut S, sink: &mut K) -> Status
     ensures words { is_words result ≡ false }
-    ensures writes { Writes world (S.left source.old) (S.left source.new) (S.is_steady source.old) (K.held sink.old) (K.held sink.new) (K.is_steady sink.old) result }
+    ensures writes { Writes world (S.left source.old) (S.left source.new) (S.is_steady source.old) (K.held sink.old) (K.held sink.new) (K.faults sink.old) (K.faults sink.new) (K.is_steady sink.old) result }
     ensures cause { IsCaused (S.faults source.old) (S.faults source.new) (K.faults sink.old) (K.faults sink.new) result }
 {
     status_of(write_world(alloc, source, sink))

@@ -1,15 +1,33 @@
 -- How far a trace was read, and what went to the sink of the lines that were read.
-use Rattle.std.proofs.Common.{◌≡◌, ℕ, ◌+◌, List, [], ◌∷◌, ◌++◌, Option, None, Some, Result, Ok, Err, refl, sym, ap, ◌∙◌, subst, append_assoc, append-nil, inl, inr}
-use Rattle.std.specs.Io.KnownBytes.{Keeps, prepend_known}
+use Rattle.std.proofs.Common.{◌≡◌, ℕ, ◌+◌, List, [], ◌∷◌, ◌++◌, Option, None, Some, Result, Ok, Err, refl, sym, ap, ◌∙◌, subst, arith, append_assoc, append-nil, inl, inr}
+use Rattle.std.specs.Prelude.{◌≤◌, ◌⊎◌}
+use Rattle.ram_io.specs.{Rose}
+use Rattle.std.specs.Io.KnownBytes.{Appends, Keeps, prepend_known}
+use Rattle.line_io.specs.{HasNoFeed}
 use Rattle.line_io.specs.Passes.{Passes}
-use Rattle.line_io.proofs.LineFeeds.{lines_read-cut}
-use Rattle.line_io.proofs.Passing.{Passes-none, Passes-put, Passes-more, Passes-then}
+use Rattle.line_io.proofs.LineFeeds.{lines_read-cut, whole_lines-kept}
+use Rattle.line_io.proofs.Passing.{Passes-none, Passes-put, Passes-then}
 use Rattle.rams_model.specs.declared.status.Status.{Status}
-use Rattle.rams_model.specs.Texts.{lines_of, lines_read}
+use Rattle.rams_model.specs.Texts.{lines_of, lines_read, whole_lines}
 use Rattle.trace_serving.specs.{Serving, Stage, Turn, opening, goes_on, turn, text_after, lines_text}
 use Rattle.trace_loop.specs.declared.stop.Stop.{Stop}
 use Rattle.trace_loop.specs.{IsWriteStop, EndsAs, IfBothTold, GoesOnAfter, HasLinesText, HasReadText}
 use Rattle.trace_loop.specs.declared.stop.Stop.TheVariants.{Memory, Read, Write, Wire}
+
+-- all of a text has gone
+pub passes_whole : (a b : Option (List ℕ)) (text : List ℕ) → Passes a b text [] → Appends a b text
+passes_whole a b text p =
+    let same : p.front ≡ text = sym (p.whole ∙ append-nil p.front) in
+    subst (Appends a b) same p.sink
+
+-- either stays so
+pub either : {P Q A B : Type 0} → P ⊎ Q → (P → A) → (Q → B) → A ⊎ B
+either (inl p) f g = inl (f p)
+either (inr q) f g = inr (g q)
+
+-- a count that rose has risen since it was no greater
+pub rose_since : (begun before now : ℕ) → begun ≤ before → Rose before now → Rose begun now
+rose_since begun before now less rose = omega (arith, less, rose)
 
 no_bytes_left : (zs left : List ℕ) → [] ≡ zs ++ left → (zs ≡ []) × (left ≡ [])
 no_bytes_left [] left e = (refl, sym e)
@@ -113,32 +131,44 @@ module _ {State Event : Type 0} (s : Serving State Event) where
                 (ap (λ (t : List ℕ). lines_text s (opening s) 1 (lines_of t)) (append-nil (r.taken ++ g.line))
                 ∙ text_goes_on r g g.line [] [] (all ∙ sym (append-nil g.line)) (ap lines_of (sym all) ∙ g.lines ∙ ap (λ (t : List ℕ). g.line ∷ lines_of t) none))
 
-  -- nothing more is read
-  has_lines_text : (a b : Option (List ℕ)) (begun waiting : List ℕ) (stage : Stage State) (number : ℕ) (xs kept left : List ℕ)
-      → HasRead a b begun waiting stage number xs (kept ++ left) → HasLinesText s a b begun waiting xs left
-  has_lines_text a b begun waiting stage number xs kept left r =
-      let more = lines_text s stage number (lines_read kept left) in
-      let same : (begun ++ r.said) ++ more ≡ begun ++ lines_text s (opening s) 1 (lines_read (r.taken ++ kept) left) =
-      append_assoc begun r.said more ∙ ap (λ (t : List ℕ). begun ++ t) (sym (r.text kept left refl)) in (
-        r.taken ++ kept,
-        r.whole ∙ sym (append_assoc r.taken kept left),
-        more,
-        subst (λ (t : List ℕ). Passes a b t (waiting ++ more)) same (Passes-more a b (begun ++ r.said) waiting more r.passes),
-      )
+  module _ (a b : Option (List ℕ)) (begun waiting : List ℕ) (stage : Stage State) (number : ℕ) (xs : List ℕ) where
+    -- what was said is the text of these lines
+    said_is : (ys : List ℕ) (r : HasRead a b begun waiting stage number xs ys) (lines : List (List ℕ)) → lines_text s (opening s) 1 lines ≡ r.said ++ []
+        → Passes a b (begun ++ lines_text s (opening s) 1 lines) waiting
+    said_is ys r lines e = subst (λ (t : List ℕ). Passes a b (begun ++ t) waiting) (sym (e ∙ append-nil r.said)) r.passes
 
-  pub reading_stops : (a b : Option (List ℕ)) (begun waiting : List ℕ) (stage : Stage State) (number : ℕ) (xs ys kept : List ℕ) (left : Option (List ℕ)) → HasRead a b begun waiting stage number xs ys
-      → Keeps (Some ys) (prepend_known kept left) → IfBothTold (Some xs) left (HasLinesText s a b begun waiting)
-  reading_stops a b begun waiting stage number xs ys kept None r same = absurd same
-  reading_stops a b begun waiting stage number xs ys kept (Some left) r same =
-      has_lines_text a b begun waiting stage number xs kept left (subst (HasRead a b begun waiting stage number xs) (sym same) r)
+    -- the lines with a line feed have been read
+    read_whole : (y : ℕ) (ys : List ℕ) (r : HasRead a b begun waiting stage number xs (y ∷ ys)) → lines_text s (opening s) 1 (whole_lines r.taken) ≡ r.said ++ []
+    unfolding whole_lines lines_text
+    read_whole y ys r = ap (λ (t : List ℕ). lines_text s (opening s) 1 (whole_lines t)) (sym (append-nil r.taken)) ∙ r.text [] (y ∷ ys) refl
+
+    -- all has been read
+    read_all : (r : HasRead a b begun waiting stage number xs []) → lines_text s (opening s) 1 (lines_of (r.taken ++ [])) ≡ r.said ++ []
+    unfolding lines_of lines_text
+    read_all r = r.text [] [] refl
+
+    -- nothing more is read, and what is kept is no whole line
+    has_lines_text : (kept left : List ℕ) → HasNoFeed kept → HasRead a b begun waiting stage number xs (kept ++ left) → HasLinesText s a b begun waiting xs left
+    has_lines_text [] [] clean r =
+        (r.taken ++ [], r.whole ∙ sym (append-nil (r.taken ++ [])), lines_of (r.taken ++ []), inr (refl, refl), said_is [] r _ (read_all r))
+    has_lines_text [] (l ∷ left) clean r =
+        (r.taken, r.whole, whole_lines r.taken, inl refl, said_is (l ∷ left) r _ (read_whole l left r))
+    has_lines_text (k ∷ kept) left clean r =
+        let same = whole_lines-kept r.taken (k ∷ kept) clean in
+        (r.taken ++ k ∷ kept, r.whole ∙ sym (append_assoc r.taken (k ∷ kept) left), whole_lines r.taken, inl (sym same), said_is (k ∷ (kept ++ left)) r _ (read_whole k (kept ++ left) r))
+
+    pub reading_stops : (ys kept : List ℕ) (left : Option (List ℕ)) → HasNoFeed kept → HasRead a b begun waiting stage number xs ys
+        → Keeps (Some ys) (prepend_known kept left) → IfBothTold (Some xs) left (HasLinesText s a b begun waiting)
+    reading_stops ys kept None clean r same = absurd same
+    reading_stops ys kept (Some left) clean r same = has_lines_text kept left clean (subst (HasRead a b begun waiting stage number xs) (sym same) r)
 
   -- what waited goes too, behind the first line
-  pub lines_then_all : (a c d e : Option (List ℕ)) (begun waits rest : List ℕ) (left leaves : Option (List ℕ)) → begun ≡ [] → Passes a c s.first_line []
-      → IfBothTold left leaves (HasLinesText s c d begun waits) → Passes d e waits rest → IfBothTold left leaves (HasReadText s a e)
-  lines_then_all a c d e begun waits rest None leaves none first h p = tt
-  lines_then_all a c d e begun waits rest (Some xs) None none first h p = absurd h
-  lines_then_all a c d e begun waits rest (Some xs) (Some ys) none first h p =
-      let lines = lines_text s (opening s) 1 (lines_read h.0 ys) in
-      let q = subst (λ (l : List ℕ). Passes c d (l ++ lines) (waits ++ h.2)) none h.3 in
-      let written : Passes a d (s.first_line ++ lines) (waits ++ h.2) = Passes-put a c d s.first_line [] lines (waits ++ h.2) first q in
-      (h.0, h.1, rest ++ h.2, Passes-then a d e (s.first_line ++ lines) (waits ++ h.2) (rest ++ h.2) written (Passes-more d e waits rest h.2 p))
+  pub lines_then_all : (a c d e : Option (List ℕ)) (begun waits : List ℕ) (left leaves : Option (List ℕ)) → begun ≡ [] → Passes a c s.first_line []
+      → IfBothTold left leaves (HasLinesText s c d begun waits) → Passes d e waits [] → IfBothTold left leaves (HasReadText s a e)
+  lines_then_all a c d e begun waits None leaves none first h p = tt
+  lines_then_all a c d e begun waits (Some xs) None none first h p = absurd h
+  lines_then_all a c d e begun waits (Some xs) (Some ys) none first h p =
+      let text = lines_text s (opening s) 1 h.2 in
+      let q = subst (λ (l : List ℕ). Passes c d (l ++ text) waits) none h.4 in
+      let written : Passes a d (s.first_line ++ text) waits = Passes-put a c d s.first_line [] text waits first q in
+      (h.0, h.1, h.2, h.3, passes_whole a e (s.first_line ++ text) (Passes-then a d e (s.first_line ++ text) waits [] written p))

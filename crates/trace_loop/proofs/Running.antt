@@ -1,6 +1,7 @@
 -- The steps of a run: a line is taken, and what it is answered with is written.
 use Rattle.std.proofs.Common.{◌≡◌, ℕ, ◌+◌, ◌≤◌, List, [], ◌++◌, length, Option, None, Some, MatchOption, refl, sym, ap, ◌∙◌, subst, append-nil, arith}
 use Rattle.std.specs.Io.KnownBytes.{Keeps, prepend_known}
+use Rattle.line_io.specs.{HasNoFeed}
 use Rattle.line_io.specs.Passes.{Passes}
 use Rattle.rams_model.specs.declared.status.Status.{Status}
 use Rattle.rams_model.specs.Texts.{lines_of}
@@ -93,10 +94,10 @@ module _ {State Event : Type 0} (s : Serving State Event) where
 
     -- the source's fault stops the run
     pub running_reads : (left leaves : Option (List ℕ)) (number : ℕ) (kept : List ℕ) (later : Option (List ℕ)) → IfBothTold left leaves (IsRunning a b before now steady_then steady begun waiting at number)
-        → Keeps leaves (prepend_known kept later) → IfBothTold left later (HasLinesText s a b begun waiting)
-    running_reads None leaves number kept later r same = tt
-    running_reads (Some xs) None number kept later r same = absurd r
-    running_reads (Some xs) (Some ys) number kept later r same = reading_stops s a b begun waiting r.stage number xs ys kept later r.reading same
+        → HasNoFeed kept → Keeps leaves (prepend_known kept later) → IfBothTold left later (HasLinesText s a b begun waiting)
+    running_reads None leaves number kept later r clean same = tt
+    running_reads (Some xs) None number kept later r clean same = absurd r
+    running_reads (Some xs) (Some ys) number kept later r clean same = reading_stops s a b begun waiting r.stage number xs ys kept later clean r.reading same
 
     module _ (now_at : Stage State → Type 0) (number : ℕ) (how : Option Status) (said : List ℕ) where
       -- there is room for what the next turn writes

@@ -1,5 +1,5 @@
 -- The parts of a text: its first line, what its lines are answered with, and what waits at the end.
-use Rattle.std.proofs.Common.{◌≡◌, ℕ, ◌+◌, List, [], ◌++◌, length, Option, None, Some, Result, Ok, Err, IfOk, IfErr, OnOk, refl, sym, ◌∙◌, subst, append-nil, length-append}
+use Rattle.std.proofs.Common.{◌≡◌, ℕ, ◌+◌, List, [], ◌++◌, length, Option, None, Some, Result, Ok, Err, IfOk, IfErr, OnOk, refl, sym, subst, length-append}
 use Rattle.std.specs.Io.KnownBytes.{Appends}
 use Rattle.line_io.specs.Passes.{Passes}
 use Rattle.line_io.proofs.Passing.{Passes-none, Passes-then, Passes-put, Passes-more}
@@ -8,18 +8,13 @@ use Rattle.trace_serving.specs.{Serving, served_text}
 use Rattle.trace_loop.specs.declared.stop.Stop.{Stop}
 use Rattle.trace_loop.specs.{StopsIn, EndsAs, IfTold, Ends}
 use Rattle.trace_loop.specs.declared.stop.Stop.TheVariants.{Memory, Read, Write, Wire}
+use Rattle.trace_loop.proofs.Reading.{passes_whole}
 use Rattle.trace_loop.proofs.Running.{outcome}
 
 -- where it holds of all bytes
 pub told_all : (o : Option (List ℕ)) (Q : List ℕ → Type 0) → ((xs : List ℕ) → Q xs) → IfTold o Q
 told_all None Q gives = tt
 told_all (Some xs) Q gives = gives xs
-
--- all of a text has gone
-passes_whole : (a b : Option (List ℕ)) (text : List ℕ) → Passes a b text [] → Appends a b text
-passes_whole a b text p =
-    let same : p.front ≡ text = sym (p.whole ∙ append-nil p.front) in
-    subst (Appends a b) same p.sink
 
 -- a front went, whatever stopped the call
 pub stops_in_front : (a b : Option (List ℕ)) (text waits : List ℕ) (stop : Stop) → StopsIn a b text waits stop → (rest : List ℕ) × Passes a b text rest

@@ -4,5 +4,5 @@ pub mod Told
 unfoldable pub use Rattle.trace_loop.specs.Stops.{IsWriteStop, OnlyMemoryStops, IsReadStop, IsStop, StopsIn, EndsAs}
 pub use Rattle.trace_loop.specs.Stops.{IsStoppedByWrite, IsStoppedByRead, IsStopped}
 unfoldable pub use Rattle.trace_loop.specs.Turns.{ending, IsEnd, last_line, written, CanWrite, StandsSomewhere, Took}
-unfoldable pub use Rattle.trace_loop.specs.Told.{IfTold, IfBothTold, EndsIn, IsFirstTurn, Ends, HasLinesText, HasReadText}
+unfoldable pub use Rattle.trace_loop.specs.Told.{IfTold, IfBothTold, EndsIn, IsFirstTurn, Ends, AreReadWhole, HasLinesText, HasReadText}
 pub use Rattle.trace_loop.specs.Told.{GoesOnAfter}

@@ -1,6 +1,7 @@
 //! The lines of a trace, one by one.
 ghost use Rattle.std.specs.Prelude.{◌≡◌, Err, ℕ, ◌+◌, ◌++◌, IfOk, IfErr, length, None};
 ghost use Rattle.std.specs.Io.KnownBytes.{Keeps, prepend_known};
+ghost use Rattle.line_io.specs.{HasNoFeed};
 ghost use Rattle.trace_loop.specs.declared.stop.Stop.TheVariants.{Read};
 ghost use Rattle.rams_model.specs.Texts.{lines_of};
 ghost use Rattle.trace_serving.specs.{Stage, opening, text_from};
@@ -31,6 +32,7 @@ fn next_turn<V: TraceServer, S: Source>(
     ensures same { result ≡ Err Read → Keeps
         (prepend_known reader.old.kept (S.left source.old))
         (prepend_known reader.new.kept (S.left source.new)) }
+    ensures unread { result ≡ Err Read → HasNoFeed reader.new.kept }
     ensures write { IfOk result (CanWrite V.can_write) }
     ensures cause { IsStoppedByRead (S.faults source.old) (S.faults source.new) result }
     ensures steady { S.is_steady source.old → OnlyMemoryStops result (S.is_steady source.new) }

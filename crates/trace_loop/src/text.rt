@@ -1,5 +1,6 @@
 //! The whole text of a trace, from the source's bytes to the sink's.
-ghost use Rattle.std.specs.Prelude.{◌≡◌, ◌≤◌, Err, List, ℕ, ◌+◌, IfOk, OnOk, length, []};
+ghost use Rattle.ram_io.specs.{Rose};
+ghost use Rattle.std.specs.Prelude.{◌≡◌, ◌≤◌, ◌⊎◌, Err, List, ℕ, ◌+◌, IfOk, OnOk, length, []};
 ghost use Rattle.std.specs.Io.KnownBytes.{Appends};
 ghost use Rattle.line_io.specs.Passes.{Passes};
 ghost use Rattle.trace_loop.specs.declared.stop.Stop.TheVariants.{Read, Write};
@@ -26,6 +27,7 @@ fn close<K: Sink>(
     ensures all { OnOk result (Passes (K.held sink.old) (K.held sink.new) gather.old []) }
     ensures untouched { ended ≡ Err Write → sink.new ≡ sink.old }
     ensures prefix { (rest : List ℕ) × Passes (K.held sink.old) (K.held sink.new) gather.old rest }
+    ensures read { ended ≡ Err Read → Passes (K.held sink.old) (K.held sink.new) gather.old [] ⊎ Rose (K.faults sink.old) (K.faults sink.new) }
     ensures steady { (room : ℕ) → OnlyMemoryStops ended (K.is_steady sink.old (length gather.old + room)) → OnlyMemoryStops result (Unit {0}) }
 {
     match ended {
@@ -43,7 +45,8 @@ fn close<K: Sink>(
 
 /// Writes the text of the trace that the source has left, as this server gives it.
 ///
-/// Its first line goes to the sink before the first byte is taken.
+/// Its first line goes to the sink before the first byte is taken. Where the source fails, the sink gets
+/// all of the text of the lines that were read, unless it fails too.
 pub fn write_text<V: TraceServer, S: Source, K: Sink>(
     alloc: Global,
     server: &mut V,
@@ -58,7 +61,7 @@ pub fn write_text<V: TraceServer, S: Source, K: Sink>(
         (λ xs. (status ≡ (served_text V.serving xs).status) × Appends (K.held sink.old) (K.held sink.new) (served_text V.serving xs).text)) }
     ensures front { IfTold (S.left source.old)
         (λ xs. (rest : List ℕ) × Passes (K.held sink.old) (K.held sink.new) (served_text V.serving xs).text rest) }
-    ensures read { result ≡ Err Read → IfBothTold (S.left source.old) (S.left source.new) (HasReadText V.serving (K.held sink.old) (K.held sink.new)) }
+    ensures read { result ≡ Err Read → IfBothTold (S.left source.old) (S.left source.new) (HasReadText V.serving (K.held sink.old) (K.held sink.new)) ⊎ Rose (K.faults sink.old) (K.faults sink.new) }
     ensures cause { IsStopped (S.faults source.old) (S.faults source.new) (K.faults sink.old) (K.faults sink.new) result }
     ensures steady { S.is_steady source.old → IfTold (S.left source.old)
         (λ xs. K.is_steady sink.old (length (served_text V.serving xs).text) → OnlyMemoryStops result (Unit {0})) }

@@ -1,5 +1,6 @@
 //! Text on its way to the sink.
-ghost use Rattle.std.specs.Prelude.{◌≡◌, ℕ, ◌+◌, ◌++◌, IfOk, IfErr, OnOk, List, [], length};
+ghost use Rattle.std.specs.Prelude.{◌≡◌, ℕ, ◌+◌, ◌++◌, IfOk, IfErr, OnOk, OnErr, List, [], length};
+ghost use Rattle.ram_io.specs.{Rose};
 ghost use Rattle.line_io.specs.Passes.{Passes};
 ghost use Rattle.trace_loop.specs.{last_line, written, CanWrite, IsStoppedByWrite, OnlyMemoryStops, StopsIn};
 
@@ -48,6 +49,7 @@ pub fn flush<K: Sink>(gather: &mut Gather, sink: &mut K) -> Result<(), Stop>
     ensures all { OnOk result (Passes (K.held sink.old) (K.held sink.new) gather.old []) }
     ensures empty { OnOk result (gather.new ≡ []) }
     ensures prefix { (rest : List ℕ) × Passes (K.held sink.old) (K.held sink.new) gather.old rest }
+    ensures fault { OnErr result (Rose (K.faults sink.old) (K.faults sink.new)) }
     ensures cause { IsStoppedByWrite (K.faults sink.old) (K.faults sink.new) result }
     ensures steady { (room : ℕ) → K.is_steady sink.old (length gather.old + room)
         → OnlyMemoryStops result (K.is_steady sink.new room) }

@@ -2,7 +2,7 @@ pub mod Text
 pub mod Stages
 pub mod Lines
 pub mod Served
-unfoldable pub use Rattle.trace_serving.specs.Text.{ended, done, refused, too_long, opening, brought, counted, with_opened, eventless, after_line, after_judging, turn, after_text, after_turn, text_from, served_text, stage_after, stage_from, last_stage, text_after, lines_text, read_text}
+unfoldable pub use Rattle.trace_serving.specs.Text.{ended, done, refused, too_long, opening, brought, counted, with_opened, eventless, after_line, after_judging, turn, after_text, after_turn, text_from, served_text, stage_after, stage_from, last_stage, text_after, lines_text}
 pub use Rattle.trace_serving.specs.Text.{Serving, Stage, Outcome, Turn, goes_on, ends}
 unfoldable pub use Rattle.trace_serving.specs.Stages.{claim_of, AreLawful, Stand, opened_all, new_state, opened_by, after_brought, StagesAreKept}
 pub use Rattle.trace_serving.specs.Stages.{IsHead, StandUnder, IsIdle, IsStage, KeepsStage}

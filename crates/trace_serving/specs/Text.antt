@@ -6,7 +6,7 @@ use Rattle.rams_model.specs.declared.status.Status.{Status}
 use Rattle.rams_model.specs.declared.fault.LineFault.TheVariants as fault
 use Rattle.rams_model.specs.declared.status.Status.TheVariants.{Done, BadTrace, TooLong}
 use Rattle.rams_model.specs.Service.{Settings, settings}
-use Rattle.rams_model.specs.Texts.{lines_of, lines_read, TraceLine, head_line, channel_line, end_line, Reached, nothing_reached, tick_of, judged, spaced, refused_line}
+use Rattle.rams_model.specs.Texts.{lines_of, TraceLine, head_line, channel_line, end_line, Reached, nothing_reached, tick_of, judged, spaced, refused_line}
 
 -- What serves a trace: a state that its lines change, and what they bring.
 pub record Serving (State Event : Type 0) : Type 0 where
@@ -144,7 +144,3 @@ module _ {State Event : Type 0} (s : Serving State Event) where
   unfoldable pub lines_text : Stage State → ℕ → List (List ℕ) → List ℕ
   lines_text stage number [] = []
   lines_text stage number (bytes ∷ lines) = text_after (turn stage number bytes) (λ later. lines_text later (number + 1) lines)
-
-  -- the text of the lines that were read, where these bytes of a trace were taken and those are left
-  abbrev pub read_text : List ℕ → List ℕ → List ℕ
-  read_text taken left = s.first_line ++ lines_text opening 1 (lines_read taken left)

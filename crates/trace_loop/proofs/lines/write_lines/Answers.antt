@@ -38,7 +38,8 @@ returns-in_err-turn-clause-read g c = λ e.
     let p = err_from_is_err_and c.from_residual-in_err-turn.result c.from_residual-in_err-turn.ensures.1 in
     let read : p.0 ≡ Read = cc in
     let same = c.in_err-turn.ensures.same (ap Err (sym p.2 ∙ read)) in
-    running_reads g.V.TraceServer.serving _ _ _ _ _ _ _ _ _ (g.S.Source.left c.args.source.now) leaves c.loop-number.number c.next_turn.new.reader.kept (g.S.Source.left c.next_turn.new.source) c.loop-number.invariant.0 same
+    running_reads g.V.TraceServer.serving _ _ _ _ _ _ _ _ _ (g.S.Source.left c.args.source.now) leaves c.loop-number.number c.next_turn.new.reader.kept (g.S.Source.left c.next_turn.new.source) c.loop-number.invariant.0
+    (c.in_err-turn.ensures.unread (ap Err (sym p.2 ∙ read))) same
 
 pub returns-in_err-write_turn-clause-read : goal.returns-in_err-write_turn-clause-read
 returns-in_err-write_turn-clause-read g c = λ e.

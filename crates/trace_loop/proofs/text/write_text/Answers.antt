@@ -4,7 +4,7 @@ use Rattle.line_io.specs.Passes.{Passes}
 use Rattle.rams_model.specs.declared.status.Status.{Status}
 use Rattle.trace_loop.specs.declared.stop.Stop.{Stop}
 use Rattle.trace_loop.specs.{OnlyMemoryStops, StopsIn}
-use Rattle.trace_loop.proofs.Reading.{not_by_source, ended_by_source, lines_then_all}
+use Rattle.trace_loop.proofs.Reading.{not_by_source, ended_by_source, either, rose_since, lines_then_all}
 use Rattle.trace_loop.proofs.Running.{outcome, told_gives}
 use Rattle.trace_loop.proofs.Whole.{told_all, none_of, stops_in_front, part_of_first, part_of_front, first_goes, has_whole_text, has_front, room_of}
 use Rattle.trace_loop.proofs.text.write_text.Goals as goal
@@ -82,9 +82,15 @@ returns-clause-read g c = λ e.
     let a = g.K.Sink.held c.args.sink.now in
     let b = g.K.Sink.held c.flush.new.sink in
     let first = first_goes g.V.TraceServer.serving a (g.K.Sink.held c.put.new.sink) b c.in_ok-writer.writer.gather c.put.new.gather [] c.in_ok-writer.ensures (subst (λ (l : List ℕ). Passes a (g.K.Sink.held c.put.new.sink) (c.in_ok-writer.writer.gather ++ l) c.put.new.gather) c.requires.first c.in_ok-put.ensures.all) c.in_ok-flush.ensures.all in
-    let lines = c.write_lines-ended.ensures.read (ended_by_source _ _ c.write_lines-ended.result c.close.result c.close.ensures.ends e) in
-    lines_then_all g.V.TraceServer.serving a b (g.K.Sink.held c.write_lines-ended.new.sink) (g.K.Sink.held c.close.new.sink) c.flush.new.gather c.write_lines-ended.new.writer.gather c.close.ensures.prefix.0
-    (g.S.Source.left c.args.source.now) (g.S.Source.left c.write_lines-ended.new.source) c.in_ok-flush.ensures.empty first lines c.close.ensures.prefix.1
+    let was = ended_by_source _ _ c.write_lines-ended.result c.close.result c.close.ensures.ends e in
+    let lines = c.write_lines-ended.ensures.read was in
+    let before = c.put.ensures.cause.later in
+    let then = c.flush.ensures.cause.later in
+    let later = c.write_lines-ended.ensures.cause.write_later in
+    either (c.close.ensures.read was)
+    (λ all. lines_then_all g.V.TraceServer.serving a b (g.K.Sink.held c.write_lines-ended.new.sink) (g.K.Sink.held c.close.new.sink) c.flush.new.gather c.write_lines-ended.new.writer.gather
+    (g.S.Source.left c.args.source.now) (g.S.Source.left c.write_lines-ended.new.source) c.in_ok-flush.ensures.empty first lines all)
+    (rose_since (g.K.Sink.faults c.args.sink.now) (g.K.Sink.faults c.write_lines-ended.new.sink) (g.K.Sink.faults c.close.new.sink) (omega arith))
 
 pub returns-clause-steady : goal.returns-clause-steady
 returns-clause-steady g c = λ calm.

@@ -2,7 +2,7 @@ use Rattle.std.proofs.Common.{◌≡◌, ℕ, ◌+◌, ◌-◌, List, take, drop
 use Rattle.std.proofs.lemmas.List.{with_items_is, places}
 use Rattle.line_io.specs.{Reading}
 use Rattle.line_io.proofs.Windows.{slice_range-front, slice_range-grown}
-use Rattle.line_io.proofs.NextLines.{Keeps-taken, Keeps-kept}
+use Rattle.line_io.proofs.NextLines.{Keeps-taken, Keeps-kept, on_failure}
 use Rattle.line_io.proofs.reader.LineReader.refill.Goals as goal
 
 pub returns-in_err-taken-clause-whole : goal.returns-in_err-taken-clause-whole
@@ -15,6 +15,17 @@ returns-in_err-taken-clause-whole g c =
     let written = with_items_is r.bytes filled (search (rules, places)) in
     let is : c.args.self.now.kept ≡ slice_range moved from at = ap (λ (v : Reading). v.kept) (sym c.self.view_is) ∙ ap (λ (t : List ℕ). slice_range t r.from r.to) (sym c.as_mut_slice-bytes.ensures.value) ∙ sym c.make_room-self-inside.ensures.same in
     Keeps-kept _ _ _ _ (ap (λ (t : List ℕ). slice_range t from at) written ∙ slice_range-front moved filled from at c.take_into.ensures.front ∙ sym is) c.in_err-taken.ensures.same
+
+pub returns-in_err-taken-clause-unread : goal.returns-in_err-taken-clause-unread
+returns-in_err-taken-clause-unread g c =
+    let r = c.self.inside in
+    let moved = c.make_room-self-inside.new.bytes in
+    let filled = c.take_into.new.bytes in
+    let from = c.make_room-self-inside.result in
+    let at = from + (r.to - r.from) in
+    let written = with_items_is r.bytes filled (search (rules, places)) in
+    let is : c.args.self.now.kept ≡ slice_range moved from at = ap (λ (v : Reading). v.kept) (sym c.self.view_is) ∙ ap (λ (t : List ℕ). slice_range t r.from r.to) (sym c.as_mut_slice-bytes.ensures.value) ∙ sym c.make_room-self-inside.ensures.same in
+    on_failure c.from_residual.result _ (ap (λ (t : List ℕ). slice_range t from at) written ∙ slice_range-front moved filled from at c.take_into.ensures.front ∙ sym is)
 
 pub returns-clause-grown : goal.returns-clause-grown
 returns-clause-grown g c =
