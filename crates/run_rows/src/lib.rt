@@ -1,4 +1,4 @@
-//! Traces of the command `run` and their books, worked out by hand, as tables.
+//! Traces of the commands `run` and `meet` and their books, worked out by hand, as tables.
 //!
 //! `row` says what a row is, and runs it. Each of the other modules has the rows of one subject:
 //! tables of data, and where a trace is long the few functions that write it out.
@@ -32,3 +32,5 @@ mod stops;
 mod summaries;
 #[cfg(test)]
 mod words;
+#[cfg(test)]
+mod worlds;

@@ -14,6 +14,24 @@ channel 7 ssrc 11223344 pt 33 rtx 99 server aabbccdd seq0 500 ring 64 window 0 a
 /// The first line of a book.
 pub const BOOK: &str = "rams-book 1\n";
 
+/// A command that reads a trace.
+#[derive(Clone, Copy)]
+pub struct Command {
+    pub word: &'static str,
+    /// The first line that it writes.
+    pub first: &'static str,
+}
+
+pub const RUN: Command = Command {
+    word: "run",
+    first: BOOK,
+};
+
+pub const MEET: Command = Command {
+    word: "meet",
+    first: "rams-world 1\n",
+};
+
 /// Packet 10 of the source, with the marker, timestamp 0 and four bytes of payload. Its number is
 /// 65,546, and its retransmission has 46 bytes on the wire.
 pub const ACCESS_POINT: &str = "live 7 80a1000a000000001122334400000000";
@@ -87,8 +105,14 @@ pub fn trace_of(alloc: Global, row: &Row) -> Result<String, AllocError> {
 
 /// The text of a row's book, as far as the row speaks of it.
 pub fn book_of(alloc: Global, row: &Row) -> Result<String, AllocError> {
+    book_by(alloc, RUN, row)
+}
+
+/// The same of this command.
+fn book_by(alloc: Global, command: Command, row: &Row) -> Result<String, AllocError> {
     let lines = text_of(alloc, row.book)?;
-    spelled(alloc, &format!(in alloc; "{BOOK}{lines}")?)
+    let first = command.first;
+    spelled(alloc, &format!(in alloc; "{first}{lines}")?)
 }
 
 /// How many bytes a call moves at most, and which calls fail.
@@ -112,13 +136,25 @@ pub fn ran(
     takes: Calls<'_>,
     puts: Calls<'_>,
 ) -> Result<(Status, MemSink), Fail> {
+    ran_by(rt, alloc, RUN, trace, takes, puts)
+}
+
+/// The same of this command.
+pub fn ran_by(
+    rt: &impl Abort,
+    alloc: Global,
+    command: Command,
+    trace: &[u8],
+    takes: Calls<'_>,
+    puts: Calls<'_>,
+) -> Result<(Status, MemSink), Fail> {
     let fails = takes.fails.to_vec(alloc)?;
     let mut source = MemSource::new(trace.to_vec(alloc)?, takes.most.max(1), fails);
     let fails = puts.fails.to_vec(alloc)?;
     let sink = MemSink::new(alloc, 10_000_000, puts.most.max(1), fails);
     let mut sink = sink.ok().ok_or("memory")?;
     let mut words = Vec::new(alloc);
-    words.push(Octets::of(b"run".to_vec(alloc)?))?;
+    words.push(Octets::of(command.word.as_bytes().to_vec(alloc)?))?;
     assert!(rt; begins_with_plain(&words));
     let status = plain(alloc, &words, &mut source, &mut sink);
     Ok((status, sink))
@@ -159,7 +195,19 @@ pub fn check(
     trace: &str,
     book: &str,
 ) -> Result<(), Fail> {
-    let (status, sink) = ran(rt, alloc, trace.as_bytes(), WHOLE, WHOLE)?;
+    check_by(rt, alloc, RUN, name, trace, book)
+}
+
+/// The same of this command.
+pub fn check_by(
+    rt: &impl Abort,
+    alloc: Global,
+    command: Command,
+    name: &str,
+    trace: &str,
+    book: &str,
+) -> Result<(), Fail> {
+    let (status, sink) = ran_by(rt, alloc, command, trace.as_bytes(), WHOLE, WHOLE)?;
     compare(rt, name, str::from_utf8(sink.held())?, book);
     assert_eq!(rt; status, status_of(book), "{name}");
     Ok(())
@@ -167,10 +215,20 @@ pub fn check(
 
 /// Each row's trace has its book.
 pub fn check_rows(rt: &impl Abort, alloc: Global, rows: &[Row]) -> Result<(), Fail> {
+    check_rows_by(rt, alloc, RUN, rows)
+}
+
+/// The same of this command.
+pub fn check_rows_by(
+    rt: &impl Abort,
+    alloc: Global,
+    command: Command,
+    rows: &[Row],
+) -> Result<(), Fail> {
     for row in rows {
         let trace = trace_of(alloc, row)?;
-        let book = book_of(alloc, row)?;
-        check(rt, alloc, row.name, &trace, &book)?;
+        let book = book_by(alloc, command, row)?;
+        check_by(rt, alloc, command, row.name, &trace, &book)?;
     }
     Ok(())
 }

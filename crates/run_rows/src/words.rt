@@ -42,10 +42,11 @@ fn words_of_no_form(rt: HostRuntime) -> Result<(), Fail> {
     let sink = MemSink::new(alloc, 100_000, 100_000, Vec::new(alloc));
     let mut sink = sink.ok().ok_or("memory")?;
     let mut source = MemSource::new(trace, 4_096, Vec::new(alloc));
-    let cases: [(&[&str], Status, usize); 6] = [
+    let cases: [(&[&str], Status, usize); 7] = [
         (&[], Status::Words, 0),
         (&["run", "x"], Status::Words, 0),
         (&["run", "run"], Status::Words, 0),
+        (&["meet", "run"], Status::Words, 0),
         (&["RUN"], Status::Words, 0),
         (&[""], Status::Words, 0),
         (&["run"], Status::Done, whole),

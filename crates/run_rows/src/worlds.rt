@@ -1,0 +1,301 @@
+//! Worlds of set-tops: traces of the command `meet` and their books.
+use crate::row::{ACCESS_POINT, Calls, MEET, OPENING, Row, WHOLE, check_by, check_rows_by, ran_by};
+use rams_replay::Status;
+use std::alloc::{AllocError, Global};
+use std::fmt::Write;
+use std::test::Fail;
+
+/// Packets 10 to 15 of the source; client 5 is tuned, and its request comes to the server. The request
+/// is datagram 0, the RAMS-I datagram 1.
+const TUNED: &str = "live 7 80a1000a000000001122334400000000
+live 7 8021000b000000001122334400000000
+live 7 8021000c000000001122334400000000
+live 7 8021000d000000001122334400000000
+live 7 8021000e000000001122334400000000
+live 7 8021000f000000001122334400000000
+tune 7 5 0000c001
+give 0";
+
+/// What is said of these.
+const TUNED_BOOK: &str = "1 7 took 65546
+2 7 took 65547
+3 7 took 65548
+4 7 took 65549
+5 7 took 65550
+6 7 took 65551
+7 7 post 5 80c900010000c00181ca00030000c001010373746200000086cd00040000c001112233440100000001000000
+8 7 accept 5 first 65546 rate 4000 join 1";
+
+/// The RAMS-I, and the burst, datagrams 2 to 7, as events 9 and 10.
+const BURST_BOOK: &str = "9 7 info 5 taken
+10 7 burst 5 65546 500
+10 7 burst 5 65547 501
+10 7 burst 5 65548 502
+10 7 burst 5 65549 503
+10 7 burst 5 65550 504
+10 7 burst 5 65551 505";
+
+/// A set-top loses the third and the fourth packet of its burst, joins, asks for them and leaves.
+const HANDOVER: Row = Row {
+    name: "handover",
+    changes: &[],
+    lines: &[
+        TUNED,
+        "give 1\ntick\ngive 2\ngive 3\ngive 6\ngive 7\ngive 3",
+        "live 7 80210010000000001122334400000000",
+        "live 7 80210011000000001122334400000000",
+        "live 7 80210012000000001122334400000000",
+        "mcast 7 5 65552\nmcast 7 5 65553\nmcast 7 5 65554\ngive 8\ngive 9",
+        "ask 7 5\ngive 10\ntick\ngive 11\ngive 12",
+        "drop 7 5\nmcast 7 5 65546\nend",
+    ],
+    book: &[
+        TUNED_BOOK,
+        BURST_BOOK,
+        "11 7 came 5 took",
+        "11 7 show 5 65546 80a1000a000000001122334400000000",
+        "12 7 came 5 took",
+        "12 7 show 5 65547 8021000b000000001122334400000000",
+        "13 7 came 5 took\n14 7 came 5 took\n15 7 came 5 behind",
+        "16 7 took 65552\n17 7 took 65553\n18 7 took 65554",
+        "19 7 came 5 took",
+        "19 7 post 5 80c900010000c00181ca00030000c001010373746200000086cd00050000c00111223344030000003d00000400010010",
+        "20 7 came 5 took\n21 7 came 5 took",
+        "22 7 stop 5 65552\n22 7 end 5 stopped",
+        "23 7 info 5 ended 201",
+        "24 7 post 5 80c900010000c00181ca00030000c001010373746200000081cd00030000c00111223344000c0001",
+        "25 7 queued 5 65548\n25 7 queued 5 65549",
+        "26 7 repair 5 65548 506\n26 7 repair 5 65549 507",
+        "27 7 came 5 took",
+        "27 7 show 5 65548 8021000c000000001122334400000000",
+        "28 7 came 5 took",
+        "28 7 show 5 65549 8021000d000000001122334400000000",
+        "28 7 show 5 65550 8021000e000000001122334400000000",
+        "28 7 show 5 65551 8021000f000000001122334400000000",
+        "28 7 show 5 65552 80210010000000001122334400000000",
+        "28 7 show 5 65553 80210011000000001122334400000000",
+        "28 7 show 5 65554 80210012000000001122334400000000",
+        "29 7 post 5 80c900010000c00181ca00030000c001010373746200000081cb00010000c001",
+        "30 7 no-receiver 5",
+        "done 30",
+    ],
+};
+
+/// Which packet a set-top plays from.
+const FIRSTS: [Row; 2] = [
+    Row {
+        name: "no burst without its RAMS-I",
+        changes: &[],
+        lines: &[TUNED, "tick\ngive 2\nend"],
+        book: &[
+            TUNED_BOOK,
+            "9 7 burst 5 65546 500\n9 7 burst 5 65547 501\n9 7 burst 5 65548 502",
+            "9 7 burst 5 65549 503\n9 7 burst 5 65550 504\n9 7 burst 5 65551 505",
+            "10 7 came 5 before-first",
+            "done 10",
+        ],
+    },
+    Row {
+        name: "the third packet tells the first number, one by multicast doesn't",
+        changes: &[],
+        lines: &[
+            TUNED,
+            "give 1\ntick\nmcast 7 5 65546\ngive 4\ngive 2\ngive 3\nend",
+        ],
+        book: &[
+            TUNED_BOOK,
+            BURST_BOOK,
+            "11 7 came 5 before-first",
+            "12 7 came 5 took",
+            "13 7 came 5 took",
+            "13 7 show 5 65546 80a1000a000000001122334400000000",
+            "14 7 came 5 took",
+            "14 7 show 5 65547 8021000b000000001122334400000000",
+            "14 7 show 5 65548 8021000c000000001122334400000000",
+            "done 14",
+        ],
+    },
+];
+
+/// What isn't delivered, each for the first reason that is true.
+const REFUSALS: [Row; 4] = [
+    Row {
+        name: "no datagram",
+        changes: &[],
+        lines: &["give 99", "end"],
+        book: &["1 no-datagram 99", "done 1"],
+    },
+    Row {
+        name: "a client is tuned once",
+        changes: &[],
+        lines: &[TUNED, "tune 7 5 0000c002\nend"],
+        book: &[TUNED_BOOK, "9 7 tuned-before 5", "done 9"],
+    },
+    Row {
+        name: "neither channel nor receiver nor packet",
+        changes: &[],
+        lines: &[
+            "tune 8 5 0000c001\nmcast 8 5 1\nask 8 5\ndrop 8 5",
+            "mcast 7 5 1\nask 7 5\ndrop 7 5",
+            "tune 7 5 0000c001\nmcast 7 5 65546\nend",
+        ],
+        book: &[
+            "1 8 no-channel\n2 8 no-channel\n3 8 no-channel\n4 8 no-channel",
+            "5 7 no-receiver 5\n6 7 no-receiver 5\n7 7 no-receiver 5",
+            "8 7 post 5 80c900010000c00181ca00030000c001010373746200000086cd00040000c001112233440100000001000000",
+            "9 7 no-packet 65546",
+            "done 9",
+        ],
+    },
+    Row {
+        name: "a new start is too far away",
+        changes: &[],
+        lines: &[
+            TUNED,
+            "give 1\ntick\ngive 2",
+            "live 7 8021ea6a000000001122334400000000",
+            "live 7 8021ea6b000000001122334400000000",
+            "mcast 7 5 125547\nend",
+        ],
+        book: &[
+            TUNED_BOOK,
+            BURST_BOOK,
+            "11 7 came 5 took",
+            "11 7 show 5 65546 80a1000a000000001122334400000000",
+            "12 7 jump\n13 7 restart 125547\n14 7 too-far 5",
+            "done 14",
+        ],
+    },
+];
+
+/// Lines that are refused.
+const REFUSED: [Row; 3] = [
+    Row {
+        name: "form",
+        changes: &[],
+        lines: &["tune 7 5 c001", "end"],
+        book: &["refused 3 form"],
+    },
+    Row {
+        name: "range",
+        changes: &[],
+        lines: &["tune 7 5 0000c001", "mcast 0 5 1", "end"],
+        book: &[
+            "1 7 post 5 80c900010000c00181ca00030000c001010373746200000086cd00040000c001112233440100000001000000",
+            "refused 4 range",
+        ],
+    },
+    Row {
+        name: "order",
+        changes: &[],
+        lines: &["give 0"],
+        book: &["1 no-datagram 0", "refused 4 order"],
+    },
+];
+
+/// A packet of number next + 16,384 is beyond what a set-top keeps; the one below it isn't.
+fn far_ahead(alloc: Global) -> Result<(String, String), AllocError> {
+    let mut trace = format!(in alloc; "{OPENING}{ACCESS_POINT}\n")?;
+    trace.push_str("tune 7 5 0000c001\ngive 0\ngive 1\ntick\ngive 2\n")?;
+    let mut book = String::from_str(alloc, MEET.first)?;
+    book.push_str(
+        "1 7 took 65546\n2 7 post 5 80c900010000c00181ca00030000c001010373746200000086cd00040000c001112233440100000001000000\n",
+    )?;
+    book.push_str(
+        "3 7 accept 5 first 65546 rate 4000 join 1\n4 7 info 5 taken\n5 7 burst 5 65546 500\n",
+    )?;
+    book.push_str("6 7 came 5 took\n6 7 show 5 65546 80a1000a000000001122334400000000\n")?;
+    for place in 1..16_386_u32 {
+        let sequence = place + 10;
+        let (event, number) = (place + 6, place + 65_546);
+        writeln!(trace, "live 7 8021{sequence:04x}000000001122334400000000")?;
+        writeln!(book, "{event} 7 took {number}")?;
+    }
+    trace.push_str("mcast 7 5 81931\nmcast 7 5 81930\nend\n")?;
+    book.push_str("16392 7 came 5 beyond\n16393 7 came 5 took\n")?;
+    book.push_str(
+        "16393 7 post 5 80c900010000c00181ca00030000c001010373746200000086cd00050000c00111223344030000003d0000040001400a\n",
+    )?;
+    book.push_str("done 16393\n")?;
+    Ok((trace, book))
+}
+
+/// A trace of so many events, of a channel that isn't there.
+fn events(alloc: Global, count: u32, end: &str) -> Result<(String, String), AllocError> {
+    let mut trace = String::from_str(alloc, OPENING)?;
+    let mut book = String::from_str(alloc, MEET.first)?;
+    for event in 1..count.saturating_add(1) {
+        trace.push_str("ask 8 5\n")?;
+        if event <= 100_000 {
+            writeln!(book, "{event} 8 no-channel")?;
+        }
+    }
+    trace.push_str("end\n")?;
+    book.push_str(end)?;
+    Ok((trace, book))
+}
+
+/// The rows of set-tops.
+#[test]
+fn worlds(rt: HostRuntime) -> Result<(), Fail> {
+    let alloc = rt.alloc();
+    check_rows_by(&rt, alloc, MEET, &[HANDOVER])?;
+    check_rows_by(&rt, alloc, MEET, &FIRSTS)?;
+    check_rows_by(&rt, alloc, MEET, &REFUSALS)?;
+    check_rows_by(&rt, alloc, MEET, &REFUSED)?;
+    let (trace, book) = far_ahead(alloc)?;
+    check_by(&rt, alloc, MEET, "beyond", &trace, &book)?;
+    Ok(())
+}
+
+/// 100,000 events are served, and none after them.
+#[test]
+fn most_events_of_a_world(rt: HostRuntime) -> Result<(), Fail> {
+    let alloc = rt.alloc();
+    for (count, end, status) in [
+        (100_000, "done 100000\n", Status::Done),
+        (100_001, "too-long\n", Status::TooLong),
+    ] {
+        let (trace, book) = events(alloc, count, end)?;
+        let (got, sink) = ran_by(&rt, alloc, MEET, trace.as_bytes(), WHOLE, WHOLE)?;
+        assert_eq!(rt; got, status);
+        assert!(rt; sink.held() == book.as_bytes(), "{count} events");
+    }
+    Ok(())
+}
+
+/// A source that fails leaves a front of the book of the lines that were read, a sink that fails a front
+/// of the book.
+#[test]
+fn worlds_are_cut_off(rt: HostRuntime) -> Result<(), Fail> {
+    let alloc = rt.alloc();
+    let trace = format!(in alloc; "{OPENING}give 99\ngive 98\nend\n")?;
+    let book = "rams-world 1\n1 no-datagram 99\n2 no-datagram 98\ndone 2\n";
+    let head = OPENING.len();
+    for call in 0..trace.len() {
+        let fails = [call as u64];
+        let takes = Calls {
+            most: 1,
+            fails: &fails,
+        };
+        let (status, sink) = ran_by(&rt, alloc, MEET, trace.as_bytes(), takes, WHOLE)?;
+        assert_eq!(rt; status, Status::ReadFault, "{call}");
+        assert!(rt; book.as_bytes().starts_with(sink.held()), "{call}");
+        assert!(rt;
+            head <= call || sink.held().len() <= MEET.first.len(),
+            "{call}"
+        );
+    }
+    for call in 0..book.len() {
+        let fails = [call as u64];
+        let puts = Calls {
+            most: 1,
+            fails: &fails,
+        };
+        let (status, sink) = ran_by(&rt, alloc, MEET, trace.as_bytes(), WHOLE, puts)?;
+        assert_eq!(rt; status, Status::WriteFault, "{call}");
+        assert!(rt; book.as_bytes().starts_with(sink.held()), "{call}");
+        assert_eq!(rt; sink.held().len(), call);
+    }
+    Ok(())
+}
