@@ -1,15 +1,17 @@
 -- What one change of the index and of the slots makes of the joined list.
 use Rattle.std.proofs.Common.{◌≡◌, ◌≢◌, ℕ, Bool, true, false, cond, List, [], ◌∷◌, Option, Some, None, IsSome, unwrap_or, slice_set, zero, suc, refl, ap, sym, ◌∙◌, subst}
+use Rattle.std.specs.Option.{option_map}
 use Rattle.std.specs.Map.{lookup, set_value, remove_entry}
 use Rattle.std.specs.BTreeMap.{insert_entry, is_at}
 use Rattle.std.specs.Ordering.{nat_cmp, match_ordering}
 use Rattle.std.specs.declared.cmp.Ordering.{Ordering}
 use Rattle.std.specs.declared.cmp.Ordering.TheVariants.{Less, Equal, Greater}
 use Rattle.client_table.specs.declared.entry.Entry.{Entry}
-use Rattle.client_table.specs.{entry_at, before, joined, IsFree, AreJoined}
+use Rattle.client_table.specs.declared.stored.Stored.{Stored}
+use Rattle.client_table.specs.{shown, slot_at, entry_at, before, joined, IsFree, AreJoined}
 
 -- all keys but one have what they had
-abbrev pub SameElsewhere : (ℕ → Option Entry) → (ℕ → Option Entry) → ℕ → Type 0
+abbrev pub SameElsewhere : {X : Type 0} → (ℕ → Option X) → (ℕ → Option X) → ℕ → Type 0
 SameElsewhere at now key = (k : ℕ) → k ≢ key → now k ≡ at k
 
 module _ (at now : ℕ → Option Entry) (key : ℕ) (elsewhere : SameElsewhere at now key) where
@@ -23,7 +25,7 @@ module _ (at now : ℕ → Option Entry) (key : ℕ) (elsewhere : SameElsewhere 
   are_joined_same (e ∷ es) free is = (subst (λ (slot : Option Entry). IsSome slot) (sym (elsewhere e.1 free.0)) is.0, (is.1.0, are_joined_same es free.1 is.1.1))
 
 -- a slot isn't both
-none_and_some : (slot : Option Entry) → slot ≡ None → IsSome slot → ⊥
+pub none_and_some : (slot : Option Entry) → slot ≡ None → IsSome slot → ⊥
 none_and_some None none some = cc
 none_and_some (Some entry) none some = cc
 
@@ -38,7 +40,7 @@ module _ (test : ℕ → Bool) (key : ℕ) where
   other_step true k e es free found later = λ same. free.0 (ap (λ (o : Option ℕ). unwrap_or o 0) found ∙ sym same)
   other_step false k e es free found later = later found
 
-  other_key : (k : ℕ) (es : List (ℕ × ℕ)) → IsFree k es → lookup test es ≡ Some key → k ≢ key
+  pub other_key : (k : ℕ) (es : List (ℕ × ℕ)) → IsFree k es → lookup test es ≡ Some key → k ≢ key
   other_key k [] free found = cc
   other_key k (e ∷ es) free found = other_step (test e.0) k e es free found (other_key k es free.1)
 
@@ -166,14 +168,57 @@ found_some at test key [] is found = cc
 found_some at test key (e ∷ es) is found = found_step (test e.0) at test key e es is.0 found (found_some at test key es is.1.1)
 
 -- a slot that is written has what was written, and no other changes
-pub written_here : (slots : List (Option Entry)) (key : ℕ) (entry : Entry) → IsSome (entry_at slots key) → entry_at (slice_set slots key (Some entry)) key ≡ Some entry
-written_here [] key entry some = cc
-written_here (slot ∷ slots) zero entry some = refl
-written_here (slot ∷ slots) (suc key) entry some = written_here slots key entry some
+pub written_here : (slots : List (Option Stored)) (key : ℕ) (stored : Stored) → IsSome (slot_at slots key) → slot_at (slice_set slots key (Some stored)) key ≡ Some stored
+written_here [] key stored some = cc
+written_here (slot ∷ slots) zero stored some = refl
+written_here (slot ∷ slots) (suc key) stored some = written_here slots key stored some
 
-pub written_elsewhere : (slots : List (Option Entry)) (key : ℕ) (entry : Entry) → SameElsewhere (entry_at slots) (entry_at (slice_set slots key (Some entry))) key
-written_elsewhere [] key entry k other = refl
-written_elsewhere (slot ∷ slots) zero entry zero other = absurd (other refl)
-written_elsewhere (slot ∷ slots) zero entry (suc k) other = refl
-written_elsewhere (slot ∷ slots) (suc key) entry zero other = refl
-written_elsewhere (slot ∷ slots) (suc key) entry (suc k) other = written_elsewhere slots key entry k (λ same. other (ap (λ (n : ℕ). suc n) same))
+pub written_elsewhere : (slots : List (Option Stored)) (key : ℕ) (stored : Stored) → SameElsewhere (slot_at slots) (slot_at (slice_set slots key (Some stored))) key
+written_elsewhere [] key stored k other = refl
+written_elsewhere (slot ∷ slots) zero stored zero other = absurd (other refl)
+written_elsewhere (slot ∷ slots) zero stored (suc k) other = refl
+written_elsewhere (slot ∷ slots) (suc key) stored zero other = refl
+written_elsewhere (slot ∷ slots) (suc key) stored (suc k) other = written_elsewhere slots key stored k (λ same. other (ap (λ (n : ℕ). suc n) same))
+
+-- so it is with the entries that the slots show
+pub shown_elsewhere : (tick key : ℕ) (slots now : List (Option Stored)) → SameElsewhere (slot_at slots) (slot_at now) key → SameElsewhere (entry_at tick slots) (entry_at tick now) key
+shown_elsewhere tick key slots now elsewhere k other = ap (option_map (shown tick)) (elsewhere k other)
+
+pub shown_some : (tick key : ℕ) (slots : List (Option Stored)) → IsSome (entry_at tick slots key) → IsSome (slot_at slots key)
+shown_some tick key slots some = some_by (slot_at slots key) some
+  where
+    some_by : (o : Option Stored) → IsSome (option_map (shown tick) o) → IsSome o
+    some_by None some = absurd (let none : ⊥ = cc in none)
+    some_by (Some x) some = refl
+
+-- where all slots are the same the entries are
+pub entries_same : (tick : ℕ) (slots now : List (Option Stored)) (key : ℕ) → slot_at now key ≡ slot_at slots key → entry_at tick now key ≡ entry_at tick slots key
+entries_same tick slots now key same = ap (option_map (shown tick)) same
+
+-- what came under a key, and where there is nothing
+pub came : (tick key : ℕ) (now : List (Option Stored)) (stored : Stored) (entry : Entry) → slot_at now key ≡ Some stored → shown tick stored ≡ entry → entry_at tick now key ≡ Some entry
+came tick key now stored entry is shows = ap (option_map (shown tick)) is ∙ ap (λ (e : Entry). Some e) shows
+
+pub none_shown : (tick key : ℕ) (slots : List (Option Stored)) → slot_at slots key ≡ None → entry_at tick slots key ≡ None
+none_shown tick key slots none = ap (option_map (shown tick)) none
+
+-- after one slot was written
+module _ (tick : ℕ) (slots now : List (Option Stored)) (key : ℕ) (stored : Stored) (is : now ≡ slice_set slots key (Some stored)) where
+  pub put_elsewhere : SameElsewhere (entry_at tick slots) (entry_at tick now) key
+  put_elsewhere = shown_elsewhere tick key slots now (subst (λ (l : List (Option Stored)). SameElsewhere (slot_at slots) (slot_at l) key) (sym is) (written_elsewhere slots key stored))
+
+  pub put_others : SameElsewhere (slot_at slots) (slot_at now) key
+  put_others = subst (λ (l : List (Option Stored)). SameElsewhere (slot_at slots) (slot_at l) key) (sym is) (written_elsewhere slots key stored)
+
+  pub put_here : (entry : Entry) → IsSome (entry_at tick slots key) → shown tick stored ≡ entry → entry_at tick now key ≡ Some entry
+  put_here entry some shows =
+      ap (option_map (shown tick)) (ap (λ (l : List (Option Stored)). slot_at l key) is ∙ written_here slots key stored (shown_some tick key slots some)) ∙ ap (λ (e : Entry). Some e) shows
+
+set_none_step : {X : Type 0} (b : Bool) (test : ℕ → Bool) (e : ℕ × X) (es : List (ℕ × X)) (x : X) → cond b (Some e.1) (lookup test es) ≡ None → (lookup test es ≡ None → set_value test es x ≡ es) → cond b ((e.0, x) ∷ es) (e ∷ set_value test es x) ≡ e ∷ es
+set_none_step true test e es x none later = cc
+set_none_step {X} false test e es x none later = ap (λ (ds : List (ℕ × X)). e ∷ ds) (later none)
+
+-- another entry for a client that isn't known
+pub set_none : {X : Type 0} (test : ℕ → Bool) (es : List (ℕ × X)) (x : X) → lookup test es ≡ None → set_value test es x ≡ es
+set_none test [] x none = refl
+set_none test (e ∷ es) x none = set_none_step (test e.0) test e es x none (set_none test es x)

@@ -12,11 +12,11 @@ use Rattle.std.proofs.lemmas.Bool.Decides.{nat_tests}
 use Rattle.std.proofs.lemmas.List.Elements.{All-nil, All-cons, All-weaker}
 use Rattle.std.proofs.lemmas.Map.Keys.{sorted_head, sorted_tail}
 use Rattle.client_table.specs.declared.entry.Entry.{Entry}
-use Rattle.client_table.specs.{entry_of, AreAll, IsChanged, AreChanged, entry_at, seen, AreJoined, AreReady, IsSlotChanged, AreSlotsChanged}
+use Rattle.client_table.specs.{entry_of, AreAll, IsChanged, AreChanged, seen, AreJoined, AreReady, IsSlotChanged, AreSlotsChanged}
 use Rattle.client_table.specs.Clients.{Clients}
 use Rattle.client_table.proofs.Shown.{shown_entry, shown_clients, shown_rising}
 
-same_client : (client k : ℕ) → is_at (nat_cmp client) k ≡ true → k ≡ client
+pub same_client : (client k : ℕ) → is_at (nat_cmp client) k ≡ true → k ≡ client
 same_client client k h = grind (arith, nat_tests)
 
 pub same_key : (k : ℕ) → is_at (nat_cmp k) k ≡ true
@@ -26,7 +26,7 @@ not_below : (k client : ℕ) → nat_cmp k client ≡ Less → is_at (nat_cmp cl
 not_below k client h = grind (arith, nat_tests)
 
 -- one that is found among those above a client is above it
-found_above : {X : Type 0} (k client : ℕ) (x : X) (es : List (ℕ × X)) → AllByRecursion (λ j. nat_cmp k j ≡ Less) (keys_of es) → lookup (is_at (nat_cmp client)) es ≡ Some x → nat_cmp k client ≡ Less
+pub found_above : {X : Type 0} (k client : ℕ) (x : X) (es : List (ℕ × X)) → AllByRecursion (λ j. nat_cmp k j ≡ Less) (keys_of es) → lookup (is_at (nat_cmp client)) es ≡ Some x → nat_cmp k client ≡ Less
 found_above k client x [] above found = cc
 found_above k client x (e ∷ es) above found =
     cond_both (is_at (nat_cmp client) e.0) (Some e.1) (lookup (is_at (nat_cmp client)) es) (λ o. o ≡ Some x → nat_cmp k client ≡ Less)
@@ -99,21 +99,21 @@ module _ (change : ℕ → Entry → Entry → Type 0) (at now : ℕ → Option 
       (λ f. each_changed client es changed.1)
 
 -- what the table shows
-module _ (most : ℕ) (slots : List (Option Entry)) (es : List (ℕ × ℕ)) (t : Clients) (shows : seen most slots es ≡ t) (joins : AreJoined (entry_at slots) es) where
+module _ (most : ℕ) (at : ℕ → Option Entry) (es : List (ℕ × ℕ)) (t : Clients) (shows : seen most at es ≡ t) (joins : AreJoined at es) where
   pub shown_found : IsStrictlySortedBy nat_cmp (keys_of es) → All (λ e. entry_of t e.0 ≡ Some e.1) t.known
-  shown_found rise = each_found t.known (shown_rising most slots es t shows joins rise)
+  shown_found rise = each_found t.known (shown_rising most at es t shows joins rise)
 
-  pub shown_ready : (P : ℕ → Entry → Type 0) → IsStrictlySortedBy nat_cmp (keys_of es) → AreAll P t → AreReady P (entry_at slots) es
-  shown_ready P rise all = all_ready (entry_at slots) P es joins rise (λ client d h. all client d (sym (shown_entry most slots es t shows joins client) ∙ h))
+  pub shown_ready : (P : ℕ → Entry → Type 0) → IsStrictlySortedBy nat_cmp (keys_of es) → AreAll P t → AreReady P at es
+  shown_ready P rise all = all_ready at P es joins rise (λ client d h. all client d (sym (shown_entry most at es t shows joins client) ∙ h))
 
-  pub shown_changed : (change : ℕ → Entry → Entry → Type 0) (now : List (Option Entry)) → AreSlotsChanged change (entry_at slots) (entry_at now) es → AreChanged change t (seen most now es)
+  pub shown_changed : (change : ℕ → Entry → Entry → Type 0) (now : ℕ → Option Entry) → AreSlotsChanged change at now es → AreChanged change t (seen most now es)
   shown_changed change now changed =
-      let after = still_joined change (entry_at slots) (entry_at now) es joins changed in
+      let after = still_joined change at now es joins changed in
       record {
         most = ap (λ (u : Clients). u.most) shows;
-        clients = sym (shown_clients most now es (seen most now es) refl after) ∙ shown_clients most slots es t shows joins;
+        clients = sym (shown_clients most now es (seen most now es) refl after) ∙ shown_clients most at es t shows joins;
         entries = λ client.
-            subst (λ o. IsChanged (change client) o (entry_of (seen most now es) client)) (shown_entry most slots es t shows joins client)
-            (subst (λ o. IsChanged (change client) (option_and_then (entry_at slots) (lookup (is_at (nat_cmp client)) es)) o) (shown_entry most now es (seen most now es) refl after client)
-            (each_changed change (entry_at slots) (entry_at now) client es changed));
+            subst (λ o. IsChanged (change client) o (entry_of (seen most now es) client)) (shown_entry most at es t shows joins client)
+            (subst (λ o. IsChanged (change client) (option_and_then at (lookup (is_at (nat_cmp client)) es)) o) (shown_entry most now es (seen most now es) refl after client)
+            (each_changed change at now client es changed));
       }

@@ -1,5 +1,5 @@
 -- What changes of all entries, one after another, make of the slots and of what the table shows.
-use Rattle.std.proofs.Common.{◌≡◌, ℕ, List, [], ◌∷◌, Option, Some, None, IsSome, IsSomeAnd, refl, sym, ◌∙◌, subst}
+use Rattle.std.proofs.Common.{◌≡◌, ◌≢◌, ℕ, zero, suc, drop, List, [], ◌∷◌, Option, Some, None, IsSome, IsSomeAnd, refl, sym, ◌∙◌, subst}
 use Rattle.client_table.specs.declared.entry.Entry.{Entry}
 use Rattle.client_table.specs.{IsFree, AreReady, IsSlotChanged, AreSlotsChanged}
 use Rattle.client_table.proofs.Changed.{SameElsewhere}
@@ -61,3 +61,12 @@ module _ (change : ℕ → Entry → Entry → Type 0) where
 
 pub ready_some : (at : ℕ → Option Entry) (key : ℕ) (e : Entry) → at key ≡ Some e → IsSome (at key)
 ready_some at key e is = subst (λ o. IsSome o) (sym is) refl
+
+-- a key that is no client's isn't that of those who are left
+pub free_left : (key i : ℕ) (es : List (ℕ × ℕ)) → IsFree key es → IsFree key (drop i es)
+free_left key zero es free = free
+free_left key (suc i) [] free = tt
+free_left key (suc i) (e ∷ es) free = free_left key i es free.1
+
+pub free_first : (key : ℕ) (e : ℕ × ℕ) (es left : List (ℕ × ℕ)) → es ≡ e ∷ left → IsFree key es → key ≢ e.1
+free_first key e es left split free = λ same. (subst (IsFree key) split free).0 (sym same)

@@ -2,7 +2,9 @@ pub mod Found
 pub mod Changed
 pub mod Least
 pub mod Shown
-pub mod Lent
 pub mod Walking
 pub mod Changing
 pub mod ChangedAll
+pub mod Placing
+pub mod Opened
+pub mod Bounded

@@ -1,7 +1,6 @@
 -- What the joined list has left, one client after another.
-use Rattle.std.proofs.Common.{◌≡◌, ℕ, ◌+◌, ◌≤◌, List, [], ◌∷◌, length, Option, Some, None, IsSome, MatchOption, refl, subst, arith}
+use Rattle.std.proofs.Common.{◌≡◌, ℕ, ◌+◌, ◌≤◌, List, [], ◌∷◌, length, Option, Some, None, IsSome, MatchOption, refl, sym, subst, arith}
 use Rattle.std.specs.Borrow.{Bor}
-use Rattle.std.specs.Map.Iter.{deref_pair}
 use Rattle.client_table.specs.declared.entry.Entry.{Entry}
 use Rattle.client_table.specs.{before, joined}
 
@@ -23,6 +22,12 @@ module _ (at : ℕ → Option Entry) where
   front_some e es all = first_some e.0 (at e.1) (joined at es) (length es) (omega (arith, all)) (few_joined es)
 
   -- so has each of those behind it
-  pub all_left : (r : Option (Bor ℕ × Bor ℕ)) (es left : List (ℕ × ℕ)) → MatchOption r ((es ≡ []) × (left ≡ [])) (λ x. es ≡ deref_pair x ∷ left) → length (joined at es) ≡ length es → length (joined at left) ≡ length left
-  all_left None es left step all = rw step.1
-  all_left (Some x) es left step all = (front_some (deref_pair x) left (subst (λ (l : List (ℕ × ℕ)). length (joined at l) ≡ length l) step all)).1
+  pub all_left : {R : Type 0} (pair : R → ℕ × ℕ) (r : Option R) (es left : List (ℕ × ℕ)) → MatchOption r ((es ≡ []) × (left ≡ [])) (λ x. es ≡ pair x ∷ left) → length (joined at es) ≡ length es → length (joined at left) ≡ length left
+  all_left pair None es left step all = rw step.1
+  all_left pair (Some x) es left step all = (front_some (pair x) left (subst (λ (l : List (ℕ × ℕ)). length (joined at l) ≡ length l) step all)).1
+
+  -- the same of an iterator over a slice
+  pub all_left_of : {I : Type 0} (rest : I → List (ℕ × ℕ)) (r : Option (Bor (ℕ × ℕ))) (s t : I) → MatchOption r ((length (rest s) ≡ 0) × (t ≡ s)) (λ x. rest s ≡ x.now ∷ rest t)
+      → length (joined at (rest s)) ≡ length (rest s) → length (joined at (rest t)) ≡ length (rest t)
+  all_left_of {I} rest None s t step all = subst (λ (i : I). length (joined at (rest i)) ≡ length (rest i)) (sym step.1) all
+  all_left_of rest (Some x) s t step all = (front_some x.now (rest t) (subst (λ (l : List (ℕ × ℕ)). length (joined at l) ≡ length l) step all)).1

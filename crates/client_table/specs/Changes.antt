@@ -1,5 +1,6 @@
 -- What a change of every entry makes of the known clients.
-use Rattle.std.specs.Prelude.{◌≡◌, ℕ, Option, Some, None}
+use Rattle.std.specs.Prelude.{◌≡◌, ℕ, ◌+◌, ◌%◌, Option, Some, None}
+use Rattle.client_table.specs.declared.entry.Burst.{Burst}
 use Rattle.client_table.specs.declared.entry.Entry.{Entry}
 use Rattle.client_table.specs.Clients.{Clients, clients_of, entry_of}
 
@@ -17,3 +18,15 @@ pub record AreChanged (change : ℕ → Entry → Entry → Type 0) (old new : C
   pub most : new.most ≡ old.most
   pub clients : clients_of new ≡ clients_of old
   pub entries : (client : ℕ) → IsChanged (change client) (entry_of old client) (entry_of new client)
+
+-- one that is idle for a tick more, modulo 2^32
+abbrev pub aged : Entry → Entry
+aged e = record e { idle = (e.idle + 1) % 4294967296 }
+
+-- its burst was changed, where it has one, and nothing else
+abbrev pub IsBurstChangedBy : (Burst → Burst → Type 0) → Option Burst → Entry → Entry → Type 0
+IsBurstChangedBy change None e d = d ≡ e
+IsBurstChangedBy change (Some b) e d = (c : Burst) × (d ≡ record e { burst = Some c }) × change b c
+
+abbrev pub IsBurstChanged : (Burst → Burst → Type 0) → Entry → Entry → Type 0
+IsBurstChanged change e d = IsBurstChangedBy change e.burst e d

@@ -1,5 +1,5 @@
 -- The known clients of a channel, and what each call makes of them.
-use Rattle.std.specs.Prelude.{◌≡◌, ℕ, ◌≤◌, Bool, true, false, nat_lt, List, [], Option, Some, None, All, Contains, find}
+use Rattle.std.specs.Prelude.{◌≡◌, ℕ, ◌≤◌, Bool, true, false, nat_lt, List, [], Option, Some, None, is_some, All, Contains, find, filter}
 use Rattle.std.specs.Ordering.{nat_cmp}
 use Rattle.std.specs.Map.{keys_of, lookup, set_value, remove_entry}
 use Rattle.std.specs.BTreeMap.{insert_entry, is_at}
@@ -42,6 +42,10 @@ with_entry t client entry = record t { known = set_value (is_at (nat_cmp client)
 -- without a client
 abbrev pub without : Clients → ℕ → Clients
 without t client = record t { known = remove_entry (is_at (nat_cmp client)) t.known }
+
+-- the known clients with an open burst, each with its entry, by rising client
+abbrev pub opened_of : Clients → List (ℕ × Entry)
+opened_of t = filter (λ e. is_some e.1.burst) t.known
 
 -- above a client; each is where none is given
 abbrev pub is_above : Option ℕ → ℕ → Bool

@@ -1,11 +1,20 @@
 -- An index from clients to keys, and the entries under these keys, as one list.
-use Rattle.std.specs.Prelude.{◌≢◌, ℕ, List, [], ◌∷◌, Option, Some, None, IsSome, IsSomeAnd, slice_index_or}
+use Rattle.std.specs.Prelude.{◌≢◌, ℕ, ◌+◌, ◌-◌, ◌%◌, Bool, false, List, [], ◌∷◌, Option, Some, None, option_map, is_some, IsSome, IsSomeAnd, slice_index_or}
 use Rattle.client_table.specs.declared.entry.Entry.{Entry}
+use Rattle.client_table.specs.declared.stored.Stored.{Stored}
 use Rattle.client_table.specs.Clients.{Clients}
 
+-- an entry as it is in this tick: it is idle for the ticks since the one that is stored, modulo 2^32
+abbrev pub shown : ℕ → Stored → Entry
+shown tick s = record { ssrc = s.ssrc; seq = s.seq; idle = (tick + 4294967296 - s.since % 4294967296) % 4294967296; burst = s.burst }
+
+-- what a slot has
+abbrev pub slot_at : List (Option Stored) → ℕ → Option Stored
+slot_at slots key = slice_index_or slots key None
+
 -- the entry in a slot
-abbrev pub entry_at : List (Option Entry) → ℕ → Option Entry
-entry_at slots key = slice_index_or slots key None
+abbrev pub entry_at : ℕ → List (Option Stored) → ℕ → Option Entry
+entry_at tick slots key = option_map (shown tick) (slot_at slots key)
 
 -- a client with its entry, before the others
 abbrev pub before : ℕ → Option Entry → List (ℕ × Entry) → List (ℕ × Entry)
@@ -18,8 +27,8 @@ joined at [] = []
 joined at (e ∷ es) = before e.0 (at e.1) (joined at es)
 
 -- what a table shows: how many may be known, and those that are
-abbrev pub seen : ℕ → List (Option Entry) → List (ℕ × ℕ) → Clients
-seen most slots es = record { most = most; known = joined (entry_at slots) es }
+abbrev pub seen : ℕ → (ℕ → Option Entry) → List (ℕ × ℕ) → Clients
+seen most at es = record { most = most; known = joined at es }
 
 -- no client has this key
 abbrev pub IsFree : ℕ → List (ℕ × ℕ) → Type 0
@@ -44,3 +53,12 @@ IsSlotChanged change old new = IsSomeAnd old (λ e. IsSomeAnd new (change e))
 abbrev pub AreSlotsChanged : (ℕ → Entry → Entry → Type 0) → (ℕ → Option Entry) → (ℕ → Option Entry) → List (ℕ × ℕ) → Type 0
 AreSlotsChanged change at now [] = Unit {0}
 AreSlotsChanged change at now (e ∷ es) = IsSlotChanged (change e.0) (at e.1) (now e.1) × AreSlotsChanged change at now es
+
+-- there is an entry with an open burst
+abbrev pub has_burst : Option Entry → Bool
+has_burst None = false
+has_burst (Some e) = is_some e.burst
+
+-- a client's key has one
+abbrev pub is_open_at : (ℕ → Option Entry) → ℕ × ℕ → Bool
+is_open_at at e = has_burst (at e.1)

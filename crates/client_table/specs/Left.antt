@@ -1,13 +1,15 @@
--- Known clients that are still to come.
+-- Clients that are still to come.
 use Rattle.std.specs.Prelude.{ℕ, List}
-use Rattle.std.specs.Borrow.{Bor}
+use Rattle.std.specs.Slice.Iter.{iter_rest}
 use Rattle.client_table.specs.declared.entry.Entry.{Entry}
 use Rattle.client_table.specs.declared.walk.KnownClients.{KnownClients}
+use Rattle.client_table.specs.declared.walk.OpenBursts.{OpenBursts}
 use Rattle.client_table.specs.Joined.{entry_at, joined}
 
--- a client with what is kept of it
-abbrev pub shown_client : ℕ × Bor Entry → ℕ × Entry
-shown_client e = (e.0, e.1.now)
-
+-- the known clients that are left, each with what is kept of it
 abbrev pub clients_left : KnownClients → List (ℕ × Entry)
-clients_left w = joined (entry_at w.entries.now.slots) w.index
+clients_left w = joined (entry_at w.tick w.entries.now.slots) w.index
+
+-- those with an open burst
+abbrev pub bursts_left : OpenBursts → List (ℕ × Entry)
+bursts_left w = joined (entry_at w.tick w.entries.now.slots) (iter_rest w.left)

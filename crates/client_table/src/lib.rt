@@ -3,7 +3,9 @@
 //! A client is its IPv4 address times 65536, plus its port.
 #![tactic(auto)]
 
+mod bursts;
 mod entry;
+mod stored;
 mod table;
 mod walk;
 
@@ -11,4 +13,4 @@ pub use entry::{AdmitFault, Burst, Entry};
 pub use ram_io::NoMemory;
 pub use rams_model::Info;
 pub use table::Table;
-pub use walk::KnownClients;
+pub use walk::{KnownClients, OpenBursts};

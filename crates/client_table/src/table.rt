@@ -1,6 +1,8 @@
 //! The table of the known clients.
-use crate::entry::{AdmitFault, Entry};
-use crate::walk::KnownClients;
+use crate::bursts::{close_client, mark};
+use crate::entry::{AdmitFault, Burst, Entry};
+use crate::stored::Stored;
+use crate::walk::{KnownClients, OpenBursts};
 use ram_io::NoMemory;
 use slab::Slab;
 use std::alloc::Global;
@@ -8,42 +10,51 @@ use std::collections::BTreeMap;
 use std::marker::Model;
 use std::ops::Bound;
 
-/// The known clients. The entries stand in a slab, and an index by rising client has each one's key.
+/// The known clients. The entries stand in a slab, and an index by rising client has each one's key;
+/// another has those with an open burst. Idle counts aren't stored but told from the tick.
 #[derive(Drop)]
 pub struct Table {
     most: u32,
+    /// The ticks so far, modulo 2^32.
+    tick: u32,
+    /// No idle count is above it.
+    idle_most: u32,
     index: BTreeMap<u64, usize>,
-    entries: Slab<Entry>,
+    entries: Slab<Stored>,
+    bursts: Vec<(u64, usize)>,
 }
 
 impl Model for Table {
-    ghost use Rattle.std.specs.Prelude.{◌≤◌, ◌<◌, ◌^◌, length};
+    ghost use Rattle.std.specs.Prelude.{◌≡◌, ◌≤◌, ◌<◌, ◌^◌, length, filter, vec_capacity};
+    ghost use Rattle.std.specs.List.{AllByRecursion};
     ghost use Rattle.std.specs.Ordering.{nat_cmp};
     ghost use Rattle.client_table.specs.Clients.{Clients};
 
     ghost Value = { Clients };
 
     ghost use Rattle.std.specs.BTreeMap.{IsOrdered};
-    ghost use Rattle.client_table.specs.Joined.{seen, entry_at, AreJoined};
+    ghost use Rattle.client_table.specs.Joined.{seen, entry_at, joined, AreJoined, is_open_at};
 
-    ghost view = { λ t. seen t.most t.entries.slots t.index.entries };
+    ghost view = { λ t. seen t.most (entry_at t.tick t.entries.slots) t.index.entries };
 
     ghost invariant = { λ t. record {
       rising : IsOrdered nat_cmp t.index;
-      entries : AreJoined (entry_at t.entries.slots) t.index.entries;
+      entries : AreJoined (entry_at t.tick t.entries.slots) t.index.entries;
       few : length t.index.entries ≤ t.most;
       small : t.most < 2 ^ 32;
+      opened : t.bursts.items ≡ filter (is_open_at (entry_at t.tick t.entries.slots)) t.index.entries;
+      room : t.most < vec_capacity t.bursts;
+      idle : AllByRecursion (λ e. e.1.idle ≤ t.idle_most) (joined (entry_at t.tick t.entries.slots) t.index.entries);
     } };
 }
 
 impl Table {
-    ghost use Rattle.std.specs.Prelude.{◌≡◌, ◌≤◌, ◌↔◌, Some, None, Err, All, length, option_copied, IfOk, OnOk, OnErr};
-    ghost use Rattle.std.specs.Option.{option_copied_mut};
-    ghost use Rattle.std.specs.Borrow.{sem};
-    ghost use Rattle.client_table.specs.Clients.{Clients, nobody, clients_of, AreRising, entry_of, new_entry, with_client, without, next_of, IsLeastAbove};
-    ghost use Rattle.client_table.specs.Lends.{LendsEntry};
-    ghost use Rattle.client_table.specs.Left.{clients_left};
-    ghost use Rattle.client_table.specs.Changes.{AreAll, AreChanged};
+    ghost use Rattle.std.specs.Prelude.{◌≡◌, ◌≤◌, ◌↔◌, Some, None, Err, All, length, IfSome, IfOk, OnOk, OnErr, MatchOption};
+    ghost use Rattle.std.specs.List.{AllByRecursion};
+    ghost use Rattle.client_table.specs.Clients.{Clients, nobody, clients_of, AreRising, entry_of, new_entry, with_client, with_entry, without, opened_of, next_of, IsLeastAbove};
+    ghost use Rattle.client_table.specs.Left.{clients_left, bursts_left};
+    ghost use Rattle.client_table.specs.Changes.{AreAll, AreChanged, aged, IsBurstChanged};
+    ghost use Rattle.client_table.specs.declared.entry.Entry.{Entry};
     ghost use Rattle.client_table.specs.declared.entry.AdmitFault.TheVariants.{Full};
 
     /// A table in which nobody is known, for at most so many clients. It takes the room of their entries.
@@ -52,27 +63,46 @@ impl Table {
     {
         Ok(Table {
             most: clients,
+            tick: 0,
+            idle_most: 0,
             index: BTreeMap::new(alloc),
             entries: Slab::with_capacity(alloc, clients as usize)?,
+            bursts: Vec::with_capacity(alloc, clients as usize + 1)?,
         })
     }
 
     /// What is kept of a client; `None` exactly where it isn't known.
-    pub fn find(&self, client: u64) -> Option<&Entry>
-        ensures { option_copied result ≡ entry_of self.now client }
+    pub fn find(&self, client: u64) -> Option<Entry>
+        ensures { result ≡ entry_of self.now client }
     {
         let key = key_of(&self.index, client)?;
-        self.entries.get(key)
+        entry_in(&self.entries, self.tick, key)
     }
 
-    /// What is kept of a client, to be changed; `None` exactly where it isn't known. What is written goes
-    /// to this client and to no other.
-    pub fn find_mut(&mut self, client: u64) -> Option<&mut Entry>
-        ensures* writes_back { sem 𝓛 (LendsEntry self.entry client result) }
-        ensures value { option_copied_mut result ≡ entry_of self.old client }
+    /// Another entry for a client, where it is known; the others keep theirs. It takes no memory.
+    pub fn set(&mut self, client: u64, entry: Entry)
+        ensures { self.new ≡ with_entry self.old client entry }
     {
-        let key = key_of(&self.index, client)?;
-        self.entries.get_mut(key)
+        self.change(client, |_| entry);
+    }
+
+    /// Changes what is kept of a client, where it is known; the others keep theirs. It takes no memory.
+    pub fn change<F: Fn(Entry) -> Entry>(&mut self, client: u64, change: F)
+        requires { IfSome (entry_of self.old client) (F.pre change) }
+        ensures { MatchOption (entry_of self.old client) (self.new ≡ self.old) (λ e. (d : Entry) × F.post change e d × (self.new ≡ with_entry self.old client d)) }
+    {
+        let Some(key) = key_of(&self.index, client) else {
+            return;
+        };
+        let Some(entry) = entry_in(&self.entries, self.tick, key) else {
+            return;
+        };
+        let changed = change(entry);
+        put(&mut self.entries, key, Stored::new(changed, self.tick));
+        self.idle_most = self.idle_most.max(changed.idle);
+        let was_open = entry.burst.is_some();
+        let is_open = changed.burst.is_some();
+        mark(&mut self.bursts, client, key, was_open, is_open);
     }
 
     /// A client that isn't known becomes known, under this SSRC and with this first sequence number of its
@@ -96,7 +126,8 @@ impl Table {
         self.entries.reserve(1)?;
         let key = self.entries.vacant_key();
         self.index.insert(client, key)?;
-        self.entries.insert_reserved(Entry::new(ssrc, seq0));
+        self.entries
+            .insert_reserved(Stored::new(Entry::new(ssrc, seq0), self.tick));
         Ok(())
     }
 
@@ -106,7 +137,8 @@ impl Table {
         ensures table { self.new ≡ without self.old client }
     {
         let key = self.index.remove(&client)?;
-        self.entries.try_remove(key)
+        close_client(&mut self.bursts, client);
+        take_out(&mut self.entries, self.tick, key)
     }
 
     /// The least known client above another, or of all where none is given; `None` where there is none.
@@ -123,20 +155,66 @@ impl Table {
     /// The known clients by rising number, each with what is kept of it.
     pub fn iter(&self) -> KnownClients<'_>
         ensures clients { clients_left result ≡ self.now.known }
-        ensures found { All (λ e. entry_of self.now e.0 ≡ Some e.1) self.now.known }
     {
         KnownClients {
             index: self.index.iter(),
             entries: &self.entries,
+            tick: self.tick,
         }
     }
 
-    /// Changes what is kept of each known client, by rising number.
-    pub fn change_all<F: Fn(u64, Entry) -> Entry>(&mut self, change: F)
-        requires { AreAll (F.pre change) self.old }
-        ensures { AreChanged (F.post change) self.old self.new }
+    /// The clients with an open burst by rising number, each with what is kept of it. The others aren't
+    /// looked at.
+    pub fn open_bursts(&self) -> OpenBursts<'_>
+        ensures clients { bursts_left result ≡ opened_of self.now }
+        ensures found { All (λ e. entry_of self.now e.0 ≡ Some e.1) (opened_of self.now) }
     {
-        change_each(&self.index, &mut self.entries, change);
+        OpenBursts {
+            left: self.bursts.iter(),
+            entries: &self.entries,
+            tick: self.tick,
+        }
+    }
+
+    /// Changes each open burst, by rising client. Clients without one aren't looked at.
+    pub fn change_bursts<F: Fn(Burst) -> Burst>(&mut self, change: F)
+        requires { AreAll (λ _ e. IfSome e.burst (F.pre change)) self.old }
+        ensures { AreChanged (λ _. IsBurstChanged (F.post change)) self.old self.new }
+    {
+        change_each(&self.bursts, &mut self.entries, self.tick, change);
+    }
+
+    /// Each known client is idle for a tick more, modulo 2^32. Nobody is looked at.
+    pub fn age(&mut self)
+        ensures { AreChanged (λ _ e d. d ≡ aged e) self.old self.new }
+    {
+        self.tick = self.tick.wrapping_add(1);
+        self.idle_most = self.idle_most.saturating_add(1);
+    }
+
+    /// A count that no idle count is above. It isn't the greatest of them: it falls in `measure_idle` alone.
+    pub fn idle_most(&self) -> u32
+        ensures { AllByRecursion (λ e. e.1.idle ≤ result) self.now.known }
+    {
+        self.idle_most
+    }
+
+    /// Looks for the greatest idle count, from which `idle_most` counts on. Nothing that is known changes.
+    pub fn measure_idle(&mut self)
+        ensures { self.new ≡ self.old }
+    {
+        self.idle_most = self.greatest_idle();
+    }
+
+    // The greatest idle count.
+    fn greatest_idle(&self) -> u32
+        ensures { AllByRecursion (λ e. e.1.idle ≤ result) self.now.known }
+    {
+        let mut most = 0;
+        for (_, entry) in self.iter() {
+            most = entry.idle.max(most);
+        }
+        most
     }
 
     /// How many clients are known.
@@ -149,12 +227,13 @@ impl Table {
     }
 }
 
-ghost use Rattle.std.specs.Prelude.{◌≡◌, find};
+ghost use Rattle.std.specs.Prelude.{◌≡◌, ℕ, IsSome, IsSomeAnd, Some, None, find, slice_set};
 ghost use Rattle.std.specs.Ordering.{nat_cmp};
 ghost use Rattle.std.specs.Map.{lookup};
 ghost use Rattle.std.specs.BTreeMap.{is_at, keys};
 ghost use Rattle.std.specs.BTreeMap.Range.{is_from_start};
-ghost use Rattle.client_table.specs.{entry_at, AreReady, AreSlotsChanged};
+ghost use Rattle.slab.specs.Slab.{Updates};
+ghost use Rattle.client_table.specs.{slot_at, entry_at, shown, IsFree, AreReady, AreSlotsChanged, IsBurstChanged};
 
 // The key of a client.
 fn key_of(index: &BTreeMap<u64, usize>, client: u64) -> Option<usize>
@@ -163,19 +242,53 @@ fn key_of(index: &BTreeMap<u64, usize>, client: u64) -> Option<usize>
     index.get(&client).copied()
 }
 
-// Changes the entry of each client.
-fn change_each<F: Fn(u64, Entry) -> Entry>(
-    index: &BTreeMap<u64, usize>,
-    entries: &mut Slab<Entry>,
+// The entry of a key, as it is in this tick.
+fn entry_in(entries: &Slab<Stored>, tick: u32, key: usize) -> Option<Entry>
+    ensures { result ≡ entry_at tick entries.now.slots key }
+{
+    let stored = entries.get(key)?;
+    Some(stored.entry(tick))
+}
+
+// Another entry under a key that has one.
+fn put(entries: &mut Slab<Stored>, key: usize, stored: Stored)
+    requires { IsSome (slot_at entries.old.slots key) }
+    ensures { entries.new.slots ≡ slice_set entries.old.slots key (Some stored) }
+{
+    if let Some(slot) = entries.get_mut(key) {
+        *slot = stored;
+    }
+}
+
+// The entry of a key goes: what it was in this tick.
+fn take_out(entries: &mut Slab<Stored>, tick: u32, key: usize) -> Option<Entry>
+    ensures value { result ≡ entry_at tick entries.old.slots key }
+    ensures updates { Updates entries.old entries.new key None }
+{
+    let stored = entries.try_remove(key)?;
+    Some(stored.entry(tick))
+}
+
+// Changes the bursts of these clients, each of which has one.
+fn change_each<F: Fn(Burst) -> Burst>(
+    bursts: &[(u64, usize)],
+    entries: &mut Slab<Stored>,
+    tick: u32,
     change: F,
 )
-    requires { AreReady (F.pre change) (entry_at entries.old.slots) index.now.entries }
-    ensures { AreSlotsChanged (F.post change) (entry_at entries.old.slots) (entry_at entries.new.slots) index.now.entries }
+    requires { AreReady (λ _ e. IsSomeAnd e.burst (F.pre change)) (entry_at tick entries.old.slots) bursts.now }
+    ensures changed { AreSlotsChanged (λ _. IsBurstChanged (F.post change)) (entry_at tick entries.old.slots) (entry_at tick entries.new.slots) bursts.now }
+    ensures others { (key : ℕ) → IsFree key bursts.now → slot_at entries.new.slots key ≡ slot_at entries.old.slots key }
 {
-    for (client, key) in index {
-        if let Some(entry) = entries.get_mut(*key) {
-            *entry = change(*client, *entry);
-        }
+    for (_, key) in bursts {
+        let Some(entry) = entry_in(entries, tick, *key) else {
+            continue;
+        };
+        let Some(burst) = entry.burst else {
+            continue;
+        };
+        let burst = Some(change(burst));
+        put(entries, *key, Stored::new(Entry { burst, ..entry }, tick));
     }
 }
 

@@ -1,32 +1,62 @@
 //! Going through the known clients.
 ghost use Rattle.std.specs.Prelude.{◌≡◌, length};
 ghost use Rattle.client_table.specs.Joined.{entry_at, joined};
+ghost use Rattle.std.specs.Slice.Iter.{iter_rest};
 
 use crate::entry::Entry;
+use crate::stored::Stored;
 use slab::Slab;
-use std::collections::btree_map::Iter;
+use std::collections::btree_map;
+use std::slice;
 
 /// The known clients by rising number, each with what is kept of it.
 #[derive(Drop)]
 pub struct KnownClients<'a> {
-    pub(crate) index: Iter<'a, u64, usize>,
-    pub(crate) entries: &'a Slab<Entry>,
-    ghost entries_of_all: { length (joined (entry_at entries.now.slots) index) ≡ length index },
+    pub(crate) index: btree_map::Iter<'a, u64, usize>,
+    pub(crate) entries: &'a Slab<Stored>,
+    pub(crate) tick: u32,
+    ghost entries_of_all: { length (joined (entry_at tick entries.now.slots) index) ≡ length index },
 }
 
 impl<'a> Iterator for KnownClients<'a> {
-    ghost use Rattle.std.specs.Iterator.{YieldsFirstBy, item_count};
-    ghost use Rattle.client_table.specs.{shown_client, clients_left};
+    ghost use Rattle.std.specs.Iterator.{YieldsFirst, item_count};
+    ghost use Rattle.client_table.specs.{clients_left};
 
-    type Item = (u64, &'a Entry);
+    type Item = (u64, Entry);
 
-    ghost next_gives = { YieldsFirstBy shown_client clients_left };
+    ghost next_gives = { YieldsFirst clients_left };
 
     ghost remaining = { item_count clients_left };
 
-    fn next(&mut self) -> Option<(u64, &'a Entry)> {
+    fn next(&mut self) -> Option<(u64, Entry)> {
         let (client, key) = self.index.next()?;
-        let entry = self.entries.get(*key)?;
-        Some((*client, entry))
+        let stored = self.entries.get(*key)?;
+        Some((*client, stored.entry(self.tick)))
+    }
+}
+
+/// The clients with an open burst by rising number, each with what is kept of it.
+#[derive(Drop)]
+pub struct OpenBursts<'a> {
+    pub(crate) left: slice::Iter<'a, (u64, usize)>,
+    pub(crate) entries: &'a Slab<Stored>,
+    pub(crate) tick: u32,
+    ghost entries_of_all: { length (joined (entry_at tick entries.now.slots) (iter_rest left)) ≡ length (iter_rest left) },
+}
+
+impl<'a> Iterator for OpenBursts<'a> {
+    ghost use Rattle.std.specs.Iterator.{YieldsFirst, item_count};
+    ghost use Rattle.client_table.specs.{bursts_left};
+
+    type Item = (u64, Entry);
+
+    ghost next_gives = { YieldsFirst bursts_left };
+
+    ghost remaining = { item_count bursts_left };
+
+    fn next(&mut self) -> Option<(u64, Entry)> {
+        let (client, key) = self.left.next()?;
+        let stored = self.entries.get(*key)?;
+        Some((*client, stored.entry(self.tick)))
     }
 }

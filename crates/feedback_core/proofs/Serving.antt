@@ -14,12 +14,11 @@ use Rattle.channel_parts.specs.declared.parts.Parts.{Parts}
 use Rattle.channel_parts.specs.{StandsFor}
 use Rattle.channel_parts.proofs.Facts.{known_clients_are_few}
 use Rattle.channel_parts.proofs.Given.{moment, held_is}
-use Rattle.channel_parts.proofs.Tables.{has_entry}
 use Rattle.feedback_core.specs.declared.page.Page.{Page}
 use Rattle.feedback_core.specs.declared.visitor.Visitor.{Visitor}
 use Rattle.feedback_core.specs.{woken, answered_of, IsTurned, Turns, sitting, is_full_table, has_place, with_place, with_kept, IsReady, IsSafe, AreOfOne}
 use Rattle.feedback_core.proofs.Beginning.{at_datagram, visit_begun, page_begun, ready_is, safe_begun}
-use Rattle.feedback_core.proofs.Places.{place_is, place_counts}
+use Rattle.feedback_core.proofs.Places.{place_counts}
 use Rattle.feedback_core.proofs.Closing.{stands_after, answer_after}
 
 -- the client as it was received
@@ -45,15 +44,6 @@ pub safe_placed : (p q : Parts) (events : List Event) (k : ℕ) (v : Visitor) �
 safe_placed p q events k v st e ve =
     subst (λ (x : Parts). IsSafe x.config v) (sym e)
     (subst (IsSafe p.config) (sym ve) (safe_begun p events k (received p k) st refl refl (known_place p.table k (entry_of p.table k) refl)))
-
--- what is kept has its place
-pub kept_place : (p q : Parts) (events : List Event) (k : ℕ) (v w : Visitor) → StandsFor p events → q ≡ placed_parts p k → v ≡ received p k → AreOfOne v w
-    → (IsSome w.entry → w.has_place ≡ true) → IsSome w.entry → IsSome (entry_of q.table k)
-kept_place p q events k v w st e ve one placed some =
-    let place = place_is k p.config.channel.seq0 (history_of p.config events) p.table st.table.clients in
-    let there : has_place p.table k ≡ true = sym (one.has_place ∙ ap (λ (x : Visitor). x.has_place) ve) ∙ placed some in
-    subst (λ (x : Parts). IsSome (entry_of x.table k)) (sym e)
-    (has_entry (with_place p.table k p.config.channel.seq0) k ∙ place.among ∙ there)
 
 -- the visit as the datagram begins
 turned_begun : (p : Parts) (events : List Event) (k : ℕ) (ms : List Message) (v : Visitor) (page : Page) → StandsFor p events → v ≡ received p k → page.notes.items ≡ [] → page.info ≡ None

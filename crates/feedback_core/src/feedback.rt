@@ -97,7 +97,7 @@ fn receive(alloc: Global, parts: &mut Parts, client: u64) -> Result<Visitor, NoM
     ensures parts { OnOk result (parts.new ≡ record parts.old { table = with_place parts.old.table client parts.old.config.channel.seq0 }) }
     ensures same { OnErr result (parts.new ≡ parts.old) }
 {
-    let entry = parts.table.find(client).copied();
+    let entry = parts.table.find(client);
     let seq0 = parts.config.channel().seq0;
     let has_place = make_place(alloc, &mut parts.table, client, seq0)?;
     Ok(Visitor::new(client, entry, has_place, &parts.budget))

@@ -1,6 +1,6 @@
 //! A client's place in the table while its datagram is answered.
-ghost use Rattle.std.specs.Prelude.{◌≡◌, ◌↔◌, IfOk, OnOk, OnErr, IsSome};
-ghost use Rattle.client_table.specs.{entry_of, with_entry};
+ghost use Rattle.std.specs.Prelude.{◌≡◌, ◌↔◌, IfOk, OnOk, OnErr};
+ghost use Rattle.client_table.specs.{entry_of};
 ghost use Rattle.feedback_core.specs.{has_place, with_place, with_kept};
 
 use client_table::{AdmitFault, Entry, Table};
@@ -31,22 +31,12 @@ pub(crate) fn make_place(
 
 /// Puts what is kept of the client into its place, or gives the place up. Takes no memory.
 pub(crate) fn keep(table: &mut Table, client: u64, entry: Option<Entry>)
-    requires { IsSome entry → IsSome (entry_of table.old client) }
     ensures { table.new ≡ with_kept table.old client entry }
 {
     match entry {
-        Some(entry) => set_entry(table, client, entry),
+        Some(entry) => table.set(client, entry),
         None => {
             table.remove(client);
         }
-    }
-}
-
-fn set_entry(table: &mut Table, client: u64, entry: Entry)
-    requires { IsSome (entry_of table.old client) }
-    ensures { table.new ≡ with_entry table.old client entry }
-{
-    if let Some(slot) = table.find_mut(client) {
-        *slot = entry;
     }
 }

@@ -71,7 +71,7 @@ fn expect_known(rt: &impl Abort, table: &Table, clients: &[u32]) {
     for (expected, (client, entry)) in clients.iter().zip(table.iter()) {
         same(
             rt,
-            &(client, *entry),
+            &(client, entry),
             &(u64::from(*expected), admitted(*expected)),
             expected,
         );
@@ -141,16 +141,13 @@ fn entry_of(client: u32, written: u32) -> Entry {
 // A table of the clients, where one's entry was written to.
 fn written_table(rt: &impl Abort, alloc: Global, written: u32) -> Result<Table, Fail> {
     let mut table = table_of(rt, alloc, 3, &[9, 2, 5])?;
-    if let Some(entry) = table.find_mut(u64::from(written)) {
-        entry.idle = 7;
-        entry.burst = Some(BURST);
-    }
+    table.set(u64::from(written), entry_of(written, written));
     Ok(table)
 }
 
 fn expect_written(rt: &impl Abort, table: &Table, written: u32) {
     for client in CLIENTS {
-        let entry = table.find(u64::from(client)).copied();
+        let entry = table.find(u64::from(client));
         same(
             rt,
             &entry,
@@ -170,31 +167,96 @@ fn written_entries(rt: HostRuntime) -> Result<(), Fail> {
     Ok(())
 }
 
-// Each entry's change, by its own client and by what it was.
-fn changed(client: u64, entry: Entry) -> Entry {
-    let mut changed = entry;
-    changed.seq = entry.seq.wrapping_add(1);
-    changed.idle = if client == 5 { 7 } else { entry.idle };
-    changed
+// Clients in the order in which their bursts open, those whose bursts end then, one that leaves, and
+// whose bursts are open after that.
+type Opened = (&'static [u32], &'static [u32], u32, &'static [u32]);
+
+const OPENED: &[Opened] = &[
+    (&[], &[], 7, &[]),
+    (&[5], &[], 7, &[5]),
+    (&[9, 2], &[], 7, &[2, 9]),
+    (&[9, 5, 2], &[5], 7, &[2, 9]),
+    (&[5, 5, 7], &[9], 2, &[5]),
+    (&[2, 9], &[2], 9, &[]),
+];
+
+// A burst of the client opens or ends.
+fn set_burst(table: &mut Table, client: u32, burst: Option<Burst>) {
+    table.set(
+        u64::from(client),
+        Entry {
+            burst,
+            ..admitted(client)
+        },
+    );
 }
 
-// An entry that was changed once.
-fn changed_entry(client: u32, idle: u32) -> Entry {
-    let mut entry = admitted(client);
-    entry.seq = 501;
-    entry.idle = idle;
-    entry
+// The table after these bursts opened and those ended, and the client left.
+fn opened_table(
+    rt: &impl Abort,
+    alloc: Global,
+    opened: &[u32],
+    ended: &[u32],
+    left: u32,
+) -> Result<Table, Fail> {
+    let mut table = table_of(rt, alloc, 3, &[9, 2, 5])?;
+    for client in opened {
+        set_burst(&mut table, *client, Some(BURST));
+    }
+    for client in ended {
+        set_burst(&mut table, *client, None);
+    }
+    table.remove(u64::from(left));
+    Ok(table)
 }
 
-// Each entry is changed once, by its own client and by what it was.
+// Open are the bursts of these clients, by rising number, and no others.
+#[test]
+fn open_bursts(rt: HostRuntime) -> Result<(), Fail> {
+    for (opened, ended, left, open_then) in OPENED {
+        let table = opened_table(&rt, rt.alloc(), opened, ended, *left)?;
+        same(
+            &rt,
+            &table.open_bursts().count(),
+            &open_then.len(),
+            open_then,
+        );
+        for (expected, (client, entry)) in open_then.iter().zip(table.open_bursts()) {
+            same(&rt, &client, &u64::from(*expected), open_then);
+            same(&rt, &entry.burst, &Some(BURST), open_then);
+        }
+    }
+    Ok(())
+}
+
+// The entry of a client whose burst, where it has one, kept nothing, after so many ticks.
+fn later_entry(client: u32, idle: u32) -> Entry {
+    let burst = if client == 5 {
+        Some(Burst { kept: 0, ..BURST })
+    } else {
+        None
+    };
+    Entry {
+        idle,
+        burst,
+        ..admitted(client)
+    }
+}
+
+// Two ticks on, all are idle for two more, but for one that was heard in between; open bursts alone are
+// changed.
 #[test]
 fn changed_entries(rt: HostRuntime) -> Result<(), Fail> {
-    let mut table = table_of(&rt, rt.alloc(), 3, &[9, 2, 5])?;
-    table.change_all(changed);
-    for (client, idle) in [(2u32, 0), (5, 7), (9, 0)] {
-        let entry = table.find(u64::from(client)).copied();
-        same(&rt, &entry, &Some(changed_entry(client, idle)), &client);
+    let mut table = opened_table(&rt, rt.alloc(), &[5], &[], 7)?;
+    table.age();
+    table.change(2, |entry| Entry { idle: 0, ..entry });
+    table.age();
+    table.change_bursts(|burst| Burst { kept: 0, ..burst });
+    table.measure_idle();
+    for (client, idle) in [(2u32, 1), (5, 2), (9, 2)] {
+        let entry = table.find(u64::from(client));
+        same(&rt, &entry, &Some(later_entry(client, idle)), &client);
     }
-    same(&rt, &table.count(), &3, &"count");
+    same(&rt, &(table.count(), table.idle_most()), &(3, 2), &"counts");
     Ok(())
 }

@@ -17,3 +17,4 @@ pub mod Midway
 pub mod Closing
 pub mod Carrying
 pub mod Spent
+pub mod Kept

@@ -1,5 +1,14 @@
 -- The plan of parts that stand for some events.
-use Rattle.std.proofs.Common.{◌≡◌, ℕ, List, [], Bool, map, ap, sym, ◌∙◌}
+use Rattle.std.proofs.Common.{◌≡◌, ℕ, List, [], ◌∷◌, Bool, true, false, Option, Some, None, is_some, IsSome, filter, map, refl, ap, sym, ◌∙◌}
+use Rattle.std.specs.List.{AllByRecursion as Each}
+use Rattle.std.specs.Map.{keys_of}
+use Rattle.std.proofs.lemmas.Bool.{cond_both, both_ways, false≢true}
+use Rattle.rams_model.specs.declared.held.Held.{Held}
+use Rattle.rams_model.specs.Service.{Settings}
+use Rattle.client_table.specs.declared.entry.Burst.{Burst}
+use Rattle.client_table.specs.declared.entry.Entry.{Entry}
+use Rattle.client_table.specs.{AreRising, entry_of}
+use Rattle.client_table.specs.Clients.{Clients}
 use Rattle.rams_model.specs.declared.event.Event.{Event}
 use Rattle.rams_model.specs.declared.event.Event.TheVariants.{Tick}
 use Rattle.rams_model.specs.Service.{pending, Answered, answered, history_of, answer}
@@ -10,8 +19,9 @@ use Rattle.channel_parts.proofs.Ordered.{known_rise}
 use Rattle.channel_parts.proofs.Given.{moment}
 use Rattle.link_budget.specs.Amounts.{Amounts}
 use Rattle.tick_core.specs.declared.allowance.Allowance.{Allowance}
-use Rattle.tick_core.specs.{Drafted, new_draft, allowances_of, with_all_served, Repaired, with_all_wanted, with_all_forgotten, begun_left, drafted_runs, drafted_repairs, drafted_tick, planned_answer, planned_flags, is_over}
-use Rattle.tick_core.proofs.Planning.{planned}
+use Rattle.tick_core.specs.{Drafted, new_draft, allowance_of, idle_allowance, or_changed, all_allowances, AreOfBursts, allowances_of, with_all_served, Repaired, with_all_wanted, with_all_forgotten, begun_left, drafted_runs, drafted_repairs, drafted_tick, planned_answer, planned_flags, is_over}
+use Rattle.tick_core.proofs.Planning.{each_found, planned}
+use Rattle.tick_core.proofs.Walking.{whose, rise_sorted}
 
 pub made_plan : (p : Parts) (events : List Event) (a : Answered) (done : List Bool) → StandsFor p events → a ≡ planned_answer p → done ≡ planned_flags p
     → (a ≡ answer p.config events Tick) × (done ≡ map (is_over a.notes) (pending (history_of p.config events)))
@@ -19,6 +29,46 @@ made_plan p events a done stands answer_is done_is =
     let before = history_of p.config events in
     let plan = planned p events stands (known_rise before) (opened_are_the_known_with_bursts p.config events stands.lawful) (repairs_are_within_limits p.config before (moment p.config events)) in
     (answer_is ∙ plan.answer_is, done_is ∙ (plan.done_is ∙ ap (λ (x : Answered). map (is_over x.notes) (pending before)) (sym answer_is)))
+
+-- ---- what was served is what the repairs begin with
+some_same : {X : Type 0} (x y : X) → Some x ≡ Some y → x ≡ y
+some_same x y is = cc
+
+idle_by : (s : Settings) (held : List Held) (k : ℕ) (e : Entry) (o : Option Burst) → is_some o ≡ false → idle_allowance s.channel.burst k e ≡ allowance_of s held k e o
+idle_by s held k e None closed = refl
+idle_by s held k e (Some b) closed = cc
+
+closed_by : (b : Bool) → (b ≡ true → IsSome {T = Allowance} None) → b ≡ false
+closed_by true some = absurd (false≢true (some refl))
+closed_by false some = refl
+
+module _ (s : Settings) (held : List Held) (t : Clients) (allowed : ℕ → Option Allowance)
+    (each : (k : ℕ) (a : Allowance) → allowed k ≡ Some a → (e : Entry) × (entry_of t k ≡ Some e) × (a ≡ allowance_of s held k e e.burst)) where
+  first_is : (k : ℕ) (e : Entry) (o : Option Allowance) → entry_of t k ≡ Some e → allowed k ≡ o → (is_some e.burst ≡ true → IsSome o)
+      → or_changed o (idle_allowance s.channel.burst k e) ≡ allowance_of s held k e e.burst
+  first_is k e None found is open' = idle_by s held k e e.burst (closed_by (is_some e.burst) open')
+  first_is k e (Some a) found is open' =
+      let of = each k a is in
+      let same : of.0 ≡ e = some_same of.0 e (sym of.1 ∙ found) in
+      let a_is : a ≡ allowance_of s held k e e.burst = of.2 ∙ ap (λ (x : Entry). allowance_of s held k x x.burst) same in
+      let own : a.client ≡ k = ap (λ (x : Allowance). x.client) a_is ∙ whose s held k e e.burst in
+      ap (λ (n : ℕ). record a { client = n }) (sym own) ∙ a_is
+
+  all_are : (es : List (ℕ × Entry)) → Each (λ e. entry_of t e.0 ≡ Some e.1) es → Each (λ e. IsSome (allowed e.0)) (filter (λ e. is_some e.1.burst) es)
+      → all_allowances s.channel.burst es allowed ≡ allowances_of s held es
+  unfolding allowances_of
+  all_are [] found some = refl
+  all_are (e ∷ es) found some =
+      let parts : (is_some e.1.burst ≡ true → IsSome (allowed e.0)) × Each (λ d. IsSome (allowed d.0)) (filter (λ d. is_some d.1.burst) es) =
+      cond_both (is_some e.1.burst) (e ∷ filter (λ d. is_some d.1.burst) es) (filter (λ d. is_some d.1.burst) es)
+      (λ l. Each (λ d. IsSome (allowed d.0)) l → (is_some e.1.burst ≡ true → IsSome (allowed e.0)) × Each (λ d. IsSome (allowed d.0)) (filter (λ d. is_some d.1.burst) es))
+      (λ t all. ((λ u. all.0), all.1)) (λ f all. ((λ u. absurd (both_ways (is_some e.1.burst) f u)), all)) some in
+      ap (λ (a : Allowance). a ∷ all_allowances s.channel.burst es allowed) (first_is e.0 e.1 (allowed e.0) found.0 refl parts.0)
+      ∙ ap (λ (l : List Allowance). allowance_of s held e.0 e.1 e.1.burst ∷ l) (all_are es found.1 parts.1)
+
+pub begun_allowances : (s : Settings) (held : List Held) (t : Clients) (allowed : ℕ → Option Allowance) → AreRising t → AreOfBursts s held t allowed
+    → all_allowances s.channel.burst t.known allowed ≡ allowances_of s held t.known
+begun_allowances s held t allowed rising are = all_are s held t allowed are.each t.known (each_found t.known (rise_sorted (keys_of t.known) rising)) are.all
 
 -- ---- the plan of any parts, as its calls make it
 pub record IsMade (p : Parts) (left : ℕ) (b : Amounts) (d0 d1 d2 d3 : Drafted) (allowed : List Allowance) (r0 r1 : Repaired) (done : List Bool) (a : Answered) : Type 0 where

@@ -1,79 +1,93 @@
--- Where the allowance of a client stands, among those by rising client.
-use Rattle.std.proofs.Common.{◌≡◌, ℕ, zero, suc, ◌<◌, ◌≤◌, ◌≢◌, List, [], ◌∷◌, length, get_or, set, Some, None, Result, Ok, Err, MatchOption, inl, inr, refl, ap, sym, ◌∙◌, arith, eqb}
+-- What the repairs of clients may take, where only what was changed is written down.
+use Rattle.std.proofs.Common.{◌≡◌, ℕ, ◌<◌, true, cond, ⊎_elim, List, [], ◌∷◌, Option, Some, None, refl, ap, sym, ◌∙◌, subst, arith, eqb}
 use Rattle.std.specs.List.{AllByRecursion}
-use Rattle.std.specs.List.Sorted.{IsSearchInRange, IsBinarySearchResult, IsNonDecreasingBy}
-use Rattle.std.specs.Result.{result_ok}
-use Rattle.std.specs.Ordering.{nat_cmp, ordering_index}
-use Rattle.std.proofs.lemmas.Cmp.{ranked}
-use Rattle.std.proofs.lemmas.List.Sorted.{IsNonDecreasingBy-from_default}
-use Rattle.std.proofs.lemmas.Bool.{cond_both, cond-true, cond-false, eq-eqb, ne_eqb, cases_lt}
-use Rattle.std.proofs.lemmas.Bool.Decides.{nat_tests}
+use Rattle.std.specs.Option.{option_map}
+use Rattle.std.specs.Map.{keys_of, lookup}
+use Rattle.std.specs.BTreeMap.{is_at}
+use Rattle.std.specs.Ordering.{nat_cmp}
+use Rattle.std.proofs.lemmas.Bool.{cond_both, cond-true, cond-false, cases_Bool, eq-eqb, eqb-true, eqb-false, ne_eqb}
+use Rattle.client_table.specs.declared.entry.Entry.{Entry}
+use Rattle.client_table.specs.{AreRising, entry_of}
+use Rattle.client_table.specs.Clients.{Clients}
+use Rattle.channel_parts.proofs.Tables.{at_is}
 use Rattle.tick_core.specs.declared.allowance.Allowance.{Allowance}
-use Rattle.tick_core.specs.{allowance, Rise, clients_of, allowance_for, after_repair, with_taken, IsPlaceOf}
+use Rattle.tick_core.specs.{Rise, clients_of, allowance_for, after_repair, with_taken, idle_allowance, or_changed, all_allowances}
+use Rattle.tick_core.proofs.Walking.{rise_sorted}
 
--- the client of a place
-abbrev at : List Allowance → ℕ → ℕ
-at as' i = (get_or as' i (allowance 0 0 0)).client
-
-later_above : (k : ℕ) (l : List Allowance) (j : ℕ) → AllByRecursion (λ n. k < n) (clients_of l) → j < length l → k < at l j
-later_above k [] j all lt = absurd (omega arith)
-later_above k (a ∷ l) zero all lt = all.0
-later_above k (a ∷ l) (suc j) all lt = later_above k l j all.1 (omega arith)
-
-rise_at : (l : List Allowance) (i j : ℕ) → Rise (clients_of l) → i < j → j < length l → at l i < at l j
-rise_at [] i j rise lt within = absurd (omega arith)
-rise_at (a ∷ l) zero zero rise lt within = absurd (omega arith)
-rise_at (a ∷ l) zero (suc j) rise lt within = later_above a.client l j rise.0 (omega arith)
-rise_at (a ∷ l) (suc i) zero rise lt within = absurd (omega arith)
-rise_at (a ∷ l) (suc i) (suc j) rise lt within = rise_at l i j rise.1 (omega arith) (omega arith)
-
--- the comparisons with a client rise along them, as a binary search asks
-comparisons_rise : (l : List Allowance) (k : ℕ) → Rise (clients_of l) → IsNonDecreasingBy (λ a. ordering_index (nat_cmp a.client k)) l
-comparisons_rise l k rise = IsNonDecreasingBy-from_default (λ a. ordering_index (nat_cmp a.client k)) l (allowance 0 0 0) (λ i j le within.
-    let up : at l i ≤ at l j = grind (arith, rise_at l i j rise, λ (same : i ≡ j). ap (at l) same) in
-    grind (arith, nat_tests))
-
-none_equal : (l : List Allowance) (k : ℕ) → ((j : ℕ) → j < length l → at l j ≢ k) → allowance_for k l ≡ None
-none_equal [] k other = refl
-none_equal (a ∷ l) k other =
-    cond-false (eqb a.client k) (Some a) (allowance_for k l) (ne_eqb a.client k (other 0 (omega arith))) ∙ none_equal l k (λ j lt. other (suc j) (omega arith))
-
--- a binary search by client ends at its place, or finds that there is none
-pub place_found : (l : List Allowance) (k : ℕ) (r : Result ℕ ℕ) → Rise (clients_of l) → IsSearchInRange r (length l) → IsBinarySearchResult (λ a. nat_cmp a.client k) l r
-    → MatchOption (result_ok r) (allowance_for k l ≡ None) (IsPlaceOf k l)
-place_found l k (Ok i) rise within equal = record { within = within; there = λ d. ranked _ k _ (sym (equal d)) }
-place_found l k (Err i) rise within parted =
-    let parts = parted (comparisons_rise l k rise) in
-    none_equal l k (λ j lt same. elim (cases_lt j i) [
-      | inl front ↦ absurd (omega (arith, ranked _ k _ (sym (parts.0 j (allowance 0 0 0) (omega arith) front))))
-      | inr back ↦ absurd (omega (arith, ranked _ k _ (sym (parts.1 j (allowance 0 0 0) back lt))))
-    ])
-
--- ---- what is taken from it
 pub clients_stay : (k size : ℕ) (l : List Allowance) → clients_of (with_taken k size l) ≡ clients_of l
 unfolding with_taken
 clients_stay k size [] = refl
 clients_stay k size (a ∷ l) =
     cond_both (eqb a.client k) (after_repair a size ∷ l) (a ∷ with_taken k size l) (λ x. clients_of x ≡ clients_of (a ∷ l)) (λ t. refl) (λ f. ap (λ (ks : List ℕ). a.client ∷ ks) (clients_stay k size l))
 
--- a place of the client is the first of it, since they rise
-taken_at : (k size : ℕ) (l : List Allowance) (i : ℕ) (d : Allowance) → Rise (clients_of l) → i < length l → at l i ≡ k → set l i (after_repair (get_or l i d) size) ≡ with_taken k size l
-unfolding with_taken
-taken_at k size [] i d rise lt here = absurd (omega arith)
-taken_at k size (a ∷ l) zero d rise lt here = sym (cond-true (eqb a.client k) (after_repair a size ∷ l) (a ∷ with_taken k size l) (eq-eqb a.client k here))
-taken_at k size (a ∷ l) (suc i) d rise lt here =
-    ap (λ (x : List Allowance). a ∷ x) (taken_at k size l i d rise.1 (omega arith) here)
-    ∙ sym (cond-false (eqb a.client k) (after_repair a size ∷ l) (a ∷ with_taken k size l) (ne_eqb a.client k (λ same. omega (arith, later_above a.client l i rise.0 (omega arith), here))))
+-- ---- the allowance of a client
+whose_changed : (o : Option Allowance) (a : Allowance) → (or_changed o a).client ≡ a.client
+whose_changed None a = refl
+whose_changed (Some b) a = refl
 
-found_at : (k : ℕ) (l : List Allowance) (i : ℕ) (d : Allowance) → Rise (clients_of l) → i < length l → at l i ≡ k → allowance_for k l ≡ Some (get_or l i d)
-found_at k [] i d rise lt here = absurd (omega arith)
-found_at k (a ∷ l) zero d rise lt here = cond-true (eqb a.client k) (Some a) (allowance_for k l) (eq-eqb a.client k here)
-found_at k (a ∷ l) (suc i) d rise lt here =
-    cond-false (eqb a.client k) (Some a) (allowance_for k l) (ne_eqb a.client k (λ same. omega (arith, later_above a.client l i rise.0 (omega arith), here)))
-    ∙ found_at k l i d rise.1 (omega arith) here
+found_by : (most : ℕ) (changed : ℕ → Option Allowance) (k : ℕ) (es : List (ℕ × Entry))
+    → allowance_for k (all_allowances most es changed) ≡ option_map (λ e. or_changed (changed k) (idle_allowance most k e)) (lookup (is_at (nat_cmp k)) es)
+found_by most changed k [] = refl
+found_by most changed k (e ∷ es) =
+    let rest = found_by most changed k es in
+    let here = or_changed (changed e.0) (idle_allowance most e.0 e.1) in
+    let test : eqb here.client k ≡ eqb e.0 k = ap (λ (n : ℕ). eqb n k) (whose_changed (changed e.0) (idle_allowance most e.0 e.1)) in
+    ⊎_elim
+    (λ (t : eqb e.0 k ≡ true).
+    let same : e.0 ≡ k = eqb-true e.0 k t in
+    cond-true (eqb here.client k) (Some here) (allowance_for k (all_allowances most es changed)) (test ∙ t)
+    ∙ (ap (λ (n : ℕ). Some (or_changed (changed n) (idle_allowance most n e.1))) same
+    ∙ sym (ap (option_map (λ d. or_changed (changed k) (idle_allowance most k d))) (cond-true (is_at (nat_cmp k) e.0) (Some e.1) (lookup (is_at (nat_cmp k)) es) (at_is k e.0 ∙ t)))))
+    (λ f.
+    cond-false (eqb here.client k) (Some here) (allowance_for k (all_allowances most es changed)) (test ∙ f)
+    ∙ (rest ∙ sym (ap (option_map (λ d. or_changed (changed k) (idle_allowance most k d))) (cond-false (is_at (nat_cmp k) e.0) (Some e.1) (lookup (is_at (nat_cmp k)) es) (at_is k e.0 ∙ f)))))
+    (cases_Bool (eqb e.0 k))
 
-pub place_is : (k : ℕ) (l : List Allowance) (i : ℕ) (d : Allowance) → Rise (clients_of l) → IsPlaceOf k l i → allowance_for k l ≡ Some (get_or l i d)
-place_is k l i d rise place = found_at k l i d rise place.within (place.there (allowance 0 0 0))
+-- of one that isn't known, and of one that is
+pub no_allowance : (most : ℕ) (changed : ℕ → Option Allowance) (k : ℕ) (t : Clients) → None ≡ entry_of t k → None ≡ allowance_for k (all_allowances most t.known changed)
+no_allowance most changed k t unknown = sym (found_by most changed k t.known ∙ ap (option_map (λ e. or_changed (changed k) (idle_allowance most k e))) (sym unknown))
 
-pub taken_is : (k size : ℕ) (l : List Allowance) (i : ℕ) (d : Allowance) → Rise (clients_of l) → IsPlaceOf k l i → set l i (after_repair (get_or l i d) size) ≡ with_taken k size l
-taken_is k size l i d rise place = taken_at k size l i d rise place.within (place.there (allowance 0 0 0))
+pub has_allowance : (most : ℕ) (changed : ℕ → Option Allowance) (k : ℕ) (t : Clients) (e : Entry) (o : Option Allowance) → Some e ≡ entry_of t k → changed k ≡ o
+    → Some (or_changed o (idle_allowance most k e)) ≡ allowance_for k (all_allowances most t.known changed)
+has_allowance most changed k t e o known is =
+    sym (found_by most changed k t.known ∙ (ap (option_map (λ d. or_changed (changed k) (idle_allowance most k d))) (sym known) ∙ ap (λ (x : Option Allowance). Some (or_changed x (idle_allowance most k e))) is))
+
+-- ---- after a repair
+some_same : (x y : Allowance) → Some x ≡ Some y → x ≡ y
+some_same x y is = cc
+
+module _ (most size k : ℕ) (a : Allowance) (changed now : ℕ → Option Allowance) (puts : (j : ℕ) → now j ≡ cond (eqb k j) (Some (after_repair a size)) (changed j)) where
+  others_stay : (es : List (ℕ × Entry)) → AllByRecursion (λ j. k < j) (keys_of es) → all_allowances most es now ≡ all_allowances most es changed
+  others_stay [] above = refl
+  others_stay (e ∷ es) above =
+      ap (λ (o : Option Allowance). or_changed o (idle_allowance most e.0 e.1) ∷ all_allowances most es now)
+      (puts e.0 ∙ cond-false (eqb k e.0) (Some (after_repair a size)) (changed e.0) (ne_eqb k e.0 (λ same. omega (arith, above.0, same))))
+      ∙ ap (λ (l : List Allowance). or_changed (changed e.0) (idle_allowance most e.0 e.1) ∷ l) (others_stay es above.1)
+
+  taken_is : (es : List (ℕ × Entry)) → Rise (keys_of es) → allowance_for k (all_allowances most es changed) ≡ Some a → all_allowances most es now ≡ with_taken k size (all_allowances most es changed)
+  unfolding with_taken
+  taken_is [] rise found = refl
+  taken_is (e ∷ es) rise found =
+      let here = or_changed (changed e.0) (idle_allowance most e.0 e.1) in
+      let test : eqb here.client k ≡ eqb e.0 k = ap (λ (n : ℕ). eqb n k) (whose_changed (changed e.0) (idle_allowance most e.0 e.1)) in
+      ⊎_elim
+      (λ (t : eqb e.0 k ≡ true).
+      let same : e.0 ≡ k = eqb-true e.0 k t in
+      let is : here ≡ a = some_same here a (sym (cond-true (eqb here.client k) (Some here) (allowance_for k (all_allowances most es changed)) (test ∙ t)) ∙ found) in
+      let own : a.client ≡ e.0 = sym (ap (λ (x : Allowance). x.client) is) ∙ whose_changed (changed e.0) (idle_allowance most e.0 e.1) in
+      let put : now e.0 ≡ Some (after_repair a size) = puts e.0 ∙ cond-true (eqb k e.0) (Some (after_repair a size)) (changed e.0) (eq-eqb k e.0 (sym same)) in
+      let first : or_changed (now e.0) (idle_allowance most e.0 e.1) ≡ after_repair here size =
+      ap (λ (o : Option Allowance). or_changed o (idle_allowance most e.0 e.1)) put ∙ (ap (λ (n : ℕ). record (after_repair a size) { client = n }) (sym own) ∙ ap (λ (x : Allowance). after_repair x size) (sym is)) in
+      ap (λ (x : Allowance). x ∷ all_allowances most es now) first
+      ∙ (ap (λ (l : List Allowance). after_repair here size ∷ l) (others_stay es (subst (λ (n : ℕ). AllByRecursion (λ j. n < j) (keys_of es)) same rise.0))
+      ∙ sym (cond-true (eqb here.client k) (after_repair here size ∷ all_allowances most es changed) (here ∷ with_taken k size (all_allowances most es changed)) (test ∙ t))))
+      (λ f.
+      let later : allowance_for k (all_allowances most es changed) ≡ Some a = sym (cond-false (eqb here.client k) (Some here) (allowance_for k (all_allowances most es changed)) (test ∙ f)) ∙ found in
+      ap (λ (o : Option Allowance). or_changed o (idle_allowance most e.0 e.1) ∷ all_allowances most es now)
+      (puts e.0 ∙ cond-false (eqb k e.0) (Some (after_repair a size)) (changed e.0) (ne_eqb k e.0 (λ same. eqb-false e.0 k f (sym same))))
+      ∙ (ap (λ (l : List Allowance). here ∷ l) (taken_is es rise.1 later)
+      ∙ sym (cond-false (eqb here.client k) (after_repair here size ∷ all_allowances most es changed) (here ∷ with_taken k size (all_allowances most es changed)) (test ∙ f))))
+      (cases_Bool (eqb e.0 k))
+
+  pub taken_from : (t : Clients) → AreRising t → allowance_for k (all_allowances most t.known changed) ≡ Some a → all_allowances most t.known now ≡ with_taken k size (all_allowances most t.known changed)
+  taken_from t rising found = taken_is t.known (rise_sorted (keys_of t.known) rising) found

@@ -1,22 +1,24 @@
 -- Going through the known clients, by rising number.
-use Rattle.std.proofs.Common.{All, ◌≡◌, ℕ, ◌<◌, List, [], ◌∷◌, ◌++◌, append_assoc, append-nil, Option, Some, None, refl, ap, sym, ◌∙◌, subst, arith}
+use Rattle.std.proofs.Common.{All, ◌≡◌, ℕ, ◌+◌, ◌<◌, ◌≤◌, Bool, true, false, cond, ⊎_elim, IsSome, ◌||◌, List, [], ◌∷◌, Option, Some, None, is_some, filter, eqb, ltb, refl, ap, sym, ◌∙◌, subst, arith}
 use Rattle.std.specs.List.{AllByRecursion}
 use Rattle.std.specs.Map.{keys_of}
 use Rattle.std.specs.Ordering.{nat_cmp}
 use Rattle.std.specs.declared.cmp.Ordering.TheVariants.{Less}
 use Rattle.std.specs.List.Sorted.{IsStrictlySortedBy}
-use Rattle.std.proofs.lemmas.Bool.{cond_both}
+use Rattle.std.proofs.lemmas.Bool.{cond_both, cond-true, cond-false, cases_Bool, eqb-true, eq-eqb, ne_eqb}
 use Rattle.std.proofs.lemmas.Bool.Decides.{nat_tests}
 use Rattle.std.proofs.lemmas.List.Elements.{All-head, All-rest, All-same}
 use Rattle.std.proofs.lemmas.Map.Keys.{sorted_head, sorted_tail}
 use Rattle.client_table.specs.declared.entry.Entry.{Entry}
 use Rattle.client_table.specs.declared.entry.Burst.{Burst}
-use Rattle.client_table.specs.{AreRising, entry_of}
+use Rattle.client_table.specs.{entry_of, opened_of}
 use Rattle.client_table.specs.Clients.{Clients}
+use Rattle.repair_queue.specs.{count_of}
 use Rattle.rams_model.specs.declared.held.Held.{Held}
+use Rattle.rams_model.specs.declared.note.Note.TheVariants.{Forgot}
 use Rattle.rams_model.specs.Service.{Settings, Wanted, is_lost}
 use Rattle.tick_core.specs.declared.allowance.Allowance.{Allowance}
-use Rattle.tick_core.specs.{with_forgotten, with_all_forgotten, Drafted, Rise, clients_of, allowance_of, allowances_of, with_served, with_all_served}
+use Rattle.tick_core.specs.{idle_after, with_forgotten, with_all_forgotten, Drafted, with_note, Rise, clients_of, allowance_of, allowances_of, with_served, with_all_served}
 
 below : (a b : ℕ) → nat_cmp a b ≡ Less → a < b
 below a b h = grind (arith, nat_tests)
@@ -27,29 +29,27 @@ pub served_turn : (s : Settings) (held : List Held) (e : ℕ × Entry) (es rest 
 unfolding with_all_served
 served_turn s held e es rest d d2 end split made so_far = ap (with_all_served s held rest) made ∙ (ap (λ (l : List (ℕ × Entry)). with_all_served s held l d) (sym split) ∙ so_far)
 
-pub allowed_turn : (s : Settings) (held : List Held) (e : ℕ × Entry) (es rest : List (ℕ × Entry)) (a : Allowance) (made more end : List Allowance) → es ≡ e ∷ rest
-    → a ≡ allowance_of s held e.0 e.1 e.1.burst → more ≡ made ++ a ∷ [] → made ++ allowances_of s held es ≡ end → more ++ allowances_of s held rest ≡ end
-unfolding allowances_of
-allowed_turn s held e es rest a made more end split is pushed so_far =
-    ap (λ (l : List Allowance). l ++ allowances_of s held rest) pushed
-    ∙ (append_assoc made (a ∷ []) (allowances_of s held rest)
-    ∙ (ap (λ (x : Allowance). made ++ x ∷ allowances_of s held rest) is ∙ (ap (λ (l : List (ℕ × Entry)). made ++ allowances_of s held l) (sym split) ∙ so_far)))
-
 -- all were served
 pub served_end : (s : Settings) (held : List Held) (es : List (ℕ × Entry)) (d end : Drafted) → es ≡ [] → with_all_served s held es d ≡ end → d ≡ end
 unfolding with_all_served
 served_end s held es d end none so_far = ap (λ (l : List (ℕ × Entry)). with_all_served s held l d) (sym none) ∙ so_far
 
-pub allowed_end : (s : Settings) (held : List Held) (es : List (ℕ × Entry)) (made end : List Allowance) → es ≡ [] → made ++ allowances_of s held es ≡ end → made ≡ end
-unfolding allowances_of
-allowed_end s held es made end none so_far = sym (append-nil made) ∙ (ap (λ (l : List (ℕ × Entry)). made ++ allowances_of s held l) (sym none) ∙ so_far)
+-- those without a burst aren't served
+unserved : (s : Settings) (held : List Held) (k : ℕ) (e : Entry) (o : Option Burst) (d : Drafted) → is_some o ≡ false → with_served s held k e o d ≡ d
+unserved s held k e None d closed = refl
+unserved s held k e (Some b) d closed = cc
+
+served_open : (s : Settings) (held : List Held) (es : List (ℕ × Entry)) (d : Drafted) → with_all_served s held (filter (λ e. is_some e.1.burst) es) d ≡ with_all_served s held es d
+unfolding with_all_served
+served_open s held [] d = refl
+served_open s held (e ∷ es) d =
+    cond_both (is_some e.1.burst) (e ∷ filter (λ e. is_some e.1.burst) es) (filter (λ e. is_some e.1.burst) es) (λ l. with_all_served s held l d ≡ with_all_served s held (e ∷ es) d)
+    (λ t. served_open s held es (with_served s held e.0 e.1 e.1.burst d))
+    (λ f. served_open s held es d ∙ sym (ap (with_all_served s held es) (unserved s held e.0 e.1 e.1.burst d f)))
 
 -- nobody was served yet
-pub served_start : (s : Settings) (held : List Held) (left es : List (ℕ × Entry)) (d : Drafted) → left ≡ es → with_all_served s held left d ≡ with_all_served s held es d
-served_start s held left es d same = ap (λ (l : List (ℕ × Entry)). with_all_served s held l d) same
-
-pub allowed_start : (s : Settings) (held : List Held) (left es : List (ℕ × Entry)) (made : List Allowance) → made ≡ [] → left ≡ es → made ++ allowances_of s held left ≡ allowances_of s held es
-allowed_start s held left es made none same = ap (λ (l : List Allowance). l ++ allowances_of s held left) none ∙ ap (allowances_of s held) same
+pub served_start : (s : Settings) (held : List Held) (left : List (ℕ × Entry)) (t : Clients) (d : Drafted) → left ≡ opened_of t → with_all_served s held left d ≡ with_all_served s held t.known d
+served_start s held left t d same = ap (λ (l : List (ℕ × Entry)). with_all_served s held l d) same ∙ served_open s held t.known d
 
 -- the same of the clients that are forgotten
 pub forgotten_start : (s : Settings) (ws : List Wanted) (left es : List (ℕ × Entry)) (d : Drafted) → left ≡ es → with_all_forgotten s ws left d ≡ with_all_forgotten s ws es d
@@ -72,8 +72,8 @@ first_found t e es rest split found = All-head (λ d. entry_of t d.0 ≡ Some d.
 pub others_found : (t : Clients) (e : ℕ × Entry) (es rest : List (ℕ × Entry)) → es ≡ e ∷ rest → All (λ d. entry_of t d.0 ≡ Some d.1) es → All (λ d. entry_of t d.0 ≡ Some d.1) rest
 others_found t e es rest split found = All-rest (λ d. entry_of t d.0 ≡ Some d.1) e rest es split found
 
-pub all_found : (t : Clients) (left : List (ℕ × Entry)) → left ≡ t.known → All (λ d. entry_of t d.0 ≡ Some d.1) t.known → All (λ d. entry_of t d.0 ≡ Some d.1) left
-all_found t left same found = All-same (λ d. entry_of t d.0 ≡ Some d.1) left t.known same found
+pub all_found : (t : Clients) (left : List (ℕ × Entry)) → left ≡ opened_of t → All (λ d. entry_of t d.0 ≡ Some d.1) (opened_of t) → All (λ d. entry_of t d.0 ≡ Some d.1) left
+all_found t left same found = All-same (λ d. entry_of t d.0 ≡ Some d.1) left (opened_of t) same found
 
 -- an allowance is its client's
 pub whose : (s : Settings) (held : List Held) (k : ℕ) (e : Entry) (o : Option Burst) → (allowance_of s held k e o).client ≡ k
@@ -90,10 +90,73 @@ each_above : (k : ℕ) (ks : List ℕ) → AllByRecursion (λ j. nat_cmp k j ≡
 each_above k [] sorted = tt
 each_above k (j ∷ js) sorted = (below k j sorted.0, each_above k js sorted.1)
 
-rise_sorted : (ks : List ℕ) → IsStrictlySortedBy nat_cmp ks → Rise ks
+pub rise_sorted : (ks : List ℕ) → IsStrictlySortedBy nat_cmp ks → Rise ks
 rise_sorted [] sorted = tt
 rise_sorted (k ∷ ks) sorted = (each_above k ks (sorted_head nat_cmp k ks sorted), rise_sorted ks (sorted_tail nat_cmp k ks sorted))
 
--- so do the clients of all allowances
-pub allowed_rise : (s : Settings) (held : List Held) (t : Clients) (made : List Allowance) → AreRising t → made ≡ allowances_of s held t.known → Rise (clients_of made)
-allowed_rise s held t made rising is = subst Rise (sym (ap clients_of is ∙ whose_all s held t.known)) (rise_sorted (keys_of t.known) rising)
+-- ---- the allowances so far
+-- each is that of a known client
+abbrev pub AreTrue : Settings → List Held → Clients → (ℕ → Option Allowance) → Type 0
+AreTrue s held t allowed = (k : ℕ) (a : Allowance) → allowed k ≡ Some a → (e : Entry) × (entry_of t k ≡ Some e) × (a ≡ allowance_of s held k e e.burst)
+
+-- where those that are left have one too, all of these have one
+abbrev pub LeadToAll : (ℕ → Option Allowance) → List (ℕ × Entry) → List (ℕ × Entry) → Type 0
+LeadToAll allowed left es =
+    (test : ℕ → Bool) → ((k : ℕ) → IsSome (allowed k) → test k ≡ true) → AllByRecursion (λ e. test e.0 ≡ true) left → AllByRecursion (λ e. test e.0 ≡ true) es
+
+module _ (allowed now : ℕ → Option Allowance) (k : ℕ) (a : Allowance) (puts : (j : ℕ) → now j ≡ cond (eqb k j) (Some a) (allowed j)) where
+  pub true_more : (s : Settings) (held : List Held) (t : Clients) (e : Entry) → entry_of t k ≡ Some e → a ≡ allowance_of s held k e e.burst → AreTrue s held t allowed → AreTrue s held t now
+  true_more s held t e found is each = λ j b has.
+      ⊎_elim
+      (λ (u : eqb k j ≡ true).
+      let same : k ≡ j = eqb-true k j u in
+      let put : Some b ≡ Some a = sym has ∙ (puts j ∙ cond-true (eqb k j) (Some a) (allowed j) u) in
+      let b_is : b ≡ a = cc in
+      (e, ap (entry_of t) (sym same) ∙ found, b_is ∙ (is ∙ ap (λ (n : ℕ). allowance_of s held n e e.burst) same)))
+      (λ f. each j b (sym (puts j ∙ cond-false (eqb k j) (Some a) (allowed j) f) ∙ has))
+      (cases_Bool (eqb k j))
+
+  put_some : (j : ℕ) (o : Option Allowance) (b : Bool) → eqb k j ≡ b → now j ≡ cond b (Some a) o → IsSome o → IsSome (now j)
+  put_some j o true is put some = subst IsSome (sym put) refl
+  put_some j o false is put some = subst IsSome (sym put) some
+
+  pub all_more : (x : ℕ × Entry) (left rest es : List (ℕ × Entry)) → left ≡ x ∷ rest → x.0 ≡ k → LeadToAll allowed left es → LeadToAll now rest es
+  all_more x left rest es split own leads = λ test has all.
+      leads test (λ j some. has j (put_some j (allowed j) (eqb k j) refl (puts j) some))
+      (subst (AllByRecursion (λ e. test e.0 ≡ true)) (sym split)
+      (has x.0 (subst IsSome (sym (puts x.0 ∙ cond-true (eqb k x.0) (Some a) (allowed x.0) (eq-eqb k x.0 (sym own)))) refl), all))
+
+pub all_begin : (allowed : ℕ → Option Allowance) (left es : List (ℕ × Entry)) → left ≡ es → LeadToAll allowed left es
+all_begin allowed left es same = λ test has all. subst (AllByRecursion (λ e. test e.0 ≡ true)) same all
+
+some_is : (o : Option Allowance) → is_some o ≡ true → IsSome o
+some_is None t = cc
+some_is (Some a) t = refl
+
+is_some_of : (o : Option Allowance) → IsSome o → is_some o ≡ true
+is_some_of None some = cc
+is_some_of (Some a) some = refl
+
+each_is_some : (allowed : ℕ → Option Allowance) (es : List (ℕ × Entry)) → AllByRecursion (λ e. is_some (allowed e.0) ≡ true) es → AllByRecursion (λ e. IsSome (allowed e.0)) es
+each_is_some allowed [] all = tt
+each_is_some allowed (e ∷ es) all = (some_is (allowed e.0) all.0, each_is_some allowed es all.1)
+
+pub all_end : (allowed : ℕ → Option Allowance) (left es : List (ℕ × Entry)) → left ≡ [] → LeadToAll allowed left es → AllByRecursion (λ e. IsSome (allowed e.0)) es
+all_end allowed left es none leads =
+    each_is_some allowed es (leads (λ k. is_some (allowed k)) (λ k some. is_some_of (allowed k) some) (subst (AllByRecursion (λ e. is_some (allowed e.0) ≡ true)) (sym none) tt))
+
+pub none_true : (s : Settings) (held : List Held) (t : Clients) (allowed : ℕ → Option Allowance) → ((k : ℕ) → allowed k ≡ None) → AreTrue s held t allowed
+none_true s held t allowed none = λ k a has. let clash : Some a ≡ None = sym has ∙ none k in absurd cc
+
+-- ---- who is forgotten
+-- where nobody was idle for long nobody is
+none_idle : (b : Bool) (most n idle : ℕ) → n ≤ most → most + 1 < idle → eqb (cond b 0 (n + 1)) idle ≡ false
+none_idle true most n idle le lt = ne_eqb 0 idle (λ same. omega (arith, lt, same))
+none_idle false most n idle le lt = ne_eqb (n + 1) idle (λ same. omega (arith, le, lt, same))
+
+pub none_forgotten : (s : Settings) (ws : List Wanted) (most : ℕ) (es : List (ℕ × Entry)) (d : Drafted) → AllByRecursion (λ e. e.1.idle ≤ most) es → most + 1 < s.channel.idle → d ≡ with_all_forgotten s ws es d
+unfolding with_all_forgotten
+none_forgotten s ws most [] d within lt = refl
+none_forgotten s ws most (e ∷ es) d within lt =
+    let stays : with_forgotten s ws e.0 e.1 d ≡ d = cond-false (eqb (idle_after ws e.0 e.1) s.channel.idle) (with_note d (Forgot e.0)) d (none_idle (is_some e.1.burst || ltb 0 (count_of e.0 ws)) most e.1.idle s.channel.idle within.0 lt) in
+    none_forgotten s ws most es d within.1 lt ∙ sym (ap (with_all_forgotten s ws es) stays)

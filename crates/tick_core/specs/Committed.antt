@@ -1,5 +1,5 @@
 -- What the known clients and the budget of a channel are as a tick goes on, note by note.
-use Rattle.std.specs.Prelude.{◌≡◌, ℕ, ◌+◌, ◌-◌, ◌^◌, ◌<◌, ◌≤◌, min, List, [], ◌∷◌, Option, Some, None, option_map}
+use Rattle.std.specs.Prelude.{◌≡◌, ℕ, ◌+◌, ◌-◌, ◌%◌, ◌^◌, ◌<◌, ◌≤◌, min, List, [], ◌∷◌, Option, Some, None, option_map}
 use Rattle.rams_model.specs.declared.held.Held.{Held}
 use Rattle.rams_model.specs.declared.note.Note.{Note}
 use Rattle.rams_model.specs.declared.note.Note.TheVariants.{Burst as BurstNote, Repair, Gone, End, Forgot}
@@ -16,9 +16,9 @@ use Rattle.packet_ring.specs.{packet_of}
 abbrev pub opened_for_tick : Burst → Burst
 opened_for_tick b = record b { ticks = b.ticks + 1; kept = b.rate + b.kept }
 
--- the idle count of an entry as a tick begins: one more, as far as it counts
+-- the idle count of an entry as a tick begins: one more, modulo 2^32
 abbrev pub counted_on : ℕ → ℕ
-counted_on idle = min (idle + 1) 4294967295
+counted_on idle = (idle + 1) % 4294967296
 
 abbrev pub entry_begun : Entry → Entry
 entry_begun e = record e { idle = counted_on e.idle; burst = option_map opened_for_tick e.burst }

@@ -6,10 +6,10 @@ pub mod Plans
 pub mod Committed
 unfoldable pub use Rattle.tick_core.specs.Drafts.{new_draft, with_note, with_packet, told_end, with_end}
 pub use Rattle.tick_core.specs.Drafts.{Drafted}
-unfoldable pub use Rattle.tick_core.specs.Runs.{unsent, after_packet, sent_after, run_from, with_run, IsInTime, AreInTime, run_of, after_run, end_of, kept_back, allowance, left_by_run, allowance_of, with_served, with_all_served, allowances_of}
-pub use Rattle.tick_core.specs.Runs.{AreInOrder, IsSmall, IsNext}
-unfoldable pub use Rattle.tick_core.specs.Repairs.{after_repair, allowance_for, with_taken, fits, waiting, with_repair, with_wanted, IsSpent, with_all_wanted, clients_of, Rise}
-pub use Rattle.tick_core.specs.Repairs.{Repaired, IsPlaceOf}
+unfoldable pub use Rattle.tick_core.specs.Runs.{unsent, after_packet, sent_after, run_from, with_run, IsInTime, AreInTime, run_of, after_run, end_of, kept_back, allowance, left_by_run, allowance_of, idle_allowance, with_served, with_all_served, allowances_of}
+pub use Rattle.tick_core.specs.Runs.{AreInOrder, IsSmall, IsNext, AreOfBursts}
+unfoldable pub use Rattle.tick_core.specs.Repairs.{after_repair, allowance_for, with_taken, fits, waiting, with_repair, with_wanted, IsSpent, with_all_wanted, clients_of, Rise, or_changed, all_allowances}
+pub use Rattle.tick_core.specs.Repairs.{Repaired}
 unfoldable pub use Rattle.tick_core.specs.Forgetting.{idle_after, with_forgotten, with_all_forgotten}
 unfoldable pub use Rattle.tick_core.specs.Plans.{begun_left, drafted_runs, drafted_repairs, drafted_tick, planned_answer, planned_flags, ends_wait, is_over}
 pub use Rattle.tick_core.specs.Plans.{IsPlanOf, IsPlanFor}

@@ -1,11 +1,13 @@
 -- What the pending repairs come to in a tick.
-use Rattle.std.specs.Prelude.{◌≡◌, ℕ, ◌<◌, ◌-◌, Bool, true, false, ◌&&◌, ◌==◌, nat_le, if◌then◌else◌, List, [], ◌∷◌, ◌++◌, Option, Some, None, find, map, length, slice_index_or}
+use Rattle.std.specs.Prelude.{ℕ, ◌<◌, ◌-◌, Bool, true, false, ◌&&◌, ◌==◌, nat_le, if◌then◌else◌, List, [], ◌∷◌, ◌++◌, Option, Some, None, find, map}
 use Rattle.std.specs.List.{AllByRecursion}
 use Rattle.rams_model.specs.declared.held.Held.{Held}
 use Rattle.rams_model.specs.declared.note.Note.TheVariants.{Repair, Gone}
 use Rattle.rams_model.specs.Packets.{following}
 use Rattle.rams_model.specs.Service.{Wanted}
 use Rattle.tick_core.specs.declared.allowance.Allowance.{Allowance}
+use Rattle.client_table.specs.declared.entry.Entry.{Entry}
+use Rattle.tick_core.specs.Runs.{idle_allowance}
 use Rattle.tick_core.specs.Drafts.{Drafted, with_note, with_packet}
 
 -- the repairs so far: the notes, what each client's repairs may still take, and which of them are over
@@ -70,7 +72,11 @@ abbrev pub Rise : List ℕ → Type 0
 Rise [] = Unit {0}
 Rise (k ∷ ks) = AllByRecursion (λ j. k < j) ks × Rise ks
 
--- the client's allowance stands there
-pub record IsPlaceOf (client : ℕ) (allowances : List Allowance) (place : ℕ) : Type 0 where
-  pub within : place < length allowances
-  pub there : (d : Allowance) → (slice_index_or allowances place d).client ≡ client
+-- what the repairs of a client may take, where some of it was taken
+abbrev pub or_changed : Option Allowance → Allowance → Allowance
+or_changed None a = a
+or_changed (Some b) a = record b { client = a.client }
+
+-- what those of all known clients may take, where only what was changed is written down
+abbrev pub all_allowances : ℕ → List (ℕ × Entry) → (ℕ → Option Allowance) → List Allowance
+all_allowances most es changed = map (λ e. or_changed (changed e.0) (idle_allowance most e.0 e.1)) es

@@ -1,5 +1,6 @@
 -- What bursts are sent in a tick, and what they leave to repairs.
-use Rattle.std.specs.Prelude.{◌≡◌, ℕ, ◌+◌, ◌<◌, ◌≤◌, ◌^◌, ◌-◌, min, ◌==◌, nat_lt, if◌then◌else◌, List, [], ◌∷◌, Option, Some, None}
+use Rattle.std.specs.Prelude.{◌≡◌, ℕ, ◌+◌, ◌<◌, ◌≤◌, ◌^◌, ◌-◌, min, ◌==◌, nat_lt, if◌then◌else◌, List, [], ◌∷◌, Option, Some, None, IsSome}
+use Rattle.std.specs.List.{AllByRecursion}
 use Rattle.rams_model.specs.declared.held.Held.{Held}
 use Rattle.rams_model.specs.declared.note.Cause.{Cause}
 use Rattle.rams_model.specs.declared.note.Cause.TheVariants.{Stopped, Lost, Limit}
@@ -8,7 +9,7 @@ use Rattle.rams_model.specs.Service.{Settings, run, is_lost, is_stop}
 use Rattle.rams_model.specs.Packets.{lo, hi, from_number, following, Follows}
 use Rattle.client_table.specs.declared.entry.Burst.{Burst}
 use Rattle.client_table.specs.declared.entry.Entry.{Entry}
-use Rattle.client_table.specs.{entry_of}
+use Rattle.client_table.specs.{entry_of, opened_of}
 use Rattle.client_table.specs.Clients.{Clients}
 use Rattle.tick_core.specs.declared.allowance.Allowance.{Allowance}
 use Rattle.tick_core.specs.declared.runs.Sent.{Sent}
@@ -92,6 +93,10 @@ allowance_of s held client e (Some b) =
     if is_lost b.next held then allowance client (b.rate + b.kept) e.seq
     else left_by_run s held client (end_of s.channel.limit b (after_run held e.seq b).next) (after_run held e.seq b)
 
+-- what those of a client that has no burst may
+abbrev pub idle_allowance : ℕ → ℕ → Entry → Allowance
+idle_allowance most client e = allowance client most e.seq
+
 -- the notes of a client's burst: of its run and of its end
 abbrev pub with_served : Settings → List Held → ℕ → Entry → Option Burst → Drafted → Drafted
 with_served s held client e None d = d
@@ -108,3 +113,8 @@ with_all_served s held (e ∷ es) d = with_all_served s held es (with_served s h
 unfoldable pub allowances_of : Settings → List Held → List (ℕ × Entry) → List Allowance
 allowances_of s held [] = []
 allowances_of s held (e ∷ es) = allowance_of s held e.0 e.1 e.1.burst ∷ allowances_of s held es
+
+-- Of these allowances each is that of a known client, and none of a client with an open burst is missing.
+pub record AreOfBursts (s : Settings) (held : List Held) (table : Clients) (allowances : ℕ → Option Allowance) : Type 0 where
+  pub each : (client : ℕ) (a : Allowance) → allowances client ≡ Some a → (e : Entry) × (entry_of table client ≡ Some e) × (a ≡ allowance_of s held client e e.burst)
+  pub all : AllByRecursion (λ e. IsSome (allowances e.0)) (opened_of table)

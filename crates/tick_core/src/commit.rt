@@ -137,6 +137,7 @@ pub fn commit_tick(parts: &mut Parts, plan: &TickPlan)
         &mut parts.budget,
         &plan.answer.notes,
     );
-    end_entries(&mut parts.table, parts.config.channel().depth);
+    let channel = parts.config.channel();
+    end_entries(&mut parts.table, channel.depth, channel.idle);
     parts.queue.settle(&plan.done);
 }

@@ -1,32 +1,30 @@
 //! What is kept of the clients, as a tick begins, goes on and ends.
 ghost use Rattle.std.specs.Prelude.{◌≡◌, option_map};
 ghost use Rattle.client_table.specs.{entry_of};
-ghost use Rattle.tick_core.specs.{opened_for_tick, entry_begun, IsSmallIfOpen, burst_ended, entry_ended, burst_sent, entry_sent, entry_closed, entry_awake, IsNextSmall, IsNextSmallIfKnown, changed, AreSmall, AreAllChanged};
+ghost use Rattle.tick_core.specs.{opened_for_tick, entry_begun, IsSmallBurst, burst_ended, entry_ended, burst_sent, entry_sent, entry_closed, entry_awake, IsNextSmall, IsNextSmallIfKnown, changed, AreSmall, AreAllChanged};
 
 use client_table::{Burst, Entry, Table};
 
 /// An open burst as a tick begins. Until the tick ends, `kept` is all that it may still be sent.
-fn opened_for_tick(burst: Option<Burst>) -> Option<Burst>
-    requires { IsSmallIfOpen burst }
-    ensures { result ≡ option_map opened_for_tick burst }
+fn opened_for_tick(burst: Burst) -> Burst
+    requires { IsSmallBurst burst }
+    ensures { result ≡ opened_for_tick burst }
 {
-    let burst = burst?;
-    Some(Burst {
+    Burst {
         ticks: burst.ticks + 1,
         kept: burst.rate + burst.kept,
         ..burst
-    })
+    }
 }
 
 /// An open burst as a tick ends: it keeps at most the depth.
-fn ended_burst(depth: u64, burst: Option<Burst>) -> Option<Burst>
-    ensures { result ≡ option_map (burst_ended depth) burst }
+fn ended_burst(depth: u64, burst: Burst) -> Burst
+    ensures { result ≡ burst_ended depth burst }
 {
-    let burst = burst?;
-    Some(Burst {
+    Burst {
         kept: depth.min(burst.kept),
         ..burst
-    })
+    }
 }
 
 /// An open burst after a packet of this size, and so many of its own.
@@ -40,29 +38,6 @@ fn sent_burst(count: u64, size: u64, burst: Option<Burst>) -> Option<Burst>
         kept: burst.kept.saturating_sub(size),
         ..burst
     })
-}
-
-/// What is kept of a client as a tick begins. Whether it is busy isn't looked at: a busy client is
-/// served before it can be idle, and then its count begins anew.
-fn begun_entry(entry: &Entry) -> Entry
-    requires { IsSmallIfOpen entry.now.burst }
-    ensures { result ≡ entry_begun entry.now }
-{
-    Entry {
-        idle: entry.idle.saturating_add(1),
-        burst: opened_for_tick(entry.burst),
-        ..*entry
-    }
-}
-
-/// What is kept of a client as a tick ends.
-fn ended_entry(depth: u64, entry: &Entry) -> Entry
-    ensures { result ≡ entry_ended depth entry.now }
-{
-    Entry {
-        burst: ended_burst(depth, entry.burst),
-        ..*entry
-    }
 }
 
 /// What is kept of a client that was sent a packet of this size, and so many of its burst.
@@ -83,41 +58,47 @@ pub fn send_to(table: &mut Table, client: u64, count: u64, size: u64)
     requires { IsNextSmallIfKnown count (entry_of table.old client) }
     ensures { table.new ≡ changed (entry_sent count size) table.old client }
 {
-    if let Some(entry) = table.find_mut(client) {
-        *entry = sent_entry(count, size, entry);
-    }
+    table.change(client, |entry| sent_entry(count, size, &entry));
 }
 
 /// A client's burst ends.
 pub fn close_entry(table: &mut Table, client: u64)
     ensures { table.new ≡ changed entry_closed table.old client }
 {
-    if let Some(entry) = table.find_mut(client) {
-        entry.burst = None;
-        entry.idle = 0;
-    }
+    table.change(
+        client,
+        |entry| Entry {
+            idle: 0,
+            burst: None,
+            ..entry
+        },
+    );
 }
 
 /// A client isn't idle.
 pub fn wake(table: &mut Table, client: u64)
     ensures { table.new ≡ changed entry_awake table.old client }
 {
-    if let Some(entry) = table.find_mut(client) {
-        entry.idle = 0;
-    }
+    table.change(client, |entry| Entry { idle: 0, ..entry });
 }
 
-/// What is kept of all clients as a tick begins.
+/// What is kept of all clients as a tick begins. Whether one is busy isn't looked at: a busy client is
+/// served before it can be idle, and then its count begins anew.
 pub fn begin_entries(table: &mut Table)
     requires { AreSmall table.old }
     ensures { AreAllChanged (λ _. entry_begun) table.old table.new }
 {
-    table.change_all(|_, entry| begun_entry(&entry));
+    table.age();
+    table.change_bursts(|burst| opened_for_tick(burst));
 }
 
-/// What is kept of all clients as a tick ends.
-pub fn end_entries(table: &mut Table, depth: u64)
+/// What is kept of all clients as a tick ends. Where a client may have been idle for as many ticks as
+/// after which it is forgotten, it is seen how long all have been.
+pub fn end_entries(table: &mut Table, depth: u64, idle: u32)
     ensures { AreAllChanged (λ _. entry_ended depth) table.old table.new }
 {
-    table.change_all(|_, entry| ended_entry(depth, &entry));
+    table.change_bursts(|burst| ended_burst(depth, burst));
+    if table.idle_most() >= idle {
+        table.measure_idle();
+    }
 }

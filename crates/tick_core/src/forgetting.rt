@@ -46,7 +46,8 @@ fn forget_client(
     Ok(())
 }
 
-/// Notes who is forgotten, by rising number.
+/// Notes who is forgotten, by rising number. Nobody is looked at before one may have been idle for so
+/// many ticks.
 pub fn forget_clients(
     config: &Config,
     queue: &Queue,
@@ -55,8 +56,11 @@ pub fn forget_clients(
 ) -> Result<(), NoMemory>
     ensures { IfOk result (λ _. draft.new ≡ with_all_forgotten config.now queue.now table.now.known draft.old) }
 {
+    if u64::from(table.idle_most()) + 1 < u64::from(config.channel().idle) {
+        return Ok(());
+    }
     for (client, entry) in table.iter() {
-        forget_client(config, queue, client, entry, draft)?;
+        forget_client(config, queue, client, &entry, draft)?;
     }
     Ok(())
 }

@@ -2,6 +2,7 @@
 ghost use Rattle.std.specs.Prelude.{List, IfOk};
 ghost use Rattle.rams_model.specs.declared.event.Event.{Event};
 ghost use Rattle.channel_parts.specs.{StandsFor};
+ghost use Rattle.client_table.specs.{AreRising};
 ghost use Rattle.tick_core.specs.{AreInOrder, AreInTime, IsPlanOf, IsPlanFor};
 
 use crate::draft::Draft;
@@ -38,6 +39,7 @@ pub fn plan_tick(alloc: Global, parts: &Parts) -> Result<TickPlan, NoMemory>
 fn plan_of(alloc: Global, parts: &Parts) -> Result<TickPlan, NoMemory>
     requires held { AreInOrder parts.now.cache.held }
     requires small { AreInTime parts.now.config parts.now.table }
+    requires rising { AreRising parts.now.table }
     ensures { IfOk result (λ plan. IsPlanOf parts.now plan) }
 {
     let Parts {
@@ -51,7 +53,7 @@ fn plan_of(alloc: Global, parts: &Parts) -> Result<TickPlan, NoMemory>
     budget.open_tick();
     let mut draft = Draft::new(alloc, budget.left());
     let allowances = serve_clients(alloc, config, cache, table, &mut draft)?;
-    let mut repairs = Repairs::new(alloc, draft, allowances);
+    let mut repairs = Repairs::new(alloc, table, config.channel().burst, draft, allowances);
     repairs.repair_all(cache, queue)?;
     let (mut draft, done) = repairs.finish();
     forget_clients(config, queue, table, &mut draft)?;

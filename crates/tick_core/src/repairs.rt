@@ -1,48 +1,78 @@
 //! The pending repairs.
-ghost use Rattle.std.specs.Prelude.{◌≡◌, ◌≤◌, ◌&&◌, nat_le, false, [], ◌++◌, length, drop, replicate, None, IfOk, MatchOption, slice_index_or};
-ghost use Rattle.tick_core.specs.declared.allowance.Allowance.{Allowance};
-ghost use Rattle.tick_core.specs.{Rise, clients_of, IsSpent, allowance_for, IsPlaceOf, waiting, with_taken, with_repair, with_wanted, with_all_wanted};
+ghost use Rattle.std.specs.Prelude.{◌≡◌, ◌≤◌, ◌&&◌, nat_le, nat_eq, false, [], ◌++◌, length, drop, replicate, Some, None, IfOk};
+ghost use Rattle.std.specs.HashMap.{get};
+ghost use Rattle.client_table.specs.{AreRising};
+ghost use Rattle.tick_core.specs.{IsSpent, all_allowances, allowance_for, after_repair, waiting, with_repair, with_wanted, with_all_wanted};
 ghost use Rattle.packet_ring.specs.{packet_of};
 
 use crate::allowance::Allowance;
 use crate::draft::Draft;
+use crate::runs::idle_allowance;
 use channel_cache::Cache;
+use client_table::Table;
 use ram_io::NoMemory;
 use rams_model::{Held, Note};
 use repair_queue::{Queue, Wanted};
 use std::alloc::Global;
+use std::collections::HashMap;
 use std::marker::Model;
 
 /// The repairs of a tick so far: what was noted, what each client's repairs may still take, and which of
 /// them are over.
 #[derive(Drop)]
-pub struct Repairs {
+pub struct Repairs<'a> {
+    table: &'a Table,
+    /// What the repairs of a client without a burst may take, in bytes.
+    most: u64,
     draft: Draft,
-    allowances: Vec<Allowance>,
+    /// What the repairs of clients may still take that have a burst, or were sent one.
+    changed: HashMap<u64, Allowance>,
     done: Vec<bool>,
 }
 
-impl Model for Repairs {
-    ghost use Rattle.tick_core.specs.{Repaired, Rise, clients_of};
+impl<'a> Model for Repairs<'a> {
+    ghost use Rattle.std.specs.Prelude.{nat_eq};
+    ghost use Rattle.std.specs.HashMap.{get};
+    ghost use Rattle.client_table.specs.Clients.{AreRising};
+    ghost use Rattle.tick_core.specs.{Repaired, all_allowances};
 
     ghost Value = { Repaired };
 
-    ghost view = { λ r. record { draft = r.draft; allowances = r.allowances.items; done = r.done.items } };
+    ghost view = { λ r. record { draft = r.draft; allowances = all_allowances r.most r.table.now.known (get nat_eq r.changed); done = r.done.items } };
 
-    ghost invariant = { λ r. Rise (clients_of r.allowances.items) };
+    ghost invariant = { λ r. AreRising r.table.now };
 }
 
-impl Repairs {
-    /// No repair is over yet. The allowances stand by rising client.
-    pub fn new(alloc: Global, draft: Draft, allowances: Vec<Allowance>) -> Repairs
-        requires { Rise (clients_of allowances.items) }
-        ensures { result ≡ record { draft = draft; allowances = allowances.items; done = [] } }
+impl<'a> Repairs<'a> {
+    /// No repair is over yet. Each client's repairs may take as much as is told of it, or else `most` bytes.
+    pub fn new(
+        alloc: Global,
+        table: &'a Table,
+        most: u64,
+        draft: Draft,
+        allowances: HashMap<u64, Allowance>,
+    ) -> Repairs<'a>
+        requires { AreRising table.now }
+        ensures { result ≡ record { draft = draft; allowances = all_allowances most table.now.known (get nat_eq allowances); done = [] } }
     {
         Repairs {
+            table,
+            most,
             draft,
-            allowances,
+            changed: allowances,
             done: Vec::new(alloc),
         }
+    }
+
+    /// What the repairs of a known client may take.
+    fn allowance(&self, client: u64) -> Option<Allowance>
+        ensures { result ≡ allowance_for client self.now.allowances }
+    {
+        let entry = self.table.find(client)?;
+        let Some(changed) = self.changed.get(&client) else {
+            return Some(idle_allowance(self.most, client, &entry));
+        };
+        Some(Allowance { client, ..*changed })
     }
 
     /// The repair waits on.
@@ -65,12 +95,11 @@ impl Repairs {
 
     /// Sends the packet again, where it fits into what its client's repairs may take and into what the
     /// channel has left.
-    fn send(&mut self, place: usize, wanted: &Wanted, held: &Held) -> Result<(), NoMemory>
-        requires { IsPlaceOf wanted.now.client self.old.allowances place }
-        ensures { IfOk result (λ _. self.new ≡ with_repair wanted.now held.now (allowance_for wanted.now.client self.old.allowances) self.old) }
+    fn send(&mut self, wanted: &Wanted, held: &Held, allowance: &Allowance) -> Result<(), NoMemory>
+        requires { allowance_for wanted.now.client self.old.allowances ≡ Some allowance.now }
+        ensures { IfOk result (λ _. self.new ≡ with_repair wanted.now held.now (Some allowance.now) self.old) }
     {
-        let allowance = self.allowances[place];
-        if !fits(held, &allowance, self.draft.left()) {
+        if !fits(held, allowance, self.draft.left()) {
             return self.wait();
         }
         let Wanted { client, n } = *wanted;
@@ -78,7 +107,7 @@ impl Repairs {
         self.draft
             .send(Note::Repair { client, n, seq }, client, seq, held)?;
         self.done.push(true)?;
-        take(&mut self.allowances, place, client, u64::from(held.wire));
+        self.changed.insert(client, taken(allowance, held))?;
         Ok(())
     }
 
@@ -92,8 +121,8 @@ impl Repairs {
         if u64::from(held.wire) > self.draft.left() {
             return self.wait();
         }
-        match place_of(&self.allowances, wanted.client) {
-            Some(place) => self.send(place, wanted, held),
+        match self.allowance(wanted.client) {
+            Some(allowance) => self.send(wanted, held, &allowance),
             None => self.wait(),
         }
     }
@@ -154,21 +183,11 @@ impl Repairs {
 
     /// What was noted, and a flag for each repair that is over.
     pub fn finish(self) -> (Draft, Vec<bool>)
-        ensures draft { result.0 ≡ self.draft }
-        ensures done { result.1.items ≡ self.done }
+        ensures draft { result.0 ≡ self.entry.draft }
+        ensures done { result.1.items ≡ self.entry.done }
     {
         (self.draft, self.done)
     }
-}
-
-/// Where a client's allowance stands among those by rising client.
-fn place_of(allowances: &[Allowance], client: u64) -> Option<usize>
-    requires { Rise (clients_of allowances.now) }
-    ensures { MatchOption result (allowance_for client allowances.now ≡ None) (IsPlaceOf client allowances.now) }
-{
-    allowances
-        .binary_search_by_key(&client, |allowance| allowance.client)
-        .ok()
 }
 
 /// Whether a packet fits into what its client's repairs may take, and into what the channel has left.
@@ -179,15 +198,14 @@ fn fits(held: &Held, allowance: &Allowance, left: u64) -> bool
     wire <= allowance.may_take && wire <= left
 }
 
-/// Takes the size of a packet from what its client's repairs may take.
-fn take(allowances: &mut [Allowance], place: usize, client: u64, size: u64)
-    requires rise { Rise (clients_of allowances.old) }
-    requires place { IsPlaceOf client allowances.old place }
-    requires fits { (d : Allowance) → size ≤ (slice_index_or allowances.old place d).may_take }
-    ensures taken { allowances.new ≡ with_taken client size allowances.old }
-    ensures clients { clients_of allowances.new ≡ clients_of allowances.old }
+/// What a client's repairs may take after a packet that fits was sent.
+fn taken(allowance: &Allowance, held: &Held) -> Allowance
+    requires { held.now.wire ≤ allowance.now.may_take }
+    ensures { result ≡ after_repair allowance.now held.now.wire }
 {
-    let allowance = &mut allowances[place];
-    allowance.may_take -= size;
-    allowance.seq = allowance.seq.wrapping_add(1);
+    Allowance {
+        client: allowance.client,
+        may_take: allowance.may_take - u64::from(held.wire),
+        seq: allowance.seq.wrapping_add(1),
+    }
 }

@@ -1,8 +1,9 @@
 //! The runs of the open bursts.
-ghost use Rattle.std.specs.Prelude.{◌≡◌, ℕ, ◌+◌, ◌<◌, ◌≤◌, ◌^◌, ◌&&◌, nat_le, [], ◌∷◌, Some, IfOk, MatchOption, filter};
+ghost use Rattle.std.specs.Prelude.{◌≡◌, ℕ, ◌+◌, ◌<◌, ◌≤◌, ◌^◌, ◌&&◌, nat_le, nat_eq, [], ◌∷◌, Some, IfOk, MatchOption, filter};
+ghost use Rattle.std.specs.HashMap.{get};
 ghost use Rattle.rams_model.specs.Service.{is_before, is_lost, is_stop};
 ghost use Rattle.rams_model.specs.Packets.{hi};
-ghost use Rattle.tick_core.specs.{Rise, clients_of, AreInOrder, AreInTime, IsInTime, IsNext, run_from, run_of, after_run, with_run, end_of, kept_back, allowance_of, with_served, allowances_of, with_all_served};
+ghost use Rattle.tick_core.specs.{AreInOrder, AreInTime, IsInTime, IsNext, run_from, run_of, after_run, with_run, end_of, kept_back, allowance_of, idle_allowance, AreOfBursts, with_served, with_all_served};
 
 use crate::allowance::Allowance;
 use crate::draft::Draft;
@@ -13,6 +14,7 @@ use client_table::{Burst, Entry, Table};
 use ram_io::NoMemory;
 use rams_model::{Cause, Held, Note};
 use std::alloc::Global;
+use std::collections::HashMap;
 
 /// How far a burst has come in a tick.
 #[derive(Clone, Copy, Debug, PartialEq, Eq)]
@@ -153,6 +155,17 @@ fn serve_burst(
     })
 }
 
+/// What the repairs of a client without a burst may take.
+pub fn idle_allowance(most: u64, client: u64, entry: &Entry) -> Allowance
+    ensures { result ≡ idle_allowance most client entry.now }
+{
+    Allowance {
+        client,
+        may_take: most,
+        seq: entry.seq,
+    }
+}
+
 /// Serves a known client: its burst, where one is open.
 fn serve_client(
     config: &Config,
@@ -168,32 +181,27 @@ fn serve_client(
 {
     match &entry.burst {
         Some(burst) => serve_burst(config, cache, client, entry, burst, draft),
-        None => Ok(Allowance {
-            client,
-            may_take: config.channel().burst,
-            seq: entry.seq,
-        }),
+        None => Ok(idle_allowance(config.channel().burst, client, entry)),
     }
 }
 
-/// Serves all known clients, by rising number: what their repairs may take after that.
+/// Serves the clients with an open burst, by rising number: what the repairs of each may take after that.
 pub fn serve_clients(
     alloc: Global,
     config: &Config,
     cache: &Cache,
     table: &Table,
     draft: &mut Draft,
-) -> Result<Vec<Allowance>, NoMemory>
+) -> Result<HashMap<u64, Allowance>, NoMemory>
     requires held { AreInOrder cache.now.held }
     requires small { AreInTime config.now table.now }
-    ensures allowances { IfOk result (λ allowances. allowances.items ≡ allowances_of config.now cache.now.held table.now.known) }
+    ensures allowances { IfOk result (λ allowances. AreOfBursts config.now cache.now.held table.now (get nat_eq allowances)) }
     ensures draft { IfOk result (λ _. draft.new ≡ with_all_served config.now cache.now.held table.now.known draft.old) }
-    ensures rise { IfOk result (λ allowances. Rise (clients_of allowances.items)) }
 {
-    let mut allowances = Vec::with_capacity(alloc, table.count() as usize)?;
-    for (client, entry) in table.iter() {
-        let allowance = serve_client(config, cache, client, entry, draft)?;
-        allowances.push(allowance)?;
+    let mut allowances = HashMap::new(alloc);
+    for (client, entry) in table.open_bursts() {
+        let allowance = serve_client(config, cache, client, &entry, draft)?;
+        allowances.insert(client, allowance)?;
     }
     Ok(allowances)
 }

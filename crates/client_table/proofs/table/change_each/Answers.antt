@@ -1,45 +1,36 @@
-use Rattle.std.proofs.Common.{◌≡◌, Some, subst, sym}
-use Rattle.client_table.specs.{entry_at, AreReady}
-use Rattle.client_table.proofs.Changed.{written_here, written_elsewhere}
-use Rattle.client_table.proofs.Changing.{ready_first, ready_some, ready_none, ready_left, changed_start, changed_turn, changed_end}
+use Rattle.std.proofs.Common.{◌≡◌, ◌+◌, ℕ, ◌∷◌, drop, get_or, IsSomeAnd, Some, sym, ◌∙◌}
+use Rattle.std.proofs.lemmas.List.{drop_more, drop_all}
+use Rattle.client_table.specs.declared.entry.Entry.{Entry}
+use Rattle.client_table.specs.{entry_at, IsBurstChanged}
+use Rattle.client_table.proofs.Changed.{put_elsewhere, put_others, put_here}
+use Rattle.client_table.proofs.Changing.{ready_some, ready_left, changed_turn, changed_end, free_left, free_first}
+use Rattle.client_table.proofs.Opened.{burst_made}
 use Rattle.client_table.proofs.table.change_each.Given.{F-pre, F-post}
 use Rattle.client_table.proofs.table.change_each.Goals as goal
 
-pub loop-client-init : goal.loop-client-init
-loop-client-init g c =
-    let same = c.into_iter-client-iterator.ensures.into_iter_gives.0 in
+pub loop-key-preserved : goal.loop-key-preserved
+loop-key-preserved g c =
+    let tick = c.args.tick in
+    let bs = c.args.bursts.now in
+    let i = c.loop-key.key-index in
+    let e : ℕ × ℕ = get_or bs i (0, 0) in
+    let slots = c.loop-key.entries.slots in
+    let news = c.put.new.entries.slots in
+    let at = entry_at tick slots in
+    let split : drop i bs ≡ e ∷ drop (i + 1) bs = drop_more bs i (0, 0) c.loop-key-test.true in
+    let is : at e.1 ≡ Some c.in-Some.entry = sym c.in-Some.ensures in
+    let y : Entry = record c.in-Some.entry { burst = Some c.change.result } in
+    let elsewhere = put_elsewhere tick slots news e.1 c.new.result c.put.ensures in
+    let here = put_here tick slots news e.1 c.new.result c.put.ensures y (ready_some at e.1 c.in-Some.entry is) c.new.ensures in
+    let called = burst_made (F-post g c.args.change) c.in-Some.entry.burst c.in-Some.entry c.in-Some-burst.burst c.change.result c.in-Some-burst.is c.change.ensures in
     record {
-      can_next = tt;
-      is_finite = tt;
-      ready = subst (AreReady (F-pre g c.args.change) (entry_at c.args.entries.now.slots)) (sym same) c.requires;
-      changed = changed_start (F-post g c.args.change) (entry_at c.args.entries.now.slots) c.args.index.now.entries c.into_iter-client-iterator.result same;
+      ready = ready_left (λ _ d. IsSomeAnd d.burst (F-pre g c.args.change)) at (entry_at tick news) e.0 e.1 (drop i bs) (drop (i + 1) bs) elsewhere c.loop-key.invariant.ready split;
+      changed = changed_turn (λ _. IsBurstChanged (F-post g c.args.change)) (λ _ d. IsSomeAnd d.burst (F-pre g c.args.change)) (entry_at tick c.args.entries.now.slots) at (entry_at tick news) e.0 e.1 c.in-Some.entry y
+          bs (drop i bs) (drop (i + 1) bs) c.loop-key.invariant.ready split elsewhere is here called c.loop-key.invariant.changed;
+      others = λ key free. put_others tick slots news e.1 c.new.result c.put.ensures key (free_first key e (drop i bs) (drop (i + 1) bs) split (free_left key i bs free)) ∙ c.loop-key.invariant.others key free;
     }
 
-pub change-requires : goal.change-requires
-change-requires g c =
-    ready_first (F-pre g c.args.change) (entry_at c.loop-client.entries.slots) c.in-Some.client.now c.in-Some.key.now c.in-Some-get_mut.entry.now c.loop-client.client-iterator c.next.new.self c.loop-client.invariant.ready
-    c.in-Some.ensures.steps (sym c.in-Some-get_mut.ensures.value)
-
-pub loop-client-preserved-in-Some-get_mut : goal.loop-client-preserved-in-Some-get_mut
-loop-client-preserved-in-Some-get_mut g c =
-    let slots = c.loop-client.entries.slots in
-    let key = c.in-Some.key.now in
-    let is : entry_at slots key ≡ Some c.in-Some-get_mut.entry.now = sym c.in-Some-get_mut.ensures.value in
-    let elsewhere = written_elsewhere slots key c.change.result in
-    record {
-      can_next = tt;
-      is_finite = tt;
-      ready = ready_left (F-pre g c.args.change) (entry_at slots) _ c.in-Some.client.now key c.loop-client.client-iterator c.next.new.self elsewhere c.loop-client.invariant.ready c.in-Some.ensures.steps;
-      changed = changed_turn (F-post g c.args.change) (F-pre g c.args.change) (entry_at c.args.entries.now.slots) (entry_at slots) _ c.in-Some.client.now key c.in-Some-get_mut.entry.now c.change.result
-          c.args.index.now.entries c.loop-client.client-iterator c.next.new.self c.loop-client.invariant.ready c.in-Some.ensures.steps elsewhere is
-          (written_here slots key c.change.result (ready_some (entry_at slots) key c.in-Some-get_mut.entry.now is)) c.change.ensures c.loop-client.invariant.changed;
-    }
-
-pub loop-client-preserved : goal.loop-client-preserved
-loop-client-preserved g c =
-    absurd (ready_none (F-pre g c.args.change) (entry_at c.loop-client.entries.slots) c.in-Some.client.now c.in-Some.key.now c.loop-client.client-iterator c.next.new.self c.loop-client.invariant.ready
-    c.in-Some.ensures.steps (sym c.in_default.ensures.value))
-
-pub returns : goal.returns
-returns g c =
-    changed_end (F-post g c.args.change) (entry_at c.args.entries.now.slots) (entry_at c.loop-client.entries.slots) c.args.index.now.entries c.loop-client.client-iterator c.in-None.ensures.steps.0 c.loop-client.invariant.changed
+pub returns-clause-changed : goal.returns-clause-changed
+returns-clause-changed g c =
+    changed_end (λ _. IsBurstChanged (F-post g c.args.change)) (entry_at c.args.tick c.args.entries.now.slots) (entry_at c.args.tick c.loop-key.entries.slots) c.args.bursts.now (drop c.loop-key.key-index c.args.bursts.now)
+    (drop_all c.loop-key.key-index c.args.bursts.now c.loop-key-test.false) c.loop-key.invariant.changed

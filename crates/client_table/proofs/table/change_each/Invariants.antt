@@ -1,12 +1,12 @@
--- Those that are left may be changed, and after that all are.
-use Rattle.client_table.specs.{entry_at, AreReady}
+-- Those that are left may be changed, and after that all are; no other slot is.
+use Rattle.std.proofs.Common.{◌≡◌, ℕ, drop, IsSomeAnd}
+use Rattle.client_table.specs.{slot_at, entry_at, IsFree, AreReady, IsBurstChanged}
 use Rattle.client_table.proofs.Changing.{LeadsToAll}
 use Rattle.client_table.proofs.table.change_each.Given as goal
 
-abbrev pub invariant-loop-client : goal.invariant-loop-client
-invariant-loop-client g l = record {
-  can_next : (goal.iterator-loop-client g).can_next l.client-iterator;
-  is_finite : (goal.iterator-loop-client g).is_finite l.client-iterator;
-  ready : AreReady (goal.F-pre g l.change) (entry_at l.entries.slots) l.client-iterator;
-  changed : LeadsToAll (goal.F-post g l.change) (entry_at l.fn.entries.slots) (entry_at l.entries.slots) l.index.entries l.client-iterator;
+abbrev pub invariant-loop-key : goal.invariant-loop-key
+invariant-loop-key g l = record {
+  ready : AreReady (λ _ e. IsSomeAnd e.burst (goal.F-pre g l.change)) (entry_at l.tick l.entries.slots) (drop l.key-index l.bursts);
+  changed : LeadsToAll (λ _. IsBurstChanged (goal.F-post g l.change)) (entry_at l.tick l.fn.entries.slots) (entry_at l.tick l.entries.slots) l.bursts (drop l.key-index l.bursts);
+  others : (key : ℕ) → IsFree key l.bursts → slot_at l.entries.slots key ≡ slot_at l.fn.entries.slots key;
 }

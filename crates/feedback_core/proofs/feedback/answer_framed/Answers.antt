@@ -2,7 +2,7 @@
 use Rattle.std.proofs.Common.{ap}
 use Rattle.channel_parts.specs.declared.parts.Parts.{Parts}
 use Rattle.rtcp_frame.specs.{packets_left}
-use Rattle.feedback_core.proofs.Serving.{parts_with, ready_placed, safe_placed, kept_place, served}
+use Rattle.feedback_core.proofs.Serving.{parts_with, ready_placed, safe_placed, served}
 use Rattle.feedback_core.proofs.feedback.answer_framed.Goals as goal
 
 pub answer_packets-requires-clause-ready : goal.answer_packets-requires-clause-ready
@@ -13,11 +13,6 @@ pub answer_packets-requires-clause-safe : goal.answer_packets-requires-clause-sa
 answer_packets-requires-clause-safe c =
     safe_placed c.args.parts.now c.receive.new.parts c.requires.stands.0 c.args.client c.in_ok-visitor.visitor c.requires.stands.1 c.in_ok-visitor.ensures.parts
     c.in_ok-visitor.ensures.visitor
-
-pub keep-requires : goal.keep-requires
-keep-requires c =
-    kept_place c.args.parts.now c.receive.new.parts c.requires.stands.0 c.args.client c.in_ok-visitor.visitor c.answer_packets.new.visitor c.requires.stands.1
-    c.in_ok-visitor.ensures.parts c.in_ok-visitor.ensures.visitor c.answer_packets.ensures.one c.answer_packets.ensures.safe.placed
 
 pub returns-clause-stands : goal.returns-clause-stands
 returns-clause-stands c = λ events bytes st fe.

@@ -24,6 +24,6 @@ returns c = record {
       let notes_are = c.deref.ensures.value ∙ ap (λ (p : TickPlan). p.answer.notes) c.plan.view_is in
       let done_are = c.deref-2.ensures.value ∙ ap (λ (p : TickPlan). p.done.items) c.plan.view_is in
       made_parts c.args.parts.now events c.args.plan.now c.deref.result.now c.deref-2.result.now c.begin_entries.new.table c.commit_notes.new.table c.end_entries.new.table c.open_tick.new.self c.commit_notes.new.budget
-      c.settle.new.self _ stands is notes_are done_are (ap (λ (x : Channel). x.depth) c.channel.ensures.value) c.begin_entries.ensures c.open_tick.ensures c.commit_notes.ensures c.end_entries.ensures c.settle.ensures;
+      c.settle.new.self _ stands is notes_are done_are (ap (λ (x : Channel). x.depth) c.channel-channel.ensures.value) c.begin_entries.ensures c.open_tick.ensures c.commit_notes.ensures c.end_entries.ensures c.settle.ensures;
   settings = refl;
 }

@@ -1,4 +1,9 @@
+use Rattle.std.proofs.Common.{sym, subst}
+use Rattle.std.specs.Ordering.{nat_cmp}
+use Rattle.std.specs.List.Sorted.{IsStrictlySortedBy}
 use Rattle.std.proofs.lemmas.Result.{IfOk-weaker}
+use Rattle.rams_model.specs.Service.{history_of}
+use Rattle.channel_parts.proofs.Facts.{known_clients_rise}
 use Rattle.tick_core.proofs.Safe.{in_order, in_time}
 use Rattle.tick_core.proofs.Made.{made_plan}
 use Rattle.tick_core.proofs.plan.plan_tick.Goals as goal
@@ -8,6 +13,10 @@ plan_of-requires-clause-held c = in_order c.args.parts.now c.requires.stands.0 c
 
 pub plan_of-requires-clause-small : goal.plan_of-requires-clause-small
 plan_of-requires-clause-small c = in_time c.args.parts.now c.requires.stands.0 c.requires.stands.1
+
+pub plan_of-requires-clause-rising : goal.plan_of-requires-clause-rising
+plan_of-requires-clause-rising c =
+    subst (IsStrictlySortedBy nat_cmp) (sym c.requires.stands.1.table.clients) (known_clients_rise (history_of c.args.parts.now.config c.requires.stands.0))
 
 pub returns : goal.returns
 returns c = record {

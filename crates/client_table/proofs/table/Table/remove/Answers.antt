@@ -1,36 +1,65 @@
-use Rattle.std.proofs.Common.{arith, ap, sym, ◌∙◌}
+use Rattle.std.proofs.Common.{◌≤◌, arith, ap, sym, ◌∙◌, subst}
+use Rattle.std.specs.List.{AllByRecursion}
 use Rattle.std.specs.Option.{option_and_then}
 use Rattle.std.specs.BTreeMap.{is_at}
 use Rattle.std.specs.Ordering.{nat_cmp}
-use Rattle.client_table.specs.{entry_at}
-use Rattle.client_table.proofs.Changed.{remove_kept}
+use Rattle.client_table.specs.declared.entry.Entry.{Entry}
+use Rattle.client_table.specs.{entry_at, joined, is_open_at, Rise, closed_at}
+use Rattle.client_table.proofs.Bounded.{each_removed}
+use Rattle.client_table.proofs.Changed.{remove_kept, joined_remove, shown_elsewhere}
+use Rattle.client_table.proofs.Opened.{rise_kept, removed_open}
 use Rattle.client_table.proofs.Shown.{shown_entry, shown_absent, shown_removed}
 use Rattle.client_table.proofs.table.Table.remove.Goals as goal
 
 pub returns-in_err-key-clause-value : goal.returns-in_err-key-clause-value
 returns-in_err-key-clause-value c =
-    let entry = shown_entry c.self.inside.most c.self.inside.entries.slots c.self.inside.index.entries _ c.self.view_is c.self.invariant.entries c.args.client in
-    c.from_residual.ensures ∙ (ap (option_and_then (entry_at c.self.inside.entries.slots)) c.in_err-key.ensures.value ∙ entry)
+    let at = entry_at c.self.inside.tick c.self.inside.entries.slots in
+    let entry = shown_entry c.self.inside.most at c.self.inside.index.entries _ c.self.view_is c.self.invariant.entries c.args.client in
+    c.from_residual.ensures ∙ (ap (option_and_then at) c.in_err-key.ensures.value ∙ entry)
 
 pub returns-in_err-key-clause-table : goal.returns-in_err-key-clause-table
 returns-in_err-key-clause-table c =
-    shown_absent c.self.inside.most c.self.inside.entries.slots c.self.inside.index.entries _ c.self.view_is c.self.invariant.entries c.args.client _ c.in_err-key.ensures.value c.in_err-key.ensures.unchanged
+    let at = entry_at c.self.inside.tick c.self.inside.entries.slots in
+    shown_absent c.self.inside.most at c.self.inside.index.entries _ c.self.view_is c.self.invariant.entries c.args.client _ c.in_err-key.ensures.value c.in_err-key.ensures.unchanged
+
+pub close_client-requires : goal.close_client-requires
+close_client-requires c =
+    let at = entry_at c.self.inside.tick c.self.inside.entries.slots in
+    record { rise = subst Rise (sym c.self.invariant.opened) (rise_kept (is_open_at at) c.self.inside.index.entries c.self.invariant.rising) }
 
 pub invariant_of-self-2 : goal.invariant_of-self-2
 invariant_of-self-2 c =
+    let tick = c.self.inside.tick in
+    let slots = c.self.inside.entries.slots in
+    let es = c.self.inside.index.entries in
+    let key = c.in_ok-key.key in
+    let test = is_at (nat_cmp c.args.client) in
+    let at = entry_at tick slots in
+    let now = entry_at tick c.take_out.new.entries.slots in
+    let joins = c.self.invariant.entries in
+    let found = sym c.in_ok-key.ensures.value in
+    let elsewhere = shown_elsewhere tick key slots c.take_out.new.entries.slots c.take_out.ensures.updates.others in
     record {
       rising = c.remove.ensures.ordered;
-      entries = rw c.remove.ensures.entries (remove_kept (entry_at c.self.inside.entries.slots) (entry_at c.try_remove.new.self.slots) c.in_ok-key.key c.try_remove.ensures.updates.others (is_at (nat_cmp c.args.client)) c.self.inside.index.entries c.self.invariant.entries (sym c.in_ok-key.ensures.value));
+      entries = rw c.remove.ensures.entries (remove_kept at now key elsewhere test es joins found);
       few = omega (arith, c.in_ok-key.ensures.len, c.self.invariant.few);
       small = c.self.invariant.small;
+      opened = rw c.remove.ensures.entries (c.close_client.ensures.items ∙ (ap (closed_at c.args.client) c.self.invariant.opened ∙ removed_open at now key elsewhere c.args.client es c.self.invariant.rising joins found));
+      room = omega (arith, c.self.invariant.room, c.close_client.ensures.room);
+      idle = rw c.remove.ensures.entries (subst (AllByRecursion (λ e. e.1.idle ≤ c.self.inside.idle_most)) (sym (joined_remove at now key elsewhere test es joins found))
+          (each_removed (λ (e : Entry). e.idle ≤ c.self.inside.idle_most) test (joined at es) c.self.invariant.idle));
     }
 
 pub returns-clause-value : goal.returns-clause-value
 returns-clause-value c =
-    let entry = shown_entry c.self.inside.most c.self.inside.entries.slots c.self.inside.index.entries _ c.self.view_is c.self.invariant.entries c.args.client in
-    c.try_remove.ensures.value ∙ (ap (option_and_then (entry_at c.self.inside.entries.slots)) c.in_ok-key.ensures.value ∙ entry)
+    let at = entry_at c.self.inside.tick c.self.inside.entries.slots in
+    let entry = shown_entry c.self.inside.most at c.self.inside.index.entries _ c.self.view_is c.self.invariant.entries c.args.client in
+    c.take_out.ensures.value ∙ (ap (option_and_then at) c.in_ok-key.ensures.value ∙ entry)
 
 pub returns-clause-table : goal.returns-clause-table
 returns-clause-table c =
-    shown_removed c.self.inside.most c.self.inside.entries.slots c.self.inside.index.entries _ c.self.view_is c.self.invariant.entries
-    c.try_remove.new.self.slots c.in_ok-key.key c.try_remove.ensures.updates.others c.args.client _ c.in_ok-key.ensures.value c.remove.ensures.entries
+    let tick = c.self.inside.tick in
+    let slots = c.self.inside.entries.slots in
+    let now = entry_at tick c.take_out.new.entries.slots in
+    shown_removed c.self.inside.most (entry_at tick slots) c.self.inside.index.entries _ c.self.view_is c.self.invariant.entries now c.in_ok-key.key
+    (shown_elsewhere tick c.in_ok-key.key slots c.take_out.new.entries.slots c.take_out.ensures.updates.others) c.args.client _ c.in_ok-key.ensures.value c.remove.ensures.entries
