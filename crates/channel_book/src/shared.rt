@@ -46,5 +46,5 @@ pub trait Shared {
         ensures list { list pass.new ≡ list pass.old }
         ensures left { left pass.old ≤ left pass.new + 1 }
         ensures told { Tells (list pass.old) event.now (seen pass.old) result (seen pass.new) }
-        ensures legal { IsLegal (settings pass.new) (seen pass.new) };
+        ensures legal { OnOk result (IsLegal (settings pass.new) (seen pass.new)) };
 }
