@@ -17,3 +17,4 @@ pub mod Places
 pub mod Framed
 pub mod Closing
 pub mod Serving
+pub mod Telling

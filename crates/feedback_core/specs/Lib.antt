@@ -6,6 +6,7 @@ pub mod Counting
 pub mod Framing
 pub mod Pages
 pub mod Places
+pub mod Telling
 unfoldable pub use Rattle.feedback_core.specs.Visitors.{open_in, open_of, entry_under, begun_burst, is_sent_later, woken}
 unfoldable pub use Rattle.feedback_core.specs.Visits.{IsClient}
 pub use Rattle.feedback_core.specs.Visits.{IsUnknown, IsKnown, IsAsBefore, IsVisit}
@@ -18,3 +19,4 @@ unfoldable pub use Rattle.feedback_core.specs.Framing.{shown_message, answered_o
 unfoldable pub use Rattle.feedback_core.specs.Pages.{or_info, last_of, info_for, IsFresh, sitting, Turns}
 pub use Rattle.feedback_core.specs.Pages.{IsPage, IsTurned, Sitting}
 unfoldable pub use Rattle.feedback_core.specs.Places.{is_full_table, has_place, with_place, with_kept}
+unfoldable pub use Rattle.feedback_core.specs.Telling.{IsInfo, TellsAlone}

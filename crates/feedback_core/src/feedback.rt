@@ -6,7 +6,7 @@ ghost use Rattle.rams_model.specs.Service.{answer, answered};
 ghost use Rattle.rams_model.specs.Formats.{framed};
 ghost use Rattle.rtcp_frame.specs.{packets_left};
 ghost use Rattle.channel_parts.specs.{StandsFor};
-ghost use Rattle.feedback_core.specs.{most_notes, woken, has_place, with_place};
+ghost use Rattle.feedback_core.specs.{most_notes, woken, has_place, with_place, TellsAlone};
 ghost use Rattle.client_table.specs.{entry_of};
 ghost use Rattle.rams_model.specs.declared.note.Note.TheVariants.{BadFeedback};
 
@@ -43,6 +43,7 @@ pub fn answer_feedback(
     ensures settings { parts.new.config ≡ parts.old.config }
     ensures same { OnErr result (parts.new ≡ parts.old) }
     ensures few { IfOk result (λ a. (length a.notes ≤ 5 * length datagram.now + 4) × (length a.orders ≤ 1)) }
+    ensures told { IfOk result TellsAlone }
 {
     match packets(datagram) {
         Ok(packets) => {
@@ -69,6 +70,7 @@ fn answer_framed(
     ensures settings { parts.new.config ≡ parts.old.config }
     ensures same { OnErr result (parts.new ≡ parts.old) }
     ensures few { IfOk result (λ a. (length a.notes ≤ most_notes (packets_left packets.entry)) × (length a.orders ≤ 1)) }
+    ensures told { IfOk result TellsAlone }
 {
     let mut page = Page::new(alloc, most_notes(packets))?;
     let orders = Vec::with_capacity(alloc, 1)?;

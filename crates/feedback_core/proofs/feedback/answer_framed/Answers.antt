@@ -3,6 +3,7 @@ use Rattle.std.proofs.Common.{ap}
 use Rattle.channel_parts.specs.declared.parts.Parts.{Parts}
 use Rattle.rtcp_frame.specs.{packets_left}
 use Rattle.feedback_core.proofs.Serving.{parts_with, ready_placed, safe_placed, served}
+use Rattle.feedback_core.proofs.Telling.{page_tells}
 use Rattle.feedback_core.proofs.feedback.answer_framed.Goals as goal
 
 pub answer_packets-requires-clause-ready : goal.answer_packets-requires-clause-ready
@@ -24,3 +25,6 @@ returns-clause-stands c = λ events bytes st fe.
 
 pub returns-clause-settings : goal.returns-clause-settings
 returns-clause-settings c = ap (λ (p : Parts). p.config) c.in_ok-visitor.ensures.parts
+
+pub returns-clause-told : goal.returns-clause-told
+returns-clause-told c = page_tells c.finish.result _ c.args.client _ c.finish.ensures

@@ -1,0 +1,20 @@
+-- The entry is added, and the book replays with it.
+use Rattle.std.proofs.Common.{[], ◌∷◌, ◌++◌, List, sym, ap, ◌∙◌, subst}
+use Rattle.channel_book.specs.declared.entry.Entry.{Entry}
+use Rattle.channel_book.specs.{entry, events_behind, Replays}
+use Rattle.channel_book.proofs.Stepping.{step_replays}
+use Rattle.channel_book.proofs.book.Book.take.Goals as goal
+
+pub invariant_of-self-2 : goal.invariant_of-self-2
+invariant_of-self-2 c =
+    let old = c.self.inside.entries.items in
+    let twice = c.in_ok-twice.twice in
+    let added = entry c.args.list c.args.event twice.kept in
+    let t = c.in_ok-twice.ensures.stands (events_behind [] old) c.self.invariant.stands in
+    let items = c.push_reserved.ensures.items ∙ ap (λ (l : List Entry). l ++ added ∷ []) c.in_ok-reserve.ensures.items in
+    subst (Replays c.answer_twice.new.core) (sym items)
+    (step_replays c.self.inside.core c.answer_twice.new.core old c.args.list c.args.event twice.kept twice.given c.self.invariant t.0 t.1
+    c.in_ok-twice.ensures.settings c.in_ok-twice.ensures.calls)
+
+pub returns-clause-legal : goal.returns-clause-legal
+returns-clause-legal c = (invariant_of-self-2 c).legal

@@ -1,0 +1,17 @@
+-- What contracts see of a book, and what is true of each.
+use Rattle.std.specs.Prelude.{◌≡◌, List, [], length}
+use Rattle.rams_model.specs.Service.{Settings}
+use Rattle.session_core.specs.{StandsFor}
+use Rattle.session_core.specs.Seen.{Seen}
+use Rattle.channel_book.specs.declared.entry.Entry.{Entry}
+use Rattle.channel_book.specs.Histories.{IsLegal, events_behind}
+
+pub record Kept : Type 0 where
+  pub settings : Settings
+  pub entries : List Entry
+
+-- The entries are a legal history, and the core is the one to which their events lead.
+pub record Replays (core : Seen) (entries : List Entry) : Type 0 where
+  pub stands : StandsFor core (events_behind [] entries)
+  pub counted : core.calls ≡ length entries
+  pub legal : IsLegal core.settings entries

@@ -1,0 +1,135 @@
+//! The book of a channel.
+use crate::copies::copy_event;
+use crate::entry::Entry;
+use crate::twice::answer_twice;
+use channel_config::Config;
+use ram_io::NoMemory;
+use rams_model::{Answer, Event};
+use session_core::{Core, Stepped};
+use std::alloc::Global;
+use std::marker::Model;
+
+/// The core of a channel with all that it was asked and answered, oldest first.
+///
+/// Contracts see its settings and its entries, which are a legal history: to replay their events from
+/// the opening core gives their answers and this core.
+#[derive(Drop)]
+pub struct Book {
+    core: Core,
+    entries: Vec<Entry>,
+}
+
+impl Model for Book {
+    ghost use Rattle.channel_book.specs.Books.{Kept, Replays};
+
+    ghost Value = { Kept };
+
+    ghost view = { λ b. record { settings = b.core.settings; entries = b.entries.items } };
+
+    ghost invariant = { λ b. Replays b.core b.entries.items };
+}
+
+impl Book {
+    ghost use Rattle.std.specs.Prelude.{◌≡◌, ◌^◌, ◌<◌, [], ◌∷◌, ◌++◌, length, IfOk, OnOk, OnErr};
+    ghost use Rattle.channel_book.specs.{IsLegal, calls_by, entry};
+    ghost use Rattle.session_core.specs.{StandsFor};
+
+    /// The book of a channel to which nothing came yet. It keeps `alloc` for its entries, and takes no
+    /// memory.
+    pub fn new(alloc: Global, core: Core) -> Book
+        requires made { (core.calls ≡ 0) × StandsFor core [] }
+        ensures settings { result.settings ≡ core.settings }
+        ensures empty { result.entries ≡ [] }
+    {
+        Book {
+            core,
+            entries: Vec::new(alloc),
+        }
+    }
+
+    /// The settings of the channel.
+    pub fn config(&self) -> &Config
+        ensures { result.now ≡ self.now.settings }
+    {
+        self.core.config()
+    }
+
+    /// Takes an event of this list: its place, which is the number of entries before it, and the answer.
+    /// After want of memory all is as before.
+    pub fn step(
+        &mut self,
+        alloc: Global,
+        list: u16,
+        event: &Event,
+    ) -> Result<(u64, Answer), NoMemory>
+        requires few { length self.old.entries < 2 ^ 40 }
+        ensures place { IfOk result (λ r. r.0 ≡ length self.old.entries) }
+        ensures added { IfOk result (λ r. self.new.entries ≡ self.old.entries ++ entry list event.now r.1 ∷ []) }
+        ensures legal { OnOk result (IsLegal self.new.settings self.new.entries) }
+        ensures settings { self.new.settings ≡ self.old.settings }
+        ensures same { OnErr result (self.new ≡ self.old) }
+    {
+        let event = copy_event(alloc, event)?;
+        self.take(alloc, list, event)
+    }
+
+    /// `step` with an event that the book keeps; after want of memory it is given up.
+    pub fn take(
+        &mut self,
+        alloc: Global,
+        list: u16,
+        event: Event,
+    ) -> Result<(u64, Answer), NoMemory>
+        requires few { length self.old.entries < 2 ^ 40 }
+        ensures place { IfOk result (λ r. r.0 ≡ length self.old.entries) }
+        ensures added { IfOk result (λ r. self.new.entries ≡ self.old.entries ++ entry list event r.1 ∷ []) }
+        ensures legal { OnOk result (IsLegal self.new.settings self.new.entries) }
+        ensures settings { self.new.settings ≡ self.old.settings }
+        ensures same { OnErr result (self.new ≡ self.old) }
+    {
+        self.entries.reserve(1)?;
+        let twice = answer_twice(alloc, &mut self.core, &event)?;
+        let place = self.entries.len() as u64;
+        self.entries.push_reserved(Entry {
+            list,
+            event,
+            answer: twice.kept,
+        });
+        Ok((place, twice.given))
+    }
+
+    /// All entries, in order.
+    pub fn entries(&self) -> &[Entry]
+        ensures entries { result.now ≡ self.now.entries }
+        ensures legal { IsLegal self.now.settings self.now.entries }
+    {
+        &self.entries
+    }
+
+    /// How many entries are of this list.
+    pub fn count_of(&self, list: u16) -> u64
+        ensures { result ≡ length (calls_by list self.now.entries) }
+    {
+        self.entries
+            .iter()
+            .filter(|entry| entry.list == list)
+            .count() as u64
+    }
+}
+
+impl Stepped for Book {
+    ghost use Rattle.std.specs.Prelude.{◌≡◌, [], length};
+    ghost use Rattle.channel_book.specs.{events_behind};
+
+    ghost settings = { λ book. book.settings };
+
+    ghost calls = { λ book. length book.entries };
+
+    ghost stands = { λ book events. events_behind [] book.entries ≡ events };
+
+    /// An event of list 0.
+    fn step(&mut self, alloc: Global, event: &Event) -> Result<Answer, NoMemory> {
+        let (_, answer) = self.step(alloc, 0, event)?;
+        Ok(answer)
+    }
+}

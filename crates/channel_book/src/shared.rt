@@ -1,0 +1,50 @@
+//! What several callers share.
+use ram_io::NoMemory;
+use rams_model::{Answer, Event};
+use std::alloc::Global;
+use std::sync::Wait;
+
+/// One channel that several callers step, each through a pass of its own. A pass knows the history as
+/// its caller has seen it.
+pub trait Shared {
+    ghost use Rattle.std.specs.Prelude.{◌≡◌, ℕ, ◌+◌, ◌<◌, ◌≤◌, List, OnOk};
+    ghost use Rattle.rams_model.specs.Service.{Settings};
+    ghost use Rattle.channel_book.specs.declared.entry.Entry.{Entry};
+    ghost use Rattle.channel_book.specs.{IsLegal, Tells};
+
+    type Pass;
+
+    /// This object made the pass.
+    ghost made: { Self → Self.Pass → Type 0 };
+
+    /// The settings of the channel.
+    ghost settings: { Self.Pass → Settings };
+
+    /// The list whose calls are made with the pass.
+    ghost list: { Self.Pass → ℕ };
+
+    /// The history as the pass has seen it.
+    ghost seen: { Self.Pass → List Entry };
+
+    /// How many calls are left.
+    ghost left: { Self.Pass → ℕ };
+
+    /// Takes an event: its place in the history, and the answer there. The history that the pass has
+    /// seen then begins with what it had seen, and ends with this entry; of the pass's own calls it has
+    /// this one more. After want of memory it may have seen more, none of it its own. May wait.
+    fn step<R: Wait>(
+        &self,
+        rt: &R,
+        alloc: Global,
+        pass: &mut Self::Pass,
+        event: &Event,
+    ) -> Result<(u64, Answer), NoMemory>
+        requires made { made self.now pass.old }
+        requires left { 0 < left pass.old }
+        ensures made { made self.now pass.new }
+        ensures settings { settings pass.new ≡ settings pass.old }
+        ensures list { list pass.new ≡ list pass.old }
+        ensures left { left pass.old ≤ left pass.new + 1 }
+        ensures told { Tells (list pass.old) event.now (seen pass.old) result (seen pass.new) }
+        ensures legal { OnOk result (IsLegal (settings pass.new) (seen pass.new)) };
+}

@@ -1,0 +1,11 @@
+pub mod Lists
+pub mod Beginnings
+pub mod Sums
+pub mod Drawing
+pub mod Serving
+pub mod Passing
+pub mod Meeting
+pub mod Dealing
+pub mod Gathering
+pub mod Calling
+pub mod Closing

@@ -1,0 +1,38 @@
+//! A lock as what several callers share.
+use crate::lock::ChannelLock;
+use crate::pass::Pass;
+use channel_book::{Answer, Event, NoMemory, Shared};
+use std::alloc::Global;
+use std::sync::Wait;
+
+impl Shared for ChannelLock {
+    ghost use Rattle.std.specs.Prelude.{◌≡◌};
+
+    type Pass = Pass;
+
+    ghost made = { λ lock pass. pass.lock ≡ lock.lock };
+
+    ghost settings = { λ pass. pass.settings };
+
+    ghost list = { λ pass. pass.list };
+
+    ghost seen = { λ pass. pass.seen };
+
+    ghost left = { λ pass. pass.left };
+
+    fn step<R: Wait>(
+        &self,
+        rt: &R,
+        alloc: Global,
+        pass: &mut Pass,
+        event: &Event,
+    ) -> Result<(u64, Answer), NoMemory> {
+        match event {
+            Event::Live(bytes) => self.live(rt, alloc, pass, bytes.bytes()),
+            Event::Feedback { client, bytes } => {
+                self.feedback(rt, alloc, pass, *client, bytes.bytes())
+            }
+            Event::Tick => self.tick(rt, alloc, pass),
+        }
+    }
+}

@@ -1,0 +1,75 @@
+//! The single steps of a lock, on its two words and its slot.
+ghost use Rattle.std.specs.Prelude.{◌≡◌, ℕ, ◌+◌, ◌<◌, [], ◌∷◌, length, Some};
+ghost use Rattle.channel_lock.specs.Steps.{Grew, IsServed, Drawn, PassedOn};
+ghost use Rattle.channel_book.specs.{Kept};
+ghost use Rattle.atomic_table.specs.Table.{step};
+ghost use mathlib.Core.Option.{none};
+
+use crate::turns::{About, Draw, InTurn, Look, PassOn, View};
+use atomic_table::{Seat, Shared};
+use channel_book::{Book, Config};
+use std::sync::Wait;
+
+/// The word of the next ticket to be drawn.
+pub(crate) const TICKETS: usize = 0;
+
+/// The word of the ticket that is served.
+const SERVING: usize = 1;
+
+/// The slot of the book.
+pub(crate) const BOOK: usize = 0;
+
+/// What the callers of a lock share.
+pub(crate) type Turnstile = Shared<Book, View, About, InTurn>;
+
+/// What a caller steps with.
+pub(crate) type Chair = Seat<Book, View>;
+
+/// Draws a ticket.
+pub(crate) fn draw(shared: &Turnstile, seat: &mut Chair) -> u64
+    requires table { (seat.old.table_id ≡ shared.now.table_id) × (shared.now.table_id.words ≡ 2) }
+    requires free { (seat.old.me.0.ticket ≡ 0) × (seat.old.me.0.taken ≡ 0) }
+    requires may { (0 < seat.old.me.0.left) × (0 < length seat.old.me.0.owns) }
+    ensures table { seat.new.table_id ≡ seat.old.table_id }
+    ensures drawn { Drawn (step shared.now.table_id.slots 0 1 0 none) seat.old.me result seat.new.me }
+{
+    shared.fetch_add::<Draw>(seat, TICKETS, 1)
+}
+
+/// Waits until the ticket is served, and takes the book.
+pub(crate) fn wait<R: Wait>(
+    rt: &R,
+    shared: &Turnstile,
+    seat: &mut Chair,
+    config: &Config,
+    ticket: u64,
+)
+    requires table { (seat.old.table_id ≡ shared.now.table_id) × (shared.now.table_id.words ≡ 2) × (0 < shared.now.table_id.slots) }
+    requires ticket { (seat.old.me.0.ticket ≡ ticket + 1) × (seat.old.me.0.taken ≡ 0) }
+    requires config { seat.old.me.0.config ≡ Some config.now }
+    ensures table { seat.new.table_id ≡ seat.old.table_id }
+    ensures served { IsServed config.now seat.old.me seat.new.me }
+{
+    for _ in rt.forever() {
+        let served = shared.load::<Look>(seat, SERVING);
+        if served == ticket {
+            return;
+        }
+        shared.park(rt, SERVING, (served % (1 << 32)) as u32);
+    }
+    unreachable!()
+}
+
+/// Puts the book back and passes the turn on. Who waits is woken: who draws a ticket later finds the
+/// turn passed on.
+pub(crate) fn pass_on(shared: &Turnstile, seat: &mut Chair)
+    requires table { (seat.old.table_id ≡ shared.now.table_id) × (shared.now.table_id.words ≡ 2) × (shared.now.table_id.slots ≡ 1) }
+    requires grew { (book : Kept) × (seat.old.me.1 ≡ (0, book) ∷ []) × (seat.old.me.0.taken ≡ 1) × Grew seat.old.me.0 book }
+    ensures table { seat.new.table_id ≡ seat.old.table_id }
+    ensures passed { (n : ℕ) × PassedOn (step 1 1 1 0 none) seat.old.me n seat.new.me }
+{
+    let served = shared.fetch_add::<PassOn>(seat, SERVING, 1);
+    if shared.peek(TICKETS) > served.saturating_add(1) {
+        shared.wake_all(SERVING);
+    }
+}

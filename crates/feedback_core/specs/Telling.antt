@@ -1,0 +1,14 @@
+-- What is sent for a feedback datagram.
+use Rattle.std.specs.Prelude.{All}
+use Rattle.rams_model.specs.declared.answer.Order.{Order}
+use Rattle.rams_model.specs.declared.answer.Order.TheVariants.{Rtx, Info}
+use Rattle.rams_model.specs.Service.{Answered}
+
+-- it is a RAMS-I (RFC 6285, 7.3)
+abbrev pub IsInfo : Order → Type 0
+IsInfo (Rtx client n sequence packet) = ⊥
+IsInfo (Info client info) = Unit {0}
+
+-- The answer sends RAMS-I messages alone, and no packet.
+abbrev pub TellsAlone : Answered → Type 0
+TellsAlone a = All IsInfo a.orders
