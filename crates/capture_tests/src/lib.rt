@@ -1,0 +1,14 @@
+//! Tests of captures and session descriptions, on public calls alone. Expected values are worked out
+//! by hand from the RFCs and the documents; some bytes are as tcpdump and ffmpeg wrote them.
+#![tactic(auto)]
+
+#[cfg(test)]
+mod descriptions;
+#[cfg(test)]
+mod files;
+#[cfg(test)]
+mod fixtures;
+#[cfg(test)]
+mod frames;
+#[cfg(test)]
+mod ticks;

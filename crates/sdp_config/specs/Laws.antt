@@ -1,0 +1,22 @@
+-- Laws of descriptions.
+use Rattle.std.specs.Prelude.{◌≡◌, ◌≢◌, ℕ, ◌<◌, ◌^◌, List, ◌++◌, length, Ok, IsErr}
+use Rattle.rams_model.specs.declared.channel.Channel.{Channel}
+use Rattle.sdp_config.specs.Description.{sdp_at}
+use Rattle.sdp_config.specs.Written.{description, shown_channel}
+
+-- a channel whose description can be written
+pub record IsDescribable (c : Channel) (port : ℕ) : Type 0 where
+  pub id : c.id < 2 ^ 16
+  pub ssrc : c.ssrc < 2 ^ 32
+  pub pt : c.pt < 128
+  pub rtx : c.rtx < 128
+  pub apart : c.pt ≢ c.rtx
+  pub near : port < 65001
+
+-- a channel's description gives its settings back
+abbrev pub DescriptionsAreReadBack : Type 0
+DescriptionsAreReadBack = (c : Channel) (port : ℕ) → IsDescribable c port → sdp_at (description c port) ≡ Ok (shown_channel c)
+
+-- A text of more than 4,098,000 bytes is refused, and what stands behind these and one more doesn't change the fault.
+abbrev pub LongTextsAreRefused : Type 0
+LongTextsAreRefused = (front rest : List ℕ) → 4098000 < length front → IsErr (sdp_at front) × (sdp_at (front ++ rest) ≡ sdp_at front)

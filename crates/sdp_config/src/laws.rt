@@ -1,0 +1,14 @@
+//! Laws of the definitions: each is the contract of a function that does nothing.
+ghost use Rattle.sdp_config.specs.{DescriptionsAreReadBack, LongTextsAreRefused};
+
+/// A channel's description reads as its settings.
+#[tactic(auto, using(crate::proofs::ReadBack::read_back))]
+pub fn descriptions_are_read_back()
+    ensures { DescriptionsAreReadBack }
+{}
+
+/// A description of more than 4,098,000 bytes is refused, and the bytes behind these and one more
+/// don't change its fault.
+pub fn long_texts_are_refused()
+    ensures { LongTextsAreRefused }
+{}
