@@ -155,6 +155,7 @@ impl Table {
     /// The known clients by rising number, each with what is kept of it.
     pub fn iter(&self) -> KnownClients<'_>
         ensures clients { clients_left result ≡ self.now.known }
+        ensures found { All (λ e. entry_of self.now e.0 ≡ Some e.1) self.now.known }
     {
         KnownClients {
             index: self.index.iter(),
