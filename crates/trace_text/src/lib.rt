@@ -1,7 +1,6 @@
 //! The lines of a trace.
 //!
-//! The modes `Meet`, `Threads` and `Serve` and the events of receivers wait for commands that are
-//! still to come: `run` has neither.
+//! The mode `Threads` waits for a command that is still to come.
 #![tactic(auto)]
 
 mod bytes;
