@@ -4,8 +4,8 @@
     bench/load.py [--program PATH] [--channels 1,8,64] [--rates 20,60] [--count N] [--port PORT]
 
 A load is N live packets of 1,328 bytes (120,000), spread over so many channels, at so many in each
-millisecond. With repairs, 16 clients ask for 64 packets each in every millisecond while the packets
-come at 2 a millisecond, and take all that comes back. A row has the share of datagrams that the server
+millisecond. With repairs, one of 16 clients asks for 68 packets every few milliseconds while the packets
+come at 2 a millisecond, and all take what comes back. A row has the share of datagrams that the server
 missed (those that its journal hasn't), its processor time for each datagram that came, and for each
 that went out, its most memory, and whether `run` answers the journal with as many datagrams as went
 out. The server's journal goes to a file.
@@ -25,7 +25,7 @@ CHANNEL = (
     "channel {id} ssrc 11223344 pt 33 rtx 99 server aabbccdd seq0 0 ring 4096 window 8 access marker share 15000000 "
     "reserve 14000000 burst 900000 declared 400000 minwire 1358 limit 500 idle 100000 clients 64\n"
 )
-SIZE, TURNS, CLIENTS, ASKED = 1328, 500_000, 16, 64
+SIZE, TURNS, CLIENTS, ASKED = 1328, 500_000, 16, 68
 
 
 def head(channels):
@@ -38,7 +38,7 @@ def packet(i):
 
 
 def nack(numbers):
-    """A generic NACK (RFC 4585, 6.2.1) of 64 numbers that follow one another."""
+    """A generic NACK (RFC 4585, 6.2.1) of 68 numbers that follow one another."""
     words = b"".join(struct.pack(">HH", first & 0xFFFF, 0xFFFF) for first in range(numbers, numbers + ASKED, 17))
     return struct.pack(">BBHII", 0x81, 205, 2 + len(words) // 4, 0x0000C001, 0x11223344) + words
 
@@ -59,7 +59,7 @@ def send(port, channels, rate, count, told):
 
 
 def ask(port, told, came):
-    """16 clients that ask for what was sent last, once a millisecond, and count what comes back."""
+    """16 clients that ask in turn for what was sent last, and count what comes back."""
     clients = [socket.socket(socket.AF_INET, socket.SOCK_DGRAM) for _ in range(CLIENTS)]
     for each in clients:
         each.setsockopt(socket.SOL_SOCKET, socket.SO_RCVBUF, 1 << 22)
