@@ -4,7 +4,7 @@ ghost use Rattle.ram_io.specs.{IsFromClient};
 
 use ram_io::{Incoming, MemClock, MemSink, MemSource, MemWire, Octets, Open};
 use rams_model::Status;
-use serve_loop::{Stop, serve};
+use serve_loop::{Stop, Watch, serve};
 use std::alloc::{AllocError, Global};
 use std::process::Abort;
 use std::str;
@@ -48,7 +48,7 @@ fn joined(alloc: Global, lines: &[&str]) -> Result<Vec<u8>, AllocError> {
 }
 
 /// What comes, and then nothing.
-fn arrivals_of(alloc: Global, row: &Row) -> Result<Vec<Incoming>, AllocError>
+pub fn arrivals_of(alloc: Global, row: &Row) -> Result<Vec<Incoming>, AllocError>
     ensures { IfOk result (λ arrivals. All IsFromClient arrivals.items) }
 {
     let mut arrivals = Vec::new(alloc);
@@ -72,17 +72,18 @@ fn moments_of(alloc: Global, row: &Row) -> Result<Vec<u64>, AllocError>
     Ok(moments)
 }
 
-/// Three turns at the ports from 5000 on.
-fn serve_row(
+/// Three turns at the ports from 5000 on, while this looks on.
+pub fn serve_row<T: Watch>(
     alloc: Global,
     row: &Row,
     sink: &mut MemSink,
     wire: &mut MemWire,
+    watch: &T,
 ) -> Result<Result<Status, Stop>, AllocError> {
     let trace = joined(alloc, row.source)?;
     let mut source = MemSource::new(trace, 1_000, row.source_fails.to_vec(alloc)?);
     let mut clock = MemClock::new(moments_of(alloc, row)?);
-    Ok(serve(alloc, &mut source, sink, wire, &mut clock, 5000, 3, &Open))
+    Ok(serve(alloc, &mut source, sink, wire, &mut clock, 5000, 3, watch))
 }
 
 /// The sink got the lines of the row.
@@ -116,7 +117,7 @@ pub fn check_row(rt: &impl Abort, alloc: Global, row: &Row) -> Result<(), Fail> 
     let arrivals = arrivals_of(alloc, row)?;
     let wire = MemWire::new(alloc, arrivals, 10_000, 10, row.wire_fails.to_vec(alloc)?);
     let mut wire = wire.ok().ok_or("memory")?;
-    let ended = serve_row(alloc, row, &mut sink, &mut wire)?;
+    let ended = serve_row(alloc, row, &mut sink, &mut wire, &Open)?;
     assert_eq!(rt; ended, row.ended, "{}", row.name);
     check_text(rt, alloc, row, sink.held())?;
     check_sent(rt, row, &wire)

@@ -5,16 +5,16 @@ use serve_loop::Stop;
 use std::rt::HostRuntime;
 use std::test::Fail;
 
-const HEAD: &str = "rams-trace 1 tick 10 link 100000";
+pub const HEAD: &str = "rams-trace 1 tick 10 link 100000";
 
-const SEVEN: &str =
+pub const SEVEN: &str =
     "channel 7 ssrc 11223344 pt 33 rtx 99 server aabbccdd seq0 500 ring 64 window 0 access marker share 10000 reserve 1500 burst 4000 declared 100 minwire 42 limit 100 idle 100 clients 4";
 
-const EIGHT: &str =
+pub const EIGHT: &str =
     "channel 8 ssrc 11223344 pt 33 rtx 99 server aabbccdd seq0 700 ring 64 window 0 access marker share 10000 reserve 1500 burst 4000 declared 100 minwire 42 limit 100 idle 100 clients 4";
 
 /// Packet 10 of the source, with the marker, timestamp 0 and four bytes of payload.
-const ACCESS_POINT: &[u8] = &[
+pub const ACCESS_POINT: &[u8] = &[
     0x80, 0xa1, 0x00, 0x0a, 0x00, 0x00, 0x00, 0x00, 0x11, 0x22, 0x33, 0x44, 0x00, 0x00, 0x00, 0x00,
 ];
 
@@ -44,7 +44,7 @@ const AGAIN_OF_EIGHT: &[u8] = &[
 ];
 
 /// A generic NACK for packet 10 (RFC 4585, 6.2.1).
-const LOSS: &[u8] = &[
+pub const LOSS: &[u8] = &[
     0x81, 0xcd, 0x00, 0x03, 0x00, 0x00, 0xc0, 0x01, 0x11, 0x22, 0x33, 0x44, 0x00, 0x0a, 0x00, 0x00,
 ];
 
@@ -53,7 +53,7 @@ const LIVE: &str = "live 7 80a1000a000000001122334400000000";
 const ASKS: &str = "fb 7 5 86cd00030000c0011122334401000000";
 
 /// A packet, a request, and then nothing while the tick comes.
-const JOURNAL: Row = Row {
+pub const JOURNAL: Row = Row {
     name: "serve_journal",
     source: &[HEAD, SEVEN, "end"],
     arrivals: &[(9, 5000, ACCESS_POINT), (5, 5001, REQUEST)],
@@ -152,7 +152,7 @@ const TURNS: &[Row] = &[
 ];
 
 /// A head of which nothing is served.
-const UNSERVED: Row = Row {
+pub const UNSERVED: Row = Row {
     sent: &[],
     ended: Ok(Status::BadTrace),
     ..JOURNAL
