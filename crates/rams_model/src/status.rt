@@ -11,4 +11,8 @@ pub enum Status {
     BadTrace,
     WireFault,
     TooLong,
+    /// A capture file, or a record of it, has a fault.
+    BadCapture,
+    /// A session description has a fault.
+    BadSdp,
 }

@@ -1,7 +1,7 @@
 -- The exit status of the program.
 use Rattle.std.specs.Prelude.{ℕ}
 use Rattle.rams_model.specs.declared.status.Status.{Status}
-use Rattle.rams_model.specs.declared.status.Status.TheVariants.{Done, NoMemory, Words, ReadFault, WriteFault, BadTrace, WireFault, TooLong}
+use Rattle.rams_model.specs.declared.status.Status.TheVariants.{Done, NoMemory, Words, ReadFault, WriteFault, BadTrace, WireFault, TooLong, BadCapture, BadSdp}
 
 -- the number of a status
 abbrev pub exit_number : Status → ℕ
@@ -13,3 +13,5 @@ exit_number WriteFault = 4
 exit_number BadTrace = 5
 exit_number WireFault = 6
 exit_number TooLong = 7
+exit_number BadCapture = 9
+exit_number BadSdp = 10

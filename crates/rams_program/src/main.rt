@@ -135,5 +135,7 @@ fn number(status: Status) -> u8
         Status::BadTrace => 5,
         Status::WireFault => 6,
         Status::TooLong => 7,
+        Status::BadCapture => 9,
+        Status::BadSdp => 10,
     }
 }
