@@ -6,7 +6,7 @@ use Rattle.std.proofs.lemmas.List.{map-append}
 use Rattle.rams_model.specs.declared.channel.Channel.{Channel}
 use Rattle.rams_model.specs.declared.mode.LineKind.TheVariants as kind
 use Rattle.rams_model.specs.Service.{Settings, settings}
-use Rattle.rams_model.specs.Texts.{TraceLine, head_line, channel_line, line_in_range, Claim, Head, Reached, tick_of, may_come, may_come_next, kind_may_come, has_channel, is_threads}
+use Rattle.rams_model.specs.Texts.{TraceLine, head_line, channel_line, line_in_range, Claim, Head, Reached, tick_of, may_come, may_come_next, kind_may_come, has_channel, has_one_channel}
 use Rattle.server_hub.specs.{served, refused}
 use Rattle.trace_serving.proofs.Judged.{IsAccepted, IsJoined, judged_so, channel_so}
 use Rattle.trace_serving.specs.{Stage, eventless, claim_of}
@@ -31,7 +31,7 @@ unbegun : (r : Reached) (version : ℕ) (c : Channel) → may_come r (channel_li
 unbegun r version c may =
     let kind_may : kind_may_come r kind.Channel ≡ true = (and_parts _ _ may).0 in
     let next : may_come_next r kind.Channel ≡ true = (and_parts (not r.ended) (may_come_next r kind.Channel) kind_may).1 in
-    let under = and_parts (is_some r.head && not r.begun) (not (is_threads r.mode && has_channel r)) next in
+    let under = and_parts (is_some r.head && not r.begun) (not (has_one_channel r.mode && has_channel r)) next in
     not_true r.begun (and_parts (is_some r.head) (not r.begun) under.0).1
 
 -- the world serves under this head line

@@ -11,6 +11,8 @@ pub enum Mode {
     Threads,
     /// No event.
     Serve,
+    /// No event, and one channel.
+    Describe,
 }
 
 /// What a line is to the order of a trace.

@@ -9,7 +9,7 @@ use Rattle.std.proofs.lemmas.List.Quantifiers.{all_pairs_push}
 use Rattle.std.proofs.lemmas.List.Sums.{sum_by_push, sum_by-cons}
 use Rattle.rams_model.specs.declared.channel.Channel.{Channel}
 use Rattle.rams_model.specs.Service.{Settings, settings, most_bytes, tick_in_range}
-use Rattle.rams_model.specs.Texts.{TraceLine, head_line, channel_line, live_line, feedback_line, tick_line, end_line, tune_line, give_line, mcast_line, ask_line, drop_line, Reached, Head, Claim, tick_of, has_channel, has_version, is_threads, judged}
+use Rattle.rams_model.specs.Texts.{TraceLine, head_line, channel_line, live_line, feedback_line, tick_line, end_line, tune_line, give_line, mcast_line, ask_line, drop_line, Reached, Head, Claim, tick_of, has_channel, has_version, has_one_channel, judged}
 use Rattle.server_hub.specs.{FitLink, ids_of, shares_of}
 use Rattle.trace_serving.specs.{Serving, Stage, Turn, goes_on, ends, opening, brought, too_long, eventless, after_line, counted, claim_of, IsHead, AreLawful, StandUnder, Stand, opened_all, new_state, opened_by, after_brought, IsIdle, IsStage, channel_of_line, head_of_line, after_all, events_text, EndsWith, is_too_long, is_done}
 use Rattle.trace_serving.proofs.Judged.{IsAccepted, IsJoined, channel_so, claim}
@@ -286,9 +286,9 @@ module _ {State Event : Type 0} (s : Serving State Event) where
         (head_steps head none (head_is version tick link a.in_range))
     steps (channel_line version c) later a =
         let r = stage.reached in
-        let first = and_parts (not r.ended && (is_some r.head && not r.begun && not (is_threads r.mode && has_channel r))) (has_version r (channel_line version c)) a.may in
-        let next = and_parts (not r.ended) (is_some r.head && not r.begun && not (is_threads r.mode && has_channel r)) first.0 in
-        let more = and_parts (is_some r.head && not r.begun) (not (is_threads r.mode && has_channel r)) next.1 in
+        let first = and_parts (not r.ended && (is_some r.head && not r.begun && not (has_one_channel r.mode && has_channel r))) (has_version r (channel_line version c)) a.may in
+        let next = and_parts (not r.ended) (is_some r.head && not r.begun && not (has_one_channel r.mode && has_channel r)) first.0 in
+        let more = and_parts (is_some r.head && not r.begun) (not (has_one_channel r.mode && has_channel r)) next.1 in
         let begun = not-true r.begun (and_parts (is_some r.head) (not r.begun) more.0).1 in
         let found = channel_so r r.head c later a.gives in
         let join = found.2 in

@@ -1,6 +1,6 @@
 //! The lines of a trace.
 //!
-//! The mode `Threads` waits for a command that is still to come.
+//! The modes `Threads` and `Describe` wait for commands that are still to come.
 #![tactic(auto)]
 
 mod bytes;

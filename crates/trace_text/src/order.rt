@@ -1,6 +1,6 @@
 //! What lines are to the order of a trace.
 ghost use Rattle.std.specs.Prelude.{◌≡◌};
-ghost use Rattle.rams_model.specs.Texts.{kind_of, kind_named, version_spelled, is_event_word, is_receiver_word, has_receivers, has_events, is_threads, first_word, words_of};
+ghost use Rattle.rams_model.specs.Texts.{kind_of, kind_named, version_spelled, is_event_word, is_receiver_word, has_receivers, has_events, has_one_channel, first_word, words_of};
 ghost use Rattle.trace_text.specs.{shown};
 
 use crate::line::Line;
@@ -83,7 +83,7 @@ fn is_receiver_event(word: &[u8]) -> bool
 pub fn has_events(mode: Mode) -> bool
     ensures { result ≡ has_events mode }
 {
-    mode != Mode::Serve
+    !matches!(mode, Mode::Serve | Mode::Describe)
 }
 
 /// Whether a trace that is read for this has events of receivers.
@@ -94,8 +94,8 @@ pub fn has_receivers(mode: Mode) -> bool
 }
 
 /// Whether a trace that is read for this has one channel.
-pub fn is_threads(mode: Mode) -> bool
-    ensures { result ≡ is_threads mode }
+pub fn has_one_channel(mode: Mode) -> bool
+    ensures { result ≡ has_one_channel mode }
 {
-    mode == Mode::Threads
+    matches!(mode, Mode::Threads | Mode::Describe)
 }

@@ -8,7 +8,7 @@ ghost use Rattle.std.specs.List.{list_any};
 
 use crate::line::{Judged, Line};
 use crate::order::{
-    has_events, has_receivers, is_threads, kind_of, kind_of_first_word, version_spelled,
+    has_events, has_receivers, has_one_channel, kind_of, kind_of_first_word, version_spelled,
 };
 use crate::ranges::is_in_range;
 use crate::read::read_unranged;
@@ -259,7 +259,7 @@ impl State {
             LineKind::ReceiverEvent => has_channel && has_receivers(self.mode),
             LineKind::Head => self.head.is_none(),
             LineKind::Channel => {
-                self.head.is_some() && !self.begun && !(is_threads(self.mode) && has_channel)
+                self.head.is_some() && !self.begun && !(has_one_channel(self.mode) && has_channel)
             }
             LineKind::End => has_channel,
         }
@@ -271,7 +271,7 @@ impl State {
     {
         match line {
             Line::Live { id, .. } | Line::Feedback { id, .. } => {
-                !is_threads(self.mode) || self.has(*id)
+                !has_one_channel(self.mode) || self.has(*id)
             }
             _ => true,
         }

@@ -9,7 +9,7 @@ use Rattle.rams_model.specs.declared.mode.Mode.{Mode}
 use Rattle.rams_model.specs.declared.fault.ConfigFault.TheVariants as config
 use Rattle.rams_model.specs.declared.fault.LineFault.TheVariants.{Form, Order, Range, Twice, Rule}
 use Rattle.rams_model.specs.declared.mode.LineKind.TheVariants as kind
-use Rattle.rams_model.specs.declared.mode.Mode.TheVariants.{Meet, Threads, Serve}
+use Rattle.rams_model.specs.declared.mode.Mode.TheVariants.{Meet, Threads, Serve, Describe}
 use Rattle.rams_model.specs.Service.{Settings, settings, checked}
 use Rattle.rams_model.specs.Texts.TraceLines.{TraceLine, Words, head_line, channel_line, live_line, feedback_line, tick_line, end_line, tune_line, give_line, mcast_line, ask_line, drop_line, line_in_range, line_of}
 use Rattle.rams_model.specs.Texts.Words.{first_word, words_of}
@@ -53,13 +53,15 @@ version_of (Some head) = head.version
 abbrev pub has_channel : Reached → Bool
 has_channel r = nat_lt 0 (length r.channels)
 
--- threads read the events of one channel
-abbrev pub is_threads : Mode → Bool
-is_threads Threads = true
-is_threads _ = false
+-- threads read the events of one channel, and a description is of one channel
+abbrev pub has_one_channel : Mode → Bool
+has_one_channel Threads = true
+has_one_channel Describe = true
+has_one_channel _ = false
 
 abbrev pub has_events : Mode → Bool
 has_events Serve = false
+has_events Describe = false
 has_events _ = true
 
 abbrev pub has_receivers : Mode → Bool
@@ -69,7 +71,7 @@ has_receivers _ = false
 -- a line of this kind may come before `end`
 abbrev pub may_come_next : Reached → LineKind → Bool
 may_come_next r kind.Head = not (is_some r.head)
-may_come_next r kind.Channel = is_some r.head && not r.begun && not (is_threads r.mode && has_channel r)
+may_come_next r kind.Channel = is_some r.head && not r.begun && not (has_one_channel r.mode && has_channel r)
 may_come_next r kind.Event = has_channel r && has_events r.mode
 may_come_next r kind.ReceiverEvent = has_channel r && has_receivers r.mode
 may_come_next r kind.End = has_channel r
@@ -137,7 +139,7 @@ expected r bytes = named_may_come r (kind_named (first_word bytes)) (words_of by
 
 -- in threads an event is of the one channel
 abbrev pub is_served : Reached → ℕ → Bool
-is_served r id = not (is_threads r.mode) || list_any (λ k. k.id == id) r.channels
+is_served r id = not (has_one_channel r.mode) || list_any (λ k. k.id == id) r.channels
 
 abbrev pub line_is_served : Reached → TraceLine → Bool
 line_is_served r (live_line id hex) = is_served r id
