@@ -16,7 +16,7 @@ use std::process::ExitCode;
 use std::sync::Wait;
 use std::thread::Threads;
 use std::{env, io, rt};
-use udp_edge::{BindFault, FailedWire, UdpWire};
+use udp_edge::{BindFault, FailedWire, UdpWire, busy_port};
 
 const USAGE: &str = "usage: rams-replay run | meet | serve PORT TURNS | make SEED BLOCKS";
 
@@ -88,14 +88,12 @@ fn served<R: Threads + Wait + Net + rt::Clock + Sync + Input + Print + Eprint>(
         Ok(mut wire) => {
             let _ = eprintln!(rt; "rams-replay: has the ports {port} to {last} of 127.0.0.1");
             let status = command(rt, alloc, words, &mut wire, &mut clock, &report);
-            report.tell_end(status);
+            report.tell_end(status, wire.failed_port());
             status
         }
         Err(BindFault::NoMemory) => Status::NoMemory,
         Err(BindFault::Failed) => {
-            let _ = eprintln!(rt;
-                "rams-replay: the ports {port} to {last} of 127.0.0.1 can't all be had: free them, or name another PORT"
-            );
+            tell_busy(rt, port, last);
             command(
                 rt,
                 alloc,
@@ -106,6 +104,20 @@ fn served<R: Threads + Wait + Net + rt::Clock + Sync + Input + Print + Eprint>(
             )
         }
     }
+}
+
+/// Tells which of the ports from `port` to `last` can't be had.
+fn tell_busy<R: Net + Eprint>(rt: &R, port: u16, last: u16)
+    requires { port ≤ 65000 }
+{
+    let _ = match busy_port(rt, port, CHANNELS) {
+        Some(busy) => eprintln!(rt;
+            "rams-replay: port {busy} of 127.0.0.1 can't be had: free it, or name another PORT (the {port} to {last} are bound)"
+        ),
+        None => eprintln!(rt;
+            "rams-replay: the ports {port} to {last} of 127.0.0.1 can't be had at once: free some, or name another PORT"
+        ),
+    };
 }
 
 /// Runs the command over this machine's input and output.

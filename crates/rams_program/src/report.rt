@@ -90,18 +90,28 @@ impl<'a, R: Wait + Eprint> Report<'a, R> {
         }
     }
 
-    /// Tells what a server did that has ended so; nothing of one whose head was refused.
-    pub fn tell_end(&self, status: Status) {
+    /// Tells what a server did that has ended so; nothing of one whose head was refused. `failed` is the
+    /// port at which its wire failed, if it was one.
+    pub fn tell_end(&self, status: Status, failed: Option<u16>) {
         match status {
             Status::BadTrace => {}
             Status::WireFault => {
-                let _ = eprintln!(self.rt;
-                    "rams-replay: the network failed; the journal is whole up to there, and its book is what `run` answers it"
-                );
+                self.tell_failed(failed);
                 self.tell_totals();
             }
             _ => self.tell_totals(),
         }
+    }
+
+    /// The line of a network that failed.
+    fn tell_failed(&self, failed: Option<u16>) {
+        let _ = match failed {
+            Some(port) => eprint!(self.rt; "rams-replay: the network failed at port {port}"),
+            None => eprint!(self.rt; "rams-replay: the network failed"),
+        };
+        let _ = eprintln!(self.rt;
+            ": the journal is whole up to there, and `run` answers it; start the server anew, and the set-tops ask again"
+        );
     }
 
     /// The line of totals.

@@ -12,4 +12,4 @@ mod udp_wire;
 
 pub use bind_fault::BindFault;
 pub use failed_wire::FailedWire;
-pub use udp_wire::UdpWire;
+pub use udp_wire::{UdpWire, busy_port};

@@ -1,5 +1,5 @@
 //! What is asked of the sockets of a wire.
-ghost use Rattle.std.specs.Prelude.{◌≡◌, ◌+◌, ◌-◌, ◌%◌, ◌^◌, ◌<◌, ◌≤◌, All, length, vec_len, IfOk, IfSome};
+ghost use Rattle.std.specs.Prelude.{◌≡◌, ◌+◌, ◌-◌, ◌%◌, ◌^◌, ◌<◌, ◌≤◌, All, length, vec_len, IfErr, IfOk, IfSome};
 ghost use Rattle.mio.specs.Event.{event_token};
 ghost use Rattle.mio.specs.Events.{items};
 ghost use Rattle.udp_edge.specs.{IsNext, IsReady, KeepsReady};
@@ -11,7 +11,7 @@ use mio::net::UdpSocket;
 use mio::{Events, Interest, Poll, Token};
 use ram_io::Arrival;
 use std::alloc::Global;
-use std::io::{self, ErrorKind};
+use std::io::ErrorKind;
 use std::net::{Ipv4Addr, Net, SocketAddr, SocketAddrV4};
 use std::rt::Clock;
 use std::thread;
@@ -45,6 +45,20 @@ pub(crate) fn bound_sockets(
     Ok(sockets)
 }
 
+// The first of so many ports from `first` on that can't be had alone, if there is one.
+pub(crate) fn first_busy(net: &impl Net, first: u16, count: u16) -> Option<u16>
+    requires { first + count ≤ 2 ^ 16 }
+    ensures { IfSome result (λ port. (first ≤ port) × (port < first + count)) }
+{
+    for place in 0..count {
+        let address = SocketAddrV4::new(Ipv4Addr::LOCALHOST, first + place);
+        if UdpSocket::bind(net, SocketAddr::V4(address)).is_err() {
+            return Some(first + place);
+        }
+    }
+    None
+}
+
 // Each socket that the system tells of is ready.
 pub(crate) fn mark_all(round: &mut Round, events: &Events)
     ensures marked { All (λ event. IsReady round.new.ready (event_token event).0)
@@ -61,13 +75,13 @@ pub(crate) fn mark_all(round: &mut Round, events: &Events)
 }
 
 // Takes a datagram from the first socket in the round that has one, if any has. The socket at a
-// place has the port `first` + place.
+// place has the port `first` + place. Where a socket fails, its port is answered.
 pub(crate) fn next_datagram(
     first: u16,
     sockets: &[UdpSocket],
     round: &mut Round,
     buf: &mut [u8],
-) -> io::Result<Option<Arrival>>
+) -> Result<Option<Arrival>, u16>
     requires buffer { length buf.old ≡ 2000 }
     requires ports { first + length sockets.now ≤ 2 ^ 16 }
     ensures bound { IfOk result (λ o. IfSome o (λ a. (a.from < 2 ^ 48) × (a.len ≤ 2000))) }
@@ -78,6 +92,7 @@ pub(crate) fn next_datagram(
     ensures fair { IfOk result (λ o. IfSome o (λ a. IsNext round.new.ready round.old.turn
         (a.port - first))) }
     ensures turn { IfOk result (λ o. IfSome o (λ a. round.new.turn ≡ (a.port - first + 1) % 128)) }
+    ensures failed { IfErr result (λ port. (first ≤ port) × (port < first + length sockets.now)) }
 {
     for _ in 0..TRIES {
         let Some(place) = round.next() else {
@@ -97,7 +112,7 @@ pub(crate) fn next_datagram(
             Err(e) => match e.kind() {
                 ErrorKind::WouldBlock => round.clear(place),
                 ErrorKind::Interrupted | ErrorKind::ConnectionRefused => {}
-                _ => return Err(e),
+                _ => return Err(first + place as u16),
             },
         }
     }

@@ -7,7 +7,7 @@ use crate::address::address_of;
 use crate::bind_fault::BindFault;
 use crate::faults::Faults;
 use crate::round::{PLACES, Round};
-use crate::sockets::{bound_sockets, is_sent, mark_all, next_datagram};
+use crate::sockets::{bound_sockets, first_busy, is_sent, mark_all, next_datagram};
 use mio::net::UdpSocket;
 use mio::{Events, Poll};
 use ram_io::{Arrival, Failed, Wire};
@@ -32,10 +32,12 @@ pub struct UdpWire<R> {
     // A bit falls only where its socket had nothing more, as the system tells of changes alone.
     round: Round,
     faults: Faults,
+    // The port of the last fault, where it was one port's.
+    failed: Option<u16>,
 }
 
 impl<R> Model for UdpWire<R> {
-    ghost use Rattle.std.specs.Prelude.{◌+◌, ◌^◌, ◌≤◌, vec_len};
+    ghost use Rattle.std.specs.Prelude.{◌+◌, ◌^◌, ◌<◌, ◌≤◌, vec_len, IfSome};
     ghost use Rattle.udp_edge.specs.{UdpState};
 
     ghost Value = { UdpState };
@@ -46,7 +48,8 @@ impl<R> Model for UdpWire<R> {
       faults = w.faults.count;
     } };
 
-    ghost invariant = { λ w. (w.first + vec_len w.sockets ≤ 2 ^ 16) × (vec_len w.sockets ≤ 128) };
+    ghost invariant = { λ w. (w.first + vec_len w.sockets ≤ 2 ^ 16) × (vec_len w.sockets ≤ 128)
+        × IfSome w.failed (λ port. (w.first ≤ port) × (port < w.first + vec_len w.sockets)) };
 }
 
 impl<R: Net + Clock + Clone + Drop> UdpWire<R> {
@@ -79,8 +82,30 @@ impl<R: Net + Clock + Clone + Drop> UdpWire<R> {
             wait: Duration::from_millis(u64::from(wait_ms)),
             round: Round::new(),
             faults: Faults::none(),
+            failed: None,
         })
     }
+}
+
+impl<R> UdpWire<R> {
+    /// The port at which the last fault came, to tell an operator. `None` where no call failed, or
+    /// where the last one to fail did so at no port: the system couldn't tell which sockets are
+    /// ready, or a datagram was to go from a port that isn't the wire's.
+    pub fn failed_port(&self) -> Option<u16>
+        ensures { IfSome result (IsPortOf self.now) }
+    {
+        self.failed
+    }
+}
+
+/// The first of the 2 * `channels` ports from `port` on, on 127.0.0.1, that can't be bound, to tell an
+/// operator; `None` where each can be had alone.
+pub fn busy_port(net: &impl Net, port: u16, channels: u16) -> Option<u16>
+    requires channels { channels ≤ 64 }
+    requires ports { port + 2 * channels ≤ 2 ^ 16 }
+    ensures { IfSome result (λ busy. (port ≤ busy) × (busy < port + 2 * channels)) }
+{
+    first_busy(net, port, 2 * channels)
 }
 
 impl<R> UdpWire<R> {
@@ -90,6 +115,7 @@ impl<R> UdpWire<R> {
         ensures ports { self.new ≡ record self.old { faults = self.new.faults } }
     {
         if self.poll.poll(&mut self.events, Some(wait)).is_err() {
+            self.failed = None;
             return Err(self.faults.rise());
         }
         mark_all(&mut self.round, &self.events);
@@ -106,7 +132,10 @@ impl<R> UdpWire<R> {
     {
         match next_datagram(self.first, &self.sockets, &mut self.round, buf) {
             Ok(taken) => Ok(taken),
-            Err(_) => Err(self.faults.rise()),
+            Err(port) => {
+                self.failed = Some(port);
+                Err(self.faults.rise())
+            }
         }
     }
 }
@@ -145,10 +174,12 @@ impl<R: Clock> Wire for UdpWire<R> {
         ensures ports { self.new ≡ record self.old { faults = self.new.faults } }
     {
         let place = usize::from(port.wrapping_sub(self.first));
-        if let (Some(socket), Some(to)) = (self.sockets.get(place), address_of(to))
-            && is_sent(&self.rt, socket, to, bytes)
-        {
-            return Ok(());
+        self.failed = None;
+        if let (Some(socket), Some(to)) = (self.sockets.get(place), address_of(to)) {
+            if is_sent(&self.rt, socket, to, bytes) {
+                return Ok(());
+            }
+            self.failed = Some(port);
         }
         Err(self.faults.rise())
     }
