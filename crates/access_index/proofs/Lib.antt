@@ -1,4 +1,5 @@
 pub mod Choosing
+pub mod Halving
 pub mod Packets
 pub mod Pushing
 pub mod Rising

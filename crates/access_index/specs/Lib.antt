@@ -9,5 +9,5 @@ unfoldable pub use Rattle.access_index.specs.Marks.{point_of, points_of, refused
 pub use Rattle.access_index.specs.Marks.{StandsFor}
 unfoldable pub use Rattle.access_index.specs.Seen.{new_index, more_behind, pushed, left_from, leaves_room, age_at, newest, start_unless, start_at, choice_among, choice}
 pub use Rattle.access_index.specs.Seen.{AccessPoint}
-unfoldable pub use Rattle.access_index.specs.Spans.{IsIn, Reaches}
+unfoldable pub use Rattle.access_index.specs.Spans.{IsIn, Reaches, RiseLast, AreAtMost, IsLastOld}
 pub use Rattle.access_index.specs.Spans.{Row, Spanned, IsNoted}

@@ -1,5 +1,5 @@
 -- The points side by side, and the timestamps of each 64 of them.
-use Rattle.std.specs.Prelude.{ℕ, ◌+◌, ◌*◌, ◌/◌, ◌<◌, ◌≤◌, ◌≡◌, List, length, get_or}
+use Rattle.std.specs.Prelude.{ℕ, ◌+◌, ◌-◌, ◌*◌, ◌/◌, ◌<◌, ◌≤◌, ◌≡◌, List, length, get_or}
 use Rattle.rams_model.specs.Packets.{age_ms}
 use Rattle.access_index.specs.declared.point.Point.{Point}
 use Rattle.access_index.specs.declared.span.Span.{Span}
@@ -30,3 +30,15 @@ pub record IsNoted (count ts : ℕ) (old new : List Span) : Type 0 where
   pub number : length new ≡ count / 64 + 1
   pub own : (d : Span) → IsIn (get_or new (count / 64) d) ts
   pub others : (k : ℕ) (d : Span) (t : ℕ) → k < length old → IsIn (get_or old k d) t → IsIn (get_or new k d) t
+
+-- the timestamps of the last `run` points rise
+abbrev pub RiseLast : ℕ → List Point → Type 0
+RiseLast run points = (i j : ℕ) (e : Point) → length points ≤ i + run → i ≤ j → j < length points → (get_or points i e).ts ≤ (get_or points j e).ts
+
+-- no timestamp is above this one
+abbrev pub AreAtMost : ℕ → List Point → Type 0
+AreAtMost most points = (j : ℕ) (e : Point) → j < length points → (get_or points j e).ts ≤ most
+
+-- the last of so many points, where there is one, is so old at a timestamp
+abbrev pub IsLastOld : ℕ → ℕ → ℕ → List Point → Type 0
+IsLastOld last least count points = (e : Point) → 0 < count → least ≤ age_ms last (get_or points (count - 1) e).ts

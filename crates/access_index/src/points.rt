@@ -1,7 +1,8 @@
 //! The access points in their order, and the timestamps of each 64 of them.
 ghost use Rattle.std.specs.Prelude.{◌≡◌, ℕ, ◌*◌, ◌+◌, ◌%◌, ◌++◌, ◌^◌, ◌<◌, ◌≤◌, List, [], ◌∷◌, length, take, IfOk, IfSome, IfNone};
 ghost use Rattle.std.specs.VecDeque.{deque_len, deque_capacity};
-ghost use Rattle.access_index.specs.{above, start_of, choice_for, RiseIn, IsNoted};
+ghost use Rattle.access_index.specs.{above, start_of, choice_for, RiseIn, IsNoted, RiseLast, AreAtMost, IsLastOld};
+ghost use Rattle.access_index.specs.declared.point.Point.{Point};
 
 use crate::Choice;
 use crate::point::{Ask, Point};
@@ -24,12 +25,14 @@ pub struct Points {
     spans: VecDeque<Span>,
     /// How many points of the first span are gone.
     gone: usize,
+    /// The timestamps of so many points, the newest, rise.
+    run: usize,
 }
 
 impl Model for Points {
     ghost use Rattle.std.specs.Prelude.{◌+◌, ◌/◌, ◌≤◌};
     ghost use Rattle.std.specs.VecDeque.{deque_capacity};
-    ghost use Rattle.access_index.specs.{Row, Spanned};
+    ghost use Rattle.access_index.specs.{Row, Spanned, RiseLast};
 
     ghost Value = { Row };
 
@@ -38,6 +41,7 @@ impl Model for Points {
     ghost invariant = { λ p. record {
       spanned : Spanned p.gone p.spans.items p.points.items;
       room : deque_capacity p.points / 64 + 2 ≤ deque_capacity p.spans;
+      run : RiseLast p.run p.points.items;
     } };
 }
 
@@ -50,6 +54,7 @@ impl Points {
             points: VecDeque::with_capacity(alloc, capacity)?,
             spans: VecDeque::with_capacity(alloc, capacity / SPAN + 2)?,
             gone: 0,
+            run: 0,
         })
     }
 
@@ -58,8 +63,23 @@ impl Points {
         requires { length self.old.items < self.old.capacity }
         ensures { self.new ≡ record { items = self.old.items ++ point ∷ []; capacity = self.old.capacity } }
     {
+        let run = self.run_with(point.ts);
         note(&mut self.spans, self.gone + self.points.len(), point.ts);
+        self.run = run;
         self.points.push_back_reserved(point);
+    }
+
+    // Of how many points, the newest, the timestamps rise once one with this timestamp is behind them.
+    fn run_with(&self, ts: u32) -> usize
+        ensures { (point : Point) → point.ts ≡ ts → RiseLast result (self.now.items ++ point ∷ []) }
+    {
+        let Some(newest) = self.points.back() else {
+            return 1;
+        };
+        if ts < newest.ts {
+            return 1;
+        }
+        self.run.saturating_add(1)
     }
 
     /// The points with numbers below `lo`, which stand in front, go.
@@ -76,8 +96,8 @@ impl Points {
         }
     }
 
-    /// The choice among the points. The search goes from the newest on, and into a span only where a
-    /// point of it may be old enough.
+    /// The choice among the points. Where their timestamps rise it is found by halves. Else the search goes
+    /// from the newest on, and into a span only where a point of it may be old enough.
     pub fn choose(&self, ask: &Ask) -> Choice
         requires { RiseIn 0 (2 ^ 62) 0 ask.now.total self.now.items }
         ensures { result ≡ choice_for ask.now self.now.items }
@@ -88,6 +108,9 @@ impl Points {
         };
         if !ask.leaves_room(newest) {
             return Choice::NoStart;
+        }
+        if self.points.len() <= self.run && newest.ts <= ask.last {
+            return self.choose_risen(ask);
         }
         let mut place = self.spans.len();
         while place > 0 {
@@ -101,6 +124,46 @@ impl Points {
             }
         }
         Choice::MinUnmet
+    }
+
+    // The choice among points whose timestamps rise, up to the last mark's at most.
+    fn choose_risen(&self, ask: &Ask) -> Choice
+        requires rise { RiseIn 0 (2 ^ 62) 0 ask.now.total self.now.items }
+        requires risen { RiseLast (length self.now.items) self.now.items }
+        requires past { AreAtMost ask.now.last self.now.items }
+        ensures { result ≡ start_of ask.now self.now.items }
+    {
+        let count = self.old_count(ask);
+        if count == 0 {
+            return Choice::MinUnmet;
+        }
+        let point = &self.points[count - 1];
+        if !ask.leaves_room(point) {
+            return Choice::MinUnmet;
+        }
+        ask.start_at(point, age_ms(ask.last, point.ts))
+    }
+
+    // How many points are old enough: those in front, where the timestamps rise up to the last mark's at
+    // most.
+    fn old_count(&self, ask: &Ask) -> usize
+        requires risen { RiseLast (length self.now.items) self.now.items }
+        requires past { AreAtMost ask.now.last self.now.items }
+        ensures within { result ≤ length self.now.items }
+        ensures old { IsLastOld ask.now.last ask.now.min_ms result self.now.items }
+        ensures same { start_of ask.now (take result self.now.items) ≡ start_of ask.now self.now.items }
+    {
+        let mut low = 0;
+        let mut high = self.points.len();
+        while low < high {
+            let middle = low + (high - low) / 2;
+            if age_ms(ask.last, self.points[middle].ts) >= ask.min_ms {
+                low = middle + 1;
+            } else {
+                high = middle;
+            }
+        }
+        low
     }
 
     // The choice among the first `end` points, if one of those from `start` on decides it: the newest of

@@ -86,7 +86,7 @@ one_out v w ring pushes e intake some out step =
       items = items.1;
     }
 
-packets-push : (out : List (ℕ × Held)) (e : ℕ × Held) → packets_of (out ++ e ∷ []) ≡ packets_of out ++ e.1 ∷ []
+pub packets-push : (out : List (ℕ × Held)) (e : ℕ × Held) → packets_of (out ++ e ∷ []) ≡ packets_of out ++ e.1 ∷ []
 packets-push [] e = refl
 packets-push (x ∷ out) e = ap (λ (hs : List Held). x.1 ∷ hs) (packets-push out e)
 

@@ -2,6 +2,7 @@ pub mod Lengths
 pub mod Wholes
 pub mod Stocking
 pub mod Draining
+pub mod Passing
 pub mod Placing
 pub mod Starting
 pub mod Stepping

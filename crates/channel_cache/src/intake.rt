@@ -3,7 +3,8 @@ ghost use Rattle.std.specs.Prelude.{◌≡◌, ℕ, ◌+◌, ◌^◌, ◌<◌, �
 ghost use Rattle.rams_model.specs.declared.held.Held.{Held};
 ghost use Rattle.rams_model.specs.Packets.{hi};
 ghost use Rattle.packet_ring.specs.Seen as rings;
-ghost use Rattle.reorder_window.specs.{Start, came, start_after, begun, came_of, arrived, first_free};
+ghost use Rattle.reorder_window.specs.{Start, came, start_after, begun, came_of, arrived, first_free, IsAwaited};
+ghost use Rattle.reorder_window.specs.declared.window.Came.TheVariants.{Kept};
 ghost use Rattle.reorder_window.specs.Seen as windows;
 ghost use Rattle.channel_cache.specs.{new_intake, packets_of, IsIntake, IsSettled, Grows, count, UnlessKept, Holds, IsWhole};
 
@@ -60,11 +61,33 @@ impl Intake {
         ensures stands { (before : List Held) (s : Start Held) → Holds self.old before s →
             (result ≡ came self.old.window.width s held.n) × Holds self.new before (start_after s held.n held result) }
     {
+        if self.window.is_next(held.n) {
+            self.pass(held);
+            return Came::Kept;
+        }
         let came = self.window.arrive(held.n, held);
         if came == Came::Kept {
             self.drain();
         }
         came
+    }
+
+    // Holds a packet that need not wait, while no other waits.
+    fn pass(&mut self, held: Held)
+        requires settled { IsSettled self.old }
+        requires next { IsAwaited self.old.window held.n }
+        requires small { held.n < 2 ^ 62 }
+        requires whole { IsWhole held }
+        requires few { count self.old < 2 ^ 40 }
+        ensures came { came_of self.old.window held.n ≡ Kept }
+        ensures settled { IsSettled self.new }
+        ensures grows { Grows self.old self.new 1 }
+        ensures window { self.new.window ≡ (let w = arrived self.old.window held.n held Kept in record w { kept = self.new.window.kept }) }
+        ensures stands { (before : List Held) (s : Start Held) → Holds self.old before s →
+            (came self.old.window.width s held.n ≡ Kept) × Holds self.new before (start_after s held.n held Kept) }
+    {
+        self.window.pass(held.n);
+        self.stock.push(held);
     }
 
     /// Ends the start, and holds all its packets.

@@ -3,7 +3,7 @@ use Rattle.std.specs.Prelude.{◌≡◌, ℕ, ◌+◌, ◌-◌, ◌^◌, ◌<◌
 use Rattle.std.specs.Coded.{Coded, code_by, coded×, coded_ℕ, coded_bool, coded_list}
 use Rattle.reorder_window.specs.declared.window.Came.{Came}
 use Rattle.reorder_window.specs.declared.window.Came.TheVariants.{Kept, Late, Twice}
-use Rattle.reorder_window.specs.Starts.{Start, has_number, with_item, last_number, awaited}
+use Rattle.reorder_window.specs.Starts.{Start, has_number, with_item, last_number, awaited, came, start_after, released}
 
 -- what a window keeps
 pub record Seen (T : Type 0) : Type 0 where
@@ -75,6 +75,18 @@ without v (Some e) = record v { kept = drop 1 v.kept }
 abbrev pub after_release : {T : Type 0} → Seen T → Seen T
 after_release v = without v (first_free v)
 
+-- no item is kept, and this number is waited for
+pub record IsAwaited {T : Type 0} (v : Seen T) (n : ℕ) : Type 0 where
+  pub empty : v.kept ≡ []
+  pub next : v.awaited ≡ n
+
+-- an item goes by: it is kept, and released at once, after which no other can be
+pub record GoesBy {T : Type 0} (v w : Seen T) (n : ℕ) (item : T) : Type 0 where
+  pub came : came_of v n ≡ Kept
+  pub first : first_free (keeping v n item) ≡ Some (n, item)
+  pub rest : w ≡ after_release (keeping v n item)
+  pub settled : first_free w ≡ None
+
 -- the numbers rise, from `lo` on and below `hi`
 abbrev pub RisesIn : {T : Type 0} → ℕ → ℕ → List (ℕ × T) → Type 0
 RisesIn lo hi [] = lo ≤ hi
@@ -100,3 +112,9 @@ pub record StandsFor {T : Type 0} (v : Seen T) (s : Start T) (out : List (ℕ ×
   pub rises : RisesIn s.first (v.greatest + 1) s.items
   -- none was released before its time
   pub due : RisesIn s.first (if v.ended then v.greatest + 1 else v.awaited) out
+
+-- An item went by: it came in time, and all that may be released was released with it.
+pub record WentBy {T : Type 0} (v w : Seen T) (n : ℕ) (item : T) (s : Start T) (out : List (ℕ × T)) : Type 0 where
+  pub came : came v.width s n ≡ Kept
+  pub stands : StandsFor w (start_after s n item Kept) (out ++ (n, item) ∷ [])
+  pub all : out ++ (n, item) ∷ [] ≡ released w.width w.ended (start_after s n item Kept)

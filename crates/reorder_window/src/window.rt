@@ -1,6 +1,6 @@
 //! The window of one channel.
-ghost use Rattle.std.specs.Prelude.{◌≡◌, ℕ, ◌+◌, ◌^◌, ◌<◌, ◌≤◌, List, [], ◌∷◌, ◌++◌, Option, None, true, false, IfOk, MatchOption};
-ghost use Rattle.reorder_window.specs.{Start, came, start_after, released, new_window, begun, came_of, arrived, first_free, after_release, IsWindow, StandsFor};
+ghost use Rattle.std.specs.Prelude.{◌≡◌, ℕ, ◌+◌, ◌^◌, ◌<◌, ◌≤◌, ◌↔◌, IsTrue, List, [], ◌∷◌, ◌++◌, Option, None, true, false, IfOk, MatchOption};
+ghost use Rattle.reorder_window.specs.{Start, came, start_after, released, new_window, begun, came_of, arrived, first_free, after_release, IsWindow, StandsFor, IsAwaited, GoesBy, WentBy};
 ghost use Rattle.reorder_window.specs.Seen.{Seen};
 
 use crate::kept::{is_kept, missing_from, put};
@@ -110,6 +110,38 @@ impl<T: Drop> Window<T> {
         let lowest = self.greatest.saturating_sub(u64::from(self.width));
         self.awaited = missing_from(&self.kept, self.awaited.max(lowest));
         Came::Kept
+    }
+
+    /// Whether no item waits, and this is the number that is waited for.
+    pub fn is_next(&self, n: u64) -> bool
+        ensures { IsTrue result ↔ IsAwaited self.now n }
+    {
+        n == self.awaited && self.kept.is_empty()
+    }
+
+    /// Lets an item by that need not wait, as if it had come under its number and been released at once.
+    pub fn pass(&mut self, n: u64)
+        requires going { self.old.ended ≡ false }
+        requires next { IsAwaited self.old n }
+        requires small { n < 2 ^ 62 }
+        ensures by { (item : T) → GoesBy self.old self.new n item }
+        // Whichever items came in time so far, this one is added, and released with them.
+        ensures stands { (item : T) (s : Start T) (out : List (ℕ × T)) → StandsFor self.old s out → WentBy self.old self.new n item s out }
+    {
+        self.go_by(n);
+    }
+
+    // Lets the number go by. What that is in history, `pass` adds.
+    fn go_by(&mut self, n: u64)
+        requires going { self.old.ended ≡ false }
+        requires next { IsAwaited self.old n }
+        requires small { n < 2 ^ 62 }
+        ensures by { (item : T) → GoesBy self.old self.new n item }
+        ensures was { IsWindow self.old }
+        ensures is { IsWindow self.new }
+    {
+        self.awaited = n + 1;
+        self.greatest = self.greatest.max(n);
     }
 
     /// Ends the start: from now on everything kept can be released.

@@ -1,7 +1,8 @@
-use Rattle.std.proofs.Common.{◌≡◌, ◌-◌, ◌^◌, List, [], ◌∷◌, ◌++◌, ◌<◌, length, take, deque_len, refl, sym, ◌∙◌, ap, subst, arith}
+use Rattle.std.proofs.Common.{◌≡◌, ◌-◌, ◌^◌, List, [], ◌∷◌, ◌++◌, ◌<◌, length, get_or, take, deque_len, ℕ, refl, sym, ◌∙◌, ap, subst, arith}
 use Rattle.access_index.specs.declared.point.Point.{Point}
-use Rattle.access_index.specs.{choice_for, RiseIn}
+use Rattle.access_index.specs.{choice_for, RiseIn, AreAtMost}
 use Rattle.access_index.proofs.Choosing.{before_last, take_newest, choice_full}
+use Rattle.access_index.proofs.Halving.{past_all}
 use Rattle.access_index.proofs.Spanning.{span_passed, span_kept}
 use Rattle.access_index.proofs.points.Points.choose.Goals as goal
 use Rattle.access_index.proofs.points.Points.choose.Goals.{In-Some}
@@ -16,6 +17,14 @@ joined c =
 
 rise : (c : In-Some) → RiseIn 0 (2 ^ 62) 0 c.args.ask.now.total (front c ++ c.in-Some.newest.now ∷ [])
 rise c = subst (λ (ps : List Point). RiseIn 0 (2 ^ 62) 0 c.args.ask.now.total ps) (joined c) c.requires
+
+pub choose_risen-requires-clause-past : goal.choose_risen-requires-clause-past
+choose_risen-requires-clause-past c =
+    let i = c.self.inside in
+    let items = ap (λ r. r.items) c.self.view_is in
+    let newest = c.in-Some.newest.now in
+    let is : newest ≡ get_or i.points.items (length i.points.items - 1) newest = c.in-Some.ensures.lookup ∙ ap (λ (n : ℕ). get_or i.points.items (n - 1) newest) i.points.ok.0 in
+    subst (AreAtMost c.args.ask.now.last) items (past_all i.run i.points.items newest c.args.ask.now.last c.self.invariant.run (omega (arith, c.if-len-self.true, c.len.ensures, i.points.ok.0)) is c.if-newest-ask.true)
 
 pub leaves_room-requires : goal.leaves_room-requires
 leaves_room-requires c =

@@ -1,5 +1,6 @@
-use Rattle.std.proofs.Common.{ℕ, ◌+◌, ◌∙◌, subst, arith}
-use Rattle.access_index.specs.{IsNoted}
+use Rattle.std.proofs.Common.{ℕ, ◌+◌, ◌++◌, ◌∷◌, [], List, refl, sym, ap, ◌∙◌, subst, arith}
+use Rattle.access_index.specs.{IsNoted, RiseLast}
+use Rattle.access_index.specs.declared.point.Point.{Point}
 use Rattle.access_index.proofs.Spanning.{spanned_push}
 use Rattle.access_index.proofs.points.Points.push.Goals as goal
 
@@ -11,4 +12,5 @@ invariant_of-self c =
     record {
       spanned = rw c.push_back_reserved.ensures.items (spanned_push i.gone i.spans.items c.note.new.spans.items i.points.items c.args.point c.self.invariant.spanned noted);
       room = omega (arith, c.self.invariant.room, c.note.ensures.capacity, c.push_back_reserved.ensures.capacity);
+      run = rw c.push_back_reserved.ensures.items (subst (λ (ps : List Point). RiseLast c.run_with-run.result (ps ++ c.args.point ∷ [])) (sym (ap (λ r. r.items) c.self.view_is)) (c.run_with-run.ensures c.args.point refl));
     }
