@@ -25,3 +25,5 @@ pub mod FreshBursts
 pub mod Sequences
 pub mod Quiet
 pub mod StopTable
+pub mod KnownClients
+pub mod FirstOfBursts

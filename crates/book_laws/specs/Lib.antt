@@ -11,6 +11,7 @@ pub mod Numbers
 pub mod JoinTimes
 pub mod QuietBurst
 pub mod StopAnswers
+pub mod FirstNumbers
 pub use Rattle.book_laws.specs.Moments.{IsMoment, LastAccept}
 unfoldable pub use Rattle.book_laws.specs.Sendings.{sending, first_sendings, AreNumberedFrom, IsPacketOf, FirstSendingsAreConsecutive, WhatIsSentIsHeld, NothingIsSentUnasked, WhoeverWasAcceptedHasALastAccept, ABurstBeginsAtAnEligibleAccessPoint, IsTakenAs, IsOfTheSource, EachDatagramIsTheRetransmissionOfASourcePacket, note_sends, order_sends, EachSendingIsOrderedOnce}
 pub use Rattle.book_laws.specs.Sendings.{Sending, BeginsAsAsked, Retransmits, Sent}
@@ -31,3 +32,5 @@ unfoldable pub use Rattle.book_laws.specs.QuietBurst.{request, three_packets, on
 pub use Rattle.book_laws.specs.QuietBurst.{IsOver, IsLostAndWasNotQuiet}
 unfoldable pub use Rattle.book_laws.specs.StopAnswers.{StopsAreAnsweredExactly, ByesAreAnsweredExactly}
 pub use Rattle.book_laws.specs.StopAnswers.{AnswersStop, Leaves, AnswersBye, unread, idle, kept, set, passed, other, left, ended}
+unfoldable pub use Rattle.book_laws.specs.FirstNumbers.{AnOpenBurstsClientIsKnown, WhoIsSentABurstStayedKnown, is_repair_to, TheFirstNumberIsTheBursts}
+pub use Rattle.book_laws.specs.FirstNumbers.{TellsTheFirst}

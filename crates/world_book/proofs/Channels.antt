@@ -1,5 +1,5 @@
 -- The channels of a world keep their settings, and are those of the lines.
-use Rattle.std.proofs.Common.{◌≡◌, ◌≢◌, ℕ, suc, not, ◌&&◌, cond, List, [], ◌∷◌, ◌++◌, map, length, Option, Some, None, refl, ap, sym, ◌∙◌, subst, arith, append_assoc, eqb}
+use Rattle.std.proofs.Common.{◌≡◌, ◌≢◌, ℕ, suc, true, not, ◌&&◌, cond, List, [], ◌∷◌, ◌++◌, map, length, Option, Some, None, refl, ap, sym, ◌∙◌, subst, arith, append_assoc, eqb}
 use Rattle.std.specs.Prelude.{All, AllPairs, Result, Ok, Err, nat_le, slice_get, option_map, ◌<◌}
 use Rattle.std.specs.List.{list_any}
 use Rattle.std.specs.Int.{is_in_range}
@@ -104,21 +104,24 @@ settings_there : (before rest : List Settings) (s : Settings) → slice_get (bef
 settings_there [] rest s = refl
 settings_there (b ∷ before) rest s = settings_there before rest s
 
+-- lawful settings are in their ranges
+pub lawful_range : (s : Settings) → AreLawful s → channel_in_range s.channel ≡ true
+unfolding checked
+lawful_range s lawful =
+    let ranged = tick_in_range s.tick && channel_in_range s.channel in
+    cond_both (not ranged) (Err Range) _ (λ (o : Result Settings ConfigFault). o ≡ Ok s → channel_in_range s.channel ≡ true) (λ t q. absurd cc)
+    (λ f q. (and_parts (tick_in_range s.tick) (channel_in_range s.channel) (not-false ranged f)).1) lawful
+
 -- the payload type of retransmissions of lawful settings
 lawful_rtx : (s : Settings) → AreLawful s → s.channel.rtx < 128
-unfolding checked
 lawful_rtx s lawful =
     let c = s.channel in
-    let ranged = tick_in_range s.tick && channel_in_range c in
-    cond_both (not ranged) (Err Range) _ (λ (o : Result Settings ConfigFault). o ≡ Ok s → c.rtx < 128) (λ t q. absurd cc)
-    (λ f q.
-    let both = and_parts (tick_in_range s.tick) (channel_in_range c) (not-false ranged f) in
-    let names = and_parts (names_in_range c && bytes_in_range c) (bounds_in_range c) both.1 in
+    let names = and_parts (names_in_range c && bytes_in_range c) (bounds_in_range c) (lawful_range s lawful) in
     let first = and_parts (names_in_range c) (bytes_in_range c) names.0 in
     let seq0 = and_parts (is_in_range 1 65535 c.id && nat_le c.pt 127 && nat_le c.rtx 127) (nat_le c.seq0 65535) first.0 in
     let rtx = and_parts (is_in_range 1 65535 c.id && nat_le c.pt 127) (nat_le c.rtx 127) seq0.0 in
     let most = leb-true c.rtx 127 rtx.1 in
-    omega (arith, most)) lawful
+    omega (arith, most)
 
 pub are_new : (before rest : List Settings) → AllPairs (λ a b. a ≢ b) (ids_of (before ++ rest)) → All AreLawful rest → All (IsNew (new_of (before ++ rest))) (new_of rest)
 are_new before [] once lawful = All-nil (IsNew (new_of (before ++ [])))

@@ -1,4 +1,5 @@
 pub mod Channels
+pub mod Fields
 pub mod Worlds
 pub mod Posts
 pub mod Promising

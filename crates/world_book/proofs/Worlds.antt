@@ -7,16 +7,18 @@ use Rattle.rams_model.specs.Service.{Settings}
 use Rattle.rams_model.specs.Texts.{Head, TraceLine, head_line, channel_line, live_line, feedback_line, tick_line, end_line, tune_line, give_line, mcast_line, ask_line, drop_line}
 use Rattle.server_hub.specs.{served}
 use Rattle.server_hub.specs.Served.{Served}
-use Rattle.trace_serving.specs.{brought, ended, last_stage, Stand, opened_all, after_all, events_text, came, IsServedSo}
+use Rattle.trace_text.specs.{LinesAreSpelledAsRead}
+use Rattle.trace_serving.specs.{brought, ended, last_stage, taken, Stand, opened_all, after_all, events_text, came, IsServedSo}
 use Rattle.trace_book.specs.{settings_of, new_channels, IsOfBytes, KeepsPromises, ChannelsKeepTheirPromises}
 use Rattle.trace_book.proofs.Bytes.{hex_bytes}
 use Rattle.world_laws.specs.declared.world.WorldEvent.{WorldEvent}
 use Rattle.world_laws.specs.World.{World}
-use Rattle.world_laws.specs.{new_world, happens, world_after, BringsBytes, IsNew, EachReceiverPresentsAPrefix, EachReceiverPresentsWhatIsDelivered, NoMediaAreForeignOrBad}
+use Rattle.world_laws.specs.{new_world, happens, world_after, BringsBytes, IsNew, HasFields, EachReceiverPresentsAPrefix, EachReceiverPresentsWhatIsDelivered, NoMediaAreForeignOrBad, NoInfosAreForeignOrBad}
 use Rattle.world_text.specs.{first_line, event_lines, world_lines}
 use Rattle.world_book.specs.{meet, world_of, IsServedByAWorld, EndsSo, ReceiversPresent}
 use Rattle.trace_serving.proofs.Brought.{all_came}
 use Rattle.world_book.proofs.Promising.{IsWorldOfBytes, IsOf, happens_stays}
+use Rattle.world_book.proofs.Fields.{lawful_all, settings_have, each_informed}
 use Rattle.world_book.proofs.Channels.{happens_keeps, new_of, settings_are, new_are, are_new}
 
 -- the channels are those of the lines
@@ -117,8 +119,9 @@ module _ (trace : List ℕ) (so : IsServedSo meet trace) where
         text = so.text ∙ ap (λ (l : List ℕ). ended so.last.status (first_line ++ (l ++ so.last.text))) text;
       }
 
-  pub receivers_present : EachReceiverPresentsAPrefix → EachReceiverPresentsWhatIsDelivered → NoMediaAreForeignOrBad → ReceiversPresent (world_of trace)
-  receivers_present prefix delivered media =
+  pub receivers_present : EachReceiverPresentsAPrefix → EachReceiverPresentsWhatIsDelivered → NoMediaAreForeignOrBad → NoInfosAreForeignOrBad → LinesAreSpelledAsRead
+      → ReceiversPresent (world_of trace)
+  receivers_present prefix delivered media infos spelled =
       let new = new_under (last_stage meet trace).reached.head so.all so.stand in
       let bytes = all_came meet BringsBytes line_brings trace in
       subst ReceiversPresent (sym after_lines)
@@ -126,6 +129,10 @@ module _ (trace : List ℕ) (so : IsServedSo meet trace) where
         prefix = prefix (new_of so.all) (came meet trace) new bytes;
         delivered = delivered (new_of so.all) (came meet trace) new bytes;
         media = media (new_of so.all) (came meet trace) new bytes;
+        infos =
+            each_informed (world_after (new_of so.all) (came meet trace))
+            (subst (All HasFields) (sym (settings_over (came meet trace) (new_of so.all) ∙ settings_are so.all)) (settings_have spelled (taken meet trace) so.all so.opened (lawful_all (last_stage meet trace).reached.head so.all so.stand)))
+            (infos (new_of so.all) (came meet trace) new bytes);
       })
 
   pub channels_are_lawful : ChannelsKeepTheirPromises → All KeepsPromises (world_of trace).channels

@@ -6,7 +6,7 @@ use Rattle.receiver_laws.specs.{Presents}
 use Rattle.server_hub.specs.{channel_of}
 use Rattle.server_hub.specs.Served.{Served}
 use Rattle.world_laws.specs.World.{World}
-use Rattle.world_laws.specs.{source_of, PresentsWhatIsDelivered, AreMedia, world_after}
+use Rattle.world_laws.specs.{source_of, PresentsWhatIsDelivered, AreMedia, AreInfos, world_after}
 use Rattle.world_text.specs.{first_line, world_lines}
 use Rattle.trace_serving.specs.{Outcome, ended, last_stage, head_at, channel_at, taken, came, EndsWith}
 use Rattle.trace_book.specs.{new_channels, KeepsPromises}
@@ -46,6 +46,8 @@ pub record ReceiversPresent (w : World) : Type 0 where
   pub delivered : All (λ l. (c : Served) × (channel_of l.id w.channels ≡ Some c) × PresentsWhatIsDelivered l) w.listeners
   -- none of the media that came to it was foreign or bad
   pub media : All (λ l. (c : Served) × (channel_of l.id w.channels ≡ Some c) × AreMedia l.turns) w.listeners
+  -- and no RAMS-I that came to it was
+  pub infos : All (λ l. (c : Served) × (channel_of l.id w.channels ≡ Some c) × AreInfos l.turns) w.listeners
 
 abbrev pub ReceiversPresentTheirSources : Type 0
 ReceiversPresentTheirSources = (trace : List ℕ) → ReceiversPresent (world_of trace)

@@ -5,8 +5,9 @@ ghost use Rattle.world_book.specs.{meet, WorldsAreServedByTheirLines, WorldsEndS
 
 use trace_book::laws::channels_keep_their_promises;
 use trace_serving::laws::{Serves, traces_are_served_so};
+use trace_text::lines_are_spelled_as_read;
 use world_laws::laws::{
-    each_delivery_is_of_the_source, each_receiver_presents_a_prefix,
+    each_delivery_is_of_the_source, each_info_is_of_the_channel, each_receiver_presents_a_prefix,
     each_receiver_presents_what_is_delivered,
 };
 
@@ -39,8 +40,8 @@ pub fn worlds_end_so()
 }
 
 /// Whatever the trace, each receiver presented a prefix of its channel's source from its first number
-/// on, and what was delivered to it without a gap; nothing foreign and nothing bad of the media came
-/// to it.
+/// on, and what was delivered to it without a gap; nothing foreign and nothing bad came to it, of the
+/// media and of RAMS-I.
 pub fn receivers_present_their_sources()
     ensures { ReceiversPresentTheirSources }
 {
@@ -48,6 +49,8 @@ pub fn receivers_present_their_sources()
     each_receiver_presents_a_prefix();
     each_receiver_presents_what_is_delivered();
     each_delivery_is_of_the_source();
+    each_info_is_of_the_channel();
+    lines_are_spelled_as_read();
 }
 
 /// Whatever the trace, each channel of its world keeps its promises: the laws of every lawful book

@@ -17,10 +17,10 @@ use Rattle.server_hub.specs.Served.{Served}
 use Rattle.world_laws.specs.declared.world.WorldEvent.{WorldEvent}
 use Rattle.world_laws.specs.declared.world.WorldEvent.TheVariants.{Hub, Tune, Give, Mcast, Ask, Drop}
 use Rattle.world_laws.specs.declared.world.WorldItem.TheVariants as item
-use Rattle.world_laws.specs.{Way, posts, tells, repeats, Datagram, Listener, Step, refused, is_listener, datagram_at, HasBytes, IsTunedTo, IsNew, BringsBytes, source_of, as_it_came, packet_of_source, delivering_near, hearing, new_listener, with_listener, tuning, giving_by, giving, casting_packet, casting, post_all, asking, leave, leaving, happens, world_after}
+use Rattle.world_laws.specs.{Way, posts, tells, repeats, Datagram, Listener, Step, refused, is_listener, datagram_at, HasBytes, IsTunedTo, IsNew, HasFields, IsInfo, BringsBytes, source_of, as_it_came, packet_of_source, delivering_near, hearing, new_listener, with_listener, tuning, giving_by, giving, casting_packet, casting, post_all, asking, leave, leaving, happens, world_after}
 use Rattle.world_laws.specs.World.{World}
 use Rattle.world_laws.proofs.Readings.{multicast_read}
-use Rattle.world_laws.proofs.Right.{IsWell, Repeats, IsSentBy, IsRightSent, IsRightListener, IsRight}
+use Rattle.world_laws.proofs.Right.{IsWell, Repeats, Informs, IsSentBy, IsRightSent, IsRightListener, IsRight}
 use Rattle.world_laws.proofs.Serving.{source_kept, serving_right}
 use Rattle.world_laws.proofs.Listening.{IsMeant, posting_right, hearing_right, delivering_right, tuned_right, leaving_right, listening_right}
 
@@ -71,9 +71,16 @@ datagram_right w d n l i s m =
     (λ near. subst (λ (x : Media). IsFair (source_of r.channel) l.turns n x) (sym read)
     (refl, omega (arith, s.high), (s.h, subst (λ (x : Served). Contains (source_of x) s.h) (sym its) s.of_source, s.number, refl), near))
 
+told_right : (w : World) (d : Datagram) (l : Listener) → IsRight w → Informs w.channels d → IsMeant w d.id l → IsRight (hearing (told_by l.tuned d.bytes) l w).world
+told_right w d l i s m =
+    let r = m.right in
+    let its = same_channel w d.id l m s.channel s.found in
+    hearing_right w (told_by l.tuned d.bytes) l i r
+    (λ fields. subst IsInfo (sym (s.read (subst (λ (x : Served). HasFields x.settings) its fields) l.tuned (subst (λ (x : Served). IsTunedTo x.settings.channel l.tuned) its r.tuned))) tt)
+
 giving_by_right : (w : World) (way : Way) (d : Datagram) → IsRight w → IsSentBy w.channels d way → IsRight (giving_by way d w).world
 giving_by_right w posts d i s = serving_right (hub.Feedback d.id d.client d.bytes) w tt i
-giving_by_right w tells d i s = listening_right w d.id d.client (λ l. hearing (told_by l.tuned d.bytes) l w) i (λ l m. hearing_right w (told_by l.tuned d.bytes) l i m.right)
+giving_by_right w tells d i s = listening_right w d.id d.client (λ l. hearing (told_by l.tuned d.bytes) l w) i (λ l m. told_right w d l i s m)
 giving_by_right w (repeats n) d i s =
     listening_right w d.id d.client (λ l. delivering_near n (brought_again l.tuned d.bytes) l w) i (λ l m. datagram_right w d n l i s m)
 

@@ -1,6 +1,8 @@
 pub mod Kept
 pub mod Readings
 pub mod Ordered
+pub mod Infos
+pub mod Informing
 pub mod Right
 pub mod Serving
 pub mod Listening

@@ -11,7 +11,7 @@ use Rattle.rams_model.proofs.Legality.{found}
 use Rattle.server_hub.specs.Served.{Served}
 use Rattle.world_laws.specs.declared.world.WorldItem.TheVariants as item
 use Rattle.world_laws.specs.declared.world.WorldNote.{WorldNote}
-use Rattle.world_laws.specs.{Listener, Step, note, refused, is_listener, listens, listener_of, first_replaced, source_of, AreMedia, next_number, is_too_far, waiting, presenting, turns_to_present, presented_all, posted, after_turns, hearing, delivering, delivering_near, new_listener, with_listener, if_listening, post_all, leave}
+use Rattle.world_laws.specs.{Listener, Step, note, refused, is_listener, listens, listener_of, first_replaced, source_of, AreMedia, HasFields, IsInfo, AreInfos, next_number, is_too_far, waiting, presenting, turns_to_present, presented_all, posted, after_turns, hearing, delivering, delivering_near, new_listener, with_listener, if_listening, post_all, leave}
 use Rattle.world_laws.specs.World.{World}
 use Rattle.world_laws.proofs.Right.{IsWell, IsRightSent, IsRightListener, IsRight}
 use Rattle.world_laws.proofs.Serving.{more_sent}
@@ -68,8 +68,9 @@ posting_right w l bytes i = more_sent w (map (posted l) bytes) i (posts_right w.
 
 -- ---- a delivery
 
-with_turns : (cs : List Served) (l : Listener) (turns : List Turn) (r : IsRightListener cs l) → AreFair (source_of r.channel) turns → AreMedia turns → IsRightListener cs (presented_all turns l)
-with_turns cs l turns r fair media =
+with_turns : (cs : List Served) (l : Listener) (turns : List Turn) (r : IsRightListener cs l) → AreFair (source_of r.channel) turns → AreMedia turns
+    → (HasFields r.channel.settings → AreInfos turns) → IsRightListener cs (presented_all turns l)
+with_turns cs l turns r fair media infos =
     let k = turns_to_present turns in
     record {
       channel = r.channel;
@@ -77,18 +78,19 @@ with_turns cs l turns r fair media =
       tuned = r.tuned;
       fair = still_fair k turns (AreFair (source_of r.channel)) (λ ts p. p) fair;
       media = still_fair k turns AreMedia (λ ts p. p) media;
+      infos = λ fields. still_fair k turns AreInfos (λ ts p. p) (infos fields);
       settled = settles turns;
     }
 
 turns_right : (w : World) (said : WorldNote) (turns : List Turn) (sent : List (List ℕ)) (l : Listener) → IsRight w → (r : IsRightListener w.channels l)
-    → AreFair (source_of r.channel) turns → AreMedia turns → IsRight (after_turns said turns sent l w).world
-turns_right w said turns sent l i r fair media =
-    let now = replaced_right w (listens l.id l.tuned.client) (presented_all turns l) i (with_turns w.channels l turns r fair media) in
+    → AreFair (source_of r.channel) turns → AreMedia turns → (HasFields r.channel.settings → AreInfos turns) → IsRight (after_turns said turns sent l w).world
+turns_right w said turns sent l i r fair media infos =
+    let now = replaced_right w (listens l.id l.tuned.client) (presented_all turns l) i (with_turns w.channels l turns r fair media infos) in
     more_sent (record w { listeners = first_replaced (listens l.id l.tuned.client) (presented_all turns l) w.listeners }) (map (posted l) sent) now (posts_right w.channels l sent)
 
-pub hearing_right : (w : World) (told : Told) (l : Listener) → IsRight w → IsRightListener w.channels l → IsRight (hearing told l w).world
-hearing_right w told l i r =
-    turns_right w (note l.id (item.Info l.tuned.client (told_answer told (reception l.turns)))) (hears told ∷ l.turns) [] l i r r.fair r.media
+pub hearing_right : (w : World) (told : Told) (l : Listener) → IsRight w → (r : IsRightListener w.channels l) → (HasFields r.channel.settings → IsInfo told) → IsRight (hearing told l w).world
+hearing_right w told l i r is =
+    turns_right w (note l.id (item.Info l.tuned.client (told_answer told (reception l.turns)))) (hears told ∷ l.turns) [] l i r r.fair r.media (λ fields. (is fields, r.infos fields))
 
 pub delivering_right : (w : World) (x : ℕ) (media : Media) (l : Listener) → IsRight w → (r : IsRightListener w.channels l) → IsMedia media
     → (IsWithin (source_first l.turns) (length (shown l.turns)) x → IsFair (source_of r.channel) l.turns x media) → IsRight (delivering_near x media l w).world
@@ -96,7 +98,7 @@ delivering_right w x media l i r is fair =
     cond_both (is_too_far (next_number l.turns) x) (refused w l.id (item.TooFar l.tuned.client)) (delivering x media l w) (λ (s : Step). IsRight s.world) (λ t. i)
     (λ f. turns_right w (note l.id (item.Media l.tuned.client (media_answer media (reception l.turns)))) (delivers x media ∷ l.turns)
     (option_to_list (option_map (join_datagram l.tuned) (join_answer media (reception l.turns)))) l i r
-    (fair (near_enough (source_first l.turns) (length (shown l.turns)) x f), r.fair) (is, r.media))
+    (fair (near_enough (source_first l.turns) (length (shown l.turns)) x f), r.fair) (is, r.media) r.infos)
 
 -- ---- receivers come, and leave
 
@@ -111,6 +113,7 @@ tuned_right w c client ssrc has i =
       tuned = record { media = refl; pt = refl; rtx = refl };
       fair = tt;
       media = tt;
+      infos = λ fields. tt;
       settled = refl;
     } in
     let now : IsRight (record w { listeners = w.listeners ++ l ∷ [] }) =
@@ -120,7 +123,7 @@ tuned_right w c client ssrc has i =
 pub leaving_right : (w : World) (l : Listener) → IsRight w → IsRightListener w.channels l → IsRight (leave l w).world
 leaving_right w l i r =
     let gone : IsRightListener w.channels (record l { left = true }) =
-    record { channel = r.channel; found = r.found; tuned = r.tuned; fair = r.fair; media = r.media; settled = r.settled } in
+    record { channel = r.channel; found = r.found; tuned = r.tuned; fair = r.fair; media = r.media; infos = r.infos; settled = r.settled } in
     let now = replaced_right w (listens l.id l.tuned.client) (record l { left = true }) i gone in
     posting_right (record w { listeners = first_replaced (listens l.id l.tuned.client) (record l { left = true }) w.listeners }) l (bye_datagram l.tuned ∷ []) now
 

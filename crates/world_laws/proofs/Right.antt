@@ -8,11 +8,12 @@ use Rattle.rams_model.specs.declared.event.Event.{Event}
 use Rattle.rams_model.specs.declared.event.Event.TheVariants as event
 use Rattle.rams_model.specs.declared.held.Held.{Held}
 use Rattle.rams_model.specs.declared.reception.Tuned.{Tuned}
-use Rattle.rams_model.specs.Receiver.{Media, again, multicast, unfit, brought_again, Turn, hears, delivers, presents, reception, shown_now}
+use Rattle.rams_model.specs.declared.message.Info.{Info}
+use Rattle.rams_model.specs.Receiver.{informs, told_by, Media, again, multicast, unfit, brought_again, Turn, hears, delivers, presents, reception, shown_now}
 use Rattle.receiver_laws.specs.Fair.{IsOf, IsFair, AreFair}
 use Rattle.server_hub.specs.{id_of, with_event, channel_of}
 use Rattle.server_hub.specs.Served.{Served}
-use Rattle.world_laws.specs.{Way, posts, tells, repeats, Datagram, Listener, source_of, HasBytes, IsTunedTo, AreMedia}
+use Rattle.world_laws.specs.{Way, posts, tells, repeats, Datagram, Listener, source_of, HasBytes, IsTunedTo, AreMedia, HasFields, AreInfos}
 use Rattle.world_laws.specs.World.{World}
 use Rattle.world_laws.proofs.Ordered.{source_grows_by}
 
@@ -33,9 +34,16 @@ pub record Repeats (channels : List Served) (d : Datagram) (n : ℕ) : Type 0 wh
   pub sequence : ℕ
   pub read : (t : Tuned) → IsTunedTo channel.settings.channel t → brought_again t d.bytes ≡ again sequence (n % 65536) h.packet
 
+-- each receiver of the channel reads the datagram as this RAMS-I
+pub record Informs (channels : List Served) (d : Datagram) : Type 0 where
+  pub channel : Served
+  pub found : channel_of d.id channels ≡ Some channel
+  pub info : Info
+  pub read : HasFields channel.settings → (t : Tuned) → IsTunedTo channel.settings.channel t → told_by t d.bytes ≡ informs info
+
 abbrev pub IsSentBy : List Served → Datagram → Way → Type 0
 IsSentBy channels d posts = Unit {0}
-IsSentBy channels d tells = Unit {0}
+IsSentBy channels d tells = Informs channels d
 IsSentBy channels d (repeats n) = Repeats channels d n
 
 abbrev pub IsRightSent : List Served → Datagram → Type 0
@@ -48,6 +56,7 @@ pub record IsRightListener (channels : List Served) (l : Listener) : Type 0 wher
   pub tuned : IsTunedTo channel.settings.channel l.tuned
   pub fair : AreFair (source_of channel) l.turns
   pub media : AreMedia l.turns
+  pub infos : HasFields channel.settings → AreInfos l.turns
   pub settled : shown_now (reception l.turns) ≡ None
 
 pub record IsRight (w : World) : Type 0 where
@@ -123,7 +132,14 @@ all_fair_grow old new grows (presents ∷ turns) a = all_fair_grow old new grows
 
 sent_stays : (old new : List Served) → Changes old new → (d : Datagram) (way : Way) → IsSentBy old d way → IsSentBy new d way
 sent_stays old new k d posts i = tt
-sent_stays old new k d tells i = tt
+sent_stays old new k d tells i =
+    let g = k.goes i.channel in
+    record {
+      channel = k.f i.channel;
+      found = found_after old new k d.id i.channel i.found;
+      info = i.info;
+      read = λ fields t tuned. i.read (subst HasFields g.settings fields) t (subst (λ s. IsTunedTo s.channel t) g.settings tuned);
+    }
 sent_stays old new k d (repeats n) i =
     let g = k.goes i.channel in
     record {
@@ -146,6 +162,7 @@ listener_stays old new k l i =
       tuned = subst (λ s. IsTunedTo s.channel l.tuned) (sym g.settings) i.tuned;
       fair = all_fair_grow (source_of i.channel) (source_of (k.f i.channel)) g.grows l.turns i.fair;
       media = i.media;
+      infos = λ fields. i.infos (subst HasFields g.settings fields);
       settled = i.settled;
     }
 

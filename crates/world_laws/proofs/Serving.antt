@@ -1,5 +1,5 @@
 -- A world stays right as something comes to its server: what the channels send is of their sources.
-use Rattle.std.proofs.Common.{◌≡◌, ℕ, ◌<◌, ◌≤◌, ◌%◌, Bool, cond, List, [], ◌∷◌, ◌++◌, map, Option, Some, None, refl, ap, sym, ◌∙◌, subst, eqb}
+use Rattle.std.proofs.Common.{◌≡◌, ℕ, ◌<◌, ◌≤◌, ◌%◌, Bool, cond, List, [], ◌∷◌, ◌++◌, map, get_or, Option, Some, None, refl, ap, sym, ◌∙◌, subst, eqb}
 use Rattle.std.specs.Prelude.{All, Contains}
 use Rattle.std.specs.List.{AllByRecursion, flat_map}
 use Rattle.std.proofs.lemmas.List.Concat.{flat_map-cons}
@@ -9,15 +9,18 @@ use Rattle.rams_model.specs.declared.event.Event.{Event}
 use Rattle.rams_model.specs.declared.answer.Order.TheVariants as order
 use Rattle.rams_model.specs.declared.event.Event.TheVariants as event
 use Rattle.rams_model.specs.declared.held.Held.{Held}
-use Rattle.rams_model.specs.Receiver.{again, brought_again}
+use Rattle.rams_model.specs.Formats.{rams_info}
+use Rattle.rams_model.specs.Receiver.{informs, told_by, again, brought_again}
 use Rattle.rams_model.specs.Service.{datagram, answer, history_of}
 use Rattle.rams_model.proofs.Legality.{found}
 use Rattle.server_hub.specs.declared.event.HubEvent.{HubEvent}
 use Rattle.server_hub.specs.declared.event.HubEvent.TheVariants as hub
 use Rattle.server_hub.specs.{id_of, with_event, channel_of, after_event}
 use Rattle.server_hub.specs.Served.{Served}
-use Rattle.world_laws.specs.{Datagram, IsAgain, EachPacketOfTheSourceCame, source_of, as_it_came, HasBytes, IsTunedTo, sent, sent_by, sent_where, all_sent, serving}
+use Rattle.world_laws.specs.{Datagram, IsAgain, EachPacketOfTheSourceCame, source_of, as_it_came, HasBytes, IsTunedTo, HasFields, sent, sent_by, sent_where, all_sent, serving}
 use Rattle.world_laws.specs.World.{World}
+use Rattle.world_laws.proofs.Infos.{IsSoundOrder, answer_sound}
+use Rattle.world_laws.proofs.Informing.{told_read}
 use Rattle.world_laws.proofs.Kept.{IsKept, each_kept}
 use Rattle.world_laws.proofs.Ordered.{came_in_time, answer_fine}
 use Rattle.world_laws.proofs.Readings.{again_read}
@@ -34,9 +37,17 @@ source_came c bytes h has =
 
 -- what a channel sends, if it is found under its number afterwards
 order_right : (new : List Served) (c later : Served) → later.settings ≡ c.settings → channel_of (id_of c) new ≡ Some later → AllByRecursion HasBytes later.events → c.settings.channel.rtx < 128
-    → (o : Order) → IsAgain (source_of later) o → IsRightSent new (sent c o)
-order_right new c later same is bytes rtx (order.Info client info) i = tt
-order_right new c later same is bytes rtx (order.Rtx client n q packet) i =
+    → (o : Order) → IsAgain (source_of later) o → (HasFields c.settings → IsSoundOrder o) → IsRightSent new (sent c o)
+unfolding datagram
+order_right new c later same is bytes rtx (order.Info client info) i sound =
+    record {
+      channel = later;
+      found = is;
+      info = info;
+      read = λ fields t tuned.
+          let f = subst HasFields same fields in told_read c.settings info t f (sound f) (subst (λ s. IsTunedTo s.channel t) same tuned);
+    }
+order_right new c later same is bytes rtx (order.Rtx client n q packet) i sound =
     let kept = source_kept later bytes i.h i.of_source in
     record {
       channel = later;
@@ -59,7 +70,7 @@ answer_right new e c is bytes rtx =
     let orders = (answer c.settings c.events e).orders in
     let hs = source_of (with_event e c) in
     All-map (IsRightSent new) (sent c) orders
-    (All-weaker (IsAgain hs) (λ o. IsRightSent new (sent c o)) (order_right new c (with_event e c) refl is bytes rtx) orders (answer_fine c.settings c.events e))
+    (λ k o within. order_right new c (with_event e c) refl is bytes rtx (get_or orders k o) (answer_fine c.settings c.events e k o within) (λ fields. answer_sound c.settings fields c.events e k o within))
 
 -- an event of one channel
 where_right : (old : List Served) (id : ℕ) (e : Event) (o : Option Served) → channel_of id old ≡ o → HasBytes e → All (IsWell old) old

@@ -11,7 +11,7 @@ use Rattle.receiver_laws.proofs.Prefixes.{prefix}
 use Rattle.receiver_laws.proofs.Standing.{stands}
 use Rattle.server_hub.specs.{channel_of}
 use Rattle.server_hub.specs.Served.{Served}
-use Rattle.world_laws.specs.{Listener, source_of, OfEachReceiver, PresentsWhatIsDelivered, AreMedia, world_after}
+use Rattle.world_laws.specs.{Listener, source_of, OfEachReceiver, PresentsWhatIsDelivered, AreMedia, HasFields, AreInfos, world_after}
 use Rattle.world_laws.proofs.Right.{IsRightListener}
 use Rattle.world_laws.proofs.Happened.{every_world}
 
@@ -37,3 +37,6 @@ fair = of_each (λ c l. AreFair (source_of c) l.turns) (λ cs l r. r.fair)
 
 pub media : OfEachReceiver (λ c l. AreMedia l.turns)
 media = of_each (λ c l. AreMedia l.turns) (λ cs l r. r.media)
+
+pub infos : OfEachReceiver (λ c l. HasFields c.settings → AreInfos l.turns)
+infos = of_each (λ c l. HasFields c.settings → AreInfos l.turns) (λ cs l r. r.infos)

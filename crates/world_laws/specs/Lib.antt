@@ -11,7 +11,7 @@ unfoldable pub use Rattle.world_laws.specs.Sources.{source_of, takes, hears_numb
 pub use Rattle.world_laws.specs.Sources.{IsTunedTo}
 unfoldable pub use Rattle.world_laws.specs.Turns.{next_number, is_too_far, waiting, presenting, pieces_in, turns_to_present, presented_all, show_note, posted, post_note, after_turns, hearing, delivering, delivering_near}
 unfoldable pub use Rattle.world_laws.specs.Happening.{way_of, sent, send_note, notes_with_orders, sent_by, said_of, said_by, sent_where, said_where, all_sent, all_said, serving, tuned_to, new_listener, with_listener, tuning, if_listening, giving_by, giving, casting_packet, casting, post_all, asking, leave, leaving, happens, world_after}
-unfoldable pub use Rattle.world_laws.specs.Worlds.{BringsBytes, OfEachReceiver, EachReceiverPresentsAPrefix, PresentsWhatIsDelivered, EachReceiverPresentsWhatIsDelivered, AreMedia, NoMediaAreForeignOrBad, EachDeliveryIsFair}
-pub use Rattle.world_laws.specs.Worlds.{IsNew}
+unfoldable pub use Rattle.world_laws.specs.Worlds.{BringsBytes, OfEachReceiver, EachReceiverPresentsAPrefix, PresentsWhatIsDelivered, EachReceiverPresentsWhatIsDelivered, AreMedia, NoMediaAreForeignOrBad, EachDeliveryIsFair, IsInfo, AreInfos, NoInfosAreForeignOrBad}
+pub use Rattle.world_laws.specs.Worlds.{IsNew, HasFields}
 unfoldable pub use Rattle.world_laws.specs.Channels.{EachPacketOfTheSourceCame, IsAgain, EachOrderIsForAPacketOfTheSource, TheSourceKeepsItsPackets}
 pub use Rattle.world_laws.specs.Channels.{CameAs, SendsAgain}

@@ -1,6 +1,7 @@
 -- What is true in every world.
-use Rattle.std.specs.Prelude.{◌≡◌, ℕ, ◌<◌, ◌≤◌, ◌+◌, List, [], ◌∷◌, length, Some, All}
-use Rattle.rams_model.specs.Receiver.{Turn, hears, delivers, presents, reception, shown, source_first}
+use Rattle.std.specs.Prelude.{◌≡◌, ℕ, ◌<◌, ◌≤◌, ◌+◌, ◌^◌, List, [], ◌∷◌, length, Some, Ok, All}
+use Rattle.rams_model.specs.Receiver.{Told, informs, unread, Turn, hears, delivers, presents, reception, shown, source_first}
+use Rattle.rams_model.specs.Service.{Settings, checked}
 use Rattle.receiver_laws.specs.{IsMedia, Presents}
 use Rattle.receiver_laws.specs.Presenting.{WasDelivered}
 use Rattle.receiver_laws.specs.Fair.{AreFair}
@@ -56,3 +57,25 @@ NoMediaAreForeignOrBad = OfEachReceiver (λ c l. AreMedia l.turns)
 -- Each was the source's packet of its number, and near to the one presented next.
 abbrev pub EachDeliveryIsFair : Type 0
 EachDeliveryIsFair = OfEachReceiver (λ c l. AreFair (source_of c) l.turns)
+
+-- The settings of a channel are lawful, and its SSRCs have 32 bits (RFC 3550, 5.1).
+pub record HasFields (s : Settings) : Type 0 where
+  pub lawful : checked s ≡ Ok s
+  pub media : s.channel.ssrc < 2 ^ 32
+  pub server : s.channel.server < 2 ^ 32
+
+-- a datagram of feedback was a RAMS-I for the receiver (RFC 6285, 7.3)
+abbrev pub IsInfo : Told → Type 0
+IsInfo (informs i) = Unit {0}
+IsInfo (unread why) = ⊥
+
+-- no RAMS-I that came to the receiver is foreign to it, or bad
+abbrev pub AreInfos : List Turn → Type 0
+AreInfos [] = Unit {0}
+AreInfos (hears told ∷ turns) = IsInfo told × AreInfos turns
+AreInfos (delivers x media ∷ turns) = AreInfos turns
+AreInfos (presents ∷ turns) = AreInfos turns
+
+-- Each RAMS-I that was delivered is one about the receiver's media source, and names a first sequence number where it tells of a burst.
+abbrev pub NoInfosAreForeignOrBad : Type 0
+NoInfosAreForeignOrBad = OfEachReceiver (λ c l. HasFields c.settings → AreInfos l.turns)

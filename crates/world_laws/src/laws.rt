@@ -1,5 +1,5 @@
 //! Laws of worlds. A law is the contract of a function that does nothing.
-ghost use Rattle.world_laws.specs.{EachDeliveryIsFair, EachReceiverPresentsAPrefix, EachReceiverPresentsWhatIsDelivered, NoMediaAreForeignOrBad};
+ghost use Rattle.world_laws.specs.{EachDeliveryIsFair, EachReceiverPresentsAPrefix, EachReceiverPresentsWhatIsDelivered, NoInfosAreForeignOrBad, NoMediaAreForeignOrBad};
 
 /// Whatever is lost, repeated or reordered on the way: what each receiver presents is a prefix of its
 /// channel's source from the receiver's first number on, in order, each packet once.
@@ -18,4 +18,10 @@ pub fn each_receiver_presents_what_is_delivered()
 pub fn each_delivery_is_of_the_source()
     ensures fair { EachDeliveryIsFair }
     ensures media { NoMediaAreForeignOrBad }
+{}
+
+/// Each RAMS-I that is delivered (RFC 6285, 7.3) is one about the receiver's media source, and names a
+/// first sequence number where it tells of a burst: none is foreign, and none is bad.
+pub fn each_info_is_of_the_channel()
+    ensures { NoInfosAreForeignOrBad }
 {}
