@@ -1,0 +1,42 @@
+-- Where the calls of a list stand in a history, and what one call of it leaves.
+use Rattle.std.specs.Prelude.{◌≡◌, ℕ, ◌+◌, ◌==◌, ◌⊎◌, if◌then◌else◌, List, [], ◌∷◌, ◌++◌, map}
+use Rattle.rams_model.specs.declared.event.Event.{Event}
+use Rattle.rams_model.specs.Service.{Settings, Answered, answer, datagram}
+use Rattle.channel_book.specs.declared.entry.Entry.{Entry}
+use Rattle.channel_book.specs.{calls_by, StartsWith, HasAnswered, HasSeenMore}
+
+-- the places of the calls of a list among some entries, the first of which has this place
+abbrev pub places_from : ℕ → ℕ → List Entry → List ℕ
+places_from list first [] = []
+places_from list first (e ∷ later) = if e.list == list then first ∷ places_from list (first + 1) later else places_from list (first + 1) later
+
+-- the places of the calls of a list in a history, in order
+abbrev pub places_by : ℕ → List Entry → List ℕ
+places_by list entries = places_from list 0 entries
+
+-- the datagrams that an answer asks for, in the order of its orders
+abbrev pub datagrams_of : Settings → Answered → List (List ℕ)
+datagrams_of s a = map (datagram s) a.orders
+
+-- the answer was given to some event behind some others
+pub record WasAnswered (s : Settings) (a : Answered) : Type 0 where
+  pub before : List Event
+  pub event : Event
+  pub lawful : a ≡ answer s before event
+
+-- A call of the list was answered at this place, and the datagrams of its answer are these.
+pub record HasPlaced (list : ℕ) (s : Settings) (event : Event) (old : List Entry) (place : ℕ) (a : Answered) (datagrams : List (List ℕ)) (new : List Entry) : Type 0 where
+  pub answered : HasAnswered list event old place a new
+  pub drawn : datagrams ≡ datagrams_of s a
+
+-- The call was answered or not; no other one was made.
+abbrev pub HasTried : ℕ → Event → List Entry → List Entry → Type 0
+HasTried list event old new = HasSeenMore list old new ⊎ ((place : ℕ) × (a : Answered) × HasAnswered list event old place a new)
+
+-- A front of these events was taken as calls of the list, in order.
+pub record HasWrittenFront (list : ℕ) (events : List Event) (old new : List Entry) : Type 0 where
+  pub made : List Entry
+  pub rest : List Event
+  pub front : events ≡ map (λ (e : Entry). e.event) made ++ rest
+  pub own : calls_by list new ≡ calls_by list old ++ made
+  pub starts : StartsWith new old

@@ -1,0 +1,18 @@
+-- What the calls of a list leave.
+use Rattle.std.specs.Prelude.{◌≡◌, ℕ, List, ◌++◌, map}
+use Rattle.rams_model.specs.declared.event.Event.{Event}
+use Rattle.rams_model.specs.Service.{Settings}
+use Rattle.channel_book.specs.declared.entry.Entry.{Entry}
+use Rattle.channel_book.specs.{calls_by, StartsWith}
+use Rattle.live_writer.specs.declared.writer.Placed.{Placed}
+use Rattle.live_writer.specs.Places.{places_by, datagrams_of}
+
+-- All of these events were taken as calls of the list, in order. Each has its answer, its place in the history, and the datagrams of its answer.
+pub record HasWritten (list : ℕ) (s : Settings) (events : List Event) (old : List Entry) (placed : List Placed) (new : List Entry) : Type 0 where
+  pub made : List Entry
+  pub events_are : map (λ (e : Entry). e.event) made ≡ events
+  pub own : calls_by list new ≡ calls_by list old ++ made
+  pub starts : StartsWith new old
+  pub answers : map (λ (p : Placed). p.answer) placed ≡ map (λ (e : Entry). e.answer) made
+  pub places : places_by list new ≡ places_by list old ++ map (λ (p : Placed). p.place) placed
+  pub drawn : map (λ (p : Placed). p.datagrams.items) placed ≡ map (λ (e : Entry). datagrams_of s e.answer) made
