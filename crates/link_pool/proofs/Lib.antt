@@ -1,0 +1,9 @@
+pub mod Lists
+pub mod Filling
+pub mod Ordering
+pub mod Sums
+pub mod Granting
+pub mod Taking
+pub mod Dealing
+pub mod Gathering
+pub mod Closing
