@@ -1,18 +1,18 @@
 -- A packet of a burst tells the burst's first number to who was told of the burst.
 use Rattle.std.proofs.Common.{◌≡◌, ℕ, ◌+◌, ◌-◌, ◌%◌, ◌<◌, ◌≤◌, Bool, true, false, cond, List, [], ◌∷◌, ◌++◌, length, Option, Some, None, option_map, refl, ap, sym, ◌∙◌, subst, arith, eqb, ltb}
 use Rattle.std.specs.Option.{option_or}
-use Rattle.std.proofs.lemmas.Bool.{cond_both, cond-false, lt-ltb}
+use Rattle.std.proofs.lemmas.Bool.{cond-false, lt-ltb}
 use Rattle.std.proofs.lemmas.List.{length_push}
 use Rattle.rams_model.specs.declared.answer.Order.TheVariants as orders
 use Rattle.rams_model.specs.declared.held.Held.{Held}
 use Rattle.rams_model.specs.declared.message.Info.{Info}
 use Rattle.rams_model.specs.declared.note.Note.TheVariants as note
 use Rattle.rams_model.specs.Packets.{ahead}
-use Rattle.rams_model.specs.Receiver.{distance_from, first_number, first_by, again, Turn, delivers, reception, source_first}
-use Rattle.rams_model.specs.Service.{Settings, began, told, noted, History, sendings, sequence, bursts, accept_info, order_of}
+use Rattle.rams_model.specs.Receiver.{distance_from, first_number, first_by, again, reception, source_first}
+use Rattle.rams_model.specs.Service.{Settings, began, told, noted, History, sequence, bursts, accept_info, order_of}
 use Rattle.rams_model.specs.Laws.{NoneIs}
 use Rattle.rams_model.proofs.Legal.{IsLegal, Sends}
-use Rattle.book_laws.specs.{IsMoment, LastAccept, Sending, sending, first_sendings, numbers_to, is_repair_to, TellsTheFirst}
+use Rattle.book_laws.specs.{IsMoment, LastAccept, sending, first_sendings, numbers_to, is_repair_to, TellsTheFirst}
 use Rattle.book_laws.proofs.KnownClients.{stayed_known}
 use Rattle.book_laws.proofs.Moments.{legal_moment}
 use Rattle.book_laws.proofs.Sequences.{counts}

@@ -9,12 +9,12 @@ use Rattle.rams_model.specs.declared.note.Note.{Note}
 use Rattle.rams_model.specs.declared.note.Cause.TheVariants as cause
 use Rattle.rams_model.specs.declared.note.Note.TheVariants as note
 use Rattle.rams_model.specs.Formats.{Framed}
-use Rattle.rams_model.specs.Service.{Settings, Message, bye, nack, asks, stops, Heard, feedback, tick, heard_of, Item, began, told, noted, History, known, is_among, ssrc, bursts, has_open, pending, is_busy, idle, quiet_ticks, is_bye_of, after_bye, after_message, after_tick, history_of}
+use Rattle.rams_model.specs.Service.{Settings, Message, bye, nack, asks, stops, Heard, feedback, tick, heard_of, Item, began, told, noted, History, known, is_among, ssrc, bursts, has_open, pending, idle, quiet_ticks, is_bye_of, after_bye, after_message, after_tick, history_of}
 use Rattle.rams_model.specs.Laws.{NoneIs, is_accept_of, is_end_of, ends_known, makes_known}
 use Rattle.rams_model.proofs.Induction.{onwards, in_answer, no_tick_answers, is_at_once, between}
 use Rattle.rams_model.proofs.Items.{is_of_tick, tick_puts}
 use Rattle.rams_model.proofs.LastAccept.{open_step}
-use Rattle.rams_model.proofs.Legal.{is_tick, Answers, Allows, IsLegal}
+use Rattle.rams_model.proofs.Legal.{Answers, Allows, IsLegal}
 use Rattle.rams_model.proofs.Legality.{in_tick_from_runs}
 use Rattle.rams_model.proofs.Since.{stands, known_stands}
 use Rattle.book_laws.specs.{IsMoment, LastAccept}

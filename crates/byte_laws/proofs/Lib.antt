@@ -4,3 +4,8 @@ pub mod Low
 mod Orders
 mod Packets
 pub mod Rising
+mod RtpBytes
+mod Starts
+mod Became
+mod Naming
+mod Answered

@@ -161,15 +161,20 @@ each_taken s (event ∷ events) small h has =
     event_taken s event events h small.0 (each_taken s events small.1)
     (subst (λ (came : List Arrival). Contains (all_of (stream_of s.channel.window came)) h) (arrivals_of_event s (heard_of s.channel event) (history_of s events)) has)
 
+-- each number of the present start is at least 65,536
+pub high_before : (s : Settings) (events : List Event) → AllByRecursion HasBytes events → IsHigh (stream s (history_of s events)).present
+high_before s events small =
+    let st = stream s (history_of s events) in high_present st.ended st.present (λ k d. (each_taken s events small k d).high)
+
 -- ---- what is read off the bytes
 
-at_2 : (bytes : List ℕ) → from_be_bytes w16 (drop 2 bytes) ≡ number16 2 bytes
+pub at_2 : (bytes : List ℕ) → from_be_bytes w16 (drop 2 bytes) ≡ number16 2 bytes
 at_2 bytes = omega (arith, get_or-drop 2 bytes 0 0, get_or-drop 2 bytes 1 0)
 
 at_4 : (bytes : List ℕ) → from_be_bytes w32 (drop 4 bytes) ≡ number32 4 bytes
 at_4 bytes = omega (arith, get_or-drop 4 bytes 0 0, get_or-drop 4 bytes 1 0, get_or-drop 4 bytes 2 0, get_or-drop 4 bytes 3 0)
 
-at_8 : (bytes : List ℕ) → from_be_bytes w32 (drop 8 bytes) ≡ number32 8 bytes
+pub at_8 : (bytes : List ℕ) → from_be_bytes w32 (drop 8 bytes) ≡ number32 8 bytes
 at_8 bytes = omega (arith, get_or-drop 8 bytes 0 0, get_or-drop 8 bytes 1 0, get_or-drop 8 bytes 2 0, get_or-drop 8 bytes 3 0)
 
 -- the marker is the top bit of a byte

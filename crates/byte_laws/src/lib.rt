@@ -6,4 +6,6 @@
 #![tactic(auto)]
 
 pub mod held;
+pub mod live;
+pub mod messages;
 pub mod told;

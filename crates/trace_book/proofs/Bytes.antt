@@ -1,15 +1,17 @@
 -- The events of a trace are made of bytes.
-use Rattle.std.proofs.Common.{◌≡◌, ℕ, ◌<◌, List, [], ◌∷◌, suc, refl, eqb, arith}
+use Rattle.std.proofs.Common.{◌≡◌, ℕ, ◌<◌, List, [], ◌∷◌, ◌++◌, suc, refl, subst, eqb, arith}
 use Rattle.std.specs.Prelude.{All, IfSome, Result, Ok, Err, if◌then◌else◌, ◌==◌}
 use Rattle.std.proofs.lemmas.Bool.{cond_both}
 use Rattle.std.specs.List.{AllByRecursion}
-use Rattle.std.proofs.lemmas.List.Elements.{All-nil, All-cons, All-weaker, recursion_from_All}
+use Rattle.std.proofs.lemmas.List.{map-append}
+use Rattle.std.proofs.lemmas.List.Elements.{All-nil, All-cons, All-head, All-tail, All-weaker, recursion_from_All}
 use Rattle.hex.specs.Hex.{IsBytes, decode_of}
 use Rattle.hex.specs.declared.error.FromHexError.{FromHexError}
 use Rattle.hex.proofs.HexLemmas.{decode_of-ok}
 use Rattle.rams_model.specs.declared.event.Event.{Event}
 use Rattle.rams_model.specs.declared.event.Event.TheVariants as event
 use Rattle.rams_model.specs.Texts.{decoded, bytes_in, TraceLine, head_line, channel_line, live_line, feedback_line, tick_line, end_line, tune_line, give_line, mcast_line, ask_line, drop_line}
+use Rattle.rams_model.specs.Service.{Entry, Book, events_of as events_in}
 use Rattle.byte_laws.specs.{HasBytes}
 use Rattle.server_hub.specs.declared.event.HubEvent.{HubEvent}
 use Rattle.server_hub.specs.{events_of}
@@ -80,3 +82,15 @@ has_bytes event.Tick b = tt
 
 pub have_bytes : (events : List Event) → All IsOfBytes events → AllByRecursion HasBytes events
 have_bytes events a = recursion_from_All HasBytes events (All-weaker IsOfBytes HasBytes has_bytes events a)
+
+-- so is an earlier part of a book
+later_part : (xs ys : List Event) → All IsOfBytes (xs ++ ys) → All IsOfBytes ys
+later_part [] ys a = a
+later_part (x ∷ xs) ys a = later_part xs ys (All-tail IsOfBytes x (xs ++ ys) a)
+
+pub have_part : (later earlier : Book) → All IsOfBytes (events_in (later ++ earlier)) → AllByRecursion HasBytes (events_in earlier)
+have_part later earlier a =
+    have_bytes (events_in earlier) (later_part (events_in later) (events_in earlier) (subst (All IsOfBytes) (map-append (λ (e : Entry). e.event) later earlier) a))
+
+pub bytes_of : (later events : List Event) (client : ℕ) (bytes : List ℕ) → All IsOfBytes (later ++ event.Feedback client bytes ∷ events) → AreBytes bytes
+bytes_of later events client bytes a = All-head IsOfBytes (event.Feedback client bytes) events (later_part later (event.Feedback client bytes ∷ events) a)

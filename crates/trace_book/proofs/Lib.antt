@@ -3,3 +3,4 @@ pub mod Links
 pub mod Moments
 pub mod Repairs
 pub mod Bytes
+pub mod Lawful

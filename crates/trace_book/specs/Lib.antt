@@ -9,6 +9,6 @@ unfoldable pub use Rattle.trace_book.specs.Stages.{settings_of, new_channels, Is
 unfoldable pub use Rattle.trace_book.specs.Runs.{taken, event_at, came, events_text, TracesAreServedByTheirLines, TracesEndSo}
 pub use Rattle.trace_book.specs.Runs.{IsServed, EndsSo}
 unfoldable pub use Rattle.trace_book.specs.Promises.{IsOfBytes, ChannelsKeepTheirPromises, TracesAreServedLawfully}
-pub use Rattle.trace_book.specs.Promises.{WasSo, WasMade, HasOneBook, RetransmitsTheSource, SendsInOrder, RespectsItsStop, TellsBurstsTruly, SendsWhatIsAsked, IsWithinBudgets, IsWithinBudgetsOverTicks, KeepsBudgets, RefusesTruly, AnswersByTheTable, KeepsJoinTimes, TellsItsClients, ServesEachTick, GivesUpTruly, KeepsPromises}
+pub use Rattle.trace_book.specs.Promises.{WasSo, WasMade, HasOneBook, RetransmitsTheSource, SendsInOrder, TellsWhereBurstsBegin, TellsWhatCame, RespectsItsStop, TellsBurstsTruly, SendsWhatIsAsked, IsWithinBudgets, IsWithinBudgetsOverTicks, KeepsBudgets, RefusesTruly, AnswersByTheTable, KeepsJoinTimes, TellsItsClients, ServesEachTick, GivesUpTruly, KeepsPromises}
 unfoldable pub use Rattle.trace_book.specs.Links.{TracesStayWithinTheLink}
 pub use Rattle.trace_book.specs.Links.{StayWithinTheLink, KeepsTheLink}

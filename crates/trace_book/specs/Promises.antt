@@ -1,23 +1,25 @@
 -- What each channel of a trace promises: the laws of every lawful book, said of the channel's own book and of the moments of its own history.
-use Rattle.std.specs.Prelude.{◌≡◌, ◌≢◌, ℕ, ◌+◌, ◌*◌, ◌<◌, ◌≤◌, min, Bool, ◌⊎◌, IsTrue, List, [], ◌∷◌, ◌++◌, filter_map, Option, Some, Result, All, Contains, true, false}
+use Rattle.std.specs.Prelude.{◌≡◌, ◌≢◌, ℕ, ◌+◌, ◌*◌, ◌<◌, ◌≤◌, min, Bool, ◌⊎◌, IsTrue, List, [], ◌∷◌, ◌++◌, length, filter_map, Option, Some, Result, Ok, All, Contains, true, false}
 use Rattle.rams_model.specs.declared.answer.Order.{Order}
+use Rattle.rams_model.specs.declared.answer.Order.TheVariants as orders
 use Rattle.rams_model.specs.declared.event.Event.{Event}
 use Rattle.rams_model.specs.declared.fault.TlvFault.{TlvFault}
 use Rattle.rams_model.specs.declared.held.Held.{Held}
+use Rattle.rams_model.specs.declared.message.Info.{Info}
 use Rattle.rams_model.specs.declared.message.Stop.{Stop}
 use Rattle.rams_model.specs.declared.note.Cause.{Cause}
 use Rattle.rams_model.specs.declared.note.Note.{Note}
 use Rattle.rams_model.specs.declared.event.Event.TheVariants.{Live, Feedback, Tick}
 use Rattle.rams_model.specs.declared.note.Cause.TheVariants as cause
 use Rattle.rams_model.specs.declared.note.Note.TheVariants as note
-use Rattle.rams_model.specs.Service.{Settings, bye, nack, asks, stops, Heard, tick, began, told, noted, History, hold, Burst, next, known, is_among, open_burst, has_open, reserved, channel_left, Wanted, wanted, pending, is_busy, order_of, Entry, Book, history_of}
+use Rattle.rams_model.specs.Service.{Settings, checked, bye, nack, asks, stops, Heard, tick, began, told, noted, History, hold, Burst, next, known, is_among, open_burst, has_open, reserved, channel_left, Wanted, wanted, pending, is_busy, order_of, Entry, Book, history_of}
 use Rattle.rams_model.specs.Packets.{hi}
 use Rattle.rams_model.specs.Formats.{Request, Framed}
-use Rattle.rams_model.specs.Laws.{source, IsQuietBurst, told_join, NoneIs, StandsWithout, is_accept_of, is_end_of, is_queued, ends_pending, is_event, is_sending, is_sending_to, sizes_sent, ticks_begun}
-use Rattle.book_laws.specs.{LastAccept, AnsweredBy, IsTheBook, TellsTheHistory, notes_in, orders_in, notes_of, first_sendings, sending, AreNumberedFrom, IsPacketOf, BeginsAsAsked, IsOfTheSource, note_sends, order_sends, NamesWhatFollows, is_tick_start, may_be_sent, is_past_runs, BeginsWithATick, gains_in, IsOpenAtEachTick, line_of, Line, IsNumberAnswer, IsForeignNack, IsNackAnswered, AnswersStop, AnswersBye, CountsEachOnce, is_loss_of, ticks_since_told}
+use Rattle.rams_model.specs.Laws.{source, IsQuietBurst, told_join, NoneIs, StandsWithout, is_accept_of, is_end_of, is_queued, ends_pending, is_event, is_sending, is_sending_to, sizes_sent, ticks_begun, ends_known}
+use Rattle.book_laws.specs.{LastAccept, AnsweredBy, IsTheBook, TellsTheHistory, notes_in, orders_in, notes_of, first_sendings, sending, AreNumberedFrom, IsPacketOf, is_repair_to, TellsTheFirst, BeginsAsAsked, IsOfTheSource, note_sends, order_sends, NamesWhatFollows, is_tick_start, may_be_sent, is_past_runs, BeginsWithATick, gains_in, IsOpenAtEachTick, line_of, Line, IsNumberAnswer, IsForeignNack, IsNackAnswered, AnswersStop, AnswersBye, CountsEachOnce, is_loss_of, ticks_since_told}
 use Rattle.book_laws.specs.Stops.{Stands, EndsAtItsStop, HasEnded, EndsBecause, StopsAsNamed}
 use Rattle.book_laws.specs.Refusals.{IsRequestRefused, IsStopRefused, IsByTable, IsAnsweredExactly}
-use Rattle.byte_laws.specs.{TellsSo, WasOrdered, CameAs}
+use Rattle.byte_laws.specs.{TellsSo, WasOrdered, CameAs, IsLiveAnswer, IsAnsweredWhole, IsRefusedWhole}
 use Rattle.tick_laws.specs.{HadItsTurn, IsAtItsEnd, clients_served, Fall, repairs_done, AreSomeOf, WasIdle, IsIdleAllThrough}
 use Rattle.server_hub.specs.Served.{Served}
 use Rattle.trace_book.specs.TraceText.{served_by}
@@ -59,6 +61,27 @@ pub record SendsInOrder (s : Settings) (history : History) (client : ℕ) (a : L
   pub packets : All (IsPacketOf (source s history)) (first_sendings client a.since)
   -- the first has the sequence number that the Accept's RAMS-I names, and what follows has the ones after it
   pub named : NamesWhatFollows s history client a
+
+-- A client can tell where its burst began, and is known while it has one.
+pub record TellsWhereBurstsBegin (c : Served) : Type 0 where
+  -- after each event the client of an open burst is known
+  pub known : (later events : List Event) (client : ℕ) → c.events ≡ later ++ events → IsTrue (has_open c.settings client (history_of c.settings events))
+      → IsTrue (is_among client (known (history_of c.settings events)))
+  -- and who is sent a packet of a burst stayed known since the Accept
+  pub stays : (client n sequence : ℕ) (packet : Option Held) (before : History) → WasSo c (noted (note.Burst client n sequence) packet ∷ before)
+      → (a : LastAccept before client) → NoneIs (ends_known client) a.since
+  -- each of the first 16,384 packets of a burst, before any repair, tells its first number to who has the Accept's RAMS-I
+  pub first : (client n sequence : ℕ) (packet : Option Held) (before : History) → WasSo c (noted (note.Burst client n sequence) packet ∷ before)
+      → (a : LastAccept before client) → length (first_sendings client a.since) < 16384 → NoneIs (is_repair_to client) a.since
+      → (info : Info) → order_of c.settings a.before (note.Accept client a.first a.rate a.join) a.packet ≡ Some (orders.Info client info) → TellsTheFirst info n sequence a.first
+
+-- What came is told truly, byte by byte.
+pub record TellsWhatCame (c : Served) (book : Book) : Type 0 where
+  -- a live packet is answered with one note, which says what became of it
+  pub packets : (later earlier : Book) (e : Entry) (bytes : List ℕ) → book ≡ later ++ (e ∷ earlier) → e.event ≡ Live bytes → IsLiveAnswer c.settings earlier bytes e.answer
+  -- of a feedback datagram just its messages are answered, in order, or it is none, which is noted
+  pub datagrams : (later events : List Event) (client : ℕ) (bytes : List ℕ) → c.events ≡ later ++ (Feedback client bytes ∷ events)
+      → IsAnsweredWhole c.settings events client bytes ⊎ IsRefusedWhole c.settings events client bytes
 
 -- A burst stops where it was told to, and ends once.
 pub record RespectsItsStop (s : Settings) (history : History) (client : ℕ) (a : LastAccept history client) : Type 0 where
@@ -203,9 +226,9 @@ pub record GivesUpTruly (c : Served) : Type 0 where
   pub gone : (client n : ℕ) (packet : Option Held) (before : History) → WasSo c (noted (note.Gone client n) packet ∷ before)
       → Contains (pending before) (wanted client n) × ((h : Held) → Contains (hold c.settings before) h → h.n ≡ n → ⊥)
   -- a client that is forgotten was idle for as many ticks as the settings say
-  pub sooner : (k : ℕ) (packet : Option Held) (before : History) → 1 ≤ c.settings.channel.idle → WasSo c (noted (note.Forgot k) packet ∷ before) → WasIdle c.settings k before
+  pub sooner : (k : ℕ) (packet : Option Held) (before : History) → WasSo c (noted (note.Forgot k) packet ∷ before) → WasIdle c.settings k before
   -- and one that is known between two events was so for fewer
-  pub later : (after events : List Event) (k : ℕ) (stretch rest : History) → c.events ≡ after ++ events → 1 ≤ c.settings.channel.idle → history_of c.settings events ≡ stretch ++ rest
+  pub later : (after events : List Event) (k : ℕ) (stretch rest : History) → c.events ≡ after ++ events → history_of c.settings events ≡ stretch ++ rest
       → IsIdleAllThrough c.settings k stretch rest → is_busy c.settings k (history_of c.settings events) ≡ false → is_among k (known (history_of c.settings events)) ≡ true
       → ticks_begun stretch < c.settings.channel.idle
 
@@ -217,6 +240,7 @@ IsOfBytes Tick = Unit {0}
 
 -- What a channel promises.
 pub record KeepsPromises (c : Served) : Type 0 where
+  pub settings : checked c.settings ≡ Ok c.settings
   pub book : HasOneBook c
   -- as each packet that came was made of bytes, what is sent of it is that packet, byte by byte
   pub bytes : All IsOfBytes c.events
@@ -224,6 +248,7 @@ pub record KeepsPromises (c : Served) : Type 0 where
   -- whoever was accepted has a last Accept, of which the next two speak
   pub accepted : (history : History) (client : ℕ) → WasSo c history → StandsWithout (is_accept_of client) (λ i. Bool.false) history → LastAccept history client
   pub bursts : (history : History) (client : ℕ) → WasSo c history → (a : LastAccept history client) → SendsInOrder c.settings history client a
+  pub firsts : TellsWhereBurstsBegin c
   pub stops : (history : History) (client : ℕ) → WasSo c history → (a : LastAccept history client) → RespectsItsStop c.settings history client a
   pub ends : TellsBurstsTruly c
   pub asked : SendsWhatIsAsked c
@@ -235,13 +260,14 @@ pub record KeepsPromises (c : Served) : Type 0 where
   pub join_times : KeepsJoinTimes c
   -- what is held at a moment came in the channel's live packets, byte by byte
   pub held : (history : History) → WasSo c history → (h : Held) → Contains (hold c.settings history) h → CameAs c.settings c.events h
+  pub came : TellsWhatCame c book.book
   pub tells : TellsItsClients c book.book
   pub ticks : (later events : List Event) → c.events ≡ later ++ (Tick ∷ events) → ServesEachTick c events
   pub given_up : GivesUpTruly c
 
--- Whatever came to a channel, it keeps its promises, if that is made of bytes.
+-- Whatever came to a channel with lawful settings, it keeps its promises, if that is made of bytes.
 abbrev pub ChannelsKeepTheirPromises : Type 0
-ChannelsKeepTheirPromises = (c : Served) → All IsOfBytes c.events → KeepsPromises c
+ChannelsKeepTheirPromises = (c : Served) → checked c.settings ≡ Ok c.settings → All IsOfBytes c.events → KeepsPromises c
 
 -- Whatever the trace, each channel that it is served by keeps its promises.
 abbrev pub TracesAreServedLawfully : Type 0

@@ -5,7 +5,7 @@ ghost use Rattle.std.specs.Prelude.{List};
 ghost use Rattle.trace_book.specs.{run, TracesStayWithinTheLink, TracesAreServedLawfully, ChannelsKeepTheirPromises, TracesAreServedByTheirLines, TracesEndSo, TheOpeningIsAStage, StagesAreKept};
 
 use book_laws::{budgets, join_times, numbers, one_book, refusals, sendings, stops};
-use byte_laws::{held, told};
+use byte_laws::{held, live, messages, told};
 use rams_model::clients_are_since;
 use server_hub::laws::{
     channels_get_their_events, channels_stay_within_the_link, ticks_stay_within_the_link,
@@ -33,8 +33,8 @@ pub fn stages_are_kept()
     serving_keeps_stages::<Run>();
 }
 
-/// Whatever came to a channel, it keeps its promises, if that is made of bytes: the laws of every
-/// lawful book hold at each of its moments.
+/// Whatever came to a channel with lawful settings, it keeps its promises, if that is made of bytes: the
+/// laws of every lawful book hold at each of its moments.
 pub fn channels_keep_their_promises()
     ensures { ChannelsKeepTheirPromises }
 {
@@ -44,6 +44,8 @@ pub fn channels_keep_their_promises()
     sendings::a_burst_begins_at_an_eligible_access_point();
     sendings::each_datagram_is_the_retransmission_of_a_source_packet();
     numbers::the_first_sending_has_the_number_that_the_accept_named();
+    numbers::an_open_bursts_client_is_known();
+    numbers::the_first_number_is_the_bursts();
     stops::the_stop_is_respected();
     stops::each_burst_ends_or_is_open();
     stops::a_stop_is_what_was_named();
@@ -59,6 +61,8 @@ pub fn channels_keep_their_promises()
     refusals::what_is_counted_stands_once();
     join_times::quiet_bursts_keep_their_join_times();
     held::each_packet_came();
+    live::each_live_note_is_right();
+    messages::each_datagram_is_answered_whole();
     told::each_note_tells_its_client_so();
     sends::each_waiting_repair_did_not_fit();
     sends::each_run_went_on();
@@ -71,6 +75,7 @@ pub fn channels_keep_their_promises()
 pub fn traces_are_served_lawfully()
     ensures { TracesAreServedLawfully }
 {
+    traces_are_served_so::<Run>();
     traces_are_served_by_their_lines();
     channels_keep_their_promises();
 }

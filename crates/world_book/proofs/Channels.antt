@@ -1,14 +1,12 @@
 -- The channels of a world keep their settings, and are those of the lines.
-use Rattle.std.proofs.Common.{◌≡◌, ◌≢◌, ℕ, suc, true, not, ◌&&◌, cond, List, [], ◌∷◌, ◌++◌, map, length, Option, Some, None, refl, ap, sym, ◌∙◌, subst, arith, append_assoc, eqb}
-use Rattle.std.specs.Prelude.{All, AllPairs, Result, Ok, Err, nat_le, slice_get, option_map, ◌<◌}
+use Rattle.std.proofs.Common.{◌≡◌, ◌≢◌, ℕ, suc, ◌&&◌, cond, List, [], ◌∷◌, ◌++◌, map, length, Option, Some, None, refl, ap, sym, ◌∙◌, subst, arith, append_assoc, eqb}
+use Rattle.std.specs.Prelude.{All, AllPairs, nat_le, slice_get, option_map, ◌<◌}
 use Rattle.std.specs.List.{list_any}
 use Rattle.std.specs.Int.{is_in_range}
-use Rattle.std.proofs.lemmas.Bool.{and_parts, cond_both, not-false, leb-true}
+use Rattle.std.proofs.lemmas.Bool.{and_parts, cond_both, leb-true}
 use Rattle.std.proofs.lemmas.List.Elements.{All-nil, All-cons}
-use Rattle.rams_model.specs.declared.fault.ConfigFault.{ConfigFault}
-use Rattle.rams_model.specs.declared.fault.ConfigFault.TheVariants.{Range}
 use Rattle.rams_model.specs.Receiver.{Media}
-use Rattle.rams_model.specs.Service.{Settings, names_in_range, bytes_in_range, bounds_in_range, channel_in_range, tick_in_range, checked}
+use Rattle.rams_model.specs.Service.{Settings, names_in_range, bytes_in_range, bounds_in_range}
 use Rattle.server_hub.specs.declared.event.HubEvent.{HubEvent}
 use Rattle.server_hub.specs.declared.event.HubEvent.TheVariants as hub
 use Rattle.server_hub.specs.{served, ids_of, channel_of}
@@ -16,6 +14,7 @@ use Rattle.server_hub.specs.Served.{Served}
 use Rattle.server_hub.proofs.Finding.{with_id, one_has}
 use Rattle.trace_serving.specs.{AreLawful}
 use Rattle.trace_book.specs.{settings_of, new_channels}
+use Rattle.trace_book.proofs.Lawful.{lawful_range}
 use Rattle.trace_book.proofs.Served.{settings_after}
 use Rattle.world_laws.specs.declared.world.WorldEvent.{WorldEvent}
 use Rattle.world_laws.specs.declared.world.WorldEvent.TheVariants.{Hub, Tune, Give, Mcast, Ask, Drop}
@@ -103,14 +102,6 @@ id_there (b ∷ before) rest s = id_there before rest s
 settings_there : (before rest : List Settings) (s : Settings) → slice_get (before ++ s ∷ rest) (length before) ≡ Some s
 settings_there [] rest s = refl
 settings_there (b ∷ before) rest s = settings_there before rest s
-
--- lawful settings are in their ranges
-pub lawful_range : (s : Settings) → AreLawful s → channel_in_range s.channel ≡ true
-unfolding checked
-lawful_range s lawful =
-    let ranged = tick_in_range s.tick && channel_in_range s.channel in
-    cond_both (not ranged) (Err Range) _ (λ (o : Result Settings ConfigFault). o ≡ Ok s → channel_in_range s.channel ≡ true) (λ t q. absurd cc)
-    (λ f q. (and_parts (tick_in_range s.tick) (channel_in_range s.channel) (not-false ranged f)).1) lawful
 
 -- the payload type of retransmissions of lawful settings
 lawful_rtx : (s : Settings) → AreLawful s → s.channel.rtx < 128

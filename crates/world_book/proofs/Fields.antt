@@ -1,23 +1,22 @@
 -- The channels of a trace have SSRCs of 32 bits: so many have the words of their lines.
 use Rattle.std.proofs.Common.{◌≡◌, ℕ, ◌<◌, Bool, true, cond, List, [], ◌∷◌, map, Option, Some, None, refl, ap, sym, ◌∙◌, subst, eqb}
-use Rattle.std.specs.Prelude.{◌^◌, All, Result, Ok, Err, filter_map, option_and_then}
+use Rattle.std.specs.Prelude.{◌^◌, All, Ok, Err, filter_map, option_and_then}
 use Rattle.std.specs.List.{cons_option}
 use Rattle.std.proofs.lemmas.Bool.{and_parts, ltb-true}
 use Rattle.std.proofs.lemmas.List.Elements.{All-nil, All-cons, All-head, All-tail, All-weaker, All-contains}
 use Rattle.rams_model.specs.declared.channel.Channel.{Channel}
-use Rattle.rams_model.specs.declared.fault.LineFault.{LineFault}
 use Rattle.rams_model.specs.declared.fault.LineFault.TheVariants.{Range}
 use Rattle.rams_model.specs.Service.{Settings, channel_in_range}
-use Rattle.rams_model.specs.Texts.{Head, TraceLine, head_line, channel_line, live_line, feedback_line, tick_line, end_line, tune_line, give_line, mcast_line, ask_line, drop_line, line_of, ranged, line_at, is_spelled}
+use Rattle.rams_model.specs.Texts.{TraceLine, channel_line, line_of, ranged, line_at, is_spelled}
 use Rattle.rams_model.proofs.Legality.{found}
 use Rattle.server_hub.specs.{id_of, channel_of}
 use Rattle.server_hub.specs.Served.{Served}
 use Rattle.trace_text.specs.{LinesAreSpelledAsRead}
-use Rattle.trace_serving.specs.{channel_of_line, channel_at, AreLawful, Stand}
+use Rattle.trace_serving.specs.{channel_of_line, channel_at, AreLawful}
 use Rattle.trace_book.specs.{settings_of}
-use Rattle.world_laws.specs.{Listener, HasFields, AreInfos}
+use Rattle.world_laws.specs.{HasFields, AreInfos}
 use Rattle.world_laws.specs.World.{World}
-use Rattle.world_book.proofs.Channels.{lawful_range}
+use Rattle.trace_book.proofs.Lawful.{lawful_range, of_settings}
 
 record Has32 (c : Channel) : Type 0 where
   media : c.ssrc < 2 ^ 32
@@ -72,19 +71,10 @@ all_have (s ∷ all) a l =
 pub settings_have : LinesAreSpelledAsRead → (lines : List (List ℕ)) (all : List Settings) → map (λ s. s.channel) all ≡ filter_map channel_at lines → All AreLawful all → All HasFields all
 settings_have spelled lines all e l = all_have all (subst (All Has32InRange) (sym e) (lines_32 spelled lines)) l
 
-pub lawful_all : (o : Option Head) (all : List Settings) → Stand o all → All AreLawful all
-lawful_all None all stand = subst (All AreLawful) (sym stand) (All-nil AreLawful)
-lawful_all (Some head) all stand = stand.lawful
-
-of_each : (cs : List Served) → All HasFields (settings_of cs) → All (λ c. HasFields c.settings) cs
-of_each [] a = All-nil (λ c. HasFields c.settings)
-of_each (c ∷ cs) a =
-    All-cons (λ c. HasFields c.settings) c cs (All-head HasFields c.settings (settings_of cs) a) (of_each cs (All-tail HasFields c.settings (settings_of cs) a))
-
 -- what holds of each receiver whose channel has such settings holds of each
 pub each_informed : (w : World) → All HasFields (settings_of w.channels) → All (λ l. (c : Served) × (channel_of l.id w.channels ≡ Some c) × (HasFields c.settings → AreInfos l.turns)) w.listeners
     → All (λ l. (c : Served) × (channel_of l.id w.channels ≡ Some c) × AreInfos l.turns) w.listeners
 each_informed w have a =
     All-weaker (λ l. (c : Served) × (channel_of l.id w.channels ≡ Some c) × (HasFields c.settings → AreInfos l.turns))
     (λ l. (c : Served) × (channel_of l.id w.channels ≡ Some c) × AreInfos l.turns)
-    (λ l i. (i.0, i.1, i.2 (All-contains (λ c. HasFields c.settings) w.channels i.0 (of_each w.channels have) (found (λ (c : Served). eqb (id_of c) l.id) w.channels i.0 i.1).0))) w.listeners a
+    (λ l i. (i.0, i.1, i.2 (All-contains (λ c. HasFields c.settings) w.channels i.0 (of_settings HasFields w.channels have) (found (λ (c : Served). eqb (id_of c) l.id) w.channels i.0 i.1).0))) w.listeners a

@@ -1,16 +1,17 @@
 -- The world that a trace is served by.
-use Rattle.std.proofs.Common.{◌≡◌, ℕ, suc, ◌+◌, arith, List, [], ◌∷◌, ◌++◌, map, length, Option, Some, None, refl, ap, ap₂, sym, ◌∙◌, subst, append_assoc, append-nil}
+use Rattle.std.proofs.Common.{◌≡◌, ℕ, suc, ◌+◌, arith, List, [], ◌∷◌, ◌++◌, map, length, get_or, Option, Some, None, refl, ap, ap₂, sym, ◌∙◌, subst, append_assoc, append-nil}
 use Rattle.std.specs.Prelude.{All, IfSome}
-use Rattle.std.proofs.lemmas.List.Elements.{All-nil, All-cons, All-weaker}
+use Rattle.std.proofs.lemmas.List.Elements.{All-nil, All-cons}
 use Rattle.rams_model.specs.declared.channel.Channel.{Channel}
 use Rattle.rams_model.specs.Service.{Settings}
 use Rattle.rams_model.specs.Texts.{Head, TraceLine, head_line, channel_line, live_line, feedback_line, tick_line, end_line, tune_line, give_line, mcast_line, ask_line, drop_line}
 use Rattle.server_hub.specs.{served}
 use Rattle.server_hub.specs.Served.{Served}
 use Rattle.trace_text.specs.{LinesAreSpelledAsRead}
-use Rattle.trace_serving.specs.{brought, ended, last_stage, taken, Stand, opened_all, after_all, events_text, came, IsServedSo}
+use Rattle.trace_serving.specs.{brought, ended, last_stage, taken, AreLawful, Stand, opened_all, after_all, events_text, came, IsServedSo}
 use Rattle.trace_book.specs.{settings_of, new_channels, IsOfBytes, KeepsPromises, ChannelsKeepTheirPromises}
 use Rattle.trace_book.proofs.Bytes.{hex_bytes}
+use Rattle.trace_book.proofs.Lawful.{lawful_all, of_settings}
 use Rattle.world_laws.specs.declared.world.WorldEvent.{WorldEvent}
 use Rattle.world_laws.specs.World.{World}
 use Rattle.world_laws.specs.{new_world, happens, world_after, BringsBytes, IsNew, HasFields, EachReceiverPresentsAPrefix, EachReceiverPresentsWhatIsDelivered, NoMediaAreForeignOrBad, NoInfosAreForeignOrBad}
@@ -18,7 +19,7 @@ use Rattle.world_text.specs.{first_line, event_lines, world_lines}
 use Rattle.world_book.specs.{meet, world_of, IsServedByAWorld, EndsSo, ReceiversPresent}
 use Rattle.trace_serving.proofs.Brought.{all_came}
 use Rattle.world_book.proofs.Promising.{IsWorldOfBytes, IsOf, happens_stays}
-use Rattle.world_book.proofs.Fields.{lawful_all, settings_have, each_informed}
+use Rattle.world_book.proofs.Fields.{settings_have, each_informed}
 use Rattle.world_book.proofs.Channels.{happens_keeps, new_of, settings_are, new_are, are_new}
 
 -- the channels are those of the lines
@@ -137,6 +138,8 @@ module _ (trace : List ℕ) (so : IsServedSo meet trace) where
 
   pub channels_are_lawful : ChannelsKeepTheirPromises → All KeepsPromises (world_of trace).channels
   channels_are_lawful promises =
-      subst (λ (w : World). All KeepsPromises w.channels) (sym after_lines)
-      (All-weaker (λ c. All IsOfBytes c.events) KeepsPromises promises (world_after (new_of so.all) (came meet trace)).channels
-      (bytes_stay so.all (came meet trace) (all_came meet IsWorldOfBytes bytes_come trace)).channels)
+      let w = world_after (new_of so.all) (came meet trace) in
+      let are = settings_over (came meet trace) (new_of so.all) ∙ settings_are so.all in
+      let lawful = of_settings AreLawful w.channels (subst (All AreLawful) (sym are) (lawful_all (last_stage meet trace).reached.head so.all so.stand)) in
+      let bytes = (bytes_stay so.all (came meet trace) (all_came meet IsWorldOfBytes bytes_come trace)).channels in
+      subst (λ (x : World). All KeepsPromises x.channels) (sym after_lines) (λ k c less. promises (get_or w.channels k c) (lawful k c less) (bytes k c less))

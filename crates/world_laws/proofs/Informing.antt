@@ -1,17 +1,14 @@
 -- A receiver reads a RAMS-I of its channel as it was sent.
-use Rattle.std.proofs.Common.{◌≡◌, ℕ, ◌+◌, ◌*◌, ◌<◌, ◌≤◌, ◌%◌, Bool, cond, List, [], ◌∷◌, ◌++◌, length, Option, Some, None, refl, ap, sym, ◌∙◌, arith, eqb}
-use Rattle.std.specs.Prelude.{Result}
+use Rattle.std.proofs.Common.{◌≡◌, ℕ, ◌+◌, ◌*◌, ◌<◌, ◌≤◌, ◌%◌, Bool, cond, List, ◌++◌, length, Option, Some, None, refl, ap, sym, ◌∙◌, arith, eqb}
 use Rattle.std.specs.Option.{option_or}
 use Rattle.std.specs.Int.{w16, w32, w64}
 use Rattle.std.proofs.lemmas.Bool.{eq-eqb}
 use Rattle.std.proofs.lemmas.List.{length-append}
-use Rattle.rams_model.specs.declared.fault.FrameFault.{FrameFault}
-use Rattle.rams_model.specs.declared.fault.TlvFault.{TlvFault}
 use Rattle.rams_model.specs.declared.message.Info.{Info}
 use Rattle.rams_model.specs.declared.reception.InfoCame.TheVariants as came
 use Rattle.rams_model.specs.declared.reception.Tuned.{Tuned}
-use Rattle.rams_model.specs.Formats.{optional_tlv, info_fci, rams_info, Framed, Feedback}
-use Rattle.rams_model.specs.Receiver.{Told, informs, unread, if_info, first_info, read_told, read_first, read_framed, told_by}
+use Rattle.rams_model.specs.Formats.{optional_tlv, info_fci, rams_info, Feedback}
+use Rattle.rams_model.specs.Receiver.{informs, unread, if_info, first_info, read_told, read_first, read_framed, told_by}
 use Rattle.rams_model.specs.Service.{Settings}
 use Rattle.rams_model.proofs.PacketLaws.{feedback_written_back}
 use Rattle.rams_model.proofs.RamsLaws.{info_written_back}

@@ -1,6 +1,6 @@
 -- Each RAMS-I that a channel sends fits its bytes, and names a first sequence number where it tells of a burst.
-use Rattle.std.proofs.Common.{◌≡◌, ◌≢◌, ℕ, ◌+◌, ◌-◌, ◌*◌, ◌/◌, ◌<◌, ◌≤◌, Bool, true, false, not, ⊎_elim, List, [], ◌∷◌, ◌++◌, Option, Some, None, option_map, refl, ap, sym, ◌∙◌, subst, arith}
-use Rattle.std.specs.Prelude.{◌^◌, ◌&&◌, is_some, IsSomeAnd, Result, Ok, Err, All, option_to_list}
+use Rattle.std.proofs.Common.{◌≡◌, ℕ, ◌-◌, ◌*◌, ◌<◌, ◌≤◌, Bool, true, false, not, ⊎_elim, List, [], ◌∷◌, ◌++◌, Option, Some, None, refl, ap, sym, ◌∙◌, subst, arith}
+use Rattle.std.specs.Prelude.{◌&&◌, is_some, Result, Ok, Err, All, option_to_list}
 use Rattle.std.proofs.lemmas.Bool.{cond_both, and_parts, not-false, leb-true}
 use Rattle.std.proofs.lemmas.List.Elements.{All-nil, All-cons}
 use Rattle.std.proofs.Math.Nat.{mul-le-mul, div-le_self}
@@ -17,7 +17,7 @@ use Rattle.rams_model.specs.declared.note.Cause.TheVariants as cause
 use Rattle.rams_model.specs.declared.note.Note.TheVariants as note
 use Rattle.rams_model.specs.Formats.{FitsIn, FitsInfo}
 use Rattle.rams_model.specs.Receiver.{tells_of_burst}
-use Rattle.rams_model.specs.Service.{Settings, tick_in_range, names_in_range, bytes_in_range, bounds_in_range, channel_in_range, checked, burst_info, update_info, bare_info, next_msn, end_info, info_order, packet_order, again_order, update_order, end_order, tick, began, told, noted, History, sequence, Burst, bursts, open_burst, order_of, newest_orders, history_of, answer}
+use Rattle.rams_model.specs.Service.{Settings, tick_in_range, names_in_range, bytes_in_range, bounds_in_range, channel_in_range, checked, burst_info, update_info, bare_info, next_msn, packet_order, again_order, update_order, end_order, tick, began, told, noted, History, sequence, Burst, bursts, open_burst, order_of, newest_orders, history_of, answer}
 use Rattle.rams_model.proofs.Granting.{accept_grants, update_grants}
 use Rattle.rams_model.proofs.Legal.{Allows, IsLegal}
 use Rattle.rams_model.proofs.Legality.{legal_history}

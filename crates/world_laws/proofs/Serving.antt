@@ -9,8 +9,7 @@ use Rattle.rams_model.specs.declared.event.Event.{Event}
 use Rattle.rams_model.specs.declared.answer.Order.TheVariants as order
 use Rattle.rams_model.specs.declared.event.Event.TheVariants as event
 use Rattle.rams_model.specs.declared.held.Held.{Held}
-use Rattle.rams_model.specs.Formats.{rams_info}
-use Rattle.rams_model.specs.Receiver.{informs, told_by, again, brought_again}
+use Rattle.rams_model.specs.Receiver.{again, brought_again}
 use Rattle.rams_model.specs.Service.{datagram, answer, history_of}
 use Rattle.rams_model.proofs.Legality.{found}
 use Rattle.server_hub.specs.declared.event.HubEvent.{HubEvent}

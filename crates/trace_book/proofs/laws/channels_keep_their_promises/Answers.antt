@@ -1,21 +1,22 @@
 -- Each law of every lawful book, at the moments of a channel.
 use Rattle.std.proofs.Common.{◌≡◌, ℕ, List, [], ◌∷◌, ◌++◌, ⊎_elim, ap, sym, ◌∙◌, subst}
-use Rattle.std.specs.Prelude.{All}
+use Rattle.std.specs.Prelude.{All, Ok}
 use Rattle.rams_model.specs.declared.event.Event.{Event}
-use Rattle.rams_model.specs.Service.{tick, began, noted, History, Book, history_of, IsLawful}
+use Rattle.rams_model.specs.Service.{checked, tick, began, noted, History, Book, history_of, events_of, IsLawful}
 use Rattle.rams_model.specs.declared.event.Event.TheVariants.{Tick}
 use Rattle.rams_model.specs.declared.note.Note.TheVariants.{Repair}
 use Rattle.book_laws.specs.{LastAccept, is_tick_start, BeginsWithATick, notes_of}
 use Rattle.rams_model.specs.Laws.{NoneIs}
 use Rattle.server_hub.specs.Served.{Served}
-use Rattle.trace_book.specs.{WasSo, HasOneBook, RetransmitsTheSource, SendsInOrder, RespectsItsStop, TellsBurstsTruly, SendsWhatIsAsked, IsWithinBudgets, IsWithinBudgetsOverTicks, KeepsBudgets, RefusesTruly, AnswersByTheTable, KeepsJoinTimes, TellsItsClients, ServesEachTick, GivesUpTruly, IsOfBytes, KeepsPromises}
-use Rattle.trace_book.proofs.Bytes.{have_bytes}
+use Rattle.trace_book.specs.{WasSo, HasOneBook, RetransmitsTheSource, SendsInOrder, TellsWhereBurstsBegin, TellsWhatCame, RespectsItsStop, TellsBurstsTruly, SendsWhatIsAsked, IsWithinBudgets, IsWithinBudgetsOverTicks, KeepsBudgets, RefusesTruly, AnswersByTheTable, KeepsJoinTimes, TellsItsClients, ServesEachTick, GivesUpTruly, IsOfBytes, KeepsPromises}
+use Rattle.trace_book.proofs.Bytes.{have_bytes, have_part, bytes_of}
+use Rattle.trace_book.proofs.Lawful.{idle_least}
 use Rattle.trace_book.proofs.Moments.{moment, earlier, stands_in}
 use Rattle.trace_book.proofs.Repairs.{repair_waits, repair_held}
 use Rattle.trace_book.proofs.laws.channels_keep_their_promises.Goals as goal
 
 -- A channel, and the laws.
-module _ (c : goal.After-clients_are_since) (ch : Served) where
+module _ (c : goal.After-clients_are_since) (ch : Served) (lawful : checked ch.settings ≡ Ok ch.settings) where
   one_book : HasOneBook ch
   one_book =
       let one = c.exactly_one_book.ensures.one ch.settings ch.events in
@@ -51,6 +52,21 @@ module _ (c : goal.After-clients_are_since) (ch : Served) where
         packets = consecutive.1;
         named = c.the_first_sending_has_the_number_that_the_accept_named.ensures.named ch.settings history m client a;
       }
+
+  firsts : TellsWhereBurstsBegin ch
+  firsts = record {
+    known = λ later events client e. c.an_open_bursts_client_is_known.ensures.known ch.settings events client (idle_least ch.settings lawful);
+    stays = λ client n sequence packet before was. c.an_open_bursts_client_is_known.ensures.stays ch.settings client n sequence packet before (idle_least ch.settings lawful) (moment ch _ was);
+    first = λ client n sequence packet before was. c.the_first_number_is_the_bursts.ensures ch.settings client n sequence packet before (idle_least ch.settings lawful) (moment ch _ was);
+  }
+
+  came : All IsOfBytes ch.events → TellsWhatCame ch one_book.book
+  came bytes = record {
+    packets = λ later earlier e live splits is.
+        c.each_live_note_is_right.ensures ch.settings e earlier live (c.exactly_one_book.ensures.earlier ch.settings later (e ∷ earlier) (subst (IsLawful ch.settings) splits one_book.is_its.lawful))
+        (have_part later (e ∷ earlier) (subst (λ (b : Book). All IsOfBytes (events_of b)) splits (subst (All IsOfBytes) (sym one_book.is_its.same_events) bytes))) is;
+    datagrams = λ later events client datagram e. c.each_datagram_is_answered_whole.ensures ch.settings events client datagram (bytes_of later events client datagram (subst (All IsOfBytes) e bytes));
+  }
 
   stopped : (history : History) (client : ℕ) → WasSo ch history → (a : LastAccept history client) → RespectsItsStop ch.settings history client a
   stopped history client was a =
@@ -158,17 +174,19 @@ module _ (c : goal.After-clients_are_since) (ch : Served) where
   gives_up : GivesUpTruly ch
   gives_up = record {
     gone = λ client n packet before was. c.each_waiting_repair_did_not_fit.ensures.gone ch.settings client n packet before (moment ch _ was);
-    sooner = λ k packet before some was. c.a_client_is_forgotten_in_time.ensures.sooner ch.settings k packet before some (moment ch _ was);
-    later = λ after events k stretch rest e. c.a_client_is_forgotten_in_time.ensures.later ch.settings k events stretch rest;
+    sooner = λ k packet before was. c.a_client_is_forgotten_in_time.ensures.sooner ch.settings k packet before (idle_least ch.settings lawful) (moment ch _ was);
+    later = λ after events k stretch rest e. c.a_client_is_forgotten_in_time.ensures.later ch.settings k events stretch rest (idle_least ch.settings lawful);
   }
 
   promises : All IsOfBytes ch.events → KeepsPromises ch
   promises bytes = record {
+    settings = lawful;
     book = one_book;
     bytes = bytes;
     datagrams = datagrams;
     accepted = λ history client was. c.first_sendings_are_consecutive.ensures.accepted history client;
     bursts = in_order;
+    firsts = firsts;
     stops = stopped;
     ends = told_truly;
     asked = asked;
@@ -179,10 +197,11 @@ module _ (c : goal.After-clients_are_since) (ch : Served) where
     join_times = joined;
     held = λ history was.
         c.each_packet_came.ensures.held ch.settings history (record { events = ch.events; later = was.later; splits = was.splits }) (have_bytes ch.events bytes);
+    came = came bytes;
     tells = tells_so;
     ticks = each_tick;
     given_up = gives_up;
   }
 
 pub returns : goal.returns
-returns c ch bytes = promises c ch bytes
+returns c ch lawful bytes = promises c ch lawful bytes
