@@ -1,0 +1,6 @@
+pub mod Queues
+pub mod Working
+pub use Rattle.session_worker.specs.Queues.{AreQueues}
+unfoldable pub use Rattle.session_worker.specs.Queues.{answered_with}
+unfoldable pub use Rattle.session_worker.specs.Working.{queue_of, drawn_in, drawn_by, AreReady, HaveWorked}
+pub use Rattle.session_worker.specs.Working.{HasWorked}

@@ -1,0 +1,59 @@
+//! Lists of events on threads, from a channel to its book.
+ghost use Rattle.std.specs.Prelude.{◌≡◌, ◌^◌, ◌<◌, ◌≤◌, [], All, map, length, IfOk};
+ghost use Rattle.session_core.specs.{StandsFor};
+ghost use Rattle.channel_book.specs.{IsInterleaving, IsLegal};
+ghost use Rattle.session_worker.specs.{answered_with};
+
+use crate::gather::{draw, take_apart};
+use crate::worker::{seat, write_lists};
+use channel_book::{Book, Core, Event, NoMemory};
+use channel_lock::ChannelLock;
+use ram_io::Gate;
+use rams_model::Octets;
+use std::alloc::Global;
+use std::sync::Wait;
+use std::thread::Threads;
+
+/// What became of lists of events.
+#[derive(Drop)]
+pub struct Worked {
+    /// The history, with the number of the list at each entry.
+    pub book: Book,
+    /// The datagrams of each entry's answer, by its place.
+    pub drawn: Vec<Vec<Octets>>,
+}
+
+/// Takes the events of each list on a thread of its own, over one channel to which nothing came yet.
+/// The datagrams of an answer are made while other threads may step the channel, by at most so many
+/// threads at once. May wait.
+///
+/// Which list is next at each place isn't said. The gate is passed as `write_all` says it.
+pub fn run_lists<R: Threads + Wait + Sync, G: Gate + Sync>(
+    rt: &R,
+    alloc: Global,
+    core: Core,
+    lists: &[Vec<Event>],
+    workers: u32,
+    gate: &G,
+) -> Result<Worked, NoMemory>
+    requires made { (core.calls ≡ 0) × StandsFor core [] }
+    requires lists { (0 < length lists.now) × (length lists.now ≤ 32) }
+    requires short { All (λ l. length l.items ≤ 2 ^ 34) lists.now }
+    requires workers { 0 < workers }
+    ensures settings { IfOk result (λ worked. worked.book.settings ≡ core.settings) }
+    ensures legal { IfOk result (λ worked. IsLegal core.settings worked.book.entries) }
+    ensures interleaving { IfOk result (λ worked. IsInterleaving (map (λ l. l.items) lists.now) worked.book.entries) }
+    ensures drawn { IfOk result (λ worked. map (λ d. d.items) worked.drawn.items ≡ answered_with core.settings worked.book.entries) }
+{
+    let config = *core.config();
+    let (lock, passes) = ChannelLock::new(alloc, core, lists.len() as u32)?;
+    let staff = seat(alloc, passes)?;
+    let staff = write_lists(rt, alloc, &lock, staff, lists, &config, workers, gate);
+    let left = take_apart(alloc, staff)?;
+    let Ok(book) = lock.close(left.passes) else {
+        // All passes are given back.
+        unreachable!()
+    };
+    let drawn = draw(alloc, &config, book.entries(), left.queues)?;
+    Ok(Worked { book, drawn })
+}
