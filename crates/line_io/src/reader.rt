@@ -97,7 +97,9 @@ impl LineReader {
         }
     }
 
-    fn kept(&self) -> &[u8]
+    /// The bytes that were taken of the source and aren't handed out yet: what stands behind the last
+    /// line begins with them.
+    pub fn kept(&self) -> &[u8]
         ensures { result.now ≡ self.now.kept }
     {
         &self.bytes[self.from..self.to]

@@ -5,3 +5,4 @@ pub mod Faults
 pub mod WrittenLines
 pub mod ReadBack
 pub mod LongTexts
+pub mod InRange

@@ -1,6 +1,7 @@
 -- Laws of descriptions.
-use Rattle.std.specs.Prelude.{◌≡◌, ◌≢◌, ℕ, ◌<◌, ◌^◌, List, ◌++◌, length, Ok, IsErr}
+use Rattle.std.specs.Prelude.{◌≡◌, ◌≢◌, ℕ, ◌<◌, ◌≤◌, ◌^◌, List, ◌++◌, length, Ok, IsErr}
 use Rattle.rams_model.specs.declared.channel.Channel.{Channel}
+use Rattle.sdp_config.specs.declared.sdp.Sdp.{Sdp}
 use Rattle.sdp_config.specs.Description.{sdp_at}
 use Rattle.sdp_config.specs.Written.{description, shown_channel}
 
@@ -12,6 +13,17 @@ pub record IsDescribable (c : Channel) (port : ℕ) : Type 0 where
   pub rtx : c.rtx < 128
   pub apart : c.pt ≢ c.rtx
   pub near : port < 65001
+
+-- Settings that a channel can have: payload types, no two alike, and a media source.
+pub record IsInRange (s : Sdp) : Type 0 where
+  pub pt : s.pt ≤ 127
+  pub rtx : s.rtx ≤ 127
+  pub ssrc : s.ssrc < 2 ^ 32
+  pub apart : s.pt ≢ s.rtx
+
+-- the settings that a description gives are such
+abbrev pub SettingsAreInRange : Type 0
+SettingsAreInRange = (text : List ℕ) (s : Sdp) → sdp_at text ≡ Ok s → IsInRange s
 
 -- a channel's description gives its settings back
 abbrev pub DescriptionsAreReadBack : Type 0

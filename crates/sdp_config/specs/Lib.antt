@@ -12,4 +12,5 @@ unfoldable pub use Rattle.sdp_config.specs.Shown.{lines_left, pieces_left, shown
 pub use Rattle.sdp_config.specs.Sections.{Section, Found}
 unfoldable pub use Rattle.sdp_config.specs.Description.{line_fault, first_fault, text_fault, settings_in, settings_of, sdp_at}
 unfoldable pub use Rattle.sdp_config.specs.Written.{joined_lines, session_lines, media_lines, offer_lines, repair_lines, description, shown_channel}
-unfoldable pub use Rattle.sdp_config.specs.Laws.{DescriptionsAreReadBack, LongTextsAreRefused}
+unfoldable pub use Rattle.sdp_config.specs.Laws.{DescriptionsAreReadBack, LongTextsAreRefused, SettingsAreInRange}
+pub use Rattle.sdp_config.specs.Laws.{IsDescribable, IsInRange}

@@ -1,5 +1,5 @@
 //! Laws of the definitions: each is the contract of a function that does nothing.
-ghost use Rattle.sdp_config.specs.{DescriptionsAreReadBack, LongTextsAreRefused};
+ghost use Rattle.sdp_config.specs.{DescriptionsAreReadBack, LongTextsAreRefused, SettingsAreInRange};
 
 /// A channel's description reads as its settings.
 #[tactic(auto, using(crate::proofs::ReadBack::read_back))]
@@ -11,4 +11,9 @@ pub fn descriptions_are_read_back()
 /// don't change its fault.
 pub fn long_texts_are_refused()
     ensures { LongTextsAreRefused }
+{}
+
+/// What a description gives a channel are two payload types (RFC 3551, 6) and a media source.
+pub fn settings_are_in_range()
+    ensures { SettingsAreInRange }
 {}

@@ -15,7 +15,7 @@ mod sdp;
 mod section;
 mod write;
 
-pub use laws::{descriptions_are_read_back, long_texts_are_refused};
+pub use laws::{descriptions_are_read_back, long_texts_are_refused, settings_are_in_range};
 pub use ram_io::NoMemory;
 pub use read::read_sdp;
 pub use sdp::{Sdp, SdpFault};
