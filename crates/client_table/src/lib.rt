@@ -5,6 +5,7 @@
 
 mod bursts;
 mod entry;
+mod keys;
 mod stored;
 mod table;
 mod walk;

@@ -1,6 +1,7 @@
 //! The table of the known clients.
 use crate::bursts::{close_client, mark};
 use crate::entry::{AdmitFault, Burst, Entry};
+use crate::keys::Keys;
 use crate::stored::Stored;
 use crate::walk::{KnownClients, OpenBursts};
 use ram_io::NoMemory;
@@ -11,7 +12,7 @@ use std::marker::Model;
 use std::ops::Bound;
 
 /// The known clients. The entries stand in a slab, and an index by rising client has each one's key;
-/// another has those with an open burst. Idle counts aren't stored but told from the tick.
+/// a hash map has them too, and another index has those with an open burst. Idle counts aren't stored but told from the tick.
 #[derive(Drop)]
 pub struct Table {
     most: u32,
@@ -20,6 +21,7 @@ pub struct Table {
     /// No idle count is above it.
     idle_most: u32,
     index: BTreeMap<u64, usize>,
+    keys: Keys,
     entries: Slab<Stored>,
     bursts: Vec<(u64, usize)>,
 }
@@ -34,6 +36,7 @@ impl Model for Table {
 
     ghost use Rattle.std.specs.BTreeMap.{IsOrdered};
     ghost use Rattle.client_table.specs.Joined.{seen, entry_at, joined, AreJoined, is_open_at};
+    ghost use Rattle.client_table.specs.Hashed.{Tells};
 
     ghost view = { λ t. seen t.most (entry_at t.tick t.entries.slots) t.index.entries };
 
@@ -45,6 +48,7 @@ impl Model for Table {
       opened : t.bursts.items ≡ filter (is_open_at (entry_at t.tick t.entries.slots)) t.index.entries;
       room : t.most < vec_capacity t.bursts;
       idle : AllByRecursion (λ e. e.1.idle ≤ t.idle_most) (joined (entry_at t.tick t.entries.slots) t.index.entries);
+      told : Tells t.keys t.index;
     } };
 }
 
@@ -66,6 +70,7 @@ impl Table {
             tick: 0,
             idle_most: 0,
             index: BTreeMap::new(alloc),
+            keys: Keys::new(alloc, clients as usize)?,
             entries: Slab::with_capacity(alloc, clients as usize)?,
             bursts: Vec::with_capacity(alloc, clients as usize + 1)?,
         })
@@ -75,7 +80,7 @@ impl Table {
     pub fn find(&self, client: u64) -> Option<Entry>
         ensures { result ≡ entry_of self.now client }
     {
-        let key = key_of(&self.index, client)?;
+        let key = self.keys.find(&self.index, client)?;
         entry_in(&self.entries, self.tick, key)
     }
 
@@ -91,7 +96,7 @@ impl Table {
         requires { IfSome (entry_of self.old client) (F.pre change) }
         ensures { MatchOption (entry_of self.old client) (self.new ≡ self.old) (λ e. (d : Entry) × F.post change e d × (self.new ≡ with_entry self.old client d)) }
     {
-        let Some(key) = key_of(&self.index, client) else {
+        let Some(key) = self.keys.find(&self.index, client) else {
             return;
         };
         let Some(entry) = entry_in(&self.entries, self.tick, key) else {
@@ -126,6 +131,7 @@ impl Table {
         self.entries.reserve(1)?;
         let key = self.entries.vacant_key();
         self.index.insert(client, key)?;
+        self.keys.add(client, key);
         self.entries
             .insert_reserved(Stored::new(Entry::new(ssrc, seq0), self.tick));
         Ok(())
@@ -137,6 +143,7 @@ impl Table {
         ensures table { self.new ≡ without self.old client }
     {
         let key = self.index.remove(&client)?;
+        self.keys.remove(client);
         close_client(&mut self.bursts, client);
         take_out(&mut self.entries, self.tick, key)
     }
@@ -235,13 +242,6 @@ ghost use Rattle.std.specs.BTreeMap.{is_at, keys};
 ghost use Rattle.std.specs.BTreeMap.Range.{is_from_start};
 ghost use Rattle.slab.specs.Slab.{Updates};
 ghost use Rattle.client_table.specs.{slot_at, entry_at, shown, IsFree, AreReady, AreSlotsChanged, IsBurstChanged};
-
-// The key of a client.
-fn key_of(index: &BTreeMap<u64, usize>, client: u64) -> Option<usize>
-    ensures { result ≡ lookup (is_at (nat_cmp client)) index.now.entries }
-{
-    index.get(&client).copied()
-}
 
 // The entry of a key, as it is in this tick.
 fn entry_in(entries: &Slab<Stored>, tick: u32, key: usize) -> Option<Entry>

@@ -63,6 +63,7 @@ invariant_of-self-2 c =
       room = c.self.invariant.room;
       idle = rw c.in_ok-insert.ensures.entries (subst (AllByRecursion (λ e. e.1.idle ≤ c.self.inside.idle_most)) (sym (joined_insert at now key elsewhere client _ here es joins free unknown))
           (each_inserted (λ (e : Entry). e.idle ≤ c.self.inside.idle_most) client _ (joined at es) (omega arith) idle));
+      told = c.add.ensures c.self.inside.index c.insert.new.self c.in_ok-insert.ensures.updates c.self.invariant.told;
     }
 
 pub returns-clause-ok : goal.returns-clause-ok

@@ -14,6 +14,7 @@ invariant_of-self c =
     let now = entry_at ((tick + 1) % 4294967296) slots in
     let changed = slots_aged tick slots es c.self.invariant.entries in
     record {
+      told = c.self.invariant.told;
       rising = c.self.invariant.rising;
       entries = still_joined (λ _ e d. d ≡ aged e) at now es c.self.invariant.entries changed;
       few = c.self.invariant.few;

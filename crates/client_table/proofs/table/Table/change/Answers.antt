@@ -70,6 +70,7 @@ invariant_of-self g c =
       idle = subst (AllByRecursion (λ e. e.1.idle ≤ c.max-self-inside.result)) (sym (joined_set at now key elsewhere test c.change-changed.result here es joins found))
           (each_set (λ e. e.idle ≤ c.max-self-inside.result) test c.change-changed.result (joined at es) (omega (arith, c.max-self-inside.ensures))
           (each_weaker (λ e. e.idle ≤ c.self.inside.idle_most) (λ e. e.idle ≤ c.max-self-inside.result) (λ e le. omega (arith, le, c.max-self-inside.ensures)) (joined at es) c.self.invariant.idle));
+      told = c.self.invariant.told;
     }
 
 pub returns : goal.returns

@@ -31,6 +31,7 @@ invariant_of-self g c =
     (λ key closed. entries_same tick slots c.change_each.new.entries.slots key (c.change_each.ensures.others key (subst (IsFree key) (sym same) (closed_free at key closed es))))
     es c.self.invariant.entries (subst (AreSlotsChanged (λ _. R) at now) same c.change_each.ensures.changed) in
     record {
+      told = c.self.invariant.told;
       rising = c.self.invariant.rising;
       entries = still_joined (λ _. R) at now es c.self.invariant.entries changed;
       few = c.self.invariant.few;

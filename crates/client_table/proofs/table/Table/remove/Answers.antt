@@ -48,6 +48,7 @@ invariant_of-self-2 c =
       room = omega (arith, c.self.invariant.room, c.close_client.ensures.room);
       idle = rw c.remove.ensures.entries (subst (AllByRecursion (λ e. e.1.idle ≤ c.self.inside.idle_most)) (sym (joined_remove at now key elsewhere test es joins found))
           (each_removed (λ (e : Entry). e.idle ≤ c.self.inside.idle_most) test (joined at es) c.self.invariant.idle));
+      told = c.remove-2.ensures c.self.inside.index c.remove.new.self c.remove.ensures.updates c.self.invariant.told;
     }
 
 pub returns-clause-value : goal.returns-clause-value
