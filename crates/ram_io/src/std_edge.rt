@@ -1,12 +1,48 @@
 //! Source and sink over the readers and writers of std.
-ghost use Rattle.std.specs.Prelude.{◌≡◌, None};
+ghost use Rattle.std.specs.Prelude.{◌≡◌};
+ghost use Rattle.std.specs.Io.{ReadsAtMost, WritesAtMost};
+ghost use Rattle.std.specs.Io.KnownBytes.{ReadConsumes, WriteAppends};
 
 use crate::failed::Failed;
 use crate::sink::Sink;
 use crate::source::Source;
-use std::io::{Read, Write};
+use std::io::{self, ErrorKind, Read, Write};
 
-/// A source over a reader. It tells no content; a read that fails or is interrupted is a fault.
+// How often a call that a signal interrupts is made again, before that is a fault.
+const TRIES: u32 = 1_000;
+
+// Reads once, and again where a signal interrupted that.
+#[tactic(auto, using(crate::proofs::Interrupted::keeps_keeps, crate::proofs::Interrupted::keeps_reads))]
+fn read_through<R: Read>(reader: &mut R, buf: &mut [u8]) -> io::Result<usize>
+    ensures bound { ReadsAtMost result buf.new }
+    ensures bytes { ReadConsumes (R.remaining reader.old) (R.remaining reader.new) result buf.new }
+{
+    for _ in 1..TRIES {
+        match reader.read(buf) {
+            Err(e) if e.kind() == ErrorKind::Interrupted => {}
+            ended => return ended,
+        }
+    }
+    reader.read(buf)
+}
+
+// Writes once, and again where a signal interrupted that.
+#[tactic(auto, using(crate::proofs::Interrupted::keeps_keeps, crate::proofs::Interrupted::keeps_writes))]
+fn write_through<W: Write>(writer: &mut W, piece: &[u8]) -> io::Result<usize>
+    ensures bound { WritesAtMost result piece.now }
+    ensures bytes { WriteAppends (W.contents writer.old) (W.contents writer.new) result piece.now }
+{
+    for _ in 1..TRIES {
+        match writer.write(piece) {
+            Err(e) if e.kind() == ErrorKind::Interrupted => {}
+            ended => return ended,
+        }
+    }
+    writer.write(piece)
+}
+
+/// A source over a reader. It tells what the reader tells: one over standard input tells nothing. A read
+/// that a signal interrupts is made again, up to 1,000 times; one that fails is a fault.
 #[derive(Debug, Drop)]
 pub struct StdSource<R> {
     reader: R,
@@ -16,21 +52,22 @@ pub struct StdSource<R> {
 impl<R: Read> StdSource<R> {
     /// A source of what the reader gives, with no fault so far.
     pub fn new(reader: R) -> StdSource<R>
-        ensures { ⟦<StdSource<R> as Source>⟧.faults result ≡ 0 }
+        ensures left { ⟦<StdSource<R> as Source>⟧.left result ≡ R.remaining reader }
+        ensures faults { ⟦<StdSource<R> as Source>⟧.faults result ≡ 0 }
     {
         StdSource { reader, faults: 0 }
     }
 }
 
 impl<R: Read> Source for StdSource<R> {
-    ghost left = { λ _. None };
+    ghost left = { λ s. R.remaining s.reader };
 
     ghost faults = { λ s. s.faults };
 
     ghost is_steady = { λ _. ⊥ };
 
     fn take(&mut self, buf: &mut [u8]) -> Result<usize, Failed> {
-        if let Ok(count) = self.reader.read(buf) {
+        if let Ok(count) = read_through(&mut self.reader, buf) {
             return Ok(count);
         }
         self.faults = self.faults.saturating_add(1);
@@ -38,7 +75,8 @@ impl<R: Read> Source for StdSource<R> {
     }
 }
 
-/// A sink over a writer. It tells no content; a write that fails or takes 0 bytes is a fault.
+/// A sink over a writer. It tells what the writer tells: one over standard output tells nothing. A write
+/// that a signal interrupts is made again, up to 1,000 times; one that fails or takes 0 bytes is a fault.
 #[derive(Debug, Drop)]
 pub struct StdSink<W> {
     writer: W,
@@ -48,21 +86,22 @@ pub struct StdSink<W> {
 impl<W: Write> StdSink<W> {
     /// A sink that hands on to the writer, with no fault so far.
     pub fn new(writer: W) -> StdSink<W>
-        ensures { ⟦<StdSink<W> as Sink>⟧.faults result ≡ 0 }
+        ensures held { ⟦<StdSink<W> as Sink>⟧.held result ≡ W.contents writer }
+        ensures faults { ⟦<StdSink<W> as Sink>⟧.faults result ≡ 0 }
     {
         StdSink { writer, faults: 0 }
     }
 }
 
 impl<W: Write> Sink for StdSink<W> {
-    ghost held = { λ _. None };
+    ghost held = { λ s. W.contents s.writer };
 
     ghost faults = { λ s. s.faults };
 
     ghost is_steady = { λ _ _. ⊥ };
 
     fn put(&mut self, piece: &[u8]) -> Result<usize, Failed> {
-        match self.writer.write(piece) {
+        match write_through(&mut self.writer, piece) {
             Ok(count) if count != 0 => return Ok(count),
             _ => {}
         }
