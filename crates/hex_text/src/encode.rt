@@ -1,5 +1,5 @@
 //! Digits of bytes.
-ghost use Rattle.std.specs.Prelude.{◌≡◌, ◌*◌, ◌<◌, ◌≤◌, length, take, drop, slice_index};
+ghost use Rattle.std.specs.Prelude.{◌≡◌, ◌+◌, ◌*◌, ◌++◌, ◌<◌, ◌≤◌, length, take, drop, slice_index};
 ghost use Rattle.hex.specs.Hex.{encode_lower, lower_digits};
 
 use crate::block::encode_block;
@@ -14,7 +14,7 @@ pub fn encode_into(bytes: &[u8], out: &mut [u8])
     encode_all(bytes, &mut out[..2 * bytes.len()]);
 }
 
-// Writes two digits for each byte over all of `out`. All but the last few bytes go in blocks of 16.
+// Writes two digits for each byte over all of `out`. They go in blocks of 16 bytes.
 pub(crate) fn encode_all(bytes: &[u8], out: &mut [u8])
     requires { length out.old ≡ 2 * length bytes.now }
     ensures { out.new ≡ encode_lower bytes.now }
@@ -23,7 +23,24 @@ pub(crate) fn encode_all(bytes: &[u8], out: &mut [u8])
     'parts: for k in 0..blocks {
         encode_block(&bytes[16 * k..16 * k + 16], &mut out[32 * k..32 * k + 32]);
     }
-    encode_bytes(&bytes[16 * blocks..], &mut out[32 * blocks..]);
+    encode_rest(bytes, out, 16 * blocks);
+}
+
+// Writes the digits of the bytes from a place on, where those in front are written. The last 16 bytes go
+// as a block, of which a part was written before; fewer go one by one.
+fn encode_rest(bytes: &[u8], out: &mut [u8], done: usize)
+    requires room { length out.old ≡ 2 * length bytes.now }
+    requires within { done ≤ length bytes.now }
+    requires short { length bytes.now < done + 16 }
+    requires front { take (2 * done) out.old ++ encode_lower (drop done bytes.now) ≡ encode_lower bytes.now }
+    ensures { out.new ≡ encode_lower bytes.now }
+{
+    let size = bytes.len();
+    if size < 16 {
+        encode_bytes(&bytes[done..], &mut out[2 * done..]);
+    } else {
+        encode_block(&bytes[size - 16..], &mut out[2 * (size - 16)..]);
+    }
 }
 
 fn encode_bytes(bytes: &[u8], out: &mut [u8])

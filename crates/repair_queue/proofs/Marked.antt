@@ -1,5 +1,9 @@
 -- Dropping what is marked, in place.
-use Rattle.std.proofs.Common.{◌≡◌, ℕ, ◌+◌, ◌<◌, ◌≤◌, Bool, true, false, cond, List, [], ◌∷◌, ◌++◌, length, take, drop, get_or, set, refl, ap, sym, ◌∙◌, arith, length-set, append-nil}
+use Rattle.std.proofs.Common.{◌≡◌, ℕ, zero, suc, ◌+◌, ◌-◌, ◌<◌, ◌≤◌, ◌||◌, Bool, true, false, cond, List, [], ◌∷◌, ◌++◌, length, take, drop, get_or, set, refl, ap, sym, ◌∙◌, arith, length-set, length-drop, take_all, append-nil}
+use Rattle.std.proofs.Math.Seq.{paste}
+use Rattle.std.specs.List.{list_any, copy_within}
+use Rattle.std.proofs.lemmas.List.Edits.{take-paste}
+use Rattle.repair_queue.proofs.Pending.{unmarked_none}
 use Rattle.std.proofs.lemmas.List.{take_more, take_more_set, drop_more, drop-set-lt, length-take-le, get_or_default}
 use Rattle.std.proofs.lemmas.Grind.{drop_more_same}
 use Rattle.rams_model.specs.Service.{Wanted, wanted}
@@ -11,7 +15,7 @@ pub record MarkedInPlace (ws now : List Wanted) (done : List Bool) (kept i : ℕ
   pub rest : drop i now ≡ drop i ws
   pub behind : kept ≤ i
   pub long : length now ≡ length ws
-  pub flags : length done ≡ length ws
+  pub flags : length done ≤ length ws
 
 unmarked_push : (ws : List Wanted) (done : List Bool) (w : Wanted) (is_done : Bool) → length done ≡ length ws → unmarked (ws ++ w ∷ []) (done ++ is_done ∷ []) ≡ unmarked ws done ++ cond is_done [] (w ∷ [])
 unmarked_push [] [] w true h = refl
@@ -54,3 +58,37 @@ marked_more_kept ws now done kept i w so_far short flag at =
       long = length-set now kept w ∙ so_far.long;
       flags = so_far.flags;
     }
+
+-- flags that are unset say no more than missing ones
+pub unmarked_short : (ws : List Wanted) (done : List Bool) (end : ℕ) → list_any (λ is_done. is_done) (drop end done) ≡ false → unmarked ws (take end done) ≡ unmarked ws done
+unmarked_short [] done end unset = refl
+unmarked_short (w ∷ ws) [] zero unset = refl
+unmarked_short (w ∷ ws) [] (suc end) unset = refl
+unmarked_short (w ∷ ws) (d ∷ done) zero unset = sym (unmarked_none (w ∷ ws) (d ∷ done) unset)
+unmarked_short (w ∷ ws) (true ∷ done) (suc end) unset = unmarked_short ws done end unset
+unmarked_short (w ∷ ws) (false ∷ done) (suc end) unset = ap (λ (vs : List Wanted). w ∷ vs) (unmarked_short ws done end unset)
+
+-- those behind the flags stay
+pub unmarked_rest : (ws : List Wanted) (done : List Bool) → length done ≤ length ws → unmarked (take (length done) ws) (take (length done) done) ++ drop (length done) ws ≡ unmarked ws done
+unmarked_rest [] [] within = refl
+unmarked_rest [] (d ∷ done) within = absurd (omega arith)
+unmarked_rest (w ∷ ws) [] within = refl
+unmarked_rest (w ∷ ws) (true ∷ done) within = unmarked_rest ws done (omega arith)
+unmarked_rest (w ∷ ws) (false ∷ done) within = ap (λ (vs : List Wanted). w ∷ vs) (unmarked_rest ws done (omega arith))
+
+-- the last flag that isn't set
+pub unset_more : (done : List Bool) (end : ℕ) → 0 < end → end ≤ length done → get_or done (end - 1) false ≡ false → list_any (λ is_done. is_done) (drop end done) ≡ false → list_any (λ is_done. is_done) (drop (end - 1) done) ≡ false
+unset_more done end some within flag unset =
+    let next : end - 1 + 1 ≡ end = omega arith in
+    ap (list_any (λ is_done. is_done)) (drop_more done (end - 1) false (omega arith))
+    ∙ (ap (λ (b : Bool). b || list_any (λ is_done. is_done) (drop (end - 1 + 1) done)) flag ∙ (ap (λ (n : ℕ). list_any (λ is_done. is_done) (drop n done)) next ∙ unset))
+
+-- all is in place
+pub marked_all : (ws now : List Wanted) (done : List Bool) (kept n rest : ℕ) → MarkedInPlace ws now done kept n → n ≡ length done → rest ≡ length now - n → take (kept + rest) (copy_within now n (length now) kept) ≡ unmarked ws done
+marked_all ws now done kept n rest so_far all is =
+    let long : rest ≤ length (drop n now) = omega (arith, length-drop n now) in
+    ap (λ (m : ℕ). take (kept + rest) (paste now kept (drop n now) m)) (sym is)
+    ∙ (take-paste now kept (drop n now) rest (omega (arith, so_far.behind, so_far.long, so_far.flags)) long
+    ∙ (ap (λ (l : List Wanted). take kept now ++ l) (take_all rest (drop n now) (omega (arith, length-drop n now)))
+    ∙ (ap (λ (l : List Wanted). l ++ drop n now) so_far.front ∙ (ap (λ (l : List Wanted). unmarked (take n ws) (take n done) ++ l) so_far.rest
+    ∙ (ap (λ (m : ℕ). unmarked (take m ws) (take m done) ++ drop m ws) all ∙ unmarked_rest ws done so_far.flags)))))

@@ -99,9 +99,9 @@ impl Index {
         }
     }
 
-    /// The pairs of the marked repairs go.
+    /// The pairs of the marked repairs go. Those behind the flags stay.
     pub(crate) fn drop_marked(&mut self, pending: &[Wanted], done: &[bool])
-        requires one_each { length done.now ≡ length pending.now }
+        requires within { length done.now ≤ length pending.now }
         requires once { AreOnce pending.now }
         requires indexed { Indexes self.old pending.now }
         ensures { Indexes self.new (unmarked pending.now done.now) }

@@ -40,7 +40,7 @@ impl Model for Queue {
 }
 
 impl Queue {
-    ghost use Rattle.std.specs.Prelude.{◌≡◌, ◌<◌, [], true, length, nat_lt, IfOk};
+    ghost use Rattle.std.specs.Prelude.{◌≡◌, ◌<◌, ◌≤◌, [], true, length, nat_lt, IfOk};
     ghost use Rattle.repair_queue.specs.{asked_of, answered, unmarked, without, count_of, IsWithinLimits, AreFrom, Spans};
 
     /// A queue in which nothing is pending. It takes room for 4,096 repairs, so that no other call fails
@@ -117,9 +117,17 @@ impl Queue {
         requires one_each { length done.now ≡ length self.old }
         ensures { self.new ≡ unmarked self.old done.now }
     {
-        if !is_any_set(done) {
-            return;
+        let end = end_of_set(done);
+        if end > 0 {
+            self.drop_done(&done[..end]);
         }
+    }
+
+    // The repairs whose flag is set are no longer pending; those behind the flags stay.
+    fn drop_done(&mut self, done: &[bool])
+        requires { length done.now ≤ length self.old }
+        ensures { self.new ≡ unmarked self.old done.now }
+    {
         self.index.drop_marked(&self.pending, done);
         drop_marked(&mut self.pending, done);
         self.index.mend(&self.pending);
@@ -137,20 +145,28 @@ impl Queue {
     }
 }
 
-ghost use Rattle.std.specs.Prelude.{◌≡◌, length, vec_len, vec_capacity};
+ghost use Rattle.std.specs.Prelude.{◌≡◌, ◌≤◌, false, length, drop, vec_len, vec_capacity};
 ghost use Rattle.std.specs.List.{list_any};
 ghost use Rattle.repair_queue.specs.{unmarked, without};
 
-// Whether a flag is set.
-fn is_any_set(done: &[bool]) -> bool
-    ensures { result ≡ list_any (λ is_done. is_done) done.now }
+// One above the place of the last flag that is set; 0 where none is.
+fn end_of_set(done: &[bool]) -> usize
+    ensures within { result ≤ length done.now }
+    ensures unset { list_any (λ is_done. is_done) (drop result done.now) ≡ false }
 {
-    done.iter().any(|is_done| *is_done)
+    let mut end = done.len();
+    while end > 0 {
+        if done[end - 1] {
+            return end;
+        }
+        end -= 1;
+    }
+    end
 }
 
-// Moves the unmarked ones to the front, and drops the rest.
+// Moves the unmarked ones to the front, and drops the rest. Those behind the flags move as a whole.
 fn drop_marked(pending: &mut Vec<Wanted>, done: &[bool])
-    requires { length done.now ≡ vec_len pending.old }
+    requires { length done.now ≤ vec_len pending.old }
     ensures items { pending.new.items ≡ unmarked pending.old.items done.now }
     ensures capacity { vec_capacity pending.new ≡ vec_capacity pending.old }
 {
@@ -162,7 +178,9 @@ fn drop_marked(pending: &mut Vec<Wanted>, done: &[bool])
         pending[kept] = pending[i];
         kept += 1;
     }
-    pending.truncate(kept);
+    let rest = pending.len() - done.len();
+    pending.copy_within(done.len().., kept);
+    pending.truncate(kept + rest);
 }
 
 // Moves the other clients' repairs to the front, and drops the rest.

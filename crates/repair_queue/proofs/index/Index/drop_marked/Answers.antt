@@ -1,10 +1,10 @@
-use Rattle.std.proofs.Common.{◌≡◌, ◌<◌, length, sym, ◌∙◌, subst, take, get_or, arith, append-nil}
+use Rattle.std.proofs.Common.{◌≡◌, ◌<◌, length, sym, ◌∙◌, subst, take, drop, get_or, ℕ, ◌++◌, ap, arith, append-nil}
 use Rattle.std.proofs.lemmas.List.{get_or_default}
 use Rattle.rams_model.specs.Service.{Wanted, wanted}
-use Rattle.repair_queue.specs.{unmarked}
+use Rattle.repair_queue.specs.{unmarked, Indexes}
 use Rattle.std.proofs.Common.{true, false}
 use Rattle.repair_queue.proofs.Pending.{filter-unmarked-le}
-use Rattle.repair_queue.proofs.Marked.{unmarked_more}
+use Rattle.repair_queue.proofs.Marked.{unmarked_more, unmarked_rest}
 use Rattle.repair_queue.proofs.Indexed.{turn_less, turn_same, once_front}
 use Rattle.repair_queue.proofs.index.Index.drop_marked.Goals as goal
 
@@ -29,3 +29,10 @@ loop-i-preserved c =
     (unmarked_more ws c.args.done.now i w true short c.loop-i-test.true (sym at) c.if-not-is_done.false ∙ append-nil front)
     (once_front ws front i (λ p. filter-unmarked-le p (take i ws) (take i c.args.done.now)) c.requires.once)
     c.loop-i.invariant
+
+pub returns : goal.returns
+returns c =
+    let ws = c.args.pending.now in
+    let done = c.args.done.now in
+    let all : c.loop-i.i ≡ length done = omega (arith, c.loop-i-test.false, c.loop-i.auto) in
+    subst (Indexes c.loop-i.self) (ap (λ (n : ℕ). unmarked (take n ws) (take n done) ++ drop n ws) all ∙ unmarked_rest ws done c.requires.within) c.loop-i.invariant

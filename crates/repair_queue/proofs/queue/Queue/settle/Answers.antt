@@ -1,21 +1,13 @@
-use Rattle.std.proofs.Common.{arith, sym, ◌∙◌, subst}
-use Rattle.repair_queue.specs.{Indexes}
-use Rattle.repair_queue.proofs.Pending.{limits_unmarked, unmarked_none, each_unmarked}
+use Rattle.std.proofs.Common.{◌≡◌, ℕ, drop, sym, ap, ◌∙◌, arith}
+use Rattle.std.specs.List.{list_any}
+use Rattle.repair_queue.proofs.Pending.{unmarked_none}
+use Rattle.repair_queue.proofs.Marked.{unmarked_short}
 use Rattle.repair_queue.proofs.queue.Queue.settle.Goals as goal
 
-pub returns-then-not-is_any_set : goal.returns-then-not-is_any_set
-returns-then-not-is_any_set c = sym (unmarked_none c.args.self.now c.args.done.now (sym c.is_any_set.ensures ∙ c.if-not-is_any_set.true))
+pub returns-then-end-gt0 : goal.returns-then-end-gt0
+returns-then-end-gt0 c = c.drop_done.ensures ∙ unmarked_short c.args.self.now c.args.done.now c.end_of_set-end.result c.end_of_set-end.ensures.unset
 
-pub mend-requires-clause-few : goal.mend-requires-clause-few
-mend-requires-clause-few c =
-    rw (c.deref-2.ensures.value, c.drop_marked-2.ensures.items) (limits_unmarked c.self.inside.pending.items c.args.done.now c.self.invariant.limits).in_all
-
-pub invariant_of-self : goal.invariant_of-self
-invariant_of-self c =
-    let ws = c.self.inside.pending.items in
-    rw c.drop_marked-2.ensures.items (record {
-      limits = limits_unmarked ws c.args.done.now c.self.invariant.limits;
-      indexed = subst (Indexes c.mend.new.self) (c.deref-2.ensures.value ∙ c.drop_marked-2.ensures.items) c.mend.ensures;
-      spanned = each_unmarked _ ws c.args.done.now c.self.invariant.spanned;
-      room = omega (arith, c.self.invariant.room, c.drop_marked-2.ensures.capacity);
-    })
+pub returns-else-end-gt0 : goal.returns-else-end-gt0
+returns-else-end-gt0 c =
+    let none : c.end_of_set-end.result ≡ 0 = omega (arith, c.if-end-gt0.false) in
+    sym (unmarked_none c.args.self.now c.args.done.now (ap (λ (n : ℕ). list_any (λ is_done. is_done) (drop n c.args.done.now)) (sym none) ∙ c.end_of_set-end.ensures.unset))
