@@ -16,6 +16,7 @@ use Rattle.rams_model.proofs.PacketLaws.{datagram_spelled, datagram_read}
 use Rattle.rams_model.proofs.PlainPackets.{below_at}
 use Rattle.byte_laws.specs.{number32, IsMessageOf, IsNoMessage, IsRams, seen_after, AreMessages, no_more, skipped, second, counted, told_in, IsAnsweredWhole, IsRefusedWhole}
 use Rattle.byte_laws.proofs.Naming.{nack_named, request_is, stop_is}
+use Rattle.byte_laws.proofs.Framing.{datagram_is, is_datagram}
 
 -- ---- what is known of each packet
 
@@ -234,7 +235,7 @@ by_frame s events client bytes (Ok ps) small e is =
     let all = all_told s client ms (began (feedback client ms) ∷ history_of s events) in
     inl (record {
       packets = ps;
-      compound = compound;
+      compound = is_datagram bytes ps compound;
       messages = ms;
       are = messages_are ps (all_fit bytes ps compound.1 small);
       now = all.now;
@@ -244,7 +245,7 @@ by_frame s events client bytes (Ok ps) small e is =
 by_frame s events client bytes (Err fault) small e is =
     inr (record {
       fault = fault;
-      none = λ ps compound. let both : Err fault ≡ Ok ps = sym e ∙ datagram_read bytes ps compound in cc;
+      none = λ ps compound. let both : Err fault ≡ Ok ps = sym e ∙ datagram_read bytes ps (datagram_is bytes ps compound) in cc;
       alone = is;
     })
 

@@ -1,8 +1,8 @@
 -- Each live packet's note says what became of it.
-use Rattle.std.proofs.Common.{◌≡◌, ℕ, ◌<◌, ◌≤◌, ◌%◌, cond, not, List, [], ◌∷◌, length, Option, option_map, refl, ap, sym, ◌∙◌, subst, arith, eqb, ltb}
+use Rattle.std.proofs.Common.{◌≡◌, ℕ, ◌<◌, ◌≤◌, ◌%◌, Bool, true, false, cond, not, List, [], ◌∷◌, length, Option, option_map, refl, ap, sym, ◌∙◌, subst, arith, eqb, ltb}
 use Rattle.std.specs.Prelude.{Result, Ok, Err, All, slice_index}
 use Rattle.std.specs.List.{AllByRecursion}
-use Rattle.std.proofs.lemmas.Bool.{cond_both, not-true, not-false, eqb-true, eqb-false, ltb-true, ltb-false}
+use Rattle.std.proofs.lemmas.Bool.{cond_both, not-true, not-false, eqb-true, eqb-false, ltb-true, ltb-false, lt-ltb, le-ltb, eq-eqb, ne_eqb}
 use Rattle.rams_model.specs.declared.channel.Channel.{Channel}
 use Rattle.rams_model.specs.declared.event.Event.{Event}
 use Rattle.rams_model.specs.declared.event.Event.TheVariants.{Live, Feedback, Tick}
@@ -17,11 +17,11 @@ use Rattle.rams_model.proofs.Induction.{arrivals_of_event}
 use Rattle.rams_model.proofs.PlainPackets.{below_at}
 use Rattle.rams_model.proofs.Rising.{end_of}
 use Rattle.book_laws.proofs.CameBefore.{not_live}
-use Rattle.byte_laws.specs.{number16, number32, HasBytes, IsOfChannel, with_note, with_answer, numbers_taken, jumped_by, jumped_after, last_jump, NumbersSo, BecameSo, IsLiveAnswer}
+use Rattle.byte_laws.specs.{number16, number32, HasBytes, IsRtp, IsOfChannel, with_note, with_answer, numbers_taken, jumped_by, jumped_after, last_jump, NumbersSo, BecameSo, IsLiveAnswer}
 use Rattle.byte_laws.proofs.Packets.{at_2, at_8, high_before}
 use Rattle.byte_laws.proofs.Rising.{all_rises}
-use Rattle.byte_laws.proofs.RtpBytes.{ReadsSo, reads_so}
-use Rattle.byte_laws.proofs.Starts.{SameNumbers, same_after, kept_after, live_note_so}
+use Rattle.byte_laws.proofs.RtpBytes.{ReadsSo, reads_so, rtp_reads, no_rtp_reads}
+use Rattle.byte_laws.proofs.Starts.{SameNumbers, same_after, kept_after, live_note_so, only_live_note}
 
 -- ---- what is heard
 
@@ -155,14 +155,15 @@ numbers_so s book bytes ForeignSsrc is so = absurd so
 numbers_so s book bytes ForeignType is so = absurd so
 numbers_so s book bytes n is so = (is, so)
 
+sixteen_bits : (bytes : List ℕ) → All (λ b. b < 256) bytes → number16 2 bytes < 65536
+sixteen_bits bytes fits = let low = below_at bytes fits 2 in let lower = below_at bytes fits 3 in omega (arith, low, lower)
+
 heard_became : (s : Settings) (book : Book) (bytes : List ℕ) (heard : Heard) → IsLawful s book → AllByRecursion HasBytes (events_of book) → All (λ b. b < 256) bytes → HeardSo s bytes heard
     → BecameSo s book bytes (note_heard s (stream_at s (events_of book)) heard)
 heard_became s book bytes (live a) l small fits h =
     let st = stream_at s (events_of book) in
     let told = told_by_book s book l in
-    let low = below_at bytes fits 2 in
-    let lower = below_at bytes fits 3 in
-    let few : number16 2 bytes < 65536 = omega (arith, low, lower) in
+    let few = sixteen_bits bytes fits in
     numbers_so s book bytes (live_note s.channel.window st a.sequence) h.is
     (subst (λ (q : ℕ). NumbersSo s.channel.window (numbers_taken book) (last_jump book) (number16 2 bytes) (live_note s.channel.window st q)) (sym h.sequence)
     (live_note_so s.channel.window st (numbers_taken book) (last_jump book) (number16 2 bytes) few
@@ -171,6 +172,58 @@ heard_became s book bytes (dropped n) l small fits h = h.1 book
 heard_became s book bytes (feedback client messages) l small fits h = absurd h
 heard_became s book bytes (unframed client fault) l small fits h = absurd h
 heard_became s book bytes tick l small fits h = absurd h
+
+-- ---- no other note is right
+
+short_heard : (c : Channel) (bytes : List ℕ) → length bytes ≤ 1470 → heard_live c bytes ≡ heard_packet c (packet_at bytes)
+short_heard c bytes short = ap (λ (b : Bool). cond b (dropped TooBig) (heard_packet c (packet_at bytes))) (le-ltb 1470 (length bytes) short)
+
+-- what is heard of an RTP packet, by two tests
+abbrev by_tests : Channel → List ℕ → Bool → Bool → Heard
+by_tests c bytes ssrc kind = cond (not ssrc) (dropped ForeignSsrc) (cond (not kind) (dropped ForeignType) (live (arrival c (fields_of bytes))))
+
+rtp_heard : (c : Channel) (bytes : List ℕ) (ssrc kind : Bool) → length bytes ≤ 1470 → IsRtp bytes → eqb (number32 8 bytes) c.ssrc ≡ ssrc → eqb (slice_index bytes 1 % 128) c.pt ≡ kind
+    → heard_live c bytes ≡ by_tests c bytes ssrc kind
+unfolding fields_of
+rtp_heard c bytes ssrc kind short is e f =
+    short_heard c bytes short
+    ∙ (ap (heard_packet c) (rtp_reads bytes is)
+    ∙ (ap (λ (x : ℕ). by_tests c bytes (eqb x c.ssrc) (eqb (slice_index bytes 1 % 128) c.pt)) (at_8 bytes)
+    ∙ (ap (λ (b : Bool). by_tests c bytes b (eqb (slice_index bytes 1 % 128) c.pt)) e ∙ ap (by_tests c bytes ssrc) f)))
+
+sequence_is : (c : Channel) (bytes : List ℕ) → (arrival c (fields_of bytes)).sequence ≡ number16 2 bytes
+unfolding fields_of
+sequence_is c bytes = at_2 bytes
+
+-- what its number says is the only thing
+abbrev OnlyNote : Settings → Book → List ℕ → Stream → Type 0
+OnlyNote s book bytes st =
+    (other : LiveNote) → NumbersSo s.channel.window (numbers_taken book) (last_jump book) (number16 2 bytes) other → live_note s.channel.window st (number16 2 bytes) ≡ other
+
+only_heard : (s : Settings) (book : Book) (bytes : List ℕ) (st : Stream) → OnlyNote s book bytes st → (other : LiveNote) → BecameSo s book bytes other
+    → note_heard s st (heard_live s.channel bytes) ≡ other
+only_heard s book bytes st only TooBig is =
+    ap (note_heard s st) (ap (λ (b : Bool). cond b (dropped TooBig) (heard_packet s.channel (packet_at bytes))) (lt-ltb 1470 (length bytes) is))
+only_heard s book bytes st only (Bad fault) is =
+    ap (note_heard s st) (short_heard s.channel bytes is.0 ∙ ap (heard_packet s.channel) (no_rtp_reads bytes fault is.1))
+only_heard s book bytes st only ForeignSsrc is =
+    ap (note_heard s st) (rtp_heard s.channel bytes false (eqb (slice_index bytes 1 % 128) s.channel.pt) is.0 is.1 (ne_eqb (number32 8 bytes) s.channel.ssrc is.2) refl)
+only_heard s book bytes st only ForeignType is =
+    ap (note_heard s st)
+    (rtp_heard s.channel bytes true false is.0 is.1 (eq-eqb (number32 8 bytes) s.channel.ssrc is.2) (ne_eqb (slice_index bytes 1 % 128) s.channel.pt is.3))
+only_heard s book bytes st only other is =
+    let ours = is.0 in
+    ap (note_heard s st)
+    (rtp_heard s.channel bytes true true ours.short ours.rtp (eq-eqb (number32 8 bytes) s.channel.ssrc ours.media) (eq-eqb (slice_index bytes 1 % 128) s.channel.pt ours.kind))
+    ∙ (ap (live_note s.channel.window st) (sequence_is s.channel bytes) ∙ only other is.1)
+
+only_number : (s : Settings) (book : Book) (bytes : List ℕ) → IsLawful s book → AllByRecursion HasBytes (events_of book) → All (λ b. b < 256) bytes
+    → OnlyNote s book bytes (stream_at s (events_of book))
+only_number s book bytes l small fits =
+    let st = stream_at s (events_of book) in
+    let told = told_by_book s book l in
+    only_live_note s.channel.window st (numbers_taken book) (last_jump book) (number16 2 bytes) (sixteen_bits bytes fits)
+    (end_of 0 st.ended st.present (all_rises s.channel.window (arrivals (history_of s (events_of book))))) (high_before s (events_of book) small) told.same told.kept
 
 pub live_answered : (s : Settings) (e : Entry) (book : Book) (bytes : List ℕ) → IsLawful s (e ∷ book) → AllByRecursion HasBytes (e.event ∷ events_of book) → e.event ≡ Live bytes
     → IsLiveAnswer s book bytes e.answer
@@ -181,4 +234,5 @@ live_answered s e book bytes l small is =
       became = note_heard s (stream_at s (events_of book)) heard;
       alone = l.0 ∙ ap (answer s (events_of book)) is ∙ live_answer s bytes (events_of book);
       so = heard_became s book bytes heard l.1 small.1 fits (live_heard s bytes);
+      only = λ other so. sym (only_heard s book bytes (stream_at s (events_of book)) (only_number s book bytes l.1 small.1 fits) other so);
     }

@@ -7,5 +7,6 @@ pub mod Rising
 mod RtpBytes
 mod Starts
 mod Became
+mod Framing
 mod Naming
 mod Answered

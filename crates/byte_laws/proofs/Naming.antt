@@ -10,6 +10,7 @@ use Rattle.rams_model.specs.Formats.{counted_from, word_numbers, numbers_of, nac
 use Rattle.rams_model.specs.Service.{named}
 use Rattle.rams_model.proofs.RamsLaws.{message_spelled, message_read}
 use Rattle.byte_laws.specs.{number32, lost_from, named_by, IsFirstOf, none, this, later, number64, ssrcs_of, words_of, is_there, Asks, IsRequest, IsStop}
+use Rattle.byte_laws.proofs.Framing.{request_message, message_request, stop_message, message_stop}
 
 -- ---- the numbers of a NACK
 
@@ -131,8 +132,8 @@ pub request_is : (fci : List ℕ) → ((i : ℕ) → slice_index fci i < 256) �
 request_is fci small = by_tlvs (tlvs_at 1 request_length fci) refl
   where
     by_tlvs : (r : Result (List Tlv) TlvFault) → tlvs_at 1 request_length fci ≡ r → IsRequest fci (map_ok request_of r)
-    by_tlvs (Ok ts) e = (ts, message_spelled 1 request_length fci ts small e, asks_so ts)
-    by_tlvs (Err fault) e = λ ts is. let both : Err fault ≡ Ok ts = sym e ∙ message_read 1 request_length fci ts is in cc
+    by_tlvs (Ok ts) e = (ts, message_request fci ts (message_spelled 1 request_length fci ts small e), asks_so ts)
+    by_tlvs (Err fault) e = λ ts is. let both : Err fault ≡ Ok ts = sym e ∙ message_read 1 request_length fci ts (request_message fci ts is) in cc
 
 pub stop_is : (fci : List ℕ) → ((i : ℕ) → slice_index fci i < 256) → IsStop fci (stop_at fci)
 stop_is fci small = by_tlvs (tlvs_at 3 stop_length fci) refl
@@ -140,7 +141,7 @@ stop_is fci small = by_tlvs (tlvs_at 3 stop_length fci) refl
     by_tlvs : (r : Result (List Tlv) TlvFault) → tlvs_at 3 stop_length fci ≡ r → IsStop fci (map_ok stop_of r)
     by_tlvs (Ok ts) e = (
       ts,
-      message_spelled 3 stop_length fci ts small e,
+      message_stop fci ts (message_spelled 3 stop_length fci ts small e),
       (first_value 61 ts, first_is 61 ts, mapped (from_be_bytes w32) (number32 0) is_32 (first_value 61 ts)),
     )
-    by_tlvs (Err fault) e = λ ts is. let both : Err fault ≡ Ok ts = sym e ∙ message_read 3 stop_length fci ts is in cc
+    by_tlvs (Err fault) e = λ ts is. let both : Err fault ≡ Ok ts = sym e ∙ message_read 3 stop_length fci ts (stop_message fci ts is) in cc

@@ -2,11 +2,12 @@
 use Rattle.std.proofs.Common.{◌≡◌, ◌≢◌, ℕ, ◌+◌, ◌-◌, ◌*◌, ◌/◌, ◌%◌, ◌<◌, ◌≤◌, ◌⊎◌, inl, inr, ⊎_elim, Bool, true, false, cond, not, ◌&&◌, ◌||◌, List, length, drop, get_or, refl, ap, sym, ◌∙◌, arith, eqb, ltb}
 use Rattle.std.specs.Prelude.{slice_index, Result, Ok, Err}
 use Rattle.std.specs.Int.{w16, from_be_bytes}
-use Rattle.std.proofs.lemmas.Bool.{cond_both, cond-true, cond-false, and_parts, or_cases, not-true, not-false, eqb-true, eqb-false, ltb-true, ltb-false, cases_Bool, or_parts}
+use Rattle.std.proofs.lemmas.Bool.{cond_both, cond-true, cond-false, and_parts, or_cases, not-true, not-false, eqb-true, eqb-false, ltb-true, ltb-false, cases_Bool, or_parts, lt-ltb, le-ltb, eq-eqb, ne_eqb}
 use Rattle.std.proofs.lemmas.List.{get_or-drop, drop-drop, length-drop}
 use Rattle.rams_model.specs.declared.fault.RtpFault.{RtpFault}
 use Rattle.rams_model.specs.declared.fault.RtpFault.TheVariants.{Short, Version, Csrc, Extension, Padding}
 use Rattle.rams_model.specs.Formats.{Packet, version, has_padding, has_extension, csrc_size, behind_csrc, extension_size, behind_extension, padding_size, lacks_extension, miscounts_padding, fields_of, packet_at}
+use Rattle.rams_model.proofs.RtpPackets.{read_without_fault}
 use Rattle.byte_laws.specs.{number16, front_size, last_byte, HasHeader, IsRtp, IsNoRtp}
 
 -- ---- the header extension
@@ -119,3 +120,50 @@ reads_so bytes =
     cond_both (miscounts_padding bytes) (Err Padding) (Ok (fields_of bytes)) (ReadsSo bytes)
     (λ t. let m = miscounted bytes front t in (header, front, m.0, m.1))
     (λ f5. (record { header = header; front = front; padding = counted bytes front f5 }, refl))))))
+
+-- ---- and the other way round
+
+whole_extension : (bytes : List ℕ) → HasHeader bytes → front_size bytes ≤ length bytes → lacks_extension bytes ≡ false
+whole_extension bytes header front =
+    ⊎_elim (λ t. let lt = cut_front bytes header.sources t in absurd (omega (arith, lt, front))) (λ f. f) (cases_Bool (lacks_extension bytes))
+
+cut_extension : (bytes : List ℕ) → HasHeader bytes → length bytes < front_size bytes → lacks_extension bytes ≡ true
+cut_extension bytes header cut =
+    ⊎_elim (λ t. t) (λ f. let le = whole_front bytes header.sources f in absurd (omega (arith, le, cut))) (cases_Bool (lacks_extension bytes))
+
+right_padding : (bytes : List ℕ) → front_size bytes ≤ length bytes
+    → (slice_index bytes 0 / 32 % 2 ≡ 1 → (1 ≤ last_byte bytes) × (front_size bytes + last_byte bytes ≤ length bytes)) → miscounts_padding bytes ≡ false
+right_padding bytes front right =
+    ⊎_elim (λ t. let m = miscounted bytes front t in
+    let both = right m.0 in absurd (⊎_elim (λ (zero : last_byte bytes ≡ 0). omega (arith, zero, both.0)) (λ lt. omega (arith, lt, both.1)) m.1))
+    (λ f. f) (cases_Bool (miscounts_padding bytes))
+
+wrong_padding : (bytes : List ℕ) → front_size bytes ≤ length bytes → slice_index bytes 0 / 32 % 2 ≡ 1
+    → (last_byte bytes ≡ 0) ⊎ (length bytes < front_size bytes + last_byte bytes) → miscounts_padding bytes ≡ true
+wrong_padding bytes front set wrong =
+    ⊎_elim (λ t. t)
+    (λ f. let both = counted bytes front f set in absurd (⊎_elim (λ (zero : last_byte bytes ≡ 0). omega (arith, zero, both.0)) (λ lt. omega (arith, lt, both.1)) wrong))
+    (cases_Bool (miscounts_padding bytes))
+
+pub rtp_reads : (bytes : List ℕ) → IsRtp bytes → packet_at bytes ≡ Ok (fields_of bytes)
+rtp_reads bytes is =
+    let header = is.header in
+    read_without_fault bytes (record {
+      short = header.long;
+      version = header.version;
+      csrc = header.sources;
+      extension = whole_extension bytes header is.front;
+      padding = right_padding bytes is.front is.padding;
+    })
+
+pub no_rtp_reads : (bytes : List ℕ) (fault : RtpFault) → IsNoRtp bytes fault → packet_at bytes ≡ Err fault
+unfolding packet_at
+no_rtp_reads bytes Short is = rw (lt-ltb (length bytes) 12 is) refl
+no_rtp_reads bytes Version is = rw (le-ltb (length bytes) 12 is.0, ne_eqb (version bytes) 2 is.1) refl
+no_rtp_reads bytes Csrc is = rw (le-ltb (length bytes) 12 is.0, eq-eqb (version bytes) 2 is.1, lt-ltb (length bytes) (12 + csrc_size bytes) is.2) refl
+no_rtp_reads bytes Extension is =
+    let header = is.0 in
+    rw (le-ltb (length bytes) 12 header.long, eq-eqb (version bytes) 2 header.version, le-ltb (length bytes) (12 + csrc_size bytes) header.sources, cut_extension bytes header is.1) refl
+no_rtp_reads bytes Padding is =
+    let header = is.0 in
+    rw (le-ltb (length bytes) 12 header.long, eq-eqb (version bytes) 2 header.version, le-ltb (length bytes) (12 + csrc_size bytes) header.sources, whole_extension bytes header is.1, wrong_padding bytes is.1 is.2 is.3) refl

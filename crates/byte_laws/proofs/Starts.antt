@@ -2,7 +2,7 @@
 use Rattle.std.proofs.Common.{◌≡◌, ℕ, ◌+◌, ◌-◌, ◌<◌, ◌≤◌, inl, inr, ⊎_elim, Bool, true, false, cond, not, ◌||◌, List, [], ◌∷◌, Option, Some, None, option_map, refl, ap, sym, ◌∙◌, subst, arith, eqb, ltb, leb}
 use Rattle.std.specs.Prelude.{Contains}
 use Rattle.std.specs.List.{list_any}
-use Rattle.std.proofs.lemmas.Bool.{cond_both, cases_Bool, both_ways, or_cases, or_left, or_right, and_parts, and_from, not-true, not_from_false, eqb-true, eq-eqb, ltb-true, ltb-false, leb-true, le-leb, true≢false}
+use Rattle.std.proofs.lemmas.Bool.{cond_both, cases_Bool, both_ways, or_cases, or_left, or_right, and_parts, and_from, not-true, not_from_false, eqb-true, eq-eqb, ltb-true, ltb-false, leb-true, le-leb, true≢false, lt-ltb, le-ltb, ne_eqb, cases_lt}
 use Rattle.rams_model.specs.declared.held.Held.{Held}
 use Rattle.rams_model.specs.declared.note.LiveNote.{LiveNote}
 use Rattle.rams_model.specs.declared.note.LiveNote.TheVariants.{Took, Restart, Late, Twice, Jump}
@@ -152,3 +152,137 @@ pub live_note_so : (window : ℕ) (st : Stream) (numbers : List ℕ) (jumped : O
     → st.kept ≡ option_map following jumped → NumbersSo window numbers jumped q (live_note window st q)
 unfolding live_note
 live_note_so window st numbers jumped q small rises high same e = note_so window st.present st.kept numbers jumped q small rises high same e
+
+-- ---- no other note is right
+
+-- the numbers tell the start
+same_greatest : (window : ℕ) (numbers : List ℕ) (a b : Start window numbers) → a.greatest ≡ b.greatest
+same_greatest window numbers a b = let up = a.to_greatest b.greatest b.is_greatest in let down = b.to_greatest a.greatest a.is_greatest in omega (arith, up, down)
+
+same_first : (window : ℕ) (numbers : List ℕ) (a b : Start window numbers) → a.first ≡ b.first
+same_first window numbers a b = let up = a.from_first b.first b.is_first in let down = b.from_first a.first a.is_first in omega (arith, up, down)
+
+no_later : (window : ℕ) (numbers : List ℕ) (a b : Start window numbers) → a.awaited ≤ b.awaited
+no_later window numbers a b =
+    let top = same_greatest window numbers a b in
+    let low = same_first window numbers a b in
+    let is = b.is_awaited in
+    a.from_awaited b.awaited (omega (arith, low, is.0)) (is.1.0, omega (arith, top, is.1.1))
+
+same_awaited : (window : ℕ) (numbers : List ℕ) (a b : Start window numbers) → a.awaited ≡ b.awaited
+same_awaited window numbers a b = let up = no_later window numbers a b in let down = no_later window numbers b a in omega (arith, up, down)
+
+none_started : (window : ℕ) (numbers : List ℕ) → numbers ≡ [] → Start window numbers → ⊥
+none_started window numbers e start = let c = subst (λ (l : List ℕ). Contains l start.first) e start.is_first in omega (arith, c.1)
+
+-- what follows the jump
+kept_so : (jumped : Option ℕ) (q : ℕ) → FollowsTheJump jumped q → is_kept (option_map following jumped) q ≡ true
+kept_so None q f = absurd f
+kept_so (Some j) q f = eq-eqb q (following j) f
+
+not_kept : (jumped : Option ℕ) (q : ℕ) → (¬ FollowsTheJump jumped q) → is_kept (option_map following jumped) q ≡ false
+not_kept None q f = refl
+not_kept (Some j) q f = ne_eqb q (following j) f
+
+-- one within reach has this note
+reach_note : (window : ℕ) (present : List Held) (kept : Option ℕ) (g q n : ℕ) → 65536 ≤ g → IsWithinReach g q n
+    → note_of window present (after_greatest g kept q (ahead q g)) ≡ in_time window present n
+reach_note window present kept g q n high reach = ⊎_elim behind ahead_of (cases_lt n g)
+  where
+    ahead_of : g ≤ n → note_of window present (after_greatest g kept q (ahead q g)) ≡ in_time window present n
+    ahead_of le =
+        let at : ahead q g ≡ n - g = omega (arith, reach.0, reach.2, le) in
+        let few : ltb (ahead q g) 3000 ≡ true = lt-ltb (ahead q g) 3000 (omega (arith, at, reach.2, le)) in
+        let is : g + ahead q g ≡ n = omega (arith, at, le) in
+        ap (λ (b : Bool). note_of window present (cond b (forward (g + ahead q g)) (cond (ltb 65436 (ahead q g)) (backward (g - (65536 - ahead q g))) (cond (is_kept kept q) (restart (g + ahead q g)) jump)))) few
+        ∙ ap (in_time window present) is
+
+    behind : n < g → note_of window present (after_greatest g kept q (ahead q g)) ≡ in_time window present n
+    behind lt =
+        let at : ahead q g ≡ 65536 - (g - n) = omega (arith, reach.0, reach.1, lt) in
+        let many : ltb (ahead q g) 3000 ≡ false = le-ltb (ahead q g) 3000 (omega (arith, at, reach.1, lt)) in
+        let near : ltb 65436 (ahead q g) ≡ true = lt-ltb 65436 (ahead q g) (omega (arith, at, reach.1, lt)) in
+        let is : g - (65536 - ahead q g) ≡ n = omega (arith, at, lt, reach.1) in
+        ap (λ (b : Bool). note_of window present (cond b (forward (g + ahead q g)) (cond (ltb 65436 (ahead q g)) (backward (g - (65536 - ahead q g))) (cond (is_kept kept q) (restart (g + ahead q g)) jump)))) many
+        ∙ (ap (λ (b : Bool). note_of window present (cond b (backward (g - (65536 - ahead q g))) (cond (is_kept kept q) (restart (g + ahead q g)) jump))) near ∙ ap (in_time window present) is)
+
+-- one out of reach
+out_note : (window : ℕ) (present : List Held) (kept : Option ℕ) (g q : ℕ) (b : Bool) → q < 65536 → 65536 ≤ g → IsOutOfReach g q → is_kept kept q ≡ b
+    → note_of window present (after_greatest g kept q (ahead q g)) ≡ note_of window present (cond b (restart (g + ahead q g)) jump)
+out_note window present kept g q b small high out e =
+    ap (λ (c : Bool). note_of window present (cond c (forward (g + ahead q g)) (cond (ltb 65436 (ahead q g)) (backward (g - (65536 - ahead q g))) (cond (is_kept kept q) (restart (g + ahead q g)) jump)))) many
+    ∙ (ap (λ (c : Bool). note_of window present (cond c (backward (g - (65536 - ahead q g))) (cond (is_kept kept q) (restart (g + ahead q g)) jump))) near
+    ∙ ap (λ (c : Bool). note_of window present (cond c (restart (g + ahead q g)) jump)) e)
+  where
+    many : ltb (ahead q g) 3000 ≡ false
+    many =
+        ⊎_elim (λ (t : ltb (ahead q g) 3000 ≡ true). let lt = ltb-true (ahead q g) 3000 t in absurd (out (g + ahead q g) (omega (arith, small), omega arith, omega (arith, lt)))) (λ f. f)
+        (cases_Bool (ltb (ahead q g) 3000))
+
+    near : ltb 65436 (ahead q g) ≡ false
+    near =
+        ⊎_elim (λ (t : ltb 65436 (ahead q g) ≡ true). let lt = ltb-true 65436 (ahead q g) t in
+        absurd (out (g - (65536 - ahead q g)) (omega (arith, small, high, lt), omega (arith, lt), omega (arith, lt)))) (λ f. f) (cases_Bool (ltb 65436 (ahead q g)))
+
+late_is : (window : ℕ) (present : List Held) (n : ℕ) → n < awaited window present → in_time window present n ≡ Late
+late_is window present n lt = ap (λ (b : Bool). cond b Late (cond (has_number n present) Twice (Took n))) (lt-ltb n (awaited window present) lt)
+
+in_time_is : (window : ℕ) (present : List Held) (n : ℕ) (b : Bool) → awaited window present ≤ n → has_number n present ≡ b → in_time window present n ≡ cond b Twice (Took n)
+in_time_is window present n b le e =
+    ap (λ (c : Bool). cond c Late (cond (has_number n present) Twice (Took n))) (le-ltb n (awaited window present) le) ∙ ap (λ (c : Bool). cond c Twice (Took n)) e
+
+module _ (window : ℕ) (h : Held) (hs : List Held) (rises : Rises 0 (h ∷ hs)) (numbers : List ℕ) (same : SameNumbers numbers (h ∷ hs)) (jumped : Option ℕ) (q : ℕ) (small : q < 65536)
+    (high : 65536 ≤ hi (h ∷ hs) - 1) where
+  abbrev noted : LiveNote
+  noted = note_of window (h ∷ hs) (after_greatest (hi (h ∷ hs) - 1) (option_map following jumped) q (ahead q (hi (h ∷ hs) - 1)))
+
+  abbrev own : Start window numbers
+  own = start window h hs rises numbers same
+
+  reached : (other : Start window numbers) (n : ℕ) → IsWithinReach other.greatest q n → noted ≡ in_time window (h ∷ hs) n
+  reached other n reach =
+      reach_note window (h ∷ hs) (option_map following jumped) (hi (h ∷ hs) - 1) q n high
+      (subst (λ (g : ℕ). IsWithinReach g q n) (same_greatest window numbers other own) reach)
+
+  outside : (other : Start window numbers) → IsOutOfReach other.greatest q → IsOutOfReach (hi (h ∷ hs) - 1) q
+  outside other out = subst (λ (g : ℕ). IsOutOfReach g q) (same_greatest window numbers other own) out
+
+  only_later : (other : LiveNote) → NumbersSo window numbers jumped q other → noted ≡ other
+  only_later (Took n) (inl first) = absurd (none_started window numbers first.0 own)
+  only_later (Took n) (inr (other, reach, le, never)) =
+      reached other n reach
+      ∙ in_time_is window (h ∷ hs) n false (subst (λ (a : ℕ). a ≤ n) (same_awaited window numbers other own) le) (none_there window h hs rises numbers same n never)
+  only_later Late (other, n, reach, lt) = reached other n reach ∙ late_is window (h ∷ hs) n (subst (λ (a : ℕ). n < a) (same_awaited window numbers other own) lt)
+  only_later Twice (other, n, reach, le, c) =
+      reached other n reach ∙ in_time_is window (h ∷ hs) n true (subst (λ (a : ℕ). a ≤ n) (same_awaited window numbers other own) le) (from window h hs rises numbers same n c)
+  only_later Jump (other, out, never) =
+      out_note window (h ∷ hs) (option_map following jumped) (hi (h ∷ hs) - 1) q false small high (outside other out) (not_kept jumped q never)
+  only_later (Restart n) (other, out, follows, low, above, below) =
+      let top = same_greatest window numbers other own in
+      let is : hi (h ∷ hs) - 1 + ahead q (hi (h ∷ hs) - 1) ≡ n = omega (arith, top, low, above, below, small) in
+      out_note window (h ∷ hs) (option_map following jumped) (hi (h ∷ hs) - 1) q true small high (outside other out) (kept_so jumped q follows) ∙ ap Restart is
+  only_later other so = absurd so
+
+only_note : (window : ℕ) (present : List Held) (kept : Option ℕ) (numbers : List ℕ) (jumped : Option ℕ) (q : ℕ) → q < 65536 → Rises 0 present → IsHigh present → SameNumbers numbers present
+    → kept ≡ option_map following jumped → (other : LiveNote) → NumbersSo window numbers jumped q other
+    → live_note window (record { ended = []; present = present; kept = kept }) q ≡ other
+unfolding live_note numbered
+only_note window [] kept numbers jumped q small rises high same e other so = alone other so
+  where
+    alone : (n : LiveNote) → NumbersSo window numbers jumped q n → Took (65536 + q) ≡ n
+    alone (Took n) (inl first) = ap Took (sym first.1)
+    alone (Took n) (inr later) = absurd (none_started window numbers (no_numbers numbers same) later.0)
+    alone Late later = absurd (none_started window numbers (no_numbers numbers same) later.0)
+    alone Twice later = absurd (none_started window numbers (no_numbers numbers same) later.0)
+    alone Jump later = absurd (none_started window numbers (no_numbers numbers same) later.0)
+    alone (Restart n) later = absurd (none_started window numbers (no_numbers numbers same) later.0)
+    alone n later = absurd later
+only_note window (h ∷ hs) kept numbers jumped q small rises high same e other so =
+    let lt = below_hi 0 h hs rises in
+    subst (λ (o : Option ℕ). note_of window (h ∷ hs) (after_greatest (hi (h ∷ hs) - 1) o q (ahead q (hi (h ∷ hs) - 1))) ≡ other) (sym e)
+    (only_later window h hs rises numbers same jumped q small (omega (arith, lt, high)) other so)
+
+pub only_live_note : (window : ℕ) (st : Stream) (numbers : List ℕ) (jumped : Option ℕ) (q : ℕ) → q < 65536 → Rises 0 st.present → IsHigh st.present → SameNumbers numbers st.present
+    → st.kept ≡ option_map following jumped → (other : LiveNote) → NumbersSo window numbers jumped q other → live_note window st q ≡ other
+unfolding live_note
+only_live_note window st numbers jumped q small rises high same e other so = only_note window st.present st.kept numbers jumped q small rises high same e other so

@@ -8,5 +8,5 @@ unfoldable pub use Rattle.byte_laws.specs.Told.{front, message_number, after, of
 pub use Rattle.byte_laws.specs.Told.{WasOrdered}
 unfoldable pub use Rattle.byte_laws.specs.LiveNotes.{sources_size, front_size, last_byte, IsNoRtp, with_note, with_notes, with_answer, numbers_taken, jumped_by, jumped_with, jumped_after, last_jump, MayStillCome, IsWithinReach, IsOutOfReach, FollowsTheJump, NumbersSo, BecameSo, EachLiveNoteIsRight}
 pub use Rattle.byte_laws.specs.LiveNotes.{HasHeader, IsRtp, IsOfChannel, Start, IsLiveAnswer}
-unfoldable pub use Rattle.byte_laws.specs.Messages.{lost_from, named_by, number64, ssrcs_of, words_of, is_there, IsRequest, IsStop, IsMessageOf, IsRams, seen_after, told_in, EachDatagramIsAnsweredWhole}
-pub use Rattle.byte_laws.specs.Messages.{IsFirstOf, none, this, later, Asks, IsNoMessage, AreMessages, no_more, skipped, second, counted, IsAnsweredWhole, IsRefusedWhole}
+unfoldable pub use Rattle.byte_laws.specs.Messages.{padding_bit, IsDatagram, is_length_in_request, is_length_in_stop, lost_from, named_by, number64, ssrcs_of, words_of, is_there, IsRequest, IsStop, IsMessageOf, IsRams, seen_after, told_in, EachDatagramIsAnsweredWhole}
+pub use Rattle.byte_laws.specs.Messages.{IsRtcp, IsFirstOf, none, this, later, Asks, IsNoMessage, AreMessages, no_more, skipped, second, counted, IsAnsweredWhole, IsRefusedWhole}

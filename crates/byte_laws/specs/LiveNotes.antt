@@ -152,11 +152,12 @@ BecameSo s book bytes ForeignType =
 BecameSo s book bytes one =
     IsOfChannel s.channel bytes × NumbersSo s.channel.window (numbers_taken book) (last_jump book) (number16 2 bytes) one
 
--- A live packet is answered with one note, which says what became of it, and sends nothing.
+-- A live packet is answered with one note, which says what became of it, and sends nothing. No other note would be right.
 pub record IsLiveAnswer (s : Settings) (book : Book) (bytes : List ℕ) (a : Answered) : Type 0 where
   pub became : LiveNote
   pub alone : a ≡ answered (note.Live became ∷ []) []
   pub so : BecameSo s book bytes became
+  pub only : (other : LiveNote) → BecameSo s book bytes other → other ≡ became
 
 abbrev pub EachLiveNoteIsRight : Type 0
 EachLiveNoteIsRight =

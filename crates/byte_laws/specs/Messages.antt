@@ -1,14 +1,38 @@
 -- Which messages a feedback datagram has, said of its bytes (RFC 3550, 6; RFC 4585, 6; RFC 6285, 7), and that just these are answered, in order.
-use Rattle.std.specs.Prelude.{◌≡◌, ◌≢◌, ℕ, zero, suc, ◌+◌, ◌*◌, ◌/◌, ◌%◌, ◌<◌, ◌==◌, ◌⊎◌, Bool, true, false, if◌then◌else◌, List, [], ◌∷◌, ◌++◌, drop, map, slice_index, Option, Some, None, option_map, Result, Ok, Err, All}
+use Rattle.std.specs.Prelude.{◌≡◌, ◌≢◌, ℕ, zero, suc, ◌+◌, ◌-◌, ◌*◌, ◌/◌, ◌%◌, ◌<◌, ◌≤◌, ◌==◌, ◌⊎◌, Bool, true, false, if◌then◌else◌, List, [], ◌∷◌, ◌++◌, length, drop, map, slice_index, Option, Some, None, option_map, Result, Ok, Err, All}
+use Rattle.std.specs.Int.{w16, to_be_bytes}
 use Rattle.rams_model.specs.declared.event.Event.{Event}
 use Rattle.rams_model.specs.declared.event.Event.TheVariants.{Feedback}
 use Rattle.rams_model.specs.declared.fault.FrameFault.{FrameFault}
 use Rattle.rams_model.specs.declared.fault.TlvFault.{TlvFault}
 use Rattle.rams_model.specs.declared.message.Stop.{Stop}
 use Rattle.rams_model.specs.declared.note.Note.TheVariants.{BadFeedback}
-use Rattle.rams_model.specs.Formats.{Framed, IsCompound, Tlv, IsMessage, request_length, stop_length, Request}
+use Rattle.rams_model.specs.Formats.{Joins, Framed, Tlv, IsMessage, Request}
 use Rattle.rams_model.specs.Service.{Settings, Message, bye, nack, asks, stops, feedback, unframed, began, told, noted, History, history_of}
 use Rattle.byte_laws.specs.Came.{number32}
+
+-- ---- RTCP packets (RFC 3550, 6.4.1)
+
+-- bit 5 of byte 0, which is set where there is padding
+abbrev pub padding_bit : List ℕ → ℕ
+padding_bit [] = 0
+padding_bit (b ∷ bytes) = 32
+
+-- The bytes are this packet: version 2, the padding bit and the count; the type; how many words follow; the body; and the padding, whole words whose last byte counts their bytes. A BYE (203) has as many sources as it counts (RFC 3550, 6.6), feedback (205 and 206) two SSRCs (RFC 4585, 6.1).
+pub record IsRtcp (bytes : List ℕ) (p : Framed) : Type 0 where
+  pub padding : List ℕ
+  pub text : bytes ≡ (128 + padding_bit padding + p.count) ∷ p.kind ∷ (to_be_bytes w16 ((length p.body + length padding) / 4) ++ p.body ++ padding)
+  pub count : p.count < 32
+  pub words : (length p.body + length padding) % 4 ≡ 0
+  pub size : length p.body + length padding < 262144
+  pub whole : length padding % 4 ≡ 0
+  pub counted : 0 < length padding → slice_index padding (length padding - 1) ≡ length padding
+  pub sources : p.kind ≡ 203 → 4 * p.count ≤ length p.body
+  pub ssrcs : (p.kind ≡ 205) ⊎ (p.kind ≡ 206) → 8 ≤ length p.body
+
+-- The datagram is these packets joined end to end, one or more.
+abbrev pub IsDatagram : List ℕ → List Framed → Type 0
+IsDatagram bytes ps = (0 < length ps) × Joins IsRtcp bytes ps
 
 -- ---- a generic NACK (RFC 4585, 6.2.1)
 
@@ -68,15 +92,23 @@ pub record Asks (ts : List Tlv) (r : Request) : Type 0 where
   pub is_alone : IsFirstOf 5 ts alone
   pub preamble : r.preamble ≡ is_there alone
 
+-- the lengths of their values: of SSRCs whole words, of a time four bytes, of a bit rate eight, of the preamble none; of other types any
+abbrev pub is_length_in_request : ℕ → ℕ → Bool
+is_length_in_request kind n =
+    if kind == 1 then n % 4 == 0 else if kind == 2 then n == 4 else if kind == 3 then n == 4 else if kind == 4 then n == 8 else if kind == 5 then n == 0 else true
+
+abbrev pub is_length_in_stop : ℕ → ℕ → Bool
+is_length_in_stop kind n = if kind == 61 then n == 4 else true
+
 -- A RAMS-R begins with 1, and has TLVs; or these don't read.
 abbrev pub IsRequest : List ℕ → Result Request TlvFault → Type 0
-IsRequest fci (Ok r) = (ts : List Tlv) × IsMessage 1 request_length fci ts × Asks ts r
-IsRequest fci (Err fault) = (ts : List Tlv) → IsMessage 1 request_length fci ts → ⊥
+IsRequest fci (Ok r) = (ts : List Tlv) × IsMessage 1 is_length_in_request fci ts × Asks ts r
+IsRequest fci (Err fault) = (ts : List Tlv) → IsMessage 1 is_length_in_request fci ts → ⊥
 
 -- A RAMS-T begins with 3; TLV 61 names the first packet of the multicast.
 abbrev pub IsStop : List ℕ → Result Stop TlvFault → Type 0
-IsStop fci (Ok stop) = (ts : List Tlv) × IsMessage 3 stop_length fci ts × ((value : Option (List ℕ)) × IsFirstOf 61 ts value × (stop.first_multicast ≡ option_map (number32 0) value))
-IsStop fci (Err fault) = (ts : List Tlv) → IsMessage 3 stop_length fci ts → ⊥
+IsStop fci (Ok stop) = (ts : List Tlv) × IsMessage 3 is_length_in_stop fci ts × ((value : Option (List ℕ)) × IsFirstOf 61 ts value × (stop.first_multicast ≡ option_map (number32 0) value))
+IsStop fci (Err fault) = (ts : List Tlv) → IsMessage 3 is_length_in_stop fci ts → ⊥
 
 -- ---- the messages of a datagram
 
@@ -126,7 +158,7 @@ told_in (_ ∷ items) = told_in items
 -- The datagram is packets joined end to end, and just their messages are answered, in order, as this client's.
 pub record IsAnsweredWhole (s : Settings) (events : List Event) (client : ℕ) (bytes : List ℕ) : Type 0 where
   pub packets : List Framed
-  pub compound : IsCompound bytes packets
+  pub compound : IsDatagram bytes packets
   pub messages : List Message
   pub are : AreMessages false packets messages
   pub now : History
@@ -136,7 +168,7 @@ pub record IsAnsweredWhole (s : Settings) (events : List Event) (client : ℕ) (
 -- It isn't, which is noted, and nothing else.
 pub record IsRefusedWhole (s : Settings) (events : List Event) (client : ℕ) (bytes : List ℕ) : Type 0 where
   pub fault : FrameFault
-  pub none : (packets : List Framed) → IsCompound bytes packets → ⊥
+  pub none : (packets : List Framed) → IsDatagram bytes packets → ⊥
   pub alone : history_of s (Feedback client bytes ∷ events) ≡ noted (BadFeedback client fault) None ∷ began (unframed client fault) ∷ history_of s events
 
 abbrev pub EachDatagramIsAnsweredWhole : Type 0
