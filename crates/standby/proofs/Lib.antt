@@ -1,0 +1,5 @@
+pub mod Pieces
+pub mod Turning
+pub mod Opening
+pub mod Reading
+pub mod Followed
