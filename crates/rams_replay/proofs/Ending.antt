@@ -5,7 +5,7 @@ use Rattle.std.proofs.Common.{◌≡◌, ℕ, List, length, Option, None, Some, 
 use Rattle.std.specs.Io.KnownBytes.{Appends}
 use Rattle.line_io.specs.Passes.{Passes}
 use Rattle.rams_model.specs.declared.status.Status.{Status}
-use Rattle.rams_model.specs.declared.status.Status.TheVariants.{Done, NoMemory, Words, ReadFault, WriteFault, BadTrace, WireFault, TooLong}
+use Rattle.rams_model.specs.declared.status.Status.TheVariants.{Done, NoMemory, Words, ReadFault, WriteFault, BadTrace, WireFault, TooLong, BadCapture, BadSdp}
 use Rattle.trace_serving.specs.{Serving, Outcome, served_text}
 use Rattle.trace_loop.specs.declared.stop.Stop.{Stop}
 use Rattle.trace_loop.specs.declared.stop.Stop.TheVariants.{Memory, Read, Write, Wire}
@@ -33,6 +33,8 @@ has_text held holds o (Ok Words) text = tt
 has_text held holds o (Ok ReadFault) text = tt
 has_text held holds o (Ok WriteFault) text = tt
 has_text held holds o (Ok WireFault) text = tt
+has_text held holds o (Ok BadCapture) text = tt
+has_text held holds o (Ok BadSdp) text = tt
 has_text held holds o (Err Memory) text = tt
 has_text held holds o (Err Read) text = tt
 has_text held holds o (Err Write) text = tt
@@ -47,6 +49,8 @@ or_lacks_memory held holds o (Ok Words) text only = text.0
 or_lacks_memory held holds o (Ok ReadFault) text only = text.0
 or_lacks_memory held holds o (Ok WriteFault) text only = text.0
 or_lacks_memory held holds o (Ok WireFault) text only = text.0
+or_lacks_memory held holds o (Ok BadCapture) text only = text.0
+or_lacks_memory held holds o (Ok BadSdp) text only = text.0
 or_lacks_memory held holds o (Err stop) text only = subst (λ (s : Stop). IsOrLacksMemory o.status (status_of (Err s))) (sym only) tt
 
 module _ {State Event : Type 0} (s : Serving State Event) (leaves : Option (List ℕ)) (calm : Type 0) (held holds : Option (List ℕ)) (before now : ℕ) (room : ℕ → Type 0) where

@@ -1,7 +1,7 @@
 -- How a server ends, as a status.
 use Rattle.std.proofs.Common.{◌≡◌, ℕ, List, Option, Some, Result, Ok, Err, IfOk, IfErr, sym, subst, ◌∙◌, arith}
 use Rattle.rams_model.specs.declared.status.Status.{Status}
-use Rattle.rams_model.specs.declared.status.Status.TheVariants.{Done, NoMemory, Words, ReadFault, WriteFault, BadTrace, WireFault, TooLong}
+use Rattle.rams_model.specs.declared.status.Status.TheVariants.{Done, NoMemory, Words, ReadFault, WriteFault, BadTrace, WireFault, TooLong, BadCapture, BadSdp}
 use Rattle.ram_io.specs.declared.wire.Incoming.{Incoming}
 use Rattle.ram_io.specs.{Outgoing}
 use Rattle.serve_loop.specs.declared.stop.Stop.{Stop}
@@ -21,6 +21,8 @@ has_served g held holds went sent left (Ok ReadFault) end ended stopped = absurd
 has_served g held holds went sent left (Ok WriteFault) end ended stopped = absurd end
 has_served g held holds went sent left (Ok WireFault) end ended stopped = absurd end
 has_served g held holds went sent left (Ok TooLong) end ended stopped = absurd end
+has_served g held holds went sent left (Ok BadCapture) end ended stopped = absurd end
+has_served g held holds went sent left (Ok BadSdp) end ended stopped = absurd end
 has_served g held holds went sent left (Err Memory) end ended stopped = stopped
 has_served g held holds went sent left (Err Read) end ended stopped = stopped
 has_served g held holds went sent left (Err Write) end ended stopped = stopped
@@ -36,6 +38,8 @@ or_lacks_memory g held holds went sent left P (Ok ReadFault) end ended only = ab
 or_lacks_memory g held holds went sent left P (Ok WriteFault) end ended only = absurd end
 or_lacks_memory g held holds went sent left P (Ok WireFault) end ended only = absurd end
 or_lacks_memory g held holds went sent left P (Ok TooLong) end ended only = absurd end
+or_lacks_memory g held holds went sent left P (Ok BadCapture) end ended only = absurd end
+or_lacks_memory g held holds went sent left P (Ok BadSdp) end ended only = absurd end
 or_lacks_memory g held holds went sent left P (Err stop) end ended only = subst (λ (s : Stop). IsOrLacksMemory (served_text g).status (served_status (Err s))) (sym only) tt
 
 -- a command that has no wire
@@ -51,6 +55,8 @@ over_wire read reads write writes wire status is = record { read_later = is.read
     by BadTrace h = tt
     by WireFault h = absurd h
     by TooLong h = tt
+    by BadCapture h = tt
+    by BadSdp h = tt
 
 -- one command has one port and one number of turns
 pub same_serve : (o : Option Command) (p t port turns : ℕ) → o ≡ Some (Serve p t) → o ≡ Some (Serve port turns) → (p ≡ port) × (t ≡ turns)
