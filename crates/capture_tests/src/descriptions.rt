@@ -6,16 +6,16 @@ use std::alloc::Global;
 use std::str;
 use std::test::Fail;
 
-// What stands in front of the sections.
-const SESSION: &[&str] = &[
+/// What stands in front of the sections.
+pub const SESSION: &[&str] = &[
     "v=0",
     "o=ali 1122334455 1122334466 IN IP4 rams.example.com",
     "s=RAMS",
     "t=0 0",
 ];
 
-// The channel, and the repairs of it.
-const MEDIA: &[&str] = &[
+/// The section of the channel.
+pub const MEDIA: &[&str] = &[
     "m=video 41000 RTP/AVPF 98",
     "c=IN IP4 233.252.0.2/255",
     "a=rtpmap:98 MP2T/90000",
@@ -24,7 +24,8 @@ const MEDIA: &[&str] = &[
     "a=ssrc:123321 cname:iptv",
 ];
 
-const REPAIRS: &[&str] = &[
+/// That of its repairs.
+pub const REPAIRS: &[&str] = &[
     "m=video 42000 RTP/AVPF 99",
     "a=rtpmap:99 rtx/90000",
     "a=fmtp:99 apt=98;rtx-time=5000",

@@ -11,4 +11,6 @@ mod fixtures;
 #[cfg(test)]
 mod frames;
 #[cfg(test)]
+mod settings;
+#[cfg(test)]
 mod ticks;

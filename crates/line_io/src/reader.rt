@@ -97,10 +97,11 @@ impl LineReader {
         }
     }
 
-    /// The bytes that were taken of the source and aren't handed out yet: what stands behind the last
-    /// line begins with them.
+    /// The bytes that were taken of the source and aren't handed out yet. They stand in front of what the
+    /// source has left.
     pub fn kept(&self) -> &[u8]
-        ensures { result.now ≡ self.now.kept }
+        ensures kept { result.now ≡ self.now.kept }
+        ensures few { length result.now ≤ 8192 }
     {
         &self.bytes[self.from..self.to]
     }
