@@ -97,8 +97,11 @@ impl LineReader {
         }
     }
 
-    fn kept(&self) -> &[u8]
-        ensures { result.now ≡ self.now.kept }
+    /// The bytes that were taken of the source and aren't handed out yet. They stand in front of what the
+    /// source has left.
+    pub fn kept(&self) -> &[u8]
+        ensures kept { result.now ≡ self.now.kept }
+        ensures few { length result.now ≤ 8192 }
     {
         &self.bytes[self.from..self.to]
     }

@@ -5,4 +5,4 @@ use Rattle.line_io.proofs.reader.LineReader.advance.Goals as goal
 
 pub returns-in-None-clause-no_call : goal.returns-in-None-clause-no_call
 returns-in-None-clause-no_call g c = λ feed.
-    absurd (HasNoFeed-contains c.args.self.now.kept feed.0 (subst HasNoFeed c.kept.ensures c.in-None.ensures) feed.1 feed.2)
+    absurd (HasNoFeed-contains c.args.self.now.kept feed.0 (subst HasNoFeed c.kept.ensures.kept c.in-None.ensures) feed.1 feed.2)

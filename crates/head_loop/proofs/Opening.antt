@@ -21,9 +21,9 @@ use Rattle.trace_serving.proofs.Judged.{IsAccepted, IsJoined, judged_so, channel
 use Rattle.trace_text.specs.declared.line.Line.{Line}
 use Rattle.trace_text.specs.{shown, IsOther}
 use Rattle.trace_text.specs.declared.line.Line.TheVariants as line
-use Rattle.serve_loop.specs.declared.head.HeadLine.TheVariants.{GoesOn, Ends}
-use Rattle.serve_loop.specs.{HasOpened, HubServes, Serves, CanOpen, OpensIn, Comes, Took, claim_of, numbers}
-use Rattle.serve_loop.proofs.Telling.{settings_stand}
+use Rattle.head_loop.specs.declared.head.HeadLine.TheVariants.{GoesOn, Ends}
+use Rattle.head_loop.specs.{HasOpened, HubServes, Serves, CanOpen, OpensIn, Comes, Took, claim_of, numbers}
+use Rattle.head_loop.proofs.Channels.{settings_stand}
 
 -- the line was accepted
 pub accepted_so : (hub : Option Seen) (ids : List ℕ) (reached : Reached) (read : TraceLine) (stage : Stage (List Served)) → Comes hub ids reached read stage → IsAccepted stage.reached read reached

@@ -3,8 +3,8 @@ use Rattle.std.specs.Prelude.{slice_get}
 use Rattle.std.specs.Option.{SomeIff, MatchOption}
 use Rattle.std.specs.List.{HoldsAt}
 use Rattle.std.proofs.lemmas.Option.{slice_get_read, slice_get_past}
-use Rattle.serve_loop.proofs.Ports.{live_is_heard, feedback_is_heard, below_is_none, above_is_none}
-use Rattle.serve_loop.proofs.turns.event_at.Goals as goal
+use Rattle.head_loop.proofs.AtPorts.{live_is_heard, feedback_is_heard, below_is_none, above_is_none}
+use Rattle.head_loop.proofs.ports.event_at.Goals as goal
 
 -- where a number can be taken from another
 taken : (o : Option ℕ) (above port live : ℕ) → o ≡ Some above → SomeIff o (live ≤ port) (port - live) → (live ≤ port) × (above ≡ port - live)

@@ -8,8 +8,8 @@ use Rattle.server_hub.specs.Served.{Served}
 use Rattle.trace_book.specs.Stages.{settings_of}
 use Rattle.journal_book.specs.{heard_from}
 use Rattle.journal_book.proofs.Heard.{ports_are_heard, other_ports_are_not}
-use Rattle.serve_loop.specs.{numbers}
-use Rattle.serve_loop.proofs.Telling.{at_place}
+use Rattle.head_loop.specs.{numbers}
+use Rattle.head_loop.proofs.Channels.{at_place}
 
 pub live_is_heard : (live place sender port id : ℕ) (channels : List Served) (bytes : List ℕ) → slice_get (numbers channels) place ≡ Some id → port ≡ live + 2 * place
     → Some (Live id bytes) ≡ heard_from live channels sender port bytes

@@ -4,9 +4,9 @@ use Rattle.line_io.specs.declared.reader.Next.{Next}
 use Rattle.line_io.specs.{TakesNext}
 use Rattle.trace_serving.specs.{turn}
 use Rattle.trace_book.specs.{run}
-use Rattle.serve_loop.specs.{Grows, Took}
-use Rattle.serve_loop.proofs.HeadLines.{line_is_told, long_is_told, end_is_told, took_stands}
-use Rattle.serve_loop.proofs.head.next_line.Goals as goal
+use Rattle.head_loop.specs.{Grows, Took}
+use Rattle.head_loop.proofs.HeadLines.{line_is_told, long_is_told, end_is_told, took_stands}
+use Rattle.head_loop.proofs.head.next_line.Goals as goal
 
 pub returns-in_ok-take_line-in-Ok-Line-clause-line : goal.returns-in_ok-take_line-in-Ok-Line-clause-line
 returns-in_ok-take_line-in-Ok-Line-clause-line g c = λ stage number opened.

@@ -2,8 +2,8 @@ use Rattle.std.proofs.Common.{◌≡◌, Ok, Err, subst}
 use Rattle.std.proofs.lemmas.Result.{IfOk-weaker}
 use Rattle.rams_model.specs.Texts.{Reached, judged}
 use Rattle.trace_text.specs.{told}
-use Rattle.serve_loop.proofs.HeadLines.{judged_turn, refused_turn}
-use Rattle.serve_loop.proofs.head.judge_line.Goals as goal
+use Rattle.head_loop.proofs.HeadLines.{judged_turn, refused_turn}
+use Rattle.head_loop.proofs.head.judge_line.Goals as goal
 
 pub returns-in-Ok-clause-took : goal.returns-in-Ok-clause-took
 returns-in-Ok-clause-took c =

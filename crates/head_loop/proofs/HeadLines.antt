@@ -1,9 +1,9 @@
 -- How the lines of a head are read, one after another.
-use Rattle.std.proofs.Common.{◌≡◌, ℕ, ◌+◌, ◌<◌, List, [], ◌∷◌, ◌++◌, length, take, map, ltb, true, false, not, ◌&&◌, Option, None, Some, Result, Ok, Err, refl, sym, ap, ◌∙◌, subst, arith, length-take, append_assoc, append-nil}
-use Rattle.std.specs.Io.KnownBytes.{prepend_known}
+use Rattle.std.proofs.Common.{◌≡◌, ℕ, ◌+◌, ◌<◌, List, [], ◌∷◌, ◌++◌, length, take, map, ltb, true, false, not, ◌&&◌, Option, None, Some, Result, Ok, Err, inl, inr, codes, refl, sym, ap, ◌∙◌, subst, arith, length-take, append_assoc, append-nil}
 use Rattle.std.specs.List.{flat_map}
 use Rattle.std.proofs.lemmas.Bool.{and_parts, lt-ltb}
-use Rattle.line_io.specs.{HasNoFeed, TakesNext}
+use Rattle.std.specs.Prelude.{◌⊎◌}
+use Rattle.line_io.specs.{IsCutOff, TakesNext}
 use Rattle.line_io.specs.declared.reader.Next.TheVariants.{Line, Long, End}
 use Rattle.rams_model.specs.declared.fault.LineFault.{LineFault}
 use Rattle.rams_model.specs.declared.fault.LineFault.TheVariants.{Form, Order}
@@ -15,9 +15,11 @@ use Rattle.server_hub.specs.Served.{Served}
 use Rattle.trace_serving.specs.{Stage, Outcome, Turn, goes_on, ends, done, refused, turn, after_line, after_judging, after_turn, text_from, stage_after, stage_from, taken_with, taken_from, brought}
 use Rattle.trace_book.specs.{run}
 use Rattle.journal_book.specs.{Leads, line as leads_on, nothing, starting}
-use Rattle.serve_loop.specs.declared.head.HeadLine.{HeadLine}
-use Rattle.serve_loop.specs.declared.head.HeadLine.TheVariants.{GoesOn, Ends, Refused}
-use Rattle.serve_loop.specs.{claim_of, head_end, head_stage, head_text, with_feed, HubServes, HasOpened, HasOpenedBy, Took, Grows, StandsAfter, GoesOnAfter, EndsAt, IsFirstLine, IsHeadOf, IfTold, IfBothTold}
+use Rattle.head_loop.specs.declared.head.HeadLine.{HeadLine}
+use Rattle.head_loop.specs.declared.head.HeadLine.TheVariants.{GoesOn, Ends, Refused}
+use Rattle.head_loop.specs.{claim_of, head_end, head_stage, head_text, with_feed, HubServes, HasOpened, HasOpenedBy, Took, Grows, StandsAfter, GoesOnAfter, EndsAt, IsFirstLine, IsHeadOf}
+use Rattle.head_loop.proofs.Cutting.{ended_by}
+use Rattle.trace_loop.specs.{IfTold, IfBothTold}
 
 -- a line that is too long has no form
 judged_by : (r : Reached) (bytes : List ℕ) → 4096 < length bytes → judged r bytes ≡ Err Form
@@ -60,11 +62,12 @@ never_done o p bad done e = differ (sym bad ∙ ap (λ (x : Outcome). x.status) 
 
 module _ (stage : Stage (List Served)) (number : ℕ) (xs : List ℕ) (hub : Option Seen) (ids : List ℕ) (reached : Reached) (text texts ys : List ℕ) where
   -- the first line of xs is this one
-  one_line : (line : List ℕ) (did : HeadLine) → lines_of xs ≡ line ∷ lines_of ys → HasNoFeed line → Took stage (turn run stage number line) hub ids reached number did → Grows did text texts line
+  one_line : (line : List ℕ) (did : HeadLine) → lines_of xs ≡ line ∷ lines_of ys → IsCutOff xs ys line → Took stage (turn run stage number line) hub ids reached number did → Grows did text texts line
       → IsFirstLine stage number xs hub ids reached text texts did ys
   unfolding text_from stage_from taken_from
-  one_line line GoesOn e clean took grows = record { line = line; clean = clean; lines = e; later = took.0; does = took.1; opened = took.2; text_is = grows }
-  one_line line Ends e clean took grows = record {
+  one_line line GoesOn e cut took grows = record { line = line; cut = cut; lines = e; later = took.0; does = took.1; opened = took.2; text_is = grows }
+  one_line line Ends e cut took grows = record {
+    cut = subst (IsCutOff xs ys) (ended_by stage number line took.0) cut;
     end = ap (text_from run stage number) e ∙ ap (λ (was : Turn (List Served)). after_turn was (λ later. text_from run later (number + 1) (lines_of ys))) took.0;
     reaches = ap (stage_from run stage number) e ∙ ap (λ (was : Turn (List Served)). stage_after stage was (λ later. stage_from run later (number + 1) (lines_of ys))) took.0;
     takes = ap (taken_from run stage number) e ∙ ap (λ (was : Turn (List Served)). taken_with line was (λ later. taken_from run later (number + 1) (lines_of ys))) took.0;
@@ -72,7 +75,7 @@ module _ (stage : Stage (List Served)) (number : ℕ) (xs : List ℕ) (hub : Opt
     may = took.2;
     text_is = grows;
   }
-  one_line line (Refused fault) e clean took grows =
+  one_line line (Refused fault) e cut took grows =
       ap (text_from run stage number) e ∙ ap (λ (was : Turn (List Served)). after_turn was (λ later. text_from run later (number + 1) (lines_of ys))) took
 
   -- the first line of xs is too long, and this is the front of it
@@ -101,7 +104,7 @@ pub line_is_told : (left leaves : Option (List ℕ)) (line : List ℕ) (stage : 
 line_is_told None leaves line stage number hub ids reached text texts did next took grows = tt
 line_is_told (Some xs) None line stage number hub ids reached text texts did next took grows = next
 line_is_told (Some xs) (Some ys) line stage number hub ids reached text texts did next took grows =
-    one_line stage number xs hub ids reached text texts ys line did next.0 next.2.clean took grows
+    one_line stage number xs hub ids reached text texts ys line did next.0 next.2 took grows
 
 pub long_is_told : (left leaves : Option (List ℕ)) (line : List ℕ) (stage : Stage (List Served)) (number : ℕ) (hub : Option Seen) (ids : List ℕ) (reached : Reached) (text texts : List ℕ) (did : HeadLine) → TakesNext left leaves line Long
     → Took stage (turn run stage number line) hub ids reached number did → IfBothTold left leaves (λ xs ys. IsFirstLine stage number xs hub ids reached text texts did ys)
@@ -121,16 +124,31 @@ pub record IsReading (hub : Option Seen) (ids : List ℕ) (reached : Reached) (t
   pub stage : Stage (List Served)
   pub opened : HasOpenedBy hub ids reached stage
   pub leads : Leads text stage
+  -- the lines so far and the rest are all, but for a line feed that the last one may lack
+  pub whole : (xs ≡ text ++ ys) ⊎ (ys ≡ [])
   pub ends : head_end xs ≡ text_from run stage number (lines_of ys)
   pub reaches : head_stage xs ≡ stage_from run stage number (lines_of ys)
   pub text_is : head_text xs ≡ text ++ flat_map with_feed (taken_from run stage number (lines_of ys))
 
-pub reading_begins : (o : Option (List ℕ)) (kept : List ℕ) (hub : Option Seen) (ids : List ℕ) (reached : Reached) (text : List ℕ) → kept ≡ [] → text ≡ [] → HasOpenedBy hub ids reached (starting Serve)
-    → IfBothTold o (prepend_known kept o) (IsReading hub ids reached text 1)
-reading_begins None kept hub ids reached text none empty opened = tt
-reading_begins (Some xs) kept hub ids reached text none empty opened =
-    subst (λ (k : List ℕ). IsReading hub ids reached text 1 xs (k ++ xs)) (sym none)
-    (subst (λ (t : List ℕ). IsReading hub ids reached t 1 xs xs) (sym empty) (record { stage = starting Serve; opened = opened; leads = nothing; ends = refl; reaches = refl; text_is = refl }))
+pub reading_begins : (o : Option (List ℕ)) (hub : Option Seen) (ids : List ℕ) (reached : Reached) (text : List ℕ) → text ≡ [] → HasOpenedBy hub ids reached (starting Serve)
+    → IfBothTold o o (IsReading hub ids reached text 1)
+reading_begins None hub ids reached text empty opened = tt
+reading_begins (Some xs) hub ids reached text empty opened =
+    subst (λ (t : List ℕ). IsReading hub ids reached t 1 xs xs) (sym empty) (record { stage = starting Serve; opened = opened; leads = nothing; whole = inl refl; ends = refl; reaches = refl; text_is = refl })
+
+no_line_left : (ys zs line : List ℕ) → ys ≡ [] → lines_of ys ≡ line ∷ lines_of zs → ⊥
+unfolding lines_of
+no_line_left ys zs line none e =
+    let nothing : lines_of [] ≡ line ∷ lines_of zs = subst (λ (l : List ℕ). lines_of l ≡ line ∷ lines_of zs) none e in
+    cc
+
+-- the lines so far, with one more
+one_longer : (text texts line xs ys zs : List ℕ) → xs ≡ text ++ ys → IsCutOff ys zs line → texts ≡ text ++ with_feed line → (xs ≡ texts ++ zs) ⊎ (zs ≡ [])
+one_longer text texts line xs ys zs all cut grows =
+    elim cut.whole as (λ _. (xs ≡ texts ++ zs) ⊎ (zs ≡ [])) [
+      | inl fed ↦ inl (all ∙ ap (λ (l : List ℕ). text ++ l) (fed ∙ sym (append_assoc line (codes "\n") zs)) ∙ sym (append_assoc text (with_feed line) zs) ∙ ap (λ (t : List ℕ). t ++ zs) (sym grows))
+      | inr last ↦ inr last.1
+    ]
 
 -- A line goes on.
 goes_past : (hub later_hub : Option Seen) (ids later_ids : List ℕ) (reached later_reached : Reached) (text texts : List ℕ) (number : ℕ) (xs ys zs : List ℕ) (r : IsReading hub ids reached text number xs ys)
@@ -141,7 +159,11 @@ goes_past hub later_hub ids later_ids reached later_reached text texts number xs
     record {
       stage = g.later;
       opened = g.opened;
-      leads = subst (λ (t : List ℕ). Leads t g.later) (sym g.text_is) (leads_on text r.stage g.later number g.line [] r.leads g.clean g.does);
+      leads = subst (λ (t : List ℕ). Leads t g.later) (sym g.text_is) (leads_on text r.stage g.later number g.line [] r.leads g.cut.clean g.does);
+      whole = elim r.whole as (λ _. (xs ≡ texts ++ zs) ⊎ (zs ≡ [])) [
+        | inl all ↦ one_longer text texts g.line xs ys zs all g.cut g.text_is
+        | inr none ↦ absurd (no_line_left ys zs g.line none g.lines)
+      ];
       ends = r.ends ∙ ap (text_from run r.stage number) g.lines ∙ ap (λ (was : Turn (List Served)). after_turn was (λ later. text_from run later (number + 1) (lines_of zs))) g.does;
       reaches = r.reaches ∙ ap (stage_from run r.stage number) g.lines ∙ ap (λ (was : Turn (List Served)). stage_after r.stage was (λ later. stage_from run later (number + 1) (lines_of zs))) g.does;
       text_is =
@@ -180,7 +202,7 @@ reading_ends None leaves later hub later_hub ids later_ids reached later_reached
 reading_ends (Some xs) None later hub later_hub ids later_ids reached later_reached text texts number r takes = absurd r
 reading_ends (Some xs) (Some ys) None hub later_hub ids later_ids reached later_reached text texts number r takes = absurd (takes r.stage number r.opened)
 reading_ends (Some xs) (Some ys) (Some zs) hub later_hub ids later_ids reached later_reached text texts number r takes =
-    let e : EndsAt r.stage number ys later_hub later_ids text texts = takes r.stage number r.opened in
+    let e : EndsAt r.stage number ys later_hub later_ids text texts zs = takes r.stage number r.opened in
     let stage : r.stage ≡ head_stage xs = sym (r.reaches ∙ e.reaches) in
     record {
       end = r.ends ∙ e.end;
@@ -197,6 +219,15 @@ reading_refuses None leaves later hub later_hub ids later_ids reached later_reac
 reading_refuses (Some xs) None later hub later_hub ids later_ids reached later_reached text texts number fault r takes = absurd r
 reading_refuses (Some xs) (Some ys) None hub later_hub ids later_ids reached later_reached text texts number fault r takes = absurd (takes r.stage number r.opened)
 reading_refuses (Some xs) (Some ys) (Some zs) hub later_hub ids later_ids reached later_reached text texts number fault r takes = r.ends ∙ takes r.stage number r.opened
+
+-- what is told stays told
+pub reading_told : (left leaves later : Option (List ℕ)) (hub later_hub : Option Seen) (ids later_ids : List ℕ) (reached later_reached : Reached) (text texts : List ℕ) (number : ℕ) (did : HeadLine)
+    → IfBothTold left leaves (IsReading hub ids reached text number) → TakesLine hub ids reached later_hub later_ids later_reached text texts did leaves later
+    → IfBothTold left later (λ xs zs. Unit {0})
+reading_told None leaves later hub later_hub ids later_ids reached later_reached text texts number did r takes = tt
+reading_told (Some xs) None later hub later_hub ids later_ids reached later_reached text texts number did r takes = absurd r
+reading_told (Some xs) (Some ys) None hub later_hub ids later_ids reached later_reached text texts number did r takes = absurd (takes r.stage number r.opened)
+reading_told (Some xs) (Some ys) (Some zs) hub later_hub ids later_ids reached later_reached text texts number did r takes = tt
 
 -- a hub that stands behind `end` is there
 no_channel : (r : Reached) (channels : List Served) → r.channels ≡ map claim_of channels → channels ≡ [] → has_channel r ≡ false

@@ -6,10 +6,10 @@ use Rattle.trace_book.specs.{run}
 use Rattle.trace_text.specs.declared.line.Judged.{Judged}
 use Rattle.trace_text.specs.declared.line.Judged.TheVariants as judged
 use Rattle.trace_text.specs.{told, IsSettled}
-use Rattle.serve_loop.specs.declared.head.HeadLine.TheVariants.{GoesOn}
-use Rattle.serve_loop.specs.{Comes, Took}
-use Rattle.serve_loop.proofs.Opening.{opens_next, opened_turn}
-use Rattle.serve_loop.proofs.head.after_line.Goals as goal
+use Rattle.head_loop.specs.declared.head.HeadLine.TheVariants.{GoesOn}
+use Rattle.head_loop.specs.{Comes, Took}
+use Rattle.head_loop.proofs.Opening.{opens_next, opened_turn}
+use Rattle.head_loop.proofs.head.after_line.Goals as goal
 
 settled : (r : Reached) (j k : Judged) → j ≡ k → IsSettled (tick_of r.head) j → IsSettled (tick_of r.head) k
 settled r j k is = subst (IsSettled (tick_of r.head)) is

@@ -1,25 +1,22 @@
--- The head of what a server reads: its lines in front of `end`.
-use Rattle.std.specs.Prelude.{◌≡◌, ℕ, ◌≤◌, List, [], ◌∷◌, ◌++◌, map, length, Option, Some, None, Result, Ok, IfErr, true, codes}
+-- The head of what a command reads: its lines in front of `end`.
+use Rattle.std.specs.Prelude.{◌≡◌, ℕ, ◌<◌, ◌≤◌, List, [], ◌∷◌, ◌++◌, map, drop, length, Option, Some, None, Ok, true, codes}
 use Rattle.std.specs.List.{flat_map}
 use Rattle.rams_model.specs.declared.mode.Mode.TheVariants.{Serve}
 use Rattle.rams_model.specs.Service.{Settings}
 use Rattle.rams_model.specs.Texts.{TraceLine, end_line, Claim, Reached, judged, may_come, tick_of, lines_of}
 use Rattle.rams_model.specs.Texts.{Head as HeadSaid}
-use Rattle.ram_io.specs.{Rose}
-use Rattle.line_io.specs.{HasNoFeed}
-use Rattle.server_hub.specs.{StandsFor, served, refused as refused_add}
+use Rattle.line_io.specs.{IsCutOff}
+use Rattle.server_hub.specs.{StandsFor, ids_of, served, refused as refused_add}
 use Rattle.server_hub.specs.Seen.{Seen}
 use Rattle.server_hub.specs.Served.{Served}
 use Rattle.trace_serving.specs.{Stage, Outcome, Turn, goes_on, ends, done, refused, turn, text_from, stage_from, taken_from}
 use Rattle.trace_book.specs.{run}
+use Rattle.trace_book.specs.Stages.{settings_of}
 use Rattle.journal_book.specs.{Opens, starting}
-use Rattle.serve_loop.specs.declared.head.Head.{Head}
-use Rattle.serve_loop.specs.declared.head.Head.TheVariants.{Lawful, Unlawful}
-use Rattle.serve_loop.specs.declared.head.HeadLine.{HeadLine}
-use Rattle.serve_loop.specs.declared.head.HeadLine.TheVariants.{GoesOn, Ends, Refused}
-use Rattle.serve_loop.specs.declared.stop.Stop.{Stop}
-use Rattle.serve_loop.specs.declared.stop.Stop.TheVariants.{Memory, Read}
-use Rattle.serve_loop.specs.Progress.{numbers, StandsSomewhere}
+use Rattle.head_loop.specs.declared.head.Head.{Head}
+use Rattle.head_loop.specs.declared.head.Head.TheVariants.{Lawful, Unlawful}
+use Rattle.head_loop.specs.declared.head.HeadLine.{HeadLine}
+use Rattle.head_loop.specs.declared.head.HeadLine.TheVariants.{GoesOn, Ends, Refused}
 
 -- how it ends: with `end`, or with the first line that is refused
 abbrev pub head_end : List ℕ → Outcome
@@ -36,6 +33,18 @@ with_feed line = line ++ codes "\n"
 -- its text, in which each line has its line feed
 abbrev pub head_text : List ℕ → List ℕ
 head_text xs = flat_map with_feed (taken_from run (starting Serve) 1 (lines_of xs))
+
+-- what stands behind its lines and the line `end`
+abbrev pub behind_head : List ℕ → List ℕ
+behind_head xs = drop (length (head_text xs ++ codes "end\n")) xs
+
+-- the numbers of the channels
+abbrev pub numbers : List Served → List ℕ
+numbers channels = ids_of (settings_of channels)
+
+-- the hub stands for some channels
+abbrev pub StandsSomewhere : Seen → Type 0
+StandsSomewhere hub = (channels : List Served) × StandsFor hub channels
 
 -- what a trace's lines keep of a channel
 abbrev pub claim_of : Served → Claim
@@ -115,15 +124,16 @@ StandsAfter (Refused fault) hub ids reached = Unit {0}
 -- The first line of xs is cut off, and goes on; it stands behind the text, and ys is left.
 pub record GoesOnAfter (stage : Stage (List Served)) (number : ℕ) (xs : List ℕ) (hub : Option Seen) (ids : List ℕ) (reached : Reached) (text texts ys : List ℕ) : Type 0 where
   pub line : List ℕ
-  pub clean : HasNoFeed line
+  pub cut : IsCutOff xs ys line
   pub lines : lines_of xs ≡ line ∷ lines_of ys
   pub later : Stage (List Served)
   pub does : turn run stage number line ≡ goes_on later []
   pub opened : HasOpenedBy hub ids reached later
   pub text_is : texts ≡ text ++ with_feed line
 
--- Its first line is `end`.
-pub record EndsAt (stage : Stage (List Served)) (number : ℕ) (xs : List ℕ) (hub : Option Seen) (ids text texts : List ℕ) : Type 0 where
+-- Its first line is `end`, and ys is left.
+pub record EndsAt (stage : Stage (List Served)) (number : ℕ) (xs : List ℕ) (hub : Option Seen) (ids text texts ys : List ℕ) : Type 0 where
+  pub cut : IsCutOff xs ys (codes "end")
   pub end : text_from run stage number (lines_of xs) ≡ done 0
   pub reaches : stage_from run stage number (lines_of xs) ≡ stage
   pub takes : taken_from run stage number (lines_of xs) ≡ []
@@ -134,19 +144,8 @@ pub record EndsAt (stage : Stage (List Served)) (number : ℕ) (xs : List ℕ) (
 -- What the first line of xs does, where ys comes after it.
 abbrev pub IsFirstLine : Stage (List Served) → ℕ → List ℕ → Option Seen → List ℕ → Reached → List ℕ → List ℕ → HeadLine → List ℕ → Type 0
 IsFirstLine stage number xs hub ids reached text texts GoesOn ys = GoesOnAfter stage number xs hub ids reached text texts ys
-IsFirstLine stage number xs hub ids reached text texts Ends ys = EndsAt stage number xs hub ids text texts
+IsFirstLine stage number xs hub ids reached text texts Ends ys = EndsAt stage number xs hub ids text texts ys
 IsFirstLine stage number xs hub ids reached text texts (Refused fault) ys = text_from run stage number (lines_of xs) ≡ refused number fault
-
--- P of the bytes, where they are told
-abbrev pub IfTold : Option (List ℕ) → (List ℕ → Type 0) → Type 0
-IfTold None P = Unit {0}
-IfTold (Some bytes) P = P bytes
-
--- P of what was left and what is left; what is told stays told
-abbrev pub IfBothTold : Option (List ℕ) → Option (List ℕ) → (List ℕ → List ℕ → Type 0) → Type 0
-IfBothTold None now P = Unit {0}
-IfBothTold (Some old) None P = ⊥
-IfBothTold (Some old) (Some new) P = P old new
 
 -- The trace begins with a head and `end`: its text, the hub of its channels and their numbers.
 pub record IsHeadOf (xs : List ℕ) (hub : Seen) (ids text : List ℕ) : Type 0 where
@@ -167,13 +166,11 @@ abbrev pub IsIdle : Head → Type 0
 IsIdle (Lawful opened) = StandsSomewhere opened.hub × (length opened.ids.items ≤ 64) × (opened.hub.calls ≡ 0)
 IsIdle (Unlawful number fault) = Unit {0}
 
--- the source's faults rose where the stop is said to be the source's
-abbrev pub IsReadStop : ℕ → ℕ → Stop → Type 0
-IsReadStop before now Memory = Unit {0}
-IsReadStop before now Read = Rose before now
-IsReadStop before now _ = ⊥
+-- what is left is what stands behind a head that was read whole
+abbrev pub LeavesBehind : Head → List ℕ → List ℕ → Type 0
+LeavesBehind (Lawful opened) xs left = left ≡ behind_head xs
+LeavesBehind (Unlawful number fault) xs left = Unit {0}
 
--- The source's count of faults didn't fall, and it rose where the source is said to have stopped the call. Nothing else but want of memory does.
-pub record IsStoppedByRead {T : Type 0} (before now : ℕ) (result : Result T Stop) : Type 0 where
-  pub later : before ≤ now
-  pub cause : IfErr result (IsReadStop before now)
+-- Of a trace the bytes in front of what is left were taken: where it begins with a head and `end`, fewer than these have.
+abbrev pub IsCutBefore : List ℕ → List ℕ → Type 0
+IsCutBefore xs left = (taken : List ℕ) × (xs ≡ taken ++ left) × (head_end xs ≡ done 0 → length taken < length (head_text xs ++ codes "end\n"))

@@ -1,9 +1,9 @@
 use Rattle.std.proofs.Common.{subst}
 use Rattle.trace_serving.specs.{turn}
 use Rattle.trace_book.specs.{run}
-use Rattle.serve_loop.specs.declared.head.HeadLine.{HeadLine}
-use Rattle.serve_loop.specs.{Took}
-use Rattle.serve_loop.proofs.head.take_line.Goals as goal
+use Rattle.head_loop.specs.declared.head.HeadLine.{HeadLine}
+use Rattle.head_loop.specs.{Took}
+use Rattle.head_loop.proofs.head.take_line.Goals as goal
 
 pub returns-in_ok-push-in-GoesOn-clause-took : goal.returns-in_ok-push-in-GoesOn-clause-took
 returns-in_ok-push-in-GoesOn-clause-took c = λ stage number opened.

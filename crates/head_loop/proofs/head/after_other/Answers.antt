@@ -5,10 +5,10 @@ use Rattle.trace_serving.specs.{after_line, eventless, brought}
 use Rattle.trace_book.specs.{run}
 use Rattle.trace_text.specs.declared.line.Line.{Line}
 use Rattle.trace_text.specs.{shown}
-use Rattle.serve_loop.specs.declared.head.HeadLine.TheVariants.{GoesOn, Ends}
-use Rattle.serve_loop.specs.{Comes, Took}
-use Rattle.serve_loop.proofs.Opening.{head_bounds, head_turn, end_turn, no_other}
-use Rattle.serve_loop.proofs.head.after_other.Goals as goal
+use Rattle.head_loop.specs.declared.head.HeadLine.TheVariants.{GoesOn, Ends}
+use Rattle.head_loop.specs.{Comes, Took}
+use Rattle.head_loop.proofs.Opening.{head_bounds, head_turn, end_turn, no_other}
+use Rattle.head_loop.proofs.head.after_other.Goals as goal
 
 pub new-requires-clause-tick_least : goal.new-requires-clause-tick_least
 new-requires-clause-tick_least c =
