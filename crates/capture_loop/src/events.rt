@@ -4,7 +4,7 @@ ghost use Rattle.line_io.specs.Passes.{Passes};
 ghost use Rattle.server_hub.specs.{event_of};
 ghost use Rattle.server_hub.specs.Served.{Served};
 ghost use Rattle.trace_loop.specs.{IsStoppedByWrite, OnlyMemoryStops, StopsIn};
-ghost use Rattle.journal_book.specs.{CanCome, HasLine, event_lines};
+ghost use Rattle.journal_book.specs.{CanCome, HasLine, event_lines, heard_from};
 ghost use Rattle.capture_loop.specs.{Numbered, captured_in, clock_told, frame_heard, record_events, ticks_and};
 
 use crate::intake::Intake;
@@ -26,15 +26,33 @@ pub(crate) struct Progress {
     pub(crate) room: u64,
 }
 
-/// The event of a frame, where it is one for the channels with these numbers, the first of which has this
-/// live port.
+/// The event of a datagram, where it is one for the channels with these numbers, the first of which has
+/// this live port.
+fn arrival_heard<'a>(
+    port: u16,
+    ids: &[u16],
+    arrival: Arrival,
+    bytes: &'a [u8],
+) -> Option<Heard<'a>>
+    requires port { port ≤ 65000 }
+    requires few { length ids.now ≤ 64 }
+    requires sender { arrival.from < 2 ^ 48 }
+    requires short { length bytes.now ≤ 2000 }
+    ensures heard { (channels : List Served) → Numbered ids.now channels → option_map (λ heard. event_of heard) result ≡ heard_from port channels arrival.from arrival.port bytes.now }
+    ensures spelled { (channels : List Served) → Numbered ids.now channels → IfSome result (λ heard. CanCome (event_of heard)) }
+{
+    turns_make_journals();
+    let addressed = event_at(port, ids, arrival, bytes)?;
+    Some(addressed.heard)
+}
+
+/// The event of a frame, where it is one for these channels.
 pub(crate) fn frame_heard<'a>(port: u16, ids: &[u16], frame: &'a [u8]) -> Option<Heard<'a>>
     requires port { port ≤ 65000 }
     requires few { length ids.now ≤ 64 }
     ensures heard { (channels : List Served) → Numbered ids.now channels → option_map (λ heard. event_of heard) result ≡ frame_heard port channels frame.now }
     ensures spelled { (channels : List Served) → Numbered ids.now channels → IfSome result (λ heard. CanCome (event_of heard)) }
 {
-    turns_make_journals();
     let udp = datagram(frame)?;
     if udp.payload.len() > MOST {
         return None;
@@ -44,8 +62,7 @@ pub(crate) fn frame_heard<'a>(port: u16, ids: &[u16], frame: &'a [u8]) -> Option
         port: udp.port,
         len: udp.payload.len(),
     };
-    let addressed = event_at(port, ids, arrival, udp.payload)?;
-    Some(addressed.heard)
+    arrival_heard(port, ids, arrival, udp.payload)
 }
 
 /// Adds the lines of so many ticks and then of this event, as far as there is room. Answers for how many

@@ -42,6 +42,14 @@ fn buffer(alloc: Global, size: usize) -> Result<Vec<u8>, AllocError>
     vec![in alloc; 0u8; size]
 }
 
+// Copies bytes to the front of others.
+fn copy_front(from: &[u8], to: &mut [u8])
+    requires { length from.now ≤ length to.old }
+    ensures { take (length from.now) to.new ≡ from.now }
+{
+    to[..from.len()].copy_from_slice(from);
+}
+
 // Moves the window to the front of the buffer if fewer than `MOST` bytes are free behind it, and says
 // where it begins now.
 fn make_room(bytes: &mut [u8], from: usize, to: usize) -> usize
@@ -80,7 +88,7 @@ impl Intake {
         ensures { IfOk result (λ intake. intake ≡ bytes.now) }
     {
         let mut room = buffer(alloc, ROOM)?;
-        room[..bytes.len()].copy_from_slice(bytes);
+        copy_front(bytes, room.as_mut_slice());
         Ok(Intake {
             bytes: room,
             from: 0,

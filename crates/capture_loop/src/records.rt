@@ -1,5 +1,5 @@
 //! The records of a capture file, one after another.
-ghost use Rattle.std.specs.Prelude.{◌≡◌, ◌≤◌, IfOk, OnErr, Err, Ok, IsOkAnd, length, take};
+ghost use Rattle.std.specs.Prelude.{◌≡◌, ◌^◌, ◌<◌, ◌≤◌, IfOk, OnErr, Err, Ok, IsOkAnd, length, take};
 ghost use Rattle.std.specs.Io.KnownBytes.{Keeps, prepend_known};
 ghost use Rattle.pcap_trace.specs.declared.head.CaptureFault.TheVariants.{Cut, Short};
 ghost use Rattle.pcap_trace.specs.{record_at};
@@ -58,6 +58,7 @@ fn next_whole<S: Source>(
     requires reads { record_at endian (take 16 intake.old) ≡ Ok header }
     requires there { 16 ≤ length intake.old }
     requires short { header.len ≤ 262144 }
+    requires moment { header.ms < 2 ^ 43 }
     ensures next { IfOk result (IsNext endian intake.new (S.left source.new)) }
     ensures same { Keeps
         (prepend_known intake.old (S.left source.old))

@@ -1,0 +1,9 @@
+pub mod Cutting
+pub mod Limits
+pub mod Running
+pub mod Closing
+pub mod Filling
+pub mod Ticking
+pub mod Bringing
+pub mod Spelling
+pub mod Heading
