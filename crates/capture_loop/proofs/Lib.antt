@@ -7,3 +7,5 @@ pub mod Ticking
 pub mod Bringing
 pub mod Spelling
 pub mod Heading
+pub mod Stopping
+pub mod Whole

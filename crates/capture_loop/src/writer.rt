@@ -22,7 +22,8 @@ pub(crate) struct Writer {
 
 /// A writer with which nothing waits.
 pub(crate) fn new_writer(alloc: Global) -> Result<Writer, NoMemory>
-    ensures { IfOk result (λ writer. writer.gather ≡ []) }
+    ensures gather { IfOk result (λ writer. writer.gather ≡ []) }
+    ensures line { IfOk result (λ writer. writer.line.items ≡ []) }
 {
     Ok(Writer {
         gather: Gather::new(alloc)?,
