@@ -1,6 +1,6 @@
 -- What a record brings.
-use Rattle.std.proofs.Common.{◌≡◌, ℕ, zero, suc, ◌+◌, ◌-◌, ◌<◌, ◌≤◌, min, inl, inr, List, [], ◌∷◌, ◌++◌, length, take, drop, replicate, slice_range, Option, None, Some, option_map, option_to_list, append-nil, refl, sym, ap, subst, ◌∙◌, arith}
-use Rattle.std.specs.Prelude.{All, IfSome, MatchOption}
+use Rattle.std.proofs.Common.{◌≡◌, ℕ, zero, suc, ◌+◌, ◌-◌, ◌<◌, ◌≤◌, min, inl, inr, List, [], ◌∷◌, ◌++◌, take, drop, replicate, slice_range, Option, None, Some, option_to_list, append-nil, sym, ap, subst, ◌∙◌, arith}
+use Rattle.std.specs.Prelude.{All, IfSome}
 use Rattle.std.proofs.lemmas.List.Elements.{All-nil, All-cons, All-append}
 use Rattle.pcap_trace.specs.declared.header.Record.{Record}
 use Rattle.pcap_trace.specs.{Elapsed, ticks_between}
@@ -9,7 +9,7 @@ use Rattle.server_hub.specs.declared.event.HubEvent.TheVariants.{Tick}
 use Rattle.server_hub.specs.Served.{Served}
 use Rattle.journal_book.specs.{CanCome, EventsAreSpelled, HasLine, event_line, event_lines}
 use Rattle.capture_loop.specs.{captured_in, frame_heard, record_events, ticks_and}
-use Rattle.capture_loop.proofs.Limits.{fits_or_not, lines_append, ticks_alone, ticks_first, ticks_length}
+use Rattle.capture_loop.proofs.Limits.{fits_or_not, lines_append, ticks_alone, ticks_first}
 
 -- the bytes of a frame, behind the header
 pub frame_is : (bytes kept : List ℕ) (len : ℕ) → bytes ≡ kept → slice_range bytes 16 (16 + len) ≡ take len (drop 16 kept)

@@ -1,5 +1,5 @@
 -- The head of a file, and the records behind it.
-use Rattle.std.proofs.Common.{◌≡◌, ℕ, ◌+◌, ◌≤◌, List, [], ◌++◌, length, drop, take, Option, None, Some, Result, Ok, Err, IfOk, IfErr, refl, sym, ap, subst, ◌∙◌, arith, append-nil, length-append, append_assoc, take-append-drop, take-take, length-take, inl, inr}
+use Rattle.std.proofs.Common.{◌≡◌, ℕ, ◌+◌, ◌≤◌, List, [], ◌++◌, length, drop, take, Option, None, Some, Result, Ok, Err, IfOk, IfErr, sym, ap, subst, ◌∙◌, arith, append-nil, length-append, append_assoc, take-append-drop, take-take, length-take, inl, inr}
 use Rattle.std.specs.Prelude.{MatchResult}
 use Rattle.std.specs.Io.KnownBytes.{Keeps, prepend_known}
 use Rattle.std.proofs.Math.Seq.{drop-append_seam}
@@ -10,10 +10,9 @@ use Rattle.pcap_trace.specs.declared.head.CaptureFault.{CaptureFault}
 use Rattle.pcap_trace.specs.declared.head.CaptureFault.TheVariants.{Short}
 use Rattle.pcap_trace.specs.declared.head.Endian.{Endian}
 use Rattle.pcap_trace.specs.{Elapsed, head_at}
-use Rattle.ram_io.specs.{Rose}
 use Rattle.server_hub.specs.declared.event.HubEvent.{HubEvent}
 use Rattle.server_hub.specs.Served.{Served}
-use Rattle.trace_serving.specs.{Outcome, after_text}
+use Rattle.trace_serving.specs.{Outcome}
 use Rattle.trace_loop.specs.declared.stop.Stop.{Stop}
 use Rattle.trace_loop.specs.declared.stop.Stop.TheVariants.{Memory, Read, Write, Wire}
 use Rattle.trace_loop.specs.{IfBothTold, IfTold, IsStop, IsStopped, StopsIn}

@@ -1,6 +1,6 @@
 -- The records of a file, one after another: what is written so far, and what is still to come.
-use Rattle.std.proofs.Common.{◌≡◌, ℕ, zero, suc, ◌+◌, ◌-◌, ◌<◌, ◌≤◌, List, [], ◌∷◌, ◌++◌, length, take, drop, Option, None, Some, Ok, Err, refl, sym, ap, subst, ◌∙◌, arith, append_assoc, append-nil, length-append, length-take, take-append-drop, take-take, inl, inr}
-use Rattle.std.specs.Prelude.{◌⊎◌, All}
+use Rattle.std.proofs.Common.{◌≡◌, ℕ, zero, suc, ◌+◌, ◌-◌, ◌<◌, ◌≤◌, List, [], ◌++◌, length, take, drop, Option, None, Some, Ok, Err, refl, sym, ap, subst, ◌∙◌, arith, append_assoc, append-nil, length-append, length-take, take-append-drop, take-take, inl, inr}
+use Rattle.std.specs.Prelude.{All}
 use Rattle.std.specs.Io.KnownBytes.{IsAtEnd, Keeps, prepend_known}
 use Rattle.std.proofs.lemmas.List.Elements.{All-nil, All-append}
 use Rattle.std.proofs.lemmas.Slice.{between_is}
@@ -15,7 +15,6 @@ use Rattle.server_hub.specs.declared.event.HubEvent.{HubEvent}
 use Rattle.server_hub.specs.Served.{Served}
 use Rattle.trace_serving.specs.{Outcome, after_text, too_long}
 use Rattle.trace_loop.specs.declared.stop.Stop.{Stop}
-use Rattle.trace_loop.specs.declared.stop.Stop.TheVariants.{Read}
 use Rattle.trace_loop.specs.{IfBothTold, IfTold, StopsIn}
 use Rattle.trace_loop.proofs.Writing.{IsWriting, writing_breaks, writing_stops, writing_has_room}
 use Rattle.trace_book.specs.{most_events}
@@ -338,9 +337,9 @@ module _ (port : ℕ) (channels : List Served) (first : Elapsed) (e : Endian) wh
                   subst (λ (t : List ℕ). Passes a d t waits) (append_assoc begun (event_lines r.past) lines) (Passes-put a b d (begun ++ event_lines r.past) waiting lines waits r.passes p),
                 ),
                 λ more s.
-                let rest : length waits + length too_long.text + more ≡ length waits + (length too_long.text + more) = omega arith in
-                let split : length waiting + length (lines ++ too_long.text) + more ≡ length waiting + length lines + (length too_long.text + more) = omega (arith, length-append lines too_long.text) in
-                subst steady_now (sym rest) (goes (length too_long.text + more) (subst steady split (subst (λ (o : Outcome). steady (length waiting + length o.text + more)) full (r.steadily more s)))),
+                    let rest : length waits + length too_long.text + more ≡ length waits + (length too_long.text + more) = omega arith in
+                    let split : length waiting + length (lines ++ too_long.text) + more ≡ length waiting + length lines + (length too_long.text + more) = omega (arith, length-append lines too_long.text) in
+                    subst steady_now (sym rest) (goes (length too_long.text + more) (subst steady split (subst (λ (o : Outcome). steady (length waiting + length o.text + more)) full (r.steadily more s)))),
               )
 
           -- there is room for them, and the next record comes

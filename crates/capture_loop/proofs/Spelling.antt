@@ -1,5 +1,5 @@
 -- The lines of events, in the parts that they are written in.
-use Rattle.std.proofs.Common.{◌≡◌, ℕ, List, [], ◌∷◌, ◌++◌, codes, decimal, refl, sym, ap, ◌∙◌, append_assoc, append-nil}
+use Rattle.std.proofs.Common.{◌≡◌, ℕ, List, [], ◌∷◌, ◌++◌, codes, decimal, ap, ◌∙◌, append_assoc, append-nil}
 use Rattle.rams_model.specs.Texts.{hex_word, spaced, of_number}
 use Rattle.rams_model.specs.Texts.TraceLines.{line_text}
 use Rattle.server_hub.specs.declared.event.HubEvent.TheVariants.{Live, Feedback}

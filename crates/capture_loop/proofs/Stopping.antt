@@ -1,14 +1,10 @@
 -- How a call ends that calls others.
-use Rattle.std.proofs.Common.{◌≡◌, ℕ, ◌+◌, ◌≤◌, List, [], ◌++◌, length, Option, None, Some, Result, Ok, Err, IfOk, IfErr, OnOk, refl, sym, ap, subst, ◌∙◌, arith, append_assoc, length-append}
-use Rattle.std.specs.Prelude.{MatchResult}
-use Rattle.line_io.specs.Passes.{Passes}
+use Rattle.std.proofs.Common.{◌≡◌, ℕ, ◌+◌, ◌≤◌, List, ◌++◌, length, Option, Result, Ok, Err, IfOk, IfErr, OnOk, sym, ap, subst, ◌∙◌, arith, append_assoc, length-append}
 use Rattle.rams_model.specs.declared.status.Status.{Status}
 use Rattle.rams_model.specs.declared.status.Status.TheVariants.{Done}
-use Rattle.ram_io.specs.{Rose}
-use Rattle.trace_serving.specs.{Outcome, after_text}
 use Rattle.trace_loop.specs.declared.stop.Stop.{Stop}
 use Rattle.trace_loop.specs.declared.stop.Stop.TheVariants.{Memory, Read, Write, Wire}
-use Rattle.trace_loop.specs.{IfTold, IsStop, IsStopped, IsStoppedByWrite, IsWriteStop, OnlyMemoryStops, StopsIn}
+use Rattle.trace_loop.specs.{IsStop, IsStopped, IsStoppedByWrite, IsWriteStop, OnlyMemoryStops, StopsIn}
 use Rattle.trace_loop.proofs.Reading.{rose_since}
 use Rattle.capture_loop.specs.declared.last.End.{End}
 use Rattle.capture_loop.specs.declared.last.End.TheVariants.{Whole, Refused, TooLong}

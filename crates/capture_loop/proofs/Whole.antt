@@ -1,21 +1,19 @@
 -- The text of a head and of the file behind it, when the writing ends.
-use Rattle.std.proofs.Common.{◌≡◌, ℕ, ◌+◌, ◌≤◌, List, [], ◌++◌, length, Option, None, Some, Result, Ok, Err, IfOk, IfErr, OnOk, refl, sym, ap, subst, ◌∙◌, arith, inl, inr}
+use Rattle.std.proofs.Common.{◌≡◌, ℕ, ◌≤◌, List, [], ◌++◌, length, Option, None, Some, Result, Ok, Err, IfOk, IfErr, OnOk, refl, sym, ap, subst, ◌∙◌, arith, inl, inr}
 use Rattle.std.specs.Prelude.{◌⊎◌}
 use Rattle.std.specs.Io.KnownBytes.{Appends, prepend_known}
 use Rattle.std.proofs.KnownBytes.{Appends-nil}
 use Rattle.line_io.specs.Passes.{Passes}
-use Rattle.line_io.proofs.Passing.{Passes-none}
 use Rattle.rams_model.specs.declared.fault.LineFault.{LineFault}
 use Rattle.rams_model.specs.declared.status.Status.{Status}
 use Rattle.rams_model.specs.declared.status.Status.TheVariants.{BadTrace, Done}
-use Rattle.ram_io.specs.{Rose}
 use Rattle.server_hub.specs.declared.event.HubEvent.{HubEvent}
 use Rattle.server_hub.specs.Seen.{Seen}
 use Rattle.server_hub.specs.Served.{Served}
-use Rattle.trace_serving.specs.{Outcome, after_text, done, refused}
+use Rattle.trace_serving.specs.{Outcome, after_text, refused}
 use Rattle.trace_loop.specs.declared.stop.Stop.{Stop}
 use Rattle.trace_loop.specs.declared.stop.Stop.TheVariants.{Memory, Read, Write, Wire}
-use Rattle.trace_loop.specs.{EndsAs, Ends, IfBothTold, IfTold, IsReadStop, IsStop, IsStopped, IsStoppedByRead, IsStoppedByWrite, IsWriteStop, OnlyMemoryStops, StopsIn}
+use Rattle.trace_loop.specs.{EndsAs, Ends, IfBothTold, IfTold, IsReadStop, IsStop, IsStopped, StopsIn}
 use Rattle.trace_loop.proofs.Reading.{passes_whole}
 use Rattle.trace_book.specs.{trace_text}
 use Rattle.journal_book.specs.{HeadsOpenNewChannels, IsJournal, RunsWriteJournals, event_lines, journal_of}

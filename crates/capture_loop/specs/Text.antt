@@ -1,5 +1,5 @@
 -- The text of a capture: a head, a line for each event, and how it ends.
-use Rattle.std.specs.Prelude.{ℕ, ◌+◌, nat_le, if◌then◌else◌, List, ◌∷◌, ◌++◌, length, take, drop, Result, Ok, Err, codes}
+use Rattle.std.specs.Prelude.{ℕ, ◌+◌, nat_le, if◌then◌else◌, List, ◌∷◌, ◌++◌, length, take, Result, Ok, Err, codes}
 use Rattle.rams_model.specs.declared.status.Status.{Status}
 use Rattle.rams_model.specs.declared.status.Status.TheVariants.{Done, BadCapture}
 use Rattle.rams_model.specs.Texts.{spaced, tick_of}

@@ -28,12 +28,7 @@ pub(crate) struct Progress {
 
 /// The event of a datagram, where it is one for the channels with these numbers, the first of which has
 /// this live port.
-fn arrival_heard<'a>(
-    port: u16,
-    ids: &[u16],
-    arrival: Arrival,
-    bytes: &'a [u8],
-) -> Option<Heard<'a>>
+fn arrival_heard<'a>(port: u16, ids: &[u16], arrival: Arrival, bytes: &'a [u8]) -> Option<Heard<'a>>
     requires port { port ≤ 65000 }
     requires few { length ids.now ≤ 64 }
     requires sender { arrival.from < 2 ^ 48 }

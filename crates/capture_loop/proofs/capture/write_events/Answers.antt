@@ -1,13 +1,8 @@
-use Rattle.std.proofs.Common.{◌≡◌, ℕ, ◌+◌, ◌≤◌, List, ◌++◌, length, Option, None, Some, Result, Ok, Err, refl, sym, ap, subst, ◌∙◌, arith, length-append}
-use Rattle.std.specs.Io.KnownBytes.{Keeps, prepend_known}
-use Rattle.line_io.specs.Passes.{Passes}
-use Rattle.pcap_trace.specs.declared.head.CaptureFault.{CaptureFault}
-use Rattle.pcap_trace.specs.declared.head.Endian.{Endian}
+use Rattle.std.proofs.Common.{subst}
+use Rattle.std.specs.Io.KnownBytes.{prepend_known}
 use Rattle.trace_loop.specs.declared.stop.Stop.TheVariants.{Read}
 use Rattle.trace_loop.proofs.Whole.{told_all}
-use Rattle.trace_loop.proofs.Running.{told_gives}
-use Rattle.capture_loop.specs.declared.last.End.TheVariants.{Refused}
-use Rattle.capture_loop.specs.{HasOrder, Numbered, file_text, new_clock}
+use Rattle.capture_loop.specs.{HasOrder, file_text, new_clock}
 use Rattle.capture_loop.proofs.Closing.{never_err, never_ok, not_refused, other_end}
 use Rattle.capture_loop.proofs.Heading.{order_refuses, order_refuses_steadily, order_reads, order_ends, order_writes, order_stops, order_taken, order_steady, nothing_waits, all_ends, all_stops, stopped_later}
 use Rattle.capture_loop.proofs.capture.write_events.Goals as goal

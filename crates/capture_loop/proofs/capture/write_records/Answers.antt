@@ -1,15 +1,12 @@
-use Rattle.std.proofs.Common.{◌≡◌, ℕ, ◌+◌, ◌<◌, ◌≤◌, List, [], ◌++◌, length, take, Option, None, Some, Result, Ok, Err, refl, sym, ap, subst, ◌∙◌, arith}
+use Rattle.std.proofs.Common.{refl, ap, subst, ◌∙◌, arith}
 use Rattle.std.proofs.lemmas.Result.{err_from_is_err_and}
 use Rattle.std.specs.Io.KnownBytes.{prepend_known}
-use Rattle.server_hub.specs.Served.{Served}
-use Rattle.trace_loop.specs.declared.stop.Stop.{Stop}
 use Rattle.trace_loop.specs.declared.stop.Stop.TheVariants.{Memory, Read}
 use Rattle.trace_loop.proofs.Reading.{rose_since}
 use Rattle.trace_loop.proofs.Running.{told_gives}
 use Rattle.trace_loop.proofs.Whole.{told_all}
-use Rattle.capture_loop.specs.declared.last.End.TheVariants.{Whole, Refused, TooLong}
 use Rattle.capture_loop.specs.declared.records.Next.{Next}
-use Rattle.capture_loop.specs.{IsNextWithin, Numbered, new_clock}
+use Rattle.capture_loop.specs.{IsNextWithin, new_clock}
 use Rattle.capture_loop.proofs.Closing.{err_so, never_err, never_ok, match_err, memory_not_read, not_by_sink, not_refused, not_too_long, other_end, write_since, write_stops_so}
 use Rattle.capture_loop.proofs.Filling.{when_full, when_not}
 use Rattle.capture_loop.proofs.Running.{running_begins, running_breaks, running_broken, running_crowded, running_ended, running_full, running_goes_on, running_has_room, running_reads, running_stops}
@@ -28,10 +25,8 @@ loop-count-init g c =
 pub returns-in-Err-clause-journal : goal.returns-in-Err-clause-journal
 returns-in-Err-clause-journal g c = λ e. absurd (never_ok _ _ e)
 
-
 pub returns-in-Err-clause-ended : goal.returns-in-Err-clause-ended
 returns-in-Err-clause-ended g c = λ e. absurd (never_ok _ _ e)
-
 
 pub returns-in-Err-clause-front : goal.returns-in-Err-clause-front
 returns-in-Err-clause-front g c = λ channels numbered.
@@ -129,10 +124,8 @@ returns-in-Ok-TooMany-clause-steady g c = λ s channels numbered.
 pub returns-in-Ok-TooMany-clause-journal : goal.returns-in-Ok-TooMany-clause-journal
 returns-in-Ok-TooMany-clause-journal g c = λ e. absurd (other_end _ not_too_long e)
 
-
 pub returns-in-Ok-TooMany-clause-ended : goal.returns-in-Ok-TooMany-clause-ended
 returns-in-Ok-TooMany-clause-ended g c = λ e. absurd (other_end _ not_too_long e)
-
 
 pub returns-in-Ok-Broken-clause-text : goal.returns-in-Ok-Broken-clause-text
 returns-in-Ok-Broken-clause-text g c = λ channels numbered.
@@ -157,14 +150,11 @@ returns-in-Ok-Broken-clause-steady g c = λ s channels numbered.
 pub returns-in-Ok-Broken-clause-journal : goal.returns-in-Ok-Broken-clause-journal
 returns-in-Ok-Broken-clause-journal g c = λ e. absurd (other_end _ (not_refused _ _) e)
 
-
 pub returns-in-Ok-Broken-clause-ended : goal.returns-in-Ok-Broken-clause-ended
 returns-in-Ok-Broken-clause-ended g c = λ e. absurd (other_end _ (not_refused _ _) e)
 
-
 pub returns-in-Ok-Ended-clause-read : goal.returns-in-Ok-Ended-clause-read
 returns-in-Ok-Ended-clause-read g c = λ e. absurd (never_err _ _ e)
-
 
 pub returns-in-Ok-Ended-clause-cause : goal.returns-in-Ok-Ended-clause-cause
 returns-in-Ok-Ended-clause-cause g c =
@@ -176,7 +166,6 @@ returns-in-Ok-Ended-clause-cause g c =
 pub returns-in-Ok-TooMany-clause-read : goal.returns-in-Ok-TooMany-clause-read
 returns-in-Ok-TooMany-clause-read g c = λ e. absurd (never_err _ _ e)
 
-
 pub returns-in-Ok-TooMany-clause-cause : goal.returns-in-Ok-TooMany-clause-cause
 returns-in-Ok-TooMany-clause-cause g c =
     let l = c.loop-count in
@@ -186,7 +175,6 @@ returns-in-Ok-TooMany-clause-cause g c =
 
 pub returns-in-Ok-Broken-clause-read : goal.returns-in-Ok-Broken-clause-read
 returns-in-Ok-Broken-clause-read g c = λ e. absurd (never_err _ _ e)
-
 
 pub returns-in-Ok-Broken-clause-cause : goal.returns-in-Ok-Broken-clause-cause
 returns-in-Ok-Broken-clause-cause g c =
@@ -282,14 +270,11 @@ returns-then-not-branch-clause-steady g c = λ s channels numbered.
 pub returns-then-not-branch-clause-journal : goal.returns-then-not-branch-clause-journal
 returns-then-not-branch-clause-journal g c = λ e. absurd (other_end _ not_too_long e)
 
-
 pub returns-then-not-branch-clause-ended : goal.returns-then-not-branch-clause-ended
 returns-then-not-branch-clause-ended g c = λ e. absurd (other_end _ not_too_long e)
 
-
 pub returns-then-not-branch-clause-read : goal.returns-then-not-branch-clause-read
 returns-then-not-branch-clause-read g c = λ e. absurd (never_err _ _ e)
-
 
 pub loop-count-preserved : goal.loop-count-preserved
 loop-count-preserved g c =
@@ -315,14 +300,11 @@ loop-count-preserved g c =
 pub returns-clause-journal : goal.returns-clause-journal
 returns-clause-journal g c = λ e. absurd (never_ok _ _ e)
 
-
 pub returns-clause-ended : goal.returns-clause-ended
 returns-clause-ended g c = λ e. absurd (never_ok _ _ e)
 
-
 pub returns-clause-read : goal.returns-clause-read
 returns-clause-read g c = λ e. absurd (memory_not_read e)
-
 
 pub returns-clause-front : goal.returns-clause-front
 returns-clause-front g c = λ channels numbered.
@@ -335,4 +317,3 @@ returns-clause-cause g c =
 
 pub returns-clause-steady : goal.returns-clause-steady
 returns-clause-steady g c = λ s channels numbered. told_all (prepend_known c.args.intake.now (g.S.Source.left c.args.source.now)) _ (λ xs room h. refl)
-

@@ -1,4 +1,4 @@
-use Rattle.std.proofs.Common.{◌≡◌, ℕ, ◌+◌, ◌-◌, ◌<◌, ◌≤◌, min, List, [], ◌∷◌, ◌++◌, length, take, replicate, Option, None, Some, option_map, option_to_list, OnOk, sym, ap, subst, ◌∙◌, arith, append_assoc, length-append}
+use Rattle.std.proofs.Common.{◌≡◌, ℕ, ◌+◌, ◌<◌, List, ◌++◌, length, take, replicate, Option, None, Some, option_map, option_to_list, sym, ap, subst, ◌∙◌, arith, append_assoc, length-append}
 use Rattle.std.proofs.lemmas.Result.{err_from_is_err_and}
 use Rattle.line_io.specs.Passes.{Passes}
 use Rattle.line_io.proofs.Passing.{Passes-put}
@@ -7,8 +7,7 @@ use Rattle.server_hub.specs.declared.event.HubEvent.{HubEvent}
 use Rattle.server_hub.specs.declared.event.HubEvent.TheVariants.{Tick}
 use Rattle.server_hub.specs.{event_of}
 use Rattle.journal_book.specs.{event_line, event_lines}
-use Rattle.trace_loop.specs.declared.stop.Stop.{Stop}
-use Rattle.trace_loop.specs.{OnlyMemoryStops, StopsIn}
+use Rattle.trace_loop.specs.{StopsIn}
 use Rattle.capture_loop.specs.{ticks_and}
 use Rattle.capture_loop.proofs.Bringing.{only_ticks, ticks_and_none, ticks_and_one, ticks_front}
 use Rattle.capture_loop.proofs.Closing.{err_since, err_so, only_err, stops_before_more, stops_behind}

@@ -1,15 +1,13 @@
-use Rattle.std.proofs.Common.{◌≡◌, ℕ, ◌+◌, ◌<◌, ◌≤◌, List, [], ◌++◌, length, take, drop, slice_range, Option, None, Some, option_map, Result, MatchOption, sym, ap, subst, ◌∙◌, arith}
+use Rattle.std.proofs.Common.{◌≡◌, ℕ, ◌+◌, ◌<◌, List, ◌++◌, length, take, Option, None, Some, option_map, MatchOption, sym, subst}
 use Rattle.std.specs.Prelude.{All, IfSome}
 use Rattle.std.proofs.lemmas.Result.{err_from_is_err_and}
 use Rattle.line_io.specs.Passes.{Passes}
 use Rattle.server_hub.specs.declared.event.Heard.{Heard}
 use Rattle.server_hub.specs.declared.event.HubEvent.{HubEvent}
-use Rattle.server_hub.specs.Served.{Served}
 use Rattle.server_hub.specs.{event_of}
 use Rattle.journal_book.specs.{CanCome, HasLine, event_lines}
-use Rattle.trace_loop.specs.declared.stop.Stop.{Stop}
-use Rattle.trace_loop.specs.{OnlyMemoryStops, StopsIn}
-use Rattle.capture_loop.specs.{Numbered, captured_in, record_events, ticks_and}
+use Rattle.trace_loop.specs.{StopsIn}
+use Rattle.capture_loop.specs.{Numbered, ticks_and}
 use Rattle.capture_loop.proofs.Bringing.{events_are, events_spelled, frame_is}
 use Rattle.capture_loop.proofs.Closing.{err_so, only_err}
 use Rattle.capture_loop.proofs.events.write_record.Goals as goal

@@ -1,5 +1,4 @@
-use Rattle.std.proofs.Common.{ℕ, ◌+◌, ◌<◌, ◌≤◌, List, length, ap, arith, length-append}
-use Rattle.std.specs.Io.KnownBytes.{IsAtEnd}
+use Rattle.std.proofs.Common.{ℕ, ◌<◌, ◌≤◌, List, length, ap, arith, length-append}
 use Rattle.line_io.proofs.NextLines.{on_failure}
 use Rattle.capture_loop.specs.{BeginsWith}
 use Rattle.capture_loop.proofs.Filling.{header_grows, when_full, when_not}

@@ -1,4 +1,4 @@
-use Rattle.std.proofs.Common.{◌<◌, ◌≤◌, length, arith}
+use Rattle.std.proofs.Common.{arith}
 use Rattle.line_io.proofs.NextLines.{on_failure}
 use Rattle.capture_loop.proofs.Filling.{most_records_is, next_is_within, when_full}
 use Rattle.capture_loop.proofs.Cutting.{short_header}

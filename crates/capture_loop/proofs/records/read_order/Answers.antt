@@ -1,4 +1,4 @@
-use Rattle.std.proofs.Common.{◌≡◌, ℕ, ◌<◌, ◌≤◌, List, drop, take, length, sym, ap, ◌∙◌, arith, length-take}
+use Rattle.std.proofs.Common.{◌≡◌, ℕ, ◌≤◌, List, take, length, ap, ◌∙◌, arith, length-take}
 use Rattle.line_io.proofs.NextLines.{on_failure}
 use Rattle.pcap_trace.specs.{head_at}
 use Rattle.capture_loop.proofs.Filling.{order_there, short_order, when_full, when_not}

@@ -1,4 +1,4 @@
-use Rattle.std.proofs.Common.{◌≡◌, ℕ, ◌+◌, List, ◌++◌, length, Result, Ok, Err, sym, ap, subst}
+use Rattle.std.proofs.Common.{ℕ, ◌+◌, List, ◌++◌, length, sym, subst}
 use Rattle.std.proofs.lemmas.Result.{err_from_is_err_and}
 use Rattle.std.specs.Io.KnownBytes.{prepend_known}
 use Rattle.line_io.specs.Passes.{Passes}

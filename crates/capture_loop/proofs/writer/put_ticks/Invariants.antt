@@ -1,4 +1,4 @@
-use Rattle.std.proofs.Common.{ℕ, ◌-◌, ◌++◌, replicate}
+use Rattle.std.proofs.Common.{◌-◌, ◌++◌, replicate}
 use Rattle.server_hub.specs.declared.event.HubEvent.TheVariants.{Tick}
 use Rattle.journal_book.specs.{event_lines}
 use Rattle.trace_loop.proofs.Writing.{IsWriting}
