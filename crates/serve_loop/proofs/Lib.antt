@@ -3,10 +3,7 @@ pub mod Writing
 pub mod Telling
 pub mod Steps
 pub mod Causes
-pub mod Ports
 pub mod Between
 pub mod Rooms
-pub mod Opening
-pub mod HeadLines
 pub mod TurnByTurn
 pub mod Closing

@@ -24,7 +24,8 @@ use Rattle.serve_loop.specs.declared.stop.Stop.TheVariants.{Memory, Read, Write,
 use Rattle.serve_loop.specs.{Begun, Ready, Serving, Broken, WaitsIn, sent_by, AnswersFrom, Sends, StopsIn, GoOut, order_datagrams, settled_datagrams, said_datagrams}
 use Rattle.serve_loop.proofs.GoingOut.{GoOut-then}
 use Rattle.serve_loop.proofs.Writing.{unwritten}
-use Rattle.serve_loop.proofs.Telling.{settings_stand, settled_behind, said_is_sent}
+use Rattle.head_loop.proofs.Channels.{settings_stand}
+use Rattle.serve_loop.proofs.Telling.{settled_behind, said_is_sent}
 
 -- a text goes on until the call stops
 pub StopsIn-then : (a c d : Option (List ℕ)) (text mid left : List ℕ) (stop : Stop) → Passes a c text mid → StopsIn c d mid left stop → StopsIn a d text left stop

@@ -19,24 +19,8 @@ use Rattle.server_hub.proofs.Finding.{with_id, one_has, settings_found}
 use Rattle.trace_book.specs.Stages.{settings_of as settings_all}
 use Rattle.journal_book.specs.{AreApart, answer_datagrams, datagrams_of, behind}
 use Rattle.journal_book.proofs.Channels.{one_answers}
+use Rattle.head_loop.proofs.Channels.{settings_stand, at_place}
 use Rattle.serve_loop.specs.{AllRender, settled_datagrams, said_datagrams, AnswersFrom, numbers}
-
--- a hub has the settings of the channels that it stands for
-pairs_settled : {A : Type 0} (f : A → Settings) (R : A → Served → Type 0) → ((v : A) (c : Served) → R v c → f v ≡ c.settings) → (vs : List A) (channels : List Served)
-    → Pairwise R vs channels → map f vs ≡ settings_all channels
-pairs_settled f R same [] [] all = refl
-pairs_settled f R same [] (c ∷ channels) all = absurd all
-pairs_settled f R same (v ∷ vs) [] all = absurd all
-pairs_settled f R same (v ∷ vs) (c ∷ channels) all = ap (λ s. s ∷ map f vs) (same v c all.0) ∙ ap (λ l. c.settings ∷ l) (pairs_settled f R same vs channels all.1)
-
-pub settings_stand : (v : Seen) (channels : List Served) → StandsFor v channels → settings_of v ≡ settings_all channels
-settings_stand v channels stands = pairs_settled (λ core. core.settings) Serves (λ core c serves. serves.settings) v.channels channels stands
-
--- the channel at a place, by its number
-pub at_place : (channels : List Served) (place id : ℕ) → slice_get (numbers channels) place ≡ Some id → (c : Served) × (slice_get channels place ≡ Some c) × (id_of c ≡ id)
-at_place [] place id is = absurd cc
-at_place (c ∷ channels) zero id is = (c, refl, cc is)
-at_place (c ∷ channels) (suc place) id is = at_place channels place id is
 
 -- where no two have one number, it is found by that
 channel_there : (channels : List Served) (place id : ℕ) (c : Served) → slice_get channels place ≡ Some c → id_of c ≡ id → AreApart channels → channel_of id channels ≡ Some c

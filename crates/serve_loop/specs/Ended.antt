@@ -13,7 +13,7 @@ use Rattle.line_io.specs.Passes.{Passes}
 use Rattle.journal_book.specs.{CanArrive, IsJournal, event_lines, events_of, journal_of, replayed, sent_for, text_for}
 use Rattle.serve_loop.specs.declared.stop.Stop.{Stop}
 use Rattle.serve_loop.specs.declared.stop.Stop.TheVariants.{Memory, Read, Write, Wire}
-use Rattle.serve_loop.specs.Heads.{head_end, head_stage, head_text}
+use Rattle.head_loop.specs.{head_end, head_stage, head_text}
 use Rattle.serve_loop.specs.Progress.{Begun, WaitsIn, sent_by}
 use Rattle.serve_loop.specs.Sending.{GoOut, IsWriteStop}
 

@@ -1,15 +1,14 @@
 -- What the sink and the wire have while a server serves, and where it stops.
-use Rattle.std.specs.Prelude.{◌≡◌, ℕ, ◌+◌, ◌*◌, ◌≤◌, List, length, option_to_list, ◌++◌, slice_get, Option, Some, Result, IfErr}
+use Rattle.std.specs.Prelude.{◌≡◌, ℕ, ◌+◌, ◌≤◌, List, length, option_to_list, ◌++◌, Option, Result, IfErr}
 use Rattle.std.specs.Io.KnownBytes.{Appends}
 use Rattle.ram_io.specs.declared.wire.Incoming.{Incoming}
 use Rattle.ram_io.specs.{Outgoing, Rose, cut, next_answer}
 use Rattle.server_hub.specs.declared.event.HubEvent.{HubEvent}
-use Rattle.server_hub.specs.declared.event.HubEvent.TheVariants.{Live, Feedback, Tick}
-use Rattle.server_hub.specs.{ids_of, StandsFor}
+use Rattle.server_hub.specs.{StandsFor}
 use Rattle.server_hub.specs.Seen.{Seen}
 use Rattle.server_hub.specs.Served.{Served}
-use Rattle.trace_book.specs.Stages.{settings_of}
 use Rattle.journal_book.specs.{AreApart, heard, behind, event_lines, sent_for}
+use Rattle.head_loop.specs.{numbers, AnswersFrom, StandsSomewhere}
 use Rattle.serve_loop.specs.declared.stop.Stop.{Stop}
 use Rattle.serve_loop.specs.declared.stop.Stop.TheVariants.{Memory, Read, Write, Wire}
 use Rattle.serve_loop.specs.Sending.{GoOut}
@@ -56,20 +55,6 @@ pub record Broken (b : Begun) (events : List HubEvent) (holds : Option (List ℕ
   pub datagrams : sent_by b past ≡ goes ++ stays
   pub wire : GoOut b.went sent goes
   pub waiting : WaitsIn waits rest stop
-
--- the numbers of the channels
-abbrev pub numbers : List Served → List ℕ
-numbers channels = ids_of (settings_of channels)
-
--- The first datagram of what the channels with these numbers answer to an event leaves from this port: the feedback port of the channel that it names, or of the first one.
-abbrev pub AnswersFrom : ℕ → List ℕ → HubEvent → ℕ → Type 0
-AnswersFrom live ids (Live id bytes) first = (place : ℕ) × (slice_get ids place ≡ Some id) × (first ≡ live + 1 + 2 * place)
-AnswersFrom live ids (Feedback id client bytes) first = (place : ℕ) × (slice_get ids place ≡ Some id) × (first ≡ live + 1 + 2 * place)
-AnswersFrom live ids Tick first = first ≡ live + 1
-
--- the hub stands for some channels
-abbrev pub StandsSomewhere : Seen → Type 0
-StandsSomewhere hub = (channels : List Served) × StandsFor hub channels
 
 -- the sink's faults, or the wire's, rose where the stop is said to be that one's
 abbrev pub IsOutStop : ℕ → ℕ → ℕ → ℕ → Stop → Type 0

@@ -11,7 +11,8 @@ mod stop;
 mod turns;
 mod watch;
 
-pub use head::{Head, HeadLine, Opened, read_head};
+pub use head::read_head;
+pub use head_loop::{Head, HeadLine, Opened};
 pub use hearing::{Server, hear, new_server};
 pub use journal::{Journal, new_journal, write_event, write_refused};
 pub use send::send_all;

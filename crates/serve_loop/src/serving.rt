@@ -9,12 +9,13 @@ ghost use Rattle.journal_book.specs.{event_lines, events_of, sent_for};
 ghost use Rattle.serve_loop.specs.declared.stop.Stop.TheVariants.{Read, Write};
 ghost use Rattle.serve_loop.specs.{Begun, Ending, EndsAs, Given, HasEnded, HasRoom, HasStopped, IsBetween, IsGiven, IsHeadOf, IsServeEnd, IsServer, IsStopped, IsStoppedByWrite, IsStoppedOutside, OnlyMemoryStops, Room, StandsSomewhere, Stopping, served_datagrams, served_text};
 
-use crate::head::{Head, Opened, read_head};
+use crate::head::read_head;
 use crate::hearing::{Server, new_server};
 use crate::journal::{flush, new_journal, put, write_refused};
 use crate::stop::Stop;
 use crate::turns::take_turns;
 use crate::watch::{Watch, tell_ports};
+use head_loop::{Head, Opened};
 use journal_book::laws::{
     heads_open_new_channels, journals_replay, runs_of_journals, turns_make_journals,
 };

@@ -12,48 +12,13 @@ use crate::hearing::{Server, hear};
 use crate::journal::flush;
 use crate::stop::Stop;
 use crate::watch::Watch;
-use ram_io::{Arrival, Clock, Sink, Wire};
+use head_loop::event_at;
+use ram_io::{Clock, Sink, Wire};
 use server_hub::Heard;
 use std::alloc::Global;
 
 /// Most bytes of a datagram.
 const MOST: usize = 2_000;
-
-/// What came to a channel, and the feedback port of that channel.
-#[derive(Clone, Copy)]
-struct Addressed<'a> {
-    heard: Heard<'a>,
-    feedback: u16,
-}
-
-/// What an arrival is to the channels with these numbers, where the first has this live port. A channel
-/// has its live packets from the port 2 * place above it, and its feedback from the one above that.
-fn event_at<'a>(live: u16, ids: &[u16], arrival: Arrival, bytes: &'a [u8]) -> Option<Addressed<'a>>
-    requires port { live ≤ 65000 }
-    requires few { length ids.now ≤ 64 }
-    ensures heard { (channels : List Served) → ids.now ≡ numbers channels
-        → option_map (λ e. event_of e.heard) result ≡ heard_from live channels arrival.from arrival.port bytes.now }
-    ensures from { IfSome result (λ e. AnswersFrom live ids.now (event_of e.heard) e.feedback) }
-    ensures low { IfSome result (λ e. e.feedback ≤ 65127) }
-{
-    let Some(above) = arrival.port.checked_sub(live) else {
-        return None;
-    };
-    let Some(&id) = ids.get(usize::from(above / 2)) else {
-        return None;
-    };
-    if above % 2 == 0 {
-        return Some(Addressed {
-            heard: Heard::Live { id, bytes },
-            feedback: arrival.port + 1,
-        });
-    }
-    let client = arrival.from;
-    Some(Addressed {
-        heard: Heard::Feedback { id, client, bytes },
-        feedback: arrival.port,
-    })
-}
 
 /// Takes what comes next, and hears it where it is an event. Where nothing comes, what waits goes to the
 /// sink.

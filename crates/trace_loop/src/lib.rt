@@ -13,6 +13,6 @@ pub use ram_io::{NoMemory, Sink, Source};
 pub use rams_model::Status;
 pub use server::TraceServer;
 pub use stop::Stop;
-pub use text::write_text;
+pub use text::{close, write_text};
 pub use turn::Turn;
 pub use writer::{Writer, flush, put};

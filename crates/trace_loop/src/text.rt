@@ -17,7 +17,7 @@ use rams_model::Status;
 use std::alloc::Global;
 
 /// Puts what waits when a run ends, whatever ended it but the sink's own failure.
-fn close<K: Sink>(
+pub fn close<K: Sink>(
     gather: &mut Gather,
     sink: &mut K,
     ended: Result<Status, Stop>,

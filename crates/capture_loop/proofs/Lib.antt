@@ -1,0 +1,11 @@
+pub mod Cutting
+pub mod Limits
+pub mod Running
+pub mod Closing
+pub mod Filling
+pub mod Ticking
+pub mod Bringing
+pub mod Spelling
+pub mod Heading
+pub mod Stopping
+pub mod Whole

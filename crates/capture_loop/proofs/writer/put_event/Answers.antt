@@ -1,0 +1,16 @@
+use Rattle.std.proofs.Common.{◌++◌, Result, IfErr, sym, subst}
+use Rattle.std.proofs.lemmas.Result.{err_from_is_err_and}
+use Rattle.server_hub.specs.{event_of}
+use Rattle.journal_book.specs.{event_line}
+use Rattle.trace_loop.specs.declared.stop.Stop.{Stop}
+use Rattle.trace_loop.specs.{StopsIn}
+use Rattle.trace_loop.proofs.Writing.{unwritten}
+use Rattle.capture_loop.proofs.writer.put_event.Goals as goal
+
+pub returns-in_err-append_event-clause-front : goal.returns-in_err-append_event-clause-front
+returns-in_err-append_event-clause-front g c =
+    let held = g.K.Sink.held c.args.sink.now in
+    let waits = c.args.writer.now.gather in
+    let text = event_line (event_of c.args.heard) in
+    let p = err_from_is_err_and c.from_residual.result c.from_residual.ensures.1 in
+    subst (λ (r : Result (Unit {0}) Stop). IfErr r (StopsIn held held (waits ++ text) waits)) (sym p.1) (unwritten held waits text p.0)

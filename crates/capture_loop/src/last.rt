@@ -1,0 +1,93 @@
+//! How the text of a capture ends.
+ghost use Rattle.std.specs.Prelude.{◌≡◌, ℕ, ◌+◌, ◌++◌, ◌≤◌, IfErr, IfOk, OnOk, length};
+ghost use Rattle.line_io.specs.Passes.{Passes};
+ghost use Rattle.trace_loop.specs.{IsStoppedByWrite, OnlyMemoryStops, StopsIn};
+ghost use Rattle.capture_loop.specs.{fault_word, last, refused_record};
+
+use crate::writer::Writer;
+use book_text::Tail;
+use pcap_trace::CaptureFault;
+use ram_io::{NoMemory, Sink};
+use rams_model::Status;
+use trace_loop::{Stop, put};
+
+/// How a capture file ends the text of its records.
+#[derive(Clone, Copy, Debug, PartialEq, Eq)]
+pub(crate) enum End {
+    /// Behind a whole record, or its head.
+    Whole,
+    /// At the record of this number, counted from 1; its head has the number 0.
+    Refused { number: u64, fault: CaptureFault },
+    /// At an event or a record too many.
+    TooLong,
+}
+
+fn fault_word(fault: CaptureFault) -> &'static [u8]
+    ensures word { result.now ≡ fault_word fault }
+    ensures short { length result.now ≤ 7 }
+{
+    match fault {
+        CaptureFault::Short => b"short",
+        CaptureFault::Magic => b"magic",
+        CaptureFault::Version => b"version",
+        CaptureFault::Link => b"link",
+        CaptureFault::Cut => b"cut",
+        CaptureFault::Long => b"long",
+    }
+}
+
+/// Appends the line that says of a record, by its number, why it is refused.
+fn append_refused_record(
+    text: &mut Vec<u8>,
+    number: u64,
+    fault: CaptureFault,
+) -> Result<(), NoMemory>
+    ensures { OnOk result (text.new.items ≡ text.old.items ++ refused_record number fault) }
+{
+    let mut line = Tail::new();
+    line.byte(b'\n');
+    line.word(fault_word(fault));
+    line.byte(b' ');
+    line.named(b"refused-capture", number);
+    line.append_to(text)
+}
+
+/// Appends the line with which the text ends.
+fn append_last(text: &mut Vec<u8>, end: End) -> Result<(), NoMemory>
+    ensures { OnOk result (text.new.items ≡ text.old.items ++ (last end).text) }
+{
+    match end {
+        End::Whole => Ok(text.extend_from_slice(b"end\n")?),
+        End::Refused { number, fault } => append_refused_record(text, number, fault),
+        End::TooLong => Ok(text.extend_from_slice(b"too-long\n")?),
+    }
+}
+
+fn status_of(end: End) -> Status
+    ensures { result ≡ (last end).status }
+{
+    match end {
+        End::Whole => Status::Done,
+        End::Refused { .. } => Status::BadCapture,
+        End::TooLong => Status::TooLong,
+    }
+}
+
+/// Adds the line with which the text ends, and says with which status.
+pub(crate) fn write_last<K: Sink>(
+    writer: &mut Writer,
+    sink: &mut K,
+    end: End,
+) -> Result<Status, Stop>
+    ensures status { IfOk result (λ status. status ≡ (last end).status) }
+    ensures all { OnOk result (Passes (K.held sink.old) (K.held sink.new) (writer.old.gather ++ (last end).text) writer.new.gather) }
+    ensures front { IfErr result (StopsIn (K.held sink.old) (K.held sink.new) (writer.old.gather ++ (last end).text) writer.new.gather) }
+    ensures cause { IsStoppedByWrite (K.faults sink.old) (K.faults sink.new) result }
+    ensures steady { (room : ℕ) → K.is_steady sink.old (length writer.old.gather + length (last end).text + room)
+        → OnlyMemoryStops result (K.is_steady sink.new (length writer.new.gather + room)) }
+{
+    writer.line.clear();
+    append_last(&mut writer.line, end)?;
+    put(&mut writer.gather, sink, &writer.line)?;
+    Ok(status_of(end))
+}

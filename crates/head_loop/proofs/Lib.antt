@@ -1,0 +1,6 @@
+pub mod Channels
+pub mod AtPorts
+pub mod Opening
+pub mod Cutting
+pub mod HeadLines
+pub mod Leaving
