@@ -13,9 +13,6 @@ use rtp_record::Rtp;
 use std::alloc::Global;
 use ts_access::has_access;
 
-// Packets take memory by so many bytes.
-const ROOM: usize = 128;
-
 /// A packet of the channel that has no number yet.
 #[derive(Drop)]
 pub struct Incoming {
@@ -61,17 +58,6 @@ fn is_access_point(access: Access, packet: &Rtp<'_>) -> bool
     }
 }
 
-// The packet without its padding. It takes one of a few sizes of memory, so that what a packet gives back
-// serves another soon.
-fn strip(alloc: Global, packet: &Rtp<'_>) -> Result<Vec<u8>, NoMemory>
-    requires { length (stripped packet.now) ≤ 1470 }
-    ensures { IfOk result (λ v. v.items ≡ stripped packet.now) }
-{
-    let mut bytes = Vec::with_capacity(alloc, (packet.stripped_len() / ROOM + 1) * ROOM)?;
-    packet.append_stripped(&mut bytes)?;
-    Ok(bytes)
-}
-
 impl Incoming {
     /// What a packet of the channel brings, in memory of its own.
     pub fn of(alloc: Global, channel: &Channel, packet: &Rtp<'_>) -> Result<Incoming, NoMemory>
@@ -81,7 +67,7 @@ impl Incoming {
         ensures low { IfOk result (λ i. i.sequence < 65536) }
         ensures bare { IfOk result (λ i. IsBare i.packet) }
     {
-        let stripped = strip(alloc, packet)?;
+        let stripped = packet.strip(alloc)?;
         Ok(Incoming {
             sequence: packet.sequence(),
             timestamp: packet.timestamp(),

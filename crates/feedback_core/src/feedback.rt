@@ -101,7 +101,7 @@ fn receive(alloc: Global, parts: &mut Parts, client: u64) -> Result<Visitor, NoM
 {
     let entry = parts.table.find(client);
     let seq0 = parts.config.channel().seq0;
-    let has_place = make_place(alloc, &mut parts.table, client, seq0)?;
+    let has_place = make_place(alloc, &mut parts.table, client, entry.is_some(), seq0)?;
     Ok(Visitor::new(client, entry, has_place, &parts.budget))
 }
 

@@ -9,6 +9,9 @@ use rams_model::{Answer, Cause, Held, Info, Note, Order};
 use std::alloc::Global;
 use std::marker::Model;
 
+// For so many packets there is room once one is sent.
+const RUN: usize = 32;
+
 /// The notes and orders of a tick so far, and the bytes that the channel's budget has left.
 #[derive(Drop)]
 pub struct Draft {
@@ -58,6 +61,9 @@ impl Draft {
         ensures { IfOk result (λ _. self.new ≡ with_packet self.old note client seq held.now) }
     {
         let packet = held.packet.clone()?;
+        if self.orders.is_empty() {
+            self.make_room()?;
+        }
         self.notes.push(note)?;
         self.orders.push(Order::Rtx {
             client,
@@ -66,6 +72,15 @@ impl Draft {
             packet,
         })?;
         self.left = self.left.saturating_sub(u64::from(held.wire));
+        Ok(())
+    }
+
+    // Takes room for a run at once.
+    fn make_room(&mut self) -> Result<(), NoMemory>
+        ensures { IfOk result (λ _. self.new ≡ self.old) }
+    {
+        self.notes.reserve(RUN)?;
+        self.orders.reserve(RUN)?;
         Ok(())
     }
 
