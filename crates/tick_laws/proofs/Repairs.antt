@@ -8,11 +8,13 @@ use Rattle.rams_model.specs.declared.held.Held.{Held}
 use Rattle.rams_model.specs.declared.note.Note.{Note}
 use Rattle.rams_model.specs.declared.event.Event.TheVariants.{Tick}
 use Rattle.rams_model.specs.declared.note.Note.TheVariants as note
-use Rattle.rams_model.specs.Service.{Settings, tick, began, noted, History, hold, known, opened, sequence, Wanted, wanted, is_wanted, pending, channel_left, may_take, repaired, all_repaired, idle_forgotten, history_of}
+use Rattle.rams_model.specs.Service.{Settings, tick, began, noted, History, hold, known, opened, sequence, Wanted, wanted, is_wanted, pending, channel_left, run_left, kept_from_repairs, may_take, open_burst, repaired, all_repaired, idle_forgotten, history_of}
+use Rattle.rams_model.specs.Laws.{NoneIs, is_event}
 use Rattle.rams_model.proofs.Induction.{through}
 use Rattle.rams_model.proofs.Items.{Puts, is_repair, is_forgotten, repaired_puts, all_repaired_put, all_served_put, all_forgotten_put}
 use Rattle.rams_model.proofs.Legal.{is_of_runs, IsGone}
 use Rattle.tick_laws.specs.{HadItsTurn}
+use Rattle.tick_laws.proofs.Takes.{no_event, no_events, may_keep, too_large_for_client, too_large_for_channel}
 use Rattle.tick_laws.proofs.Ticks.{start, ran, repaired_all, tick_is, held_ran, of_filtered, passed}
 
 -- ---- runs and forgetting leave what waits as it is
@@ -43,6 +45,7 @@ record HadTurn (s : Settings) (held : List Held) (from to : History) (w : Wanted
   now : History
   since : History
   splits : to ≡ since ++ (now ++ from)
+  here : NoneIs is_event now
   large : (may_take s held w.client (now ++ from) < packet.wire) ⊎ (channel_left s (now ++ from) < packet.wire)
 
 -- it came later than something else
@@ -56,6 +59,7 @@ turn_later s held first from to w p t =
       now = t.now ++ p.items;
       since = t.since;
       splits = t.splits ∙ ap (λ (h : History). t.since ++ h) same;
+      here = no_events t.now p.items t.here (no_event is_repair p.items p.notes);
       large = subst (λ (h : History). (may_take s held w.client h < t.packet.wire) ⊎ (channel_left s h < t.packet.wire)) same t.large;
     }
 
@@ -115,6 +119,7 @@ one_turn s held v w (Some h) history to since found splits c =
             now = [];
             since = since;
             splits = splits;
+            here = tt;
             large = too_large f;
           });
         }
@@ -144,11 +149,13 @@ all_turns s held (v ∷ vs) w history c =
     of_one v w c = ⊎_elim (λ (none : Contains [] w). absurd (omega arith)) (λ e. e) (Contains-push_cases [] v w c)
 
 -- said of the whole tick
-of_tick : (s : Settings) (held : List Held) (before runs after final a b : History) (w : Wanted) → held ≡ hold s before → runs ≡ a ++ (began tick ∷ before) → final ≡ b ++ after
-    → HadTurn s held runs after w → HadItsTurn s before final w
-of_tick s held before runs after final a b w same_held ran forgot t =
+of_tick : (s : Settings) (held : List Held) (before runs after final a b : History) (w : Wanted) → held ≡ hold s before → runs ≡ a ++ (began tick ∷ before) → NoneIs is_event a
+    → final ≡ b ++ after → HadTurn s held runs after w → HadItsTurn s before final w
+of_tick s held before runs after final a b w same_held ran none forgot t =
     let begin : History = began tick ∷ before in
     let same : t.now ++ runs ≡ (t.now ++ a) ++ begin = ap (λ (h : History). t.now ++ h) ran ∙ sym (append_assoc t.now a begin) in
+    let whole : History = (t.now ++ a) ++ (began tick ∷ before) in
+    let here = no_events t.now a t.here none in
     record {
       packet = t.packet;
       held = subst (λ (hs : List Held). Contains hs t.packet) same_held t.held_is;
@@ -156,8 +163,14 @@ of_tick s held before runs after final a b w same_held ran forgot t =
       now = t.now ++ a;
       since = b ++ t.since;
       splits = forgot ∙ (ap (λ (h : History). b ++ h) t.splits ∙ (ap (λ (h : History). b ++ (t.since ++ h)) same ∙ sym (append_assoc b t.since ((t.now ++ a) ++ begin))));
-      large = subst (λ (hs : List Held). (may_take s hs w.client ((t.now ++ a) ++ begin) < t.packet.wire) ⊎ (channel_left s ((t.now ++ a) ++ begin) < t.packet.wire)) same_held
-          (subst (λ (h : History). (may_take s held w.client h < t.packet.wire) ⊎ (channel_left s h < t.packet.wire)) same t.large);
+      here = here;
+      kept = kept_from_repairs s (hold s before) (run_left s w.client whole) (open_burst s w.client whole);
+      keeps = may_keep s (hold s before) whole w.client (run_left s w.client whole);
+      large =
+          ⊎_elim (λ (lt : may_take s (hold s before) w.client whole < t.packet.wire). inl (too_large_for_client s (hold s before) w.client t.packet.wire (t.now ++ a) before here lt))
+          (λ (lt : channel_left s whole < t.packet.wire). inr (too_large_for_channel s t.packet.wire (t.now ++ a) before here lt))
+          (subst (λ (hs : List Held). (may_take s hs w.client whole < t.packet.wire) ⊎ (channel_left s whole < t.packet.wire)) same_held
+          (subst (λ (h : History). (may_take s held w.client h < t.packet.wire) ⊎ (channel_left s h < t.packet.wire)) same t.large));
     }
 
 pub waited : (s : Settings) (events : List Event) (w : Wanted) → Contains (pending (history_of s (Tick ∷ events))) w
@@ -170,7 +183,7 @@ waited s events w c =
     let all = all_turns s (hold s runs) (pending runs) w runs still in
     let first = all_served_put s (hold s (start s events)) (opened (start s events)) (start s events) in
     let last = all_forgotten_put s (known after) after in
-    of_tick s (hold s runs) (history_of s events) runs after (history_of s (Tick ∷ events)) first.items last.items w (held_ran s events) first.splits (tick_is s events ∙ last.splits)
+    of_tick s (hold s runs) (history_of s events) runs after (history_of s (Tick ∷ events)) first.items last.items w (held_ran s events) first.splits (no_event is_of_runs first.items first.notes) (tick_is s events ∙ last.splits)
     (all.turn all.before)
 
 -- ---- what is given up

@@ -5,4 +5,4 @@ unfoldable pub use Rattle.tick_laws.specs.Idle.{serves, shows_life, IsIdleThroug
 pub use Rattle.tick_laws.specs.Idle.{WasIdle}
 unfoldable pub use Rattle.tick_laws.specs.Order.{clients_served, Fall, BurstsAreServedByRisingClient, repairs_done, AreSomeOf, RepairsAreServedAsAsked}
 pub use Rattle.tick_laws.specs.Sends.{HadItsTurn}
-unfoldable pub use Rattle.tick_laws.specs.Sends.{EachWaitingRepairDidNotFit, RepairsGoneAreNotHeld, IsAtItsEnd, EachRunWentOn}
+unfoldable pub use Rattle.tick_laws.specs.Sends.{MayKeep, EachWaitingRepairDidNotFit, RepairsGoneAreNotHeld, IsAtItsEnd, EachRunWentOn}

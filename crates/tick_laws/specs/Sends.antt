@@ -1,13 +1,19 @@
 -- A tick sends all that it may: what it leaves didn't fit.
-use Rattle.std.specs.Prelude.{◌≡◌, ℕ, ◌<◌, ◌⊎◌, List, ◌∷◌, ◌++◌, Option, Some, Contains, IfSome}
+use Rattle.std.specs.Prelude.{◌≡◌, ℕ, ◌+◌, ◌<◌, ◌≤◌, min, ◌⊎◌, List, ◌∷◌, ◌++◌, Option, Some, Contains, IfSome}
 use Rattle.rams_model.specs.declared.event.Event.{Event}
 use Rattle.rams_model.specs.declared.held.Held.{Held}
 use Rattle.rams_model.specs.declared.event.Event.TheVariants.{Tick}
 use Rattle.rams_model.specs.declared.note.Note.TheVariants.{Gone}
-use Rattle.rams_model.specs.Service.{Settings, tick, began, noted, History, hold, Burst, next, open_burst, Wanted, wanted, pending, channel_left, may_take, history_of}
-use Rattle.book_laws.specs.{IsMoment}
+use Rattle.rams_model.specs.Service.{Settings, tick, began, noted, History, hold, Burst, next, open_burst, Wanted, wanted, pending, channel_left, history_of}
+use Rattle.rams_model.specs.Packets.{hi}
+use Rattle.rams_model.specs.Laws.{NoneIs, is_event, is_sending, is_sending_to, sizes_sent}
+use Rattle.book_laws.specs.{IsMoment, may_be_sent}
 
--- In the tick that began here a pending repair had its turn, at which its packet, which is held, was larger than what its client might take, or than what the channel had left.
+-- What a client's burst keeps from its repairs: nothing, or at most the depth where the burst is open and has not caught up with what is held.
+abbrev pub MayKeep : Settings → List Held → History → ℕ → ℕ → Type 0
+MayKeep s held history k kept = (kept ≡ 0) ⊎ ((b : Burst) × (open_burst s k history ≡ Some b) × (next b < hi held) × (kept ≤ s.channel.depth))
+
+-- In the tick that began here a pending repair had its turn, at which its packet, which is held, was larger than what its client might still be sent, or than what the channel might still send.
 pub record HadItsTurn (s : Settings) (before after : History) (w : Wanted) : Type 0 where
   pub packet : Held
   pub held : Contains (hold s before) packet
@@ -16,7 +22,11 @@ pub record HadItsTurn (s : Settings) (before after : History) (w : Wanted) : Typ
   pub now : History
   pub since : History
   pub splits : after ≡ since ++ (now ++ (began tick ∷ before))
-  pub large : (may_take s (hold s before) w.client (now ++ (began tick ∷ before)) < packet.wire) ⊎ (channel_left s (now ++ (began tick ∷ before)) < packet.wire)
+  pub here : NoneIs is_event now
+  pub kept : ℕ
+  pub keeps : MayKeep s (hold s before) (now ++ (began tick ∷ before)) w.client kept
+  pub large : (may_be_sent s (open_burst s w.client before) < packet.wire + sizes_sent (is_sending_to w.client) now + kept)
+      ⊎ (s.channel.share + min s.channel.swell (channel_left s before) < packet.wire + sizes_sent is_sending now)
 
 -- A repair that still waits after a tick had its turn in it, and didn't fit.
 abbrev pub EachWaitingRepairDidNotFit : Type 0
