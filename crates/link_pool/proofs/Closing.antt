@@ -1,5 +1,5 @@
 -- What is known of a link to which all takers were given back.
-use Rattle.std.proofs.Common.{◌≡◌, ◌≢◌, ℕ, suc, ◌<◌, ◌≤◌, Bool, false, cond, List, [], ◌∷◌, ◌++◌, length, refl, sym, ap, ◌∙◌, subst, arith, append_assoc}
+use Rattle.std.proofs.Common.{◌≡◌, ◌^◌, ◌≢◌, ℕ, suc, ◌<◌, ◌≤◌, Bool, false, cond, List, [], ◌∷◌, ◌++◌, length, refl, sym, ap, ◌∙◌, subst, arith, append_assoc}
 use Rattle.std.specs.Prelude.{All, ◌==◌}
 use Rattle.std.specs.List.{AllByRecursion as Each}
 use Rattle.std.specs.List.Sorted.{IsPermutation, IsNonDecreasingBy}
@@ -13,7 +13,7 @@ use lib.ListN.{get_elem?}
 use Rattle.atomic_table.specs.Table.{Final, Seen}
 use Rattle.link_pool.specs.declared.claim.Claim.{Claim}
 use Rattle.link_pool.specs.declared.link.View.{View}
-use Rattle.link_pool.specs.Claims.{claims_of, Adjoin, Fill, PaidWithin}
+use Rattle.link_pool.specs.Claims.{claims_of, claimed, Adjoin, Fill, PaidWithin}
 use Rattle.link_pool.specs.Sharing.{total, times, granting, takers_of, has_taker, Fair}
 use Rattle.link_pool.specs.Steps.{Mine}
 use Rattle.link_pool.specs.Parties.{Claimer, claims_given, numbers_given, NotAmong, Carry, Carries, HasGathered}
@@ -83,6 +83,7 @@ record IsWhole (granted : ℕ) (owns : List ℕ) (claims : List Claim) (words : 
   pub drawn : List Claim
   pub word : get_elem? words 0 ≡ some granted
   pub adjoin : Adjoin 0 drawn
+  pub most : claimed drawn ≤ 2 ^ 54
   pub each : (number : ℕ) → claims_of number claims ≡ claims_of number drawn
   pub once : (number : ℕ) → times number owns ≤ 1
 
@@ -104,6 +105,7 @@ whole takers id granted owns claims left words slots all final =
       drawn = o.drawn;
       word = ap (λ (ws : List ℕ). get_elem? ws 0) (sym final.2 ∙ o.words) ∙ ap (λ (n : ℕ). some n) (granted_alone takers st o id v at refl);
       adjoin = o.adjoin;
+      most = omega (arith, o.room);
       each = λ number.
           dite (ℕ_discrete (times number owns) 0)
           (λ none. f.alone number none ∙ sym (o.others number (alone number ∙ none)))
@@ -115,6 +117,7 @@ whole takers id granted owns claims left words slots all final =
 pub record HasClosed (takers : List Claimer) (granted word : ℕ) (ledger : List Claim) : Type 0 where
   pub word_is : word ≡ granted
   pub fills : Fill ledger
+  pub most : claimed ledger ≤ 2 ^ 54
   pub own : All (λ (t : Claimer). claims_of t.number ledger ≡ t.claims) takers
   pub others : (number : ℕ) → NotAmong takers number → claims_of number ledger ≡ []
   pub paid : PaidWithin word ledger
@@ -133,6 +136,7 @@ closed made id takers granted words slots me word ledger all gathered own final 
     record {
       word_is = sym (some-injective granted word (sym w.word ∙ found));
       fills = fill_from ledger adjoin;
+      most = omega (arith, ap claimed is, w.most);
       own = All-from_recursion (λ (t : Claimer). claims_of t.number ledger ≡ t.claims) takers (moved ledger (claims_given takers) takers each (own_from [] takers carry w.once (λ number some. refl)));
       others = λ number apart. each number ∙ none_given number takers carry (among_none number takers (recursion_from_All (λ (t : Claimer). t.number ≢ number) takers apart));
       paid = paid_within word ledger adjoin;

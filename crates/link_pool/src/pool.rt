@@ -111,6 +111,7 @@ impl Pool {
         ensures enough { IsOk result → self.takers ≤ length takers.items }
         ensures granted { IfOk result (λ ledger. ledger.granted ≡ ticker.total) }
         ensures fills { IfOk result (λ ledger. Fill ledger.claims.items) }
+        ensures most { IfOk result (λ ledger. claimed ledger.claims.items ≤ 2 ^ 54) }
         ensures own { IfOk result (λ ledger. All (λ t. claims_of t.number ledger.claims.items ≡ t.claims) takers.items) }
         ensures others { IfOk result (λ ledger. (number : ℕ) → NotAmong takers.items number → claims_of number ledger.claims.items ≡ []) }
         ensures paid { IfOk result (λ ledger. PaidWithin ledger.granted ledger.claims.items) }

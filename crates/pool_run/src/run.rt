@@ -1,6 +1,6 @@
 //! All channels of a link.
-ghost use Rattle.std.specs.Prelude.{◌≡◌, ◌*◌, ◌<◌, ◌≤◌, All, IfOk, vec_len};
-ghost use Rattle.link_pool.specs.{Fill, PaidWithin};
+ghost use Rattle.std.specs.Prelude.{◌≡◌, ◌*◌, ◌^◌, ◌<◌, ◌≤◌, All, IfOk, vec_len};
+ghost use Rattle.link_pool.specs.{claimed, Fill, PaidWithin};
 ghost use Rattle.pool_run.specs.{IsFresh, AreBooks, ClaimsAreSizes, CanRun, HasRun, HaveRun};
 
 use crate::granting::grant_all;
@@ -95,6 +95,7 @@ pub fn run_pool<R: Threads + Sync, G: Gate + Sync>(
     ensures claims { IfOk result (λ pooled. ClaimsAreSizes pooled.books.items pooled.ledger.claims.items) }
     ensures granted { IfOk result (λ pooled. pooled.ledger.granted ≡ ticks * rate) }
     ensures fills { IfOk result (λ pooled. Fill pooled.ledger.claims.items) }
+    ensures most { IfOk result (λ pooled. claimed pooled.ledger.claims.items ≤ 2 ^ 54) }
     ensures paid { IfOk result (λ pooled. PaidWithin pooled.ledger.granted pooled.ledger.claims.items) }
 {
     let (pool, ticker, takers) = Pool::new(alloc, lanes.len() as u32)?;

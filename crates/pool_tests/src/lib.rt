@@ -1,0 +1,13 @@
+//! Tests of a link that several channels share, on public calls alone.
+//!
+//! `fixtures` has a channel's settings and what comes to it.
+#![tactic(auto)]
+
+#[cfg(test)]
+mod fixtures;
+// pool_run
+#[cfg(test)]
+mod lanes;
+// link_pool
+#[cfg(test)]
+mod links;
