@@ -14,7 +14,7 @@ use Rattle.trace_book.specs.{run, IsServed, came, taken, new_channels, served_by
 use Rattle.standby.specs.{whole_text, stage_of, lines_followed, followed, IsFollowed}
 
 -- none of these lines has a line feed
-abbrev AreClean : List (List ℕ) → Type 0
+abbrev pub AreClean : List (List ℕ) → Type 0
 AreClean [] = Unit {0}
 AreClean (line ∷ lines) = HasNoFeed line × AreClean lines
 
@@ -22,7 +22,7 @@ clean_first : (b : ℕ) (lines : List (List ℕ)) → (b == 10) ≡ false → Ar
 clean_first b [] is all = tt
 clean_first b (line ∷ lines) is all = ((is, all.0), all.1)
 
-lines_clean : (bytes : List ℕ) → AreClean (whole_lines bytes)
+pub lines_clean : (bytes : List ℕ) → AreClean (whole_lines bytes)
 unfolding whole_lines
 lines_clean [] = tt
 lines_clean (b ∷ bytes) = by (b == 10) refl (lines_clean bytes)

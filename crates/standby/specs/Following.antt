@@ -1,5 +1,5 @@
 -- What a standby has read, and what it takes over.
-use Rattle.std.specs.Prelude.{◌≡◌, ℕ, Bool, true, false, List, length, reverse, Option, None, Some, Result, Ok, Err}
+use Rattle.std.specs.Prelude.{◌≡◌, ℕ, ◌≤◌, Bool, true, false, List, length, reverse, Option, None, Some, Result, Ok, Err}
 use Rattle.rams_model.specs.Texts.{Reached, tick_of, has_channel, whole_lines}
 use Rattle.server_hub.specs.{StandsFor, after_events}
 use Rattle.server_hub.specs.Seen as hubs
@@ -76,6 +76,7 @@ pub record IsTakenOver (hub : hubs.Seen) (bytes : List ℕ) : Type 0 where
   pub stands : StandsFor hub (stage_of bytes).state
   pub tick : hub.tick ≡ tick_of (stage_of bytes).reached.head
   pub calls : hub.calls ≡ (stage_of bytes).events
+  pub few : hub.calls ≤ 1000000
 
 -- no hub is taken over: no channel line was taken, or a fault was answered
 abbrev pub Refuses : Seen → Type 0

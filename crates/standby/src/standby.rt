@@ -60,6 +60,7 @@ impl Standby {
         requires read { HasReadSome self.old }
         ensures feeds { (bytes : List ℕ) → HasRead self.old bytes → self.old.fault ≡ None → Feeds result self.old self.new (bytes ++ first_part piece.now) }
         ensures count { IfOk result (λ count. count ≡ length (first_part piece.now)) }
+        ensures read { HasReadSome self.new }
         ensures again { (fault : FeedFault) → self.old.fault ≡ Some fault → (result ≡ Err fault) × (self.new ≡ self.old) }
     {
         if let Some(fault) = self.fault {
@@ -86,6 +87,13 @@ impl Standby {
         ensures { result ≡ self.now.ended }
     {
         self.ended
+    }
+
+    /// What is wrong with a line that was read.
+    pub fn fault(&self) -> Option<FeedFault>
+        ensures { result ≡ self.now.fault }
+    {
+        self.fault
     }
 
     /// The numbers of the channels, in the order of their lines.

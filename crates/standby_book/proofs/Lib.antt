@@ -1,0 +1,4 @@
+pub mod EventLines
+pub mod HeadLines
+pub mod Following
+pub mod TakingOver
