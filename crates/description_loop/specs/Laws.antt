@@ -21,14 +21,20 @@ abbrev pub HeadsAreThreeLines : Type 0
 HeadsAreThreeLines = (bytes : List ℕ) (h : Heading) → head_of bytes ≡ says h → IsThreeLines bytes h
 
 -- What `sdp` writes when it is done is a trace that `run` reads to its end: one channel, to which nothing comes.
+abbrev pub WritesATrace : List ℕ → Type 0
+WritesATrace bytes = (settings_outcome bytes).status ≡ Done → trace_text (settings_outcome bytes).text ≡ ended Done (first_line ++ (done 0).text)
+
 abbrev pub SettingsAreTraces : Type 0
-SettingsAreTraces = (bytes : List ℕ) → (settings_outcome bytes).status ≡ Done
-    → trace_text (settings_outcome bytes).text ≡ ended Done (first_line ++ (done 0).text)
+SettingsAreTraces = (bytes : List ℕ) → WritesATrace bytes
 
 -- The description of a head's channel gives the channel's settings, and with it `sdp` writes the head as it is.
 pub record IsTurnedBack (h : Heading) (port : ℕ) : Type 0 where
   pub settings : sdp_at (description h.settings.channel port) ≡ Ok (shown_channel h.settings.channel)
   pub head : settings_by h (sdp_at (description h.settings.channel port)) ≡ ended Done (heading_text h)
 
+-- what `describe` writes for a head that the bytes begin with is turned back
+abbrev pub DescribesItsHead : List ℕ → Type 0
+DescribesItsHead bytes = (h : Heading) (port : ℕ) → head_of bytes ≡ says h → port ≤ 65000 → IsTurnedBack h port
+
 abbrev pub SettingsAreTurnedBack : Type 0
-SettingsAreTurnedBack = (bytes : List ℕ) (h : Heading) (port : ℕ) → head_of bytes ≡ says h → port ≤ 65000 → IsTurnedBack h port
+SettingsAreTurnedBack = (bytes : List ℕ) → DescribesItsHead bytes

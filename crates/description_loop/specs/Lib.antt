@@ -7,5 +7,5 @@ pub use Rattle.description_loop.specs.Heads.{Heading, HeadSays, says, refuses}
 unfoldable pub use Rattle.description_loop.specs.Reads.{IsOfNoHead, SaysOf, Says, IsBehind, IsNext, said_fault, said_by, HasRead, TakesPiece}
 pub use Rattle.description_loop.specs.Reads.{IsFrontOf}
 unfoldable pub use Rattle.description_loop.specs.Outcomes.{with_feed, heading_text, with_settings, with_sdp, fault_words, fault_line, settings_by, described_by, by_head, settings_outcome, description_outcome, answered, IsReplyEnd, HasWritten}
-unfoldable pub use Rattle.description_loop.specs.Laws.{HeadsAreThreeLines, SettingsAreTraces, SettingsAreTurnedBack}
+unfoldable pub use Rattle.description_loop.specs.Laws.{HeadsAreThreeLines, WritesATrace, SettingsAreTraces, DescribesItsHead, SettingsAreTurnedBack}
 pub use Rattle.description_loop.specs.Laws.{IsThreeLines, IsTurnedBack}

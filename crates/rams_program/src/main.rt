@@ -18,7 +18,8 @@ use std::thread::Threads;
 use std::{env, io, rt};
 use udp_edge::{BindFault, FailedWire, UdpWire, busy_port};
 
-const USAGE: &str = "usage: rams-replay run | meet | serve PORT TURNS | make SEED BLOCKS";
+const USAGE: &str =
+    "usage: rams-replay run | meet | serve PORT TURNS | make SEED BLOCKS | sdp | describe PORT";
 
 fn main(rt: HostRuntime) -> ExitCode {
     let status = match words(&rt) {

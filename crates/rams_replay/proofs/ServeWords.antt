@@ -4,8 +4,8 @@ use Rattle.std.proofs.lemmas.Bool.{and_parts, leb-true}
 use Rattle.rams_model.specs.Texts.{number_in}
 use Rattle.trace_text.proofs.Spelled.{is_word}
 use Rattle.rams_replay.specs.declared.words.Command.{Command}
-use Rattle.rams_replay.specs.declared.words.Command.TheVariants.{Run, Meet, Serve}
-use Rattle.rams_replay.specs.{begins_with_plain, command_of, make_of, serve_of, number_within, within}
+use Rattle.rams_replay.specs.declared.words.Command.TheVariants.{Run, Meet, Make, Serve, Sdp, Describe}
+use Rattle.rams_replay.specs.{begins_with_plain, command_of, make_of, serve_of, describe_of, number_within, within}
 
 first_false : (a b : Bool) → (a || b) ≡ false → a ≡ false
 first_false false b h = refl
@@ -22,20 +22,48 @@ serve_alone true None t c h = absurd cc
 serve_alone true (Some p) None c h = absurd cc
 serve_alone true (Some p) (Some t) c h = (p, t, cc)
 
--- words that begin with neither word spell no command but `serve`
+-- The word is none of those that begin the words of a command which waits for nobody.
+record IsNoPlain (word : List ℕ) : Type 0 where
+  run : bytes_eq word (codes "run") ≡ false
+  meet : bytes_eq word (codes "meet") ≡ false
+  make : bytes_eq word (codes "make") ≡ false
+  sdp : bytes_eq word (codes "sdp") ≡ false
+  describe : bytes_eq word (codes "describe") ≡ false
+
+no_plain : (word : List ℕ) (rest : List (List ℕ)) → begins_with_plain (word ∷ rest) ≡ false → IsNoPlain word
+no_plain word rest h =
+    let run = bytes_eq word (codes "run") in
+    let meet = bytes_eq word (codes "meet") in
+    let make = bytes_eq word (codes "make") in
+    let sdp = bytes_eq word (codes "sdp") in
+    let describe = bytes_eq word (codes "describe") in
+    let four = first_false (((run || meet) || make) || sdp) describe h in
+    let three = first_false ((run || meet) || make) sdp four in
+    let two = first_false (run || meet) make three in
+    record {
+      run = first_false run meet two;
+      meet = last_false run meet two;
+      make = last_false (run || meet) make three;
+      sdp = last_false ((run || meet) || make) sdp four;
+      describe = last_false (((run || meet) || make) || sdp) describe h;
+    }
+
+-- words that begin with none of those spell no command but `serve`
 only_serve : (words : List (List ℕ)) (c : Command) → begins_with_plain words ≡ false → command_of words ≡ Some c → (port : ℕ) × (turns : ℕ) × (c ≡ Serve port turns)
 only_serve [] c plain h = absurd cc
 only_serve (word ∷ []) c plain h =
-    let either = first_false (bytes_eq word (codes "run") || bytes_eq word (codes "meet")) (bytes_eq word (codes "make")) plain in
-    let run = first_false (bytes_eq word (codes "run")) (bytes_eq word (codes "meet")) either in
-    let meet = last_false (bytes_eq word (codes "run")) (bytes_eq word (codes "meet")) either in
-    let none = ap (λ (t : Bool). if t then Some Run else if bytes_eq word (codes "meet") then Some Meet else None) run ∙ ap (λ (t : Bool). if t then Some Meet else None) meet in
+    let is = no_plain word [] plain in
+    let none : command_of (word ∷ []) ≡ None = rw (is.run, is.meet, is.sdp) refl in
     let no : None ≡ Some c = sym none ∙ h in
     absurd cc
-only_serve (word ∷ first ∷ []) c plain h = absurd cc
+only_serve (word ∷ first ∷ []) c plain h =
+    let is = no_plain word (first ∷ []) plain in
+    let none : command_of (word ∷ first ∷ []) ≡ None = rw is.describe refl in
+    let no : None ≡ Some c = sym none ∙ h in
+    absurd cc
 only_serve (word ∷ first ∷ second ∷ []) c plain h =
     let served = if bytes_eq word (codes "serve") then serve_of (number_within 1024 65000 first) (number_within 1 500000 second) else None in
-    let other = ap (λ (t : Bool). if t then make_of (number_within 0 (2 ^ 32 - 1) first) (number_within 1 50000 second) else served) (last_false (bytes_eq word (codes "run") || bytes_eq word (codes "meet")) (bytes_eq word (codes "make")) plain) in
+    let other = ap (λ (t : Bool). if t then make_of (number_within 0 (2 ^ 32 - 1) first) (number_within 1 50000 second) else served) (no_plain word (first ∷ second ∷ []) plain).make in
     serve_alone (bytes_eq word (codes "serve")) (number_within 1024 65000 first) (number_within 1 500000 second) c (sym other ∙ h)
 only_serve (word ∷ first ∷ second ∷ other ∷ rest) c plain h = absurd cc
 
@@ -48,22 +76,29 @@ no_command words plain never = by (command_of words) refl
     by (Some c) is = let serve = only_serve words c plain is in absurd (never serve.0 serve.1 (is ∙ ap Some serve.2))
 
 -- and those that begin with one don't spell `serve`
-differs : (word : List ℕ) → bytes_eq word (codes "serve") ≡ true → (bytes_eq word (codes "run") || bytes_eq word (codes "meet") || bytes_eq word (codes "make")) ≡ true → ⊥
-differs word serve plain =
-    subst (λ (w : List ℕ). (bytes_eq w (codes "run") || bytes_eq w (codes "meet") || bytes_eq w (codes "make")) ≡ true → ⊥) (sym (is_word word (codes "serve") serve)) (λ e. never e) plain
+differs : (word : List ℕ) (rest : List (List ℕ)) → bytes_eq word (codes "serve") ≡ true → begins_with_plain (word ∷ rest) ≡ true → ⊥
+differs word rest serve plain = subst (λ (w : List ℕ). begins_with_plain (w ∷ rest) ≡ true → ⊥) (sym (is_word word (codes "serve") serve)) (λ e. never e) plain
   where
     never : false ≡ true → ⊥
     never e = cc
 
+-- a word alone spells no `serve`
+none_alone : (port turns : ℕ) (r m s : Bool) → (if r then Some Run else if m then Some Meet else if s then Some Sdp else None) ≡ Some (Serve port turns) → ⊥
+none_alone port turns true m s e = cc
+none_alone port turns false true s e = cc
+none_alone port turns false false true e = cc
+none_alone port turns false false false e = cc
+
+-- nor do two words
+none_described : (port turns : ℕ) (b : Bool) (o : Option ℕ) → (if b then describe_of o else None) ≡ Some (Serve port turns) → ⊥
+none_described port turns false o e = cc
+none_described port turns true None e = cc
+none_described port turns true (Some p) e = cc
+
 pub plain_serves_none : (words : List (List ℕ)) (port turns : ℕ) → begins_with_plain words ≡ true → command_of words ≡ Some (Serve port turns) → ⊥
 plain_serves_none [] port turns plain h = absurd cc
-plain_serves_none (word ∷ []) port turns plain h = by (bytes_eq word (codes "run")) (bytes_eq word (codes "meet")) h
-  where
-    by : (r m : Bool) → (if r then Some Run else if m then Some Meet else None) ≡ Some (Serve port turns) → ⊥
-    by true m e = cc
-    by false true e = cc
-    by false false e = cc
-plain_serves_none (word ∷ first ∷ []) port turns plain h = absurd cc
+plain_serves_none (word ∷ []) port turns plain h = none_alone port turns (bytes_eq word (codes "run")) (bytes_eq word (codes "meet")) (bytes_eq word (codes "sdp")) h
+plain_serves_none (word ∷ first ∷ []) port turns plain h = none_described port turns (bytes_eq word (codes "describe")) (number_within 1 65000 first) h
 plain_serves_none (word ∷ first ∷ second ∷ []) port turns plain h =
     by (bytes_eq word (codes "make")) (bytes_eq word (codes "serve")) refl (make_of (number_within 0 (2 ^ 32 - 1) first) (number_within 1 50000 second)) (makes (number_within 0 (2 ^ 32 - 1) first) (number_within 1 50000 second)) h
   where
@@ -75,7 +110,7 @@ plain_serves_none (word ∷ first ∷ second ∷ []) port turns plain h =
     by : (m s : Bool) → bytes_eq word (codes "serve") ≡ s → (made : Option Command) → (made ≡ Some (Serve port turns) → ⊥)
         → (if m then made else if s then serve_of (number_within 1024 65000 first) (number_within 1 500000 second) else None) ≡ Some (Serve port turns) → ⊥
     by true s is made never e = never e
-    by false true is made never e = differs word is plain
+    by false true is made never e = differs word (first ∷ second ∷ []) is plain
     by false false is made never e = cc
 plain_serves_none (word ∷ first ∷ second ∷ other ∷ rest) port turns plain h = absurd cc
 
@@ -116,13 +151,8 @@ bounds_of first second port turns e =
 
 pub in_bounds : (words : List (List ℕ)) (port turns : ℕ) → command_of words ≡ Some (Serve port turns) → AreInBounds port turns
 in_bounds [] port turns h = cc
-in_bounds (word ∷ []) port turns h = by (bytes_eq word (codes "run")) (bytes_eq word (codes "meet")) h
-  where
-    by : (r m : Bool) → (if r then Some Run else if m then Some Meet else None) ≡ Some (Serve port turns) → AreInBounds port turns
-    by true m e = cc
-    by false true e = cc
-    by false false e = cc
-in_bounds (word ∷ first ∷ []) port turns h = cc
+in_bounds (word ∷ []) port turns h = absurd (none_alone port turns (bytes_eq word (codes "run")) (bytes_eq word (codes "meet")) (bytes_eq word (codes "sdp")) h)
+in_bounds (word ∷ first ∷ []) port turns h = absurd (none_described port turns (bytes_eq word (codes "describe")) (number_within 1 65000 first) h)
 in_bounds (word ∷ first ∷ second ∷ []) port turns h =
     by (bytes_eq word (codes "make")) (bytes_eq word (codes "serve")) (number_within 0 (2 ^ 32 - 1) first) (number_within 1 50000 second) h
   where
@@ -137,3 +167,67 @@ in_bounds (word ∷ first ∷ second ∷ []) port turns h =
     by false true seed blocks e = bounds_of first second port turns e
     by false false seed blocks e = cc
 in_bounds (word ∷ first ∷ second ∷ other ∷ rest) port turns h = cc
+
+-- ---- so is the port of `describe`
+
+-- three words spell no `describe`
+none_of_three : (port : ℕ) (m s : Bool) (seed blocks p t : Option ℕ) → (if m then make_of seed blocks else if s then serve_of p t else None) ≡ Some (Describe port) → ⊥
+none_of_three port true s None blocks p t e = cc
+none_of_three port true s (Some seed) None p t e = cc
+none_of_three port true s (Some seed) (Some blocks) p t e = cc
+none_of_three port false true seed blocks None t e = cc
+none_of_three port false true seed blocks (Some p) None e = cc
+none_of_three port false true seed blocks (Some p) (Some t) e = cc
+none_of_three port false false seed blocks p t e = cc
+
+none_alone_described : (port : ℕ) (r m s : Bool) → (if r then Some Run else if m then Some Meet else if s then Some Sdp else None) ≡ Some (Describe port) → ⊥
+none_alone_described port true m s e = cc
+none_alone_described port false true s e = cc
+none_alone_described port false false true e = cc
+none_alone_described port false false false e = cc
+
+described_port : (port : ℕ) (o : Option ℕ) → describe_of o ≡ Some (Describe port) → o ≡ Some port
+described_port port None e = cc
+described_port port (Some p) e = let same : p ≡ port = cc in ap Some same
+
+pub describes_within : (words : List (List ℕ)) (port : ℕ) → command_of words ≡ Some (Describe port) → (1 ≤ port) × (port ≤ 65000)
+describes_within [] port h = cc
+describes_within (word ∷ []) port h = absurd (none_alone_described port (bytes_eq word (codes "run")) (bytes_eq word (codes "meet")) (bytes_eq word (codes "sdp")) h)
+describes_within (word ∷ first ∷ []) port h = by (bytes_eq word (codes "describe")) h
+  where
+    by : (b : Bool) → (if b then describe_of (number_within 1 65000 first) else None) ≡ Some (Describe port) → (1 ≤ port) × (port ≤ 65000)
+    by true e = within_bounds 1 65000 port (number_in first) (described_port port (number_within 1 65000 first) e)
+    by false e = cc
+describes_within (word ∷ first ∷ second ∷ []) port h =
+    absurd (none_of_three port (bytes_eq word (codes "make")) (bytes_eq word (codes "serve")) (number_within 0 (2 ^ 32 - 1) first) (number_within 1 50000 second) (number_within 1024 65000 first) (number_within 1 500000 second) h)
+describes_within (word ∷ first ∷ second ∷ other ∷ rest) port h = cc
+
+-- ---- and the blocks of `make`
+
+none_alone_made : (seed blocks : ℕ) (r m s : Bool) → (if r then Some Run else if m then Some Meet else if s then Some Sdp else None) ≡ Some (Make seed blocks) → ⊥
+none_alone_made seed blocks true m s e = cc
+none_alone_made seed blocks false true s e = cc
+none_alone_made seed blocks false false true e = cc
+none_alone_made seed blocks false false false e = cc
+
+none_described_made : (seed blocks : ℕ) (b : Bool) (o : Option ℕ) → (if b then describe_of o else None) ≡ Some (Make seed blocks) → ⊥
+none_described_made seed blocks false o e = cc
+none_described_made seed blocks true None e = cc
+none_described_made seed blocks true (Some p) e = cc
+
+made_blocks : (seed blocks : ℕ) (m s : Bool) (o b p t : Option ℕ) → (if m then make_of o b else if s then serve_of p t else None) ≡ Some (Make seed blocks) → b ≡ Some blocks
+made_blocks seed blocks true s None b p t e = cc
+made_blocks seed blocks true s (Some o) None p t e = cc
+made_blocks seed blocks true s (Some o) (Some b) p t e = let same : b ≡ blocks = cc in ap Some same
+made_blocks seed blocks false true o b None t e = cc
+made_blocks seed blocks false true o b (Some p) None e = cc
+made_blocks seed blocks false true o b (Some p) (Some t) e = cc
+made_blocks seed blocks false false o b p t e = cc
+
+pub makes_within : (words : List (List ℕ)) (seed blocks : ℕ) → command_of words ≡ Some (Make seed blocks) → blocks ≤ 50000
+makes_within [] seed blocks h = cc
+makes_within (word ∷ []) seed blocks h = absurd (none_alone_made seed blocks (bytes_eq word (codes "run")) (bytes_eq word (codes "meet")) (bytes_eq word (codes "sdp")) h)
+makes_within (word ∷ first ∷ []) seed blocks h = absurd (none_described_made seed blocks (bytes_eq word (codes "describe")) (number_within 1 65000 first) h)
+makes_within (word ∷ first ∷ second ∷ []) seed blocks h =
+    (within_bounds 1 50000 blocks (number_in second) (made_blocks seed blocks (bytes_eq word (codes "make")) (bytes_eq word (codes "serve")) (number_within 0 (2 ^ 32 - 1) first) (number_within 1 50000 second) (number_within 1024 65000 first) (number_within 1 500000 second) h)).1
+makes_within (word ∷ first ∷ second ∷ other ∷ rest) seed blocks h = cc

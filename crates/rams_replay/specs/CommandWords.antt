@@ -3,7 +3,7 @@ use Rattle.std.specs.Prelude.{◌≡◌, ℕ, ◌-◌, ◌^◌, ◌||◌, if◌t
 use Rattle.std.specs.Int.{is_in_range}
 use Rattle.rams_model.specs.Texts.{number_in}
 use Rattle.rams_replay.specs.declared.words.Command.{Command}
-use Rattle.rams_replay.specs.declared.words.Command.TheVariants.{Run, Meet, Make, Serve}
+use Rattle.rams_replay.specs.declared.words.Command.TheVariants.{Run, Meet, Make, Serve, Sdp, Describe}
 
 -- the number, where it is from low to high
 abbrev pub within : ℕ → ℕ → Option ℕ → Option ℕ
@@ -24,15 +24,23 @@ serve_of None turns = None
 serve_of (Some port) None = None
 serve_of (Some port) (Some turns) = Some (Serve port turns)
 
--- `run` or `meet` alone
-abbrev pub alone : List ℕ → Option Command
-alone word = if bytes_eq word (codes "run") then Some Run else if bytes_eq word (codes "meet") then Some Meet else None
+abbrev pub describe_of : Option ℕ → Option Command
+describe_of None = None
+describe_of (Some port) = Some (Describe port)
 
--- `run` or `meet` alone, `make SEED BLOCKS` or `serve PORT TURNS`
+-- `run`, `meet` or `sdp` alone
+abbrev pub alone : List ℕ → Option Command
+alone word =
+    if bytes_eq word (codes "run") then Some Run
+    else if bytes_eq word (codes "meet") then Some Meet
+    else if bytes_eq word (codes "sdp") then Some Sdp
+    else None
+
+-- `run`, `meet` or `sdp` alone, `describe PORT`, `make SEED BLOCKS` or `serve PORT TURNS`
 abbrev pub command_of : List (List ℕ) → Option Command
 command_of [] = None
 command_of (word ∷ []) = alone word
-command_of (word ∷ first ∷ []) = None
+command_of (word ∷ first ∷ []) = if bytes_eq word (codes "describe") then describe_of (number_within 1 65000 first) else None
 command_of (word ∷ first ∷ second ∷ []) =
     if bytes_eq word (codes "make") then make_of (number_within 0 (2 ^ 32 - 1) first) (number_within 1 50000 second)
     else if bytes_eq word (codes "serve") then serve_of (number_within 1024 65000 first) (number_within 1 500000 second) else None
@@ -41,7 +49,9 @@ command_of (word ∷ first ∷ second ∷ other ∷ rest) = None
 -- the first word is that of a command which waits for nobody
 abbrev pub begins_with_plain : List (List ℕ) → Bool
 begins_with_plain [] = false
-begins_with_plain (word ∷ rest) = bytes_eq word (codes "run") || bytes_eq word (codes "meet") || bytes_eq word (codes "make")
+begins_with_plain (word ∷ rest) =
+    bytes_eq word (codes "run") || bytes_eq word (codes "meet") || bytes_eq word (codes "make") || bytes_eq word (codes "sdp")
+    || bytes_eq word (codes "describe")
 
 -- the words are `run`
 abbrev pub AreRun : List (List ℕ) → Type 0
@@ -50,6 +60,14 @@ AreRun words = command_of words ≡ Some Run
 -- the words are `meet`
 abbrev pub AreMeet : List (List ℕ) → Type 0
 AreMeet words = command_of words ≡ Some Meet
+
+-- the words are `sdp`
+abbrev pub AreSdp : List (List ℕ) → Type 0
+AreSdp words = command_of words ≡ Some Sdp
+
+-- the words are `describe PORT`
+abbrev pub AreDescribe : List (List ℕ) → ℕ → Type 0
+AreDescribe words port = command_of words ≡ Some (Describe port)
 
 -- the words are `make SEED BLOCKS`
 abbrev pub AreMake : List (List ℕ) → ℕ → ℕ → Type 0

@@ -1,17 +1,21 @@
 //! The commands.
-ghost use Rattle.std.specs.Prelude.{◌≡◌, ◌≢◌, false, true, is_none, ℕ, All, None, length};
+ghost use Rattle.std.specs.Prelude.{◌≡◌, ◌≢◌, ◌≤◌, ◌⊎◌, false, true, is_none, ℕ, All, None, length};
 ghost use Rattle.trace_book.specs.{EndsSo, IsServed, KeepsTheLink, KeepsPromises, served_by, run as book};
 ghost use Rattle.rams_model.specs.declared.status.Status.TheVariants.{BadTrace, Done, ReadFault};
 ghost use Rattle.serve_loop.specs.{Given, HasRoom, IsGiven, served_datagrams, served_text};
+ghost use Rattle.description_loop.specs.{DescribesItsHead, WritesATrace, description_outcome, settings_outcome};
 ghost use Rattle.summary.specs.{made_summary};
 ghost use Rattle.world_book.specs.{EndsSo as WorldEndsSo, IsServedByAWorld, ReceiversPresent, meet as world, world_of};
-ghost use Rattle.rams_replay.specs.{AreMake, AreMeet, AreRun, AreServe, begins_with_plain, command_of, no_room, port_of, status_of, is_words, HasServed, HasSummary, IsCaused, IsCausedOverWire, IsOrLacksMemory, Writes};
+ghost use Rattle.rams_replay.specs.{AreDescribe, AreMake, AreMeet, AreRun, AreSdp, AreServe, Replies, begins_with_plain, command_of, no_room, port_of, status_of, is_words, HasServed, HasSummary, IsCaused, IsCausedOverWire, IsOrLacksMemory, Writes};
 ghost use Rattle.trace_loop.specs.{IfTold};
 
 use crate::made::write_summary;
 use crate::replay::new_replay;
 use crate::served::serve_status;
 use crate::words::{Command, begins_with_plain, command_of, serve_words};
+use description_loop::{
+    settings_are_traces, settings_are_turned_back, write_description, write_settings,
+};
 use meet_loop::write_world;
 use ram_io::{Clock, Gate, Octets, Sink, Source, Wire};
 use rams_model::Status;
@@ -32,10 +36,11 @@ use world_book::laws::{
 /// Runs a command over whatever it reads from, writes to, sends through and tells the time by.
 ///
 /// `words` are those of the command line behind the program's name. `run` reads a trace and writes
-/// its book; `meet` does so of a trace with set-tops, the trace of a world; `make SEED BLOCKS` writes
-/// the summary of a generated trace and reads nothing; `serve PORT TURNS` reads a head, and serves its
-/// channels over the wire for so many turns, while the gate looks on. Any other words are refused, and
-/// nothing is read or written.
+/// its book; `meet` does so of a trace with set-tops, the trace of a world; `sdp` reads the head of a channel
+/// and a session description, and writes the head with the description's settings; `describe PORT` reads
+/// such a head, and writes a description of its channel; `make SEED BLOCKS` writes the summary of a generated
+/// trace and reads nothing; `serve PORT TURNS` reads a head, and serves its channels over the wire for so many
+/// turns, while the gate looks on. Any other words are refused, and nothing is read or written.
 #[tactic(auto, using(crate::proofs::ServeWords::no_command))]
 pub fn run<R: Threads + Wait + Sync, S: Source, K: Sink, W: Wire, C: Clock, G: Gate + Watch + Sync>(
     _rt: &R,
@@ -51,6 +56,9 @@ pub fn run<R: Threads + Wait + Sync, S: Source, K: Sink, W: Wire, C: Clock, G: G
     ensures refused { command_of words.now ≡ None → (source.new ≡ source.old) × (sink.new ≡ sink.old) }
     ensures book { AreRun words.now → Writes book (S.left source.old) (S.left source.new) (S.is_steady source.old) (K.held sink.old) (K.held sink.new) (K.faults sink.old) (K.faults sink.new) (K.is_steady sink.old) result }
     ensures world { AreMeet words.now → Writes world (S.left source.old) (S.left source.new) (S.is_steady source.old) (K.held sink.old) (K.held sink.new) (K.faults sink.old) (K.faults sink.new) (K.is_steady sink.old) result }
+    ensures settings { AreSdp words.now → Replies settings_outcome (S.left source.old) (S.is_steady source.old) (K.held sink.old) (K.held sink.new) (K.is_steady sink.old) result }
+    ensures description { (port : ℕ) → AreDescribe words.now port → Replies (description_outcome port) (S.left source.old) (S.is_steady source.old) (K.held sink.old) (K.held sink.new) (K.is_steady sink.old) result }
+    ensures undescribed { AreSdp words.now ⊎ ((port : ℕ) × AreDescribe words.now port) → result ≡ ReadFault → sink.new ≡ sink.old }
     ensures lines { IfTold (S.left source.old) IsServed }
     ensures ends { IfTold (S.left source.old) EndsSo }
     ensures lawful { IfTold (S.left source.old) (λ xs. All KeepsPromises (served_by xs)) }
@@ -59,6 +67,8 @@ pub fn run<R: Threads + Wait + Sync, S: Source, K: Sink, W: Wire, C: Clock, G: G
     ensures world_ends { IfTold (S.left source.old) WorldEndsSo }
     ensures lawful_world { IfTold (S.left source.old) (λ xs. All KeepsPromises (world_of xs).channels) }
     ensures receivers { IfTold (S.left source.old) (λ xs. ReceiversPresent (world_of xs)) }
+    ensures traces { IfTold (S.left source.old) WritesATrace }
+    ensures turned_back { IfTold (S.left source.old) DescribesItsHead }
     ensures cause { port_of words.now ≡ None → IsCaused (S.faults source.old) (S.faults source.new) (K.faults sink.old) (K.faults sink.new) result }
     ensures summary { (seed blocks : ℕ) → AreMake words.now seed blocks →
         HasSummary (K.held sink.old) (K.held sink.new) (made_summary seed blocks) result × (source.new ≡ source.old) }
@@ -83,7 +93,7 @@ pub fn run<R: Threads + Wait + Sync, S: Source, K: Sink, W: Wire, C: Clock, G: G
     }
 }
 
-/// Runs a command that waits for nobody: the first word is `run`, `meet` or `make`.
+/// Runs a command that waits for nobody: the first word is `run`, `meet`, `make`, `sdp` or `describe`.
 pub fn plain<S: Source, K: Sink>(
     alloc: Global,
     words: &[Octets],
@@ -95,6 +105,9 @@ pub fn plain<S: Source, K: Sink>(
     ensures refused { command_of words.now ≡ None → (source.new ≡ source.old) × (sink.new ≡ sink.old) }
     ensures book { AreRun words.now → Writes book (S.left source.old) (S.left source.new) (S.is_steady source.old) (K.held sink.old) (K.held sink.new) (K.faults sink.old) (K.faults sink.new) (K.is_steady sink.old) result }
     ensures world { AreMeet words.now → Writes world (S.left source.old) (S.left source.new) (S.is_steady source.old) (K.held sink.old) (K.held sink.new) (K.faults sink.old) (K.faults sink.new) (K.is_steady sink.old) result }
+    ensures settings { AreSdp words.now → Replies settings_outcome (S.left source.old) (S.is_steady source.old) (K.held sink.old) (K.held sink.new) (K.is_steady sink.old) result }
+    ensures description { (port : ℕ) → AreDescribe words.now port → Replies (description_outcome port) (S.left source.old) (S.is_steady source.old) (K.held sink.old) (K.held sink.new) (K.is_steady sink.old) result }
+    ensures undescribed { AreSdp words.now ⊎ ((port : ℕ) × AreDescribe words.now port) → result ≡ ReadFault → sink.new ≡ sink.old }
     ensures lines { IfTold (S.left source.old) IsServed }
     ensures ends { IfTold (S.left source.old) EndsSo }
     ensures lawful { IfTold (S.left source.old) (λ xs. All KeepsPromises (served_by xs)) }
@@ -103,6 +116,8 @@ pub fn plain<S: Source, K: Sink>(
     ensures world_ends { IfTold (S.left source.old) WorldEndsSo }
     ensures lawful_world { IfTold (S.left source.old) (λ xs. All KeepsPromises (world_of xs).channels) }
     ensures receivers { IfTold (S.left source.old) (λ xs. ReceiversPresent (world_of xs)) }
+    ensures traces { IfTold (S.left source.old) WritesATrace }
+    ensures turned_back { IfTold (S.left source.old) DescribesItsHead }
     ensures cause { IsCaused (S.faults source.old) (S.faults source.new) (K.faults sink.old) (K.faults sink.new) result }
     ensures summary { (seed blocks : ℕ) → AreMake words.now seed blocks →
         HasSummary (K.held sink.old) (K.held sink.new) (made_summary seed blocks) result × (source.new ≡ source.old) }
@@ -113,7 +128,9 @@ pub fn plain<S: Source, K: Sink>(
         Some(Command::Run) => book_status(alloc, source, sink),
         Some(Command::Meet) => world_status(alloc, source, sink),
         Some(Command::Make { seed, blocks }) => status_of(write_summary(alloc, seed, blocks, sink)),
-        // Its first word is none of `run`, `meet` and `make`.
+        Some(Command::Sdp) => settings_status(alloc, source, sink),
+        Some(Command::Describe { port }) => description_status(alloc, port, source, sink),
+        // Its first word is none of those.
         Some(Command::Serve { .. }) => Status::Words,
         None => Status::Words,
     }
@@ -129,6 +146,8 @@ fn promise<S: Source>(_source: &S)
     ensures world_ends { IfTold (S.left _source.now) WorldEndsSo }
     ensures lawful_world { IfTold (S.left _source.now) (λ xs. All KeepsPromises (world_of xs).channels) }
     ensures receivers { IfTold (S.left _source.now) (λ xs. ReceiversPresent (world_of xs)) }
+    ensures traces { IfTold (S.left _source.now) WritesATrace }
+    ensures turned_back { IfTold (S.left _source.now) DescribesItsHead }
 {
     traces_are_served_by_their_lines();
     traces_end_so();
@@ -138,6 +157,8 @@ fn promise<S: Source>(_source: &S)
     worlds_end_so();
     worlds_are_served_lawfully();
     receivers_present_their_sources();
+    settings_are_traces();
+    settings_are_turned_back();
 }
 
 /// Writes the book of the trace that the source has left, and says how that ended.
@@ -157,6 +178,34 @@ fn world_status<S: Source, K: Sink>(alloc: Global, source: &mut S, sink: &mut K)
     ensures cause { IsCaused (S.faults source.old) (S.faults source.new) (K.faults sink.old) (K.faults sink.new) result }
 {
     status_of(write_world(alloc, source, sink))
+}
+
+/// Writes the head that the source begins with, with the settings of the description behind it, and says
+/// how that ended.
+fn settings_status<S: Source, K: Sink>(alloc: Global, source: &mut S, sink: &mut K) -> Status
+    ensures words { is_words result ≡ false }
+    ensures writes { Replies settings_outcome (S.left source.old) (S.is_steady source.old) (K.held sink.old) (K.held sink.new) (K.is_steady sink.old) result }
+    ensures unread { result ≡ ReadFault → sink.new ≡ sink.old }
+    ensures cause { IsCaused (S.faults source.old) (S.faults source.new) (K.faults sink.old) (K.faults sink.new) result }
+{
+    status_of(write_settings(alloc, source, sink))
+}
+
+/// Writes a description of the channel of the head that the source begins with, and says how that ended.
+fn description_status<S: Source, K: Sink>(
+    alloc: Global,
+    port: u16,
+    source: &mut S,
+    sink: &mut K,
+) -> Status
+    requires low { 1 ≤ port }
+    requires high { port ≤ 65000 }
+    ensures words { is_words result ≡ false }
+    ensures writes { Replies (description_outcome port) (S.left source.old) (S.is_steady source.old) (K.held sink.old) (K.held sink.new) (K.is_steady sink.old) result }
+    ensures unread { result ≡ ReadFault → sink.new ≡ sink.old }
+    ensures cause { IsCaused (S.faults source.old) (S.faults source.new) (K.faults sink.old) (K.faults sink.new) result }
+{
+    status_of(write_description(alloc, port, source, sink))
 }
 
 fn status_of(ended: Result<Status, Stop>) -> Status

@@ -1,4 +1,5 @@
-//! Traces of the commands `run` and `meet` and their books, worked out by hand, as tables.
+//! Traces of the commands `run` and `meet` and their books, worked out by hand, as tables; and runs of the
+//! other commands that wait for nobody.
 //!
 //! `row` says what a row is, and runs it. Each of the other modules has the rows of one subject:
 //! tables of data, and where a trace is long the few functions that write it out.
@@ -26,6 +27,8 @@ mod repairs;
 mod requests;
 #[cfg(test)]
 mod row;
+#[cfg(test)]
+mod settings;
 #[cfg(test)]
 mod stops;
 #[cfg(test)]

@@ -1,0 +1,89 @@
+//! The commands `sdp` and `describe`: their words, and a run of each.
+use crate::row::OPENING;
+use ram_io::{MemSink, MemSource};
+use rams_replay::{Octets, Status, begins_with_plain, plain};
+use std::alloc::Global;
+use std::process::Abort;
+use std::str;
+use std::test::Fail;
+
+const OFFER: &str = "end
+v=0
+o=ali 1122334455 1122334466 IN IP4 rams.example.com
+s=RAMS
+t=0 0
+m=video 41000 RTP/AVPF 98
+c=IN IP4 233.252.0.2/255
+a=rtpmap:98 MP2T/90000
+a=rtcp-fb:98 nack
+a=rtcp-fb:98 nack rai
+a=ssrc:123321 cname:iptv
+m=video 42000 RTP/AVPF 99
+a=rtpmap:99 rtx/90000
+a=fmtp:99 apt=98;rtx-time=5000
+";
+
+/// The opening with the settings of the offer.
+const SET: &str = "rams-trace 1 tick 10 link 100000
+channel 7 ssrc 0001e1b9 pt 98 rtx 99 server aabbccdd seq0 500 ring 64 window 0 access marker share 10000 reserve 1500 burst 4000 declared 100 minwire 42 limit 100 idle 100 clients 4
+end
+";
+
+const DESCRIBED: &str =
+    "v=0\r\no=- 0 0 IN IP4 127.0.0.1\r\ns=channel 7\r\nt=0 0\r\nm=video 5000 RTP/AVPF 33\r\nc=IN IP4 127.0.0.1\r\na=rtpmap:33 MP2T/90000\r\na=rtcp-fb:33 nack\r\na=rtcp-fb:33 nack rai\r\na=ssrc:287454020 cname:rams\r\nm=video 5001 RTP/AVPF 99\r\nc=IN IP4 127.0.0.1\r\na=rtpmap:99 rtx/90000\r\na=fmtp:99 apt=33\r\n";
+
+/// The words, what stands behind the opening, how the command ends, and with what text.
+const ROWS: [(&[&str], &str, Status, &str); 12] = [
+    (&["sdp"], OFFER, Status::Done, SET),
+    (&["sdp"], "end\n", Status::BadSdp, "refused-sdp version\n"),
+    (&["sdp"], "tick\n", Status::BadTrace, "refused 3 order\n"),
+    (&["describe", "5000"], "end\n", Status::Done, DESCRIBED),
+    (
+        &["describe", "1"],
+        "",
+        Status::BadTrace,
+        "refused 3 order\n",
+    ),
+    (
+        &["describe", "65000"],
+        "x\n",
+        Status::BadTrace,
+        "refused 3 form\n",
+    ),
+    (&["sdp", "x"], OFFER, Status::Words, ""),
+    (&["describe"], "end\n", Status::Words, ""),
+    (&["describe", "0"], "end\n", Status::Words, ""),
+    (&["describe", "65001"], "end\n", Status::Words, ""),
+    (&["describe", "05000"], "end\n", Status::Words, ""),
+    (&["describe", "5000", "1"], "end\n", Status::Words, ""),
+];
+
+/// How the command of these words ends over the opening and these lines, and the sink with what it wrote.
+fn ran(
+    rt: &impl Abort,
+    alloc: Global,
+    words: &[&str],
+    lines: &str,
+) -> Result<(Status, MemSink), Fail> {
+    let mut octets = Vec::new(alloc);
+    for word in words {
+        octets.push(Octets::of(word.as_bytes().to_vec(alloc)?))?;
+    }
+    let input = format!(in alloc; "{OPENING}{lines}")?;
+    let mut source = MemSource::new(input.into_bytes(), 100, Vec::new(alloc));
+    let sink = MemSink::new(alloc, 1_000, 100, Vec::new(alloc));
+    let mut sink = sink.ok().ok_or("memory")?;
+    assert!(rt; begins_with_plain(&octets));
+    let status = plain(alloc, &octets, &mut source, &mut sink);
+    Ok((status, sink))
+}
+
+#[test]
+fn settings_and_descriptions_are_written(rt: HostRuntime) -> Result<(), Fail> {
+    for (words, lines, status, text) in ROWS {
+        let (got, sink) = ran(&rt, rt.alloc(), words, lines)?;
+        assert_eq!(rt; got, status, "{words:?}");
+        assert_eq!(rt; str::from_utf8(sink.held())?, text, "{words:?}");
+    }
+    Ok(())
+}
