@@ -3,6 +3,6 @@
 
 mod lines;
 
-pub use link_pool::{Claim, Ledger};
 pub use lines::{append_claim, append_ledger};
+pub use link_pool::{Claim, Ledger};
 pub use ram_io::NoMemory;

@@ -1,10 +1,12 @@
 //! Tests of a link that several channels share, on public calls alone.
 //!
-//! `fixtures` has a channel's settings and what comes to it.
+//! `fixtures` has a channel's settings and what comes to it, `gates` the gate at which threads meet.
 #![tactic(auto)]
 
 #[cfg(test)]
 mod fixtures;
+#[cfg(test)]
+mod gates;
 // pool_run
 #[cfg(test)]
 mod lanes;

@@ -1,7 +1,8 @@
 //! A ticker and takers, by hand and on threads.
 ghost use Rattle.std.specs.Prelude.{◌≡◌, ◌<◌, ◌≤◌, [], IfOk};
 
-use link_pool::{Claim, NoMemory, Pool, PoolFault, Taker};
+use ledger_text::append_ledger;
+use link_pool::{NoMemory, Pool, PoolFault, Taker};
 use std::test::Fail;
 use std::thread;
 use std::thread::Threads;
@@ -31,31 +32,11 @@ fn a_pool_is_closed_with_all_its_takers(rt: HostRuntime) -> Result<(), Fail> {
     let Ok(ledger) = pool.close(alloc, ticker, takers) else {
         panic!(&rt; "not closed with all takers");
     };
-    let want = [
-        Claim {
-            taker: 1,
-            from: 0,
-            bytes: 1500,
-        },
-        Claim {
-            taker: 0,
-            from: 1500,
-            bytes: 1500,
-        },
-        Claim {
-            taker: 1,
-            from: 3000,
-            bytes: 1,
-        },
-    ];
-    assert_eq!(&rt; ledger.claims.as_slice(), &want[..], "by rising first byte");
-    assert_eq!(&rt; ledger.granted, 3000, "what was granted");
-    let paid = ledger
-        .claims
-        .iter()
-        .filter(|claim| claim.is_paid(ledger.granted))
-        .count();
-    assert_eq!(&rt; paid, 2, "the third is late");
+    let mut text = Vec::new(alloc);
+    append_ledger(&mut text, &[7, 8], &ledger)?;
+    let want =
+        b"claim 8 0 1500 paid\nclaim 7 1500 1500 paid\nclaim 8 3000 1 late\npool 3001 3000\n";
+    assert_eq!(&rt; text.as_slice(), &want[..], "by rising first byte");
     Ok(())
 }
 
