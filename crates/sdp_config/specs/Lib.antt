@@ -7,7 +7,7 @@ pub mod Written
 pub mod Laws
 unfoldable pub use Rattle.sdp_config.specs.Lines.{lines_in, bare, is_line, is_media, pieces_of, pieces_behind, first_piece, behind}
 unfoldable pub use Rattle.sdp_config.specs.Attributes.{type_in, offers_bursts, ssrc_in, ssrc_number, is_rtx_map, is_rtx_name, past_spaces, are_spaces, is_padded, has_apt, repairs_line, is_wanted_line}
-unfoldable pub use Rattle.sdp_config.specs.Sections.{own_lines, sections_of, formats_of, has_line, first_ssrc, is_wanted, first_format, first_found}
+unfoldable pub use Rattle.sdp_config.specs.Sections.{own_lines, sections_of, formats_of, has_line, first_ssrc, is_wanted, HaveFailed, first_format, first_found}
 unfoldable pub use Rattle.sdp_config.specs.Shown.{lines_left, pieces_left, shown_section, sections_left, shown_found}
 pub use Rattle.sdp_config.specs.Sections.{Section, Found}
 unfoldable pub use Rattle.sdp_config.specs.Description.{line_fault, first_fault, text_fault, settings_in, settings_of, sdp_at}

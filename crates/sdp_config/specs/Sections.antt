@@ -1,5 +1,5 @@
 -- The sections of a session description, one a media stream, and the formats that they list (RFC 8866, 5.14).
-use Rattle.std.specs.Prelude.{ℕ, Bool, ◌&&◌, if◌then◌else◌, List, [], ◌∷◌, drop, Option, None, option_map, codes, bytes_eq}
+use Rattle.std.specs.Prelude.{◌≡◌, ℕ, Bool, true, false, slice_index_or, ◌&&◌, if◌then◌else◌, List, [], ◌∷◌, drop, Option, None, option_map, codes, bytes_eq}
 use Rattle.std.specs.List.{find, filter_map, list_any}
 use Rattle.std.specs.Option.{option_or}
 use Rattle.sdp_config.specs.declared.attribute.Attribute.{Attribute}
@@ -45,6 +45,10 @@ first_ssrc (line ∷ lines) = option_or (ssrc_in line) (first_ssrc lines)
 abbrev pub is_wanted : Role → Section → ℕ → Bool
 is_wanted Media s p = has_line (Bursts p) s.lines
 is_wanted (Repair p) s q = has_line (RtxMap q) s.lines && has_line (RtxOf q p) s.lines
+
+-- no format that is marked has this role
+abbrev pub HaveFailed : Role → Section → List Bool → Type 0
+HaveFailed role s failed = (n : ℕ) → slice_index_or failed n false ≡ true → is_wanted role s n ≡ false
 
 -- the first format of the section that has this role
 abbrev pub first_format : Role → Section → Option ℕ

@@ -1,7 +1,7 @@
 //! The sections of a description, one a media stream (RFC 8866, 5.14).
-ghost use Rattle.std.specs.Prelude.{◌≡◌, [], drop, MatchOption, option_map};
+ghost use Rattle.std.specs.Prelude.{◌≡◌, [], drop, length, MatchOption, option_map};
 ghost use Rattle.std.specs.List.{filter_map};
-ghost use Rattle.sdp_config.specs.{lines_in, type_in, sections_of, formats_of, has_line, first_ssrc, is_wanted, first_format, first_found, pieces_left, shown_section, sections_left, shown_found};
+ghost use Rattle.sdp_config.specs.{lines_in, type_in, sections_of, formats_of, has_line, first_ssrc, is_wanted, HaveFailed, first_format, first_found, pieces_left, shown_section, sections_left, shown_found};
 
 use crate::attribute::{Attribute, payload_type, ssrc_in};
 use crate::lines::{Lines, is_media};
@@ -121,13 +121,30 @@ impl<'a> Section<'a> {
         Some(fields)
     }
 
+    // The same; a format that failed is marked, and isn't looked for again.
+    fn tries(&self, role: Role, format: u8, failed: &mut [bool]) -> bool
+        requires room { length failed.old ≡ 256 }
+        requires marked { HaveFailed role (shown_section self.now) failed.old }
+        ensures gives { result ≡ is_wanted role (shown_section self.now) format }
+        ensures marks { HaveFailed role (shown_section self.now) failed.new }
+    {
+        let place = usize::from(format);
+        if failed[place] {
+            return false;
+        }
+        let gives = self.gives(role, format);
+        failed[place] = !gives;
+        gives
+    }
+
     // The first of its formats that has this role.
     fn format(&self, role: Role) -> Option<u8>
         ensures { result ≡ first_format role (shown_section self.now) }
     {
+        let mut failed = [false; 256];
         for field in self.fields()? {
             if let Some(format) = payload_type(field) {
-                if self.gives(role, format) {
+                if self.tries(role, format, &mut failed) {
                     return Some(format);
                 }
             }
