@@ -3,3 +3,4 @@ pub mod Turning
 pub mod Opening
 pub mod Reading
 pub mod Followed
+pub mod Ending

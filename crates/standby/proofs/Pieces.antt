@@ -1,6 +1,7 @@
 -- What a piece more makes of the lines of some bytes.
-use Rattle.std.proofs.Common.{◌≡◌, ℕ, ◌+◌, ◌==◌, Bool, true, false, ◌||◌, List, [], ◌∷◌, ◌++◌, length, take, drop, refl, sym, ap, subst, ◌∙◌, arith, append_assoc, append-nil, length-append, length-take}
+use Rattle.std.proofs.Common.{◌≡◌, ℕ, ◌+◌, ◌<◌, ◌==◌, ◌⊎◌, inl, inr, Bool, true, false, ◌||◌, List, [], ◌∷◌, ◌++◌, length, take, drop, refl, sym, ap, subst, ◌∙◌, arith, append_assoc, append-nil, length-append, length-take}
 use Rattle.std.specs.Prelude.{if◌then◌else◌}
+use Rattle.std.proofs.lemmas.Bool.{eqb-true}
 use Rattle.std.specs.List.{list_any}
 use Rattle.rams_model.specs.Texts.{whole_lines, into_first}
 use Rattle.line_io.specs.{HasNoFeed, IsCutAt}
@@ -17,11 +18,11 @@ either_true true b h = refl
 either_true false b h = h
 
 -- a test of a list that no element passes, or one
-no_feed : (xs : List ℕ) → list_any is_feed xs ≡ false → HasNoFeed xs
+pub no_feed : (xs : List ℕ) → list_any is_feed xs ≡ false → HasNoFeed xs
 no_feed [] h = tt
 no_feed (x ∷ xs) h = let both = neither (x == 10) (list_any is_feed xs) h in (both.0, no_feed xs both.1)
 
-none_feeds : (xs : List ℕ) → HasNoFeed xs → list_any is_feed xs ≡ false
+pub none_feeds : (xs : List ℕ) → HasNoFeed xs → list_any is_feed xs ≡ false
 none_feeds [] clean = refl
 none_feeds (x ∷ xs) clean = rw (clean.0, none_feeds xs clean.1) refl
 
@@ -33,7 +34,7 @@ any_more (x ∷ xs) more h = by (x == 10) h (any_more xs more)
     by true h rest = refl
     by false h rest = rest h
 
-any_fed : (xs : List ℕ) → list_any is_feed (xs ++ 10 ∷ []) ≡ true
+pub any_fed : (xs : List ℕ) → list_any is_feed (xs ++ 10 ∷ []) ≡ true
 any_fed [] = refl
 any_fed (x ∷ xs) = either_true (x == 10) (list_any is_feed (xs ++ 10 ∷ [])) (any_fed xs)
 
@@ -42,12 +43,12 @@ no_feed_in_both [] ys front back = back
 no_feed_in_both (x ∷ xs) ys front back = (front.0, no_feed_in_both xs ys front.1 back)
 
 -- where there is a line feed there is a whole line
-record Some (lines : List (List ℕ)) : Type 0 where
-  line : List ℕ
-  more : List (List ℕ)
-  is : lines ≡ line ∷ more
+pub record Some (lines : List (List ℕ)) : Type 0 where
+  pub line : List ℕ
+  pub more : List (List ℕ)
+  pub is : lines ≡ line ∷ more
 
-has_line : (xs : List ℕ) → list_any is_feed xs ≡ true → Some (whole_lines xs)
+pub has_line : (xs : List ℕ) → list_any is_feed xs ≡ true → Some (whole_lines xs)
 unfolding whole_lines
 has_line [] h = absurd cc
 has_line (x ∷ xs) h = by (x == 10) h (has_line xs)
@@ -57,7 +58,7 @@ has_line (x ∷ xs) h = by (x == 10) h (has_line xs)
     by false h rest = let some = rest h in record { line = x ∷ some.line; more = some.more; is = ap (into_first x) some.is }
 
 -- the lines of more bytes begin with those of the first, and go on with what is behind them
-split_lines : (xs more : List ℕ) → whole_lines (xs ++ more) ≡ whole_lines xs ++ whole_lines (rest_of xs ++ more)
+pub split_lines : (xs more : List ℕ) → whole_lines (xs ++ more) ≡ whole_lines xs ++ whole_lines (rest_of xs ++ more)
 unfolding whole_lines rest_of
 split_lines [] more = refl
 split_lines (x ∷ xs) more = by (list_any is_feed (x ∷ xs)) refl (split_lines xs more)
@@ -75,7 +76,7 @@ split_lines (x ∷ xs) more = by (list_any is_feed (x ∷ xs)) refl (split_lines
     by true h rest = fed (x == 10) h rest
     by false h rest = ap (λ (ls : List (List ℕ)). ls ++ whole_lines (x ∷ (xs ++ more))) (sym (whole_lines-kept [] (x ∷ xs) (no_feed (x ∷ xs) h)))
 
-rest_grows : (xs more : List ℕ) → rest_of (xs ++ more) ≡ rest_of (rest_of xs ++ more)
+pub rest_grows : (xs more : List ℕ) → rest_of (xs ++ more) ≡ rest_of (rest_of xs ++ more)
 unfolding rest_of
 rest_grows [] more = refl
 rest_grows (x ∷ xs) more = by (list_any is_feed (x ∷ xs)) refl (rest_grows xs more)
@@ -94,7 +95,7 @@ rest_clean (x ∷ xs) = by (list_any is_feed (x ∷ xs)) refl (rest_clean xs)
     by true h rest = rest
     by false h rest = no_feed (x ∷ xs) h
 
-rest_whole : (xs : List ℕ) → HasNoFeed xs → rest_of xs ≡ xs
+pub rest_whole : (xs : List ℕ) → HasNoFeed xs → rest_of xs ≡ xs
 unfolding rest_of
 rest_whole [] clean = refl
 rest_whole (x ∷ xs) clean = rw (none_feeds (x ∷ xs) clean) refl
@@ -153,3 +154,38 @@ module _ (bytes piece : List ℕ) (clean : HasNoFeed piece) where
 
   pub looked_at_longer : looked_at (bytes ++ piece) ≡ whole_lines bytes ++ overlong (rest_of bytes ++ piece)
   looked_at_longer = ap (λ (ls : List (List ℕ)). ls ++ overlong (rest_of (bytes ++ piece))) no_line_more ∙ ap (λ (l : List ℕ). whole_lines bytes ++ overlong l) rest_longer
+
+-- the first part of a piece has no line feed, or ends with its only one
+abbrev pub IsFirst : List ℕ → Type 0
+IsFirst first = HasNoFeed first ⊎ ((front : List ℕ) × HasNoFeed front × (first ≡ front ++ 10 ∷ []))
+
+pub first_is : (piece : List ℕ) → IsFirst (first_part piece)
+unfolding first_part
+first_is [] = inl tt
+first_is (b ∷ bytes) = by (b == 10) refl (first_is bytes)
+  where
+    by : (t : Bool) → (b == 10) ≡ t → IsFirst (first_part bytes) → IsFirst (if t then b ∷ [] else b ∷ first_part bytes)
+    by true is rest = let feed = eqb-true b 10 is in inr ([], tt, ap (λ n. n ∷ []) feed)
+    by false is (inl clean) = inl (is, clean)
+    by false is (inr fed) = inr (b ∷ fed.0, (is, fed.1), ap (λ (l : List ℕ). b ∷ l) fed.2)
+
+-- it stands in front
+pub first_front : (piece : List ℕ) → first_part piece ++ drop (length (first_part piece)) piece ≡ piece
+unfolding first_part
+first_front [] = refl
+first_front (b ∷ bytes) = by (b == 10) (first_front bytes)
+  where
+    by : (t : Bool) → first_part bytes ++ drop (length (first_part bytes)) bytes ≡ bytes
+        → (let first : List ℕ = if t then b ∷ [] else b ∷ first_part bytes in first ++ drop (length first) (b ∷ bytes)) ≡ b ∷ bytes
+    by true rest = refl
+    by false rest = ap (λ (l : List ℕ). b ∷ l) rest
+
+-- and has a byte where the piece has one
+pub first_some : (piece : List ℕ) → 0 < length piece → 0 < length (first_part piece)
+unfolding first_part
+first_some [] some = some
+first_some (b ∷ bytes) some = by (b == 10)
+  where
+    by : (t : Bool) → 0 < length (if t then b ∷ [] else b ∷ first_part bytes)
+    by true = omega arith
+    by false = omega arith

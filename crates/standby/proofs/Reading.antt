@@ -17,7 +17,7 @@ use Rattle.standby.specs.{rest_of, overlong, end_after, end_from, end_of, stage_
 use Rattle.standby.proofs.Pieces.{one_line_more, nothing_left, one_more_looked_at, no_line_more, rest_longer, looked_at_longer}
 
 -- lines of which none ends the journal, and more lines behind them
-end_front : (xs ys : List (List ℕ)) (stage : Stage (List Served)) (number : ℕ) → end_from stage number (xs ++ ys) ≡ None → end_from stage number xs ≡ None
+pub end_front : (xs ys : List (List ℕ)) (stage : Stage (List Served)) (number : ℕ) → end_from stage number (xs ++ ys) ≡ None → end_from stage number xs ≡ None
 unfolding end_from
 end_front [] ys stage number none = refl
 end_front (x ∷ xs) ys stage number none = by (turn run stage number x) none (λ later. end_front xs ys later (number + 1))
@@ -27,7 +27,7 @@ end_front (x ∷ xs) ys stage number none = by (turn run stage number x) none (�
     by (goes_on later text) none rest = rest later none
     by (ends o) none rest = absurd cc
 
-end_append : (xs ys : List (List ℕ)) (stage : Stage (List Served)) (number count : ℕ) → count ≡ number + length xs → end_from stage number xs ≡ None
+pub end_append : (xs ys : List (List ℕ)) (stage : Stage (List Served)) (number count : ℕ) → count ≡ number + length xs → end_from stage number xs ≡ None
     → end_from stage number (xs ++ ys) ≡ end_from (stage_from run stage number xs) count ys
 unfolding end_from stage_from
 end_append [] ys stage number count is none = ap (λ n. end_from stage n ys) (let same : number ≡ count = omega (arith, is) in same)
@@ -39,7 +39,7 @@ end_append (x ∷ xs) ys stage number count is none = by (turn run stage number 
     by (goes_on later text) none rest = rest later none
     by (ends o) none rest = absurd cc
 
-stage_append : (xs ys : List (List ℕ)) (stage : Stage (List Served)) (number count : ℕ) → count ≡ number + length xs → end_from stage number xs ≡ None
+pub stage_append : (xs ys : List (List ℕ)) (stage : Stage (List Served)) (number count : ℕ) → count ≡ number + length xs → end_from stage number xs ≡ None
     → stage_from run stage number (xs ++ ys) ≡ stage_from run (stage_from run stage number xs) count ys
 unfolding end_from stage_from
 stage_append [] ys stage number count is none = ap (λ n. stage_from run stage n ys) (let same : number ≡ count = omega (arith, is) in same)

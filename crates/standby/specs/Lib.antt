@@ -1,7 +1,8 @@
 pub mod Reading
 pub mod Standing
 pub mod Following
-unfoldable pub use Rattle.standby.specs.Reading.{is_feed, rest_of, first_part, overlong, looked_at, end_after, end_from, end_of, stage_of, lines_followed, followed, whole_text}
+unfoldable pub use Rattle.standby.specs.Reading.{is_feed, rest_of, first_part, overlong, looked_at, end_after, end_from, end_of, stage_of, lines_followed, followed, whole_text, NothingBehindCounts}
+pub use Rattle.standby.specs.Reading.{StaysEnded}
 unfoldable pub use Rattle.standby.specs.Standing.{claim_of, numbers, HubServes, StandsSomewhere, count_of, OpensIn, can_open, lacks_memory, turn_of, is_end, Took, Halting}
 pub use Rattle.standby.specs.Standing.{Serves, Stands, OpensChannel, IsSame}
 unfoldable pub use Rattle.standby.specs.Following.{lasting, Halted, HasReadSome, Fails, Takes, Feeds, Refuses, WholeLinesAreFollowed}

@@ -1,5 +1,5 @@
 -- The bytes of a journal as far as it was read: its whole lines, and what they lead to.
-use Rattle.std.specs.Prelude.{ℕ, ◌+◌, ◌==◌, Bool, nat_lt, if◌then◌else◌, List, [], ◌∷◌, ◌++◌, length, filter_map, Option, None, Some, codes}
+use Rattle.std.specs.Prelude.{◌≡◌, ℕ, ◌+◌, ◌==◌, Bool, nat_lt, if◌then◌else◌, List, [], ◌∷◌, ◌++◌, length, filter_map, Option, None, Some, codes}
 use Rattle.std.specs.List.{list_any, flat_map}
 use Rattle.rams_model.specs.Texts.{whole_lines}
 use Rattle.server_hub.specs.declared.event.HubEvent.{HubEvent}
@@ -56,3 +56,12 @@ followed bytes = filter_map (event_at run) (lines_followed bytes)
 -- the whole lines, each with its line feed
 abbrev pub whole_text : List ℕ → List ℕ
 whole_text bytes = flat_map (λ line. line ++ codes "\n") (whole_lines bytes)
+
+-- Nothing behind the line that ends a journal changes what is followed, or how it ended.
+pub record StaysEnded (bytes more : List ℕ) (o : Outcome) : Type 0 where
+  pub end : end_of (bytes ++ more) ≡ Some o
+  pub reaches : stage_of (bytes ++ more) ≡ stage_of bytes
+  pub takes : lines_followed (bytes ++ more) ≡ lines_followed bytes
+
+abbrev pub NothingBehindCounts : Type 0
+NothingBehindCounts = (bytes more : List ℕ) (o : Outcome) → end_of bytes ≡ Some o → StaysEnded bytes more o

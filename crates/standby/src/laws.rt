@@ -1,5 +1,6 @@
-//! A law of the definitions: the contract of a function that does nothing.
-ghost use Rattle.standby.specs.{WholeLinesAreFollowed};
+//! Laws of the definitions. A law is the contract of a function that does nothing, or calls a law that it
+//! follows from.
+ghost use Rattle.standby.specs.{NothingBehindCounts, WholeLinesAreFollowed};
 
 use trace_book::laws::traces_are_served_by_their_lines;
 
@@ -10,3 +11,8 @@ pub fn whole_lines_are_followed()
 {
     traces_are_served_by_their_lines();
 }
+
+/// Nothing behind the line that ends a journal is followed, be it `end` or a line that is refused.
+pub fn nothing_behind_the_end_counts()
+    ensures { NothingBehindCounts }
+{}
