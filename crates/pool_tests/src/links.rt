@@ -47,7 +47,7 @@ fn claim_often(pool: &Pool, mut taker: Taker, bytes: u64) -> Result<Taker, NoMem
     requires bytes { (0 < bytes) × (bytes ≤ 1500) }
     ensures { IfOk result (λ t. t.pool ≡ pool.now.pool) }
 {
-    for _time in 0..1000 {
+    for _time in 0..1000u32 {
         pool.claim(&mut taker, bytes)?;
     }
     Ok(taker)
