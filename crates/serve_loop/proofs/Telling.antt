@@ -11,7 +11,7 @@ use Rattle.rams_model.specs.Service.{Settings}
 use Rattle.order_datagrams.proofs.ReadPackets.{answer_renders}
 use Rattle.server_hub.specs.declared.event.HubEvent.{HubEvent}
 use Rattle.server_hub.specs.declared.event.HubEvent.TheVariants.{Live, Feedback, Tick}
-use Rattle.server_hub.specs.{IsHub, Serves, StandsFor, settings_of, ids_of, with_event, after_event, after_event_of, after_tick, id_of, channel_of, answer_to, answer_of, answer_at, answers_to_tick, told_of, told_to, answers_said, Pairwise}
+use Rattle.server_hub.specs.{IsHub, StandsFor, settings_of, ids_of, with_event, after_event, after_event_of, after_tick, id_of, channel_of, answer_to, answer_of, answer_at, answers_to_tick, told_of, told_to, answers_said}
 use Rattle.server_hub.specs.Seen.{Seen}
 use Rattle.server_hub.specs.Served.{Served}
 use Rattle.server_hub.proofs.Changing.{rest_once, later_differs}

@@ -1,12 +1,10 @@
 //! The turns of a server.
-ghost use Rattle.std.specs.Prelude.{◌≡◌, ◌+◌, ◌*◌, ◌^◌, ◌<◌, ◌≤◌, ℕ, List, [], ◌++◌, IfErr, IfOk, IfSome, OnOk, Some, drop, length, option_map};
+ghost use Rattle.std.specs.Prelude.{◌≡◌, ◌+◌, ◌^◌, ◌<◌, ◌≤◌, ℕ, List, [], ◌++◌, IfErr, IfOk, OnOk, Some, drop, length};
 ghost use Rattle.ram_io.specs.declared.wire.Incoming.{Incoming};
 ghost use Rattle.ram_io.specs.{later};
 ghost use Rattle.server_hub.specs.declared.event.HubEvent.{HubEvent};
-ghost use Rattle.server_hub.specs.{event_of};
-ghost use Rattle.server_hub.specs.Served.{Served};
-ghost use Rattle.journal_book.specs.{heard_from, next_moment, tick_at, due_after, event_lines, events_of, sent_for, behind};
-ghost use Rattle.serve_loop.specs.{AnswersFrom, Begun, Broken, HasRoom, IsBetween, IsServer, IsStoppedOutside, OnlyMemoryStops, Room, Serving, next_events, numbers};
+ghost use Rattle.journal_book.specs.{next_moment, tick_at, due_after, event_lines, events_of, sent_for, behind};
+ghost use Rattle.serve_loop.specs.{Begun, Broken, HasRoom, IsBetween, IsServer, IsStoppedOutside, OnlyMemoryStops, Room, Serving, next_events};
 
 use crate::hearing::{Server, hear};
 use crate::journal::flush;
