@@ -1,5 +1,5 @@
 -- All lanes together.
-use Rattle.std.proofs.Common.{◌≡◌, ℕ, zero, suc, ◌+◌, ◌<◌, List, [], ◌∷◌, map, length, get_or, refl, sym, ap, ◌∙◌, subst, arith}
+use Rattle.std.proofs.Common.{◌≡◌, ◌≤◌, ℕ, zero, suc, ◌+◌, ◌<◌, List, [], ◌∷◌, map, length, get_or, refl, sym, ap, ◌∙◌, subst, arith}
 use Rattle.std.specs.Prelude.{All, Result, Ok, IfOk, MatchResult}
 use Rattle.std.specs.List.{AllByRecursion as Each}
 use Rattle.std.proofs.lemmas.List.Elements.{All-from_recursion, recursion_from_All}
@@ -20,16 +20,19 @@ use Rattle.pool_run.specs.{job, pairs, ran_of, IsFresh, CanRun, HasRun, HaveRun,
 abbrev from_number : Divided → ℕ → ℕ → List Claimer
 from_number pool first n = map (λ (number : ℕ). claimer pool.pool number []) (numbers first n)
 
-each_can : (pool : Divided) (first n : ℕ) (lanes : List Lane) → Each IsFresh lanes → Each (CanRun pool) (pairs lanes (from_number pool first n))
-each_can pool first n [] fresh = tt
-each_can pool first zero (lane ∷ lanes) fresh = tt
-each_can pool first (suc n) (lane ∷ lanes) fresh = (record { fresh = fresh.0; made = refl; empty = refl }, each_can pool (first + 1) n lanes fresh.1)
+each_can : (pool : Divided) (first n : ℕ) (lanes : List Lane) → first + n ≤ 64 → Each IsFresh lanes → Each (CanRun pool) (pairs lanes (from_number pool first n))
+each_can pool first n [] few fresh = tt
+each_can pool first zero (lane ∷ lanes) few fresh = tt
+each_can pool first (suc n) (lane ∷ lanes) few fresh = (
+  record { fresh = fresh.0; made = refl; number = omega (arith, few); empty = refl },
+  each_can pool (first + 1) n lanes (omega (arith, few)) fresh.1,
+)
 
-pub can_run : (pool : Divided) (n : ℕ) (lanes : List Lane) (takers : List Claimer) (jobs : List Job) → takers ≡ fresh_takers pool.pool n → jobs ≡ pairs lanes takers → All IsFresh lanes
+pub can_run : (pool : Divided) (n : ℕ) (lanes : List Lane) (takers : List Claimer) (jobs : List Job) → n ≤ 64 → takers ≡ fresh_takers pool.pool n → jobs ≡ pairs lanes takers → All IsFresh lanes
     → All (CanRun pool) jobs
-can_run pool n lanes takers jobs are paired fresh =
+can_run pool n lanes takers jobs few are paired fresh =
     subst (λ (js : List Job). All (CanRun pool) js) (sym (paired ∙ ap (pairs lanes) are))
-    (All-from_recursion (CanRun pool) (pairs lanes (from_number pool 0 n)) (each_can pool 0 n lanes (recursion_from_All IsFresh lanes fresh)))
+    (All-from_recursion (CanRun pool) (pairs lanes (from_number pool 0 n)) (each_can pool 0 n lanes (omega (arith, few)) (recursion_from_All IsFresh lanes fresh)))
 
 -- ---- behind them
 

@@ -26,10 +26,11 @@ pub record IsBookOf (s : Settings) (events : List Event) (book : Kept) : Type 0 
   pub events_are : map (λ (e : Entry). e.event) book.entries ≡ events
   pub legal : IsLegal s book.entries
 
--- The lane is fresh, and its taker is of this pool and without claims.
+-- The lane is fresh, and its taker is of this pool, which has at most 64, and without claims.
 pub record CanRun (pool : Divided) (job : Job) : Type 0 where
   pub fresh : IsFresh job.lane
   pub made : job.taker.pool ≡ pool.pool
+  pub number : job.taker.number < 64
   pub empty : job.taker.claims ≡ []
 
 -- The lane's events were taken, and the wire size of each packet that was sent again was claimed, in order.

@@ -42,7 +42,7 @@ pub(crate) fn run_lane<G: Gate>(
 {
     let Job { lane, mut taker } = job;
     let Lane { core, events } = lane;
-    let number = (taker.number() % 64) as u16;
+    let number = taker.number() as u16;
     let mut book = Book::new(alloc, core);
     for event in events {
         let call = book.entries().len() as u64;

@@ -6,7 +6,7 @@ use Rattle.pool_run.proofs.run.run_pool.Goals as goal
 
 pub run_beside-ticker-requires-clause-jobs : goal.run_beside-ticker-requires-clause-jobs
 run_beside-ticker-requires-clause-jobs g c κs within =
-    can_run c.in_ok-pool.pool c.len.result c.args.lanes.items c.in_ok-pool.takers.items c.in_ok-jobs.jobs.items c.in_ok-pool.ensures.takers c.in_ok-jobs.ensures c.requires.fresh
+    can_run c.in_ok-pool.pool c.len.result c.args.lanes.items c.in_ok-pool.takers.items c.in_ok-jobs.jobs.items (search rules) c.in_ok-pool.ensures.takers c.in_ok-jobs.ensures c.requires.fresh
 
 pub close-requires-clause-takers : goal.close-requires-clause-takers
 close-requires-clause-takers g c =
