@@ -19,7 +19,7 @@ use std::{env, io, rt};
 use udp_edge::{BindFault, FailedWire, UdpWire, busy_port};
 
 const USAGE: &str =
-    "usage: rams-replay run | meet | serve PORT TURNS | make SEED BLOCKS | sdp | describe PORT";
+    "usage: rams-replay run | meet | serve PORT TURNS | make SEED BLOCKS | pcap PORT | sdp | describe PORT";
 
 fn main(rt: HostRuntime) -> ExitCode {
     let status = match words(&rt) {

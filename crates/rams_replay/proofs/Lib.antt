@@ -5,3 +5,4 @@ pub mod Opening
 pub mod Ending
 pub mod ServeWords
 pub mod Serving
+pub mod Capturing

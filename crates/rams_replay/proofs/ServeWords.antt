@@ -4,8 +4,8 @@ use Rattle.std.proofs.lemmas.Bool.{and_parts, leb-true}
 use Rattle.rams_model.specs.Texts.{number_in}
 use Rattle.trace_text.proofs.Spelled.{is_word}
 use Rattle.rams_replay.specs.declared.words.Command.{Command}
-use Rattle.rams_replay.specs.declared.words.Command.TheVariants.{Run, Meet, Make, Serve, Sdp, Describe}
-use Rattle.rams_replay.specs.{begins_with_plain, command_of, make_of, serve_of, describe_of, number_within, within}
+use Rattle.rams_replay.specs.declared.words.Command.TheVariants.{Run, Meet, Make, Serve, Sdp, Describe, Pcap}
+use Rattle.rams_replay.specs.{begins_with_plain, command_of, make_of, serve_of, describe_of, pcap_of, with_port, number_within, within}
 
 first_false : (a b : Bool) → (a || b) ≡ false → a ≡ false
 first_false false b h = refl
@@ -29,6 +29,7 @@ record IsNoPlain (word : List ℕ) : Type 0 where
   make : bytes_eq word (codes "make") ≡ false
   sdp : bytes_eq word (codes "sdp") ≡ false
   describe : bytes_eq word (codes "describe") ≡ false
+  pcap : bytes_eq word (codes "pcap") ≡ false
 
 no_plain : (word : List ℕ) (rest : List (List ℕ)) → begins_with_plain (word ∷ rest) ≡ false → IsNoPlain word
 no_plain word rest h =
@@ -37,7 +38,9 @@ no_plain word rest h =
     let make = bytes_eq word (codes "make") in
     let sdp = bytes_eq word (codes "sdp") in
     let describe = bytes_eq word (codes "describe") in
-    let four = first_false (((run || meet) || make) || sdp) describe h in
+    let pcap = bytes_eq word (codes "pcap") in
+    let five = first_false ((((run || meet) || make) || sdp) || describe) pcap h in
+    let four = first_false (((run || meet) || make) || sdp) describe five in
     let three = first_false ((run || meet) || make) sdp four in
     let two = first_false (run || meet) make three in
     record {
@@ -45,7 +48,8 @@ no_plain word rest h =
       meet = last_false run meet two;
       make = last_false (run || meet) make three;
       sdp = last_false ((run || meet) || make) sdp four;
-      describe = last_false (((run || meet) || make) || sdp) describe h;
+      describe = last_false (((run || meet) || make) || sdp) describe five;
+      pcap = last_false ((((run || meet) || make) || sdp) || describe) pcap h;
     }
 
 -- words that begin with none of those spell no command but `serve`
@@ -58,7 +62,7 @@ only_serve (word ∷ []) c plain h =
     absurd cc
 only_serve (word ∷ first ∷ []) c plain h =
     let is = no_plain word (first ∷ []) plain in
-    let none : command_of (word ∷ first ∷ []) ≡ None = rw is.describe refl in
+    let none : command_of (word ∷ first ∷ []) ≡ None = rw (is.describe, is.pcap) refl in
     let no : None ≡ Some c = sym none ∙ h in
     absurd cc
 only_serve (word ∷ first ∷ second ∷ []) c plain h =
@@ -90,15 +94,17 @@ none_alone port turns false false true e = cc
 none_alone port turns false false false e = cc
 
 -- nor do two words
-none_described : (port turns : ℕ) (b : Bool) (o : Option ℕ) → (if b then describe_of o else None) ≡ Some (Serve port turns) → ⊥
-none_described port turns false o e = cc
-none_described port turns true None e = cc
-none_described port turns true (Some p) e = cc
+none_described : (port turns : ℕ) (b q : Bool) (o : Option ℕ) → (if b then describe_of o else if q then pcap_of o else None) ≡ Some (Serve port turns) → ⊥
+none_described port turns false false o e = cc
+none_described port turns false true None e = cc
+none_described port turns false true (Some p) e = cc
+none_described port turns true q None e = cc
+none_described port turns true q (Some p) e = cc
 
 pub plain_serves_none : (words : List (List ℕ)) (port turns : ℕ) → begins_with_plain words ≡ true → command_of words ≡ Some (Serve port turns) → ⊥
 plain_serves_none [] port turns plain h = absurd cc
 plain_serves_none (word ∷ []) port turns plain h = none_alone port turns (bytes_eq word (codes "run")) (bytes_eq word (codes "meet")) (bytes_eq word (codes "sdp")) h
-plain_serves_none (word ∷ first ∷ []) port turns plain h = none_described port turns (bytes_eq word (codes "describe")) (number_within 1 65000 first) h
+plain_serves_none (word ∷ first ∷ []) port turns plain h = none_described port turns (bytes_eq word (codes "describe")) (bytes_eq word (codes "pcap")) (number_within 1 65000 first) h
 plain_serves_none (word ∷ first ∷ second ∷ []) port turns plain h =
     by (bytes_eq word (codes "make")) (bytes_eq word (codes "serve")) refl (make_of (number_within 0 (2 ^ 32 - 1) first) (number_within 1 50000 second)) (makes (number_within 0 (2 ^ 32 - 1) first) (number_within 1 50000 second)) h
   where
@@ -152,7 +158,7 @@ bounds_of first second port turns e =
 pub in_bounds : (words : List (List ℕ)) (port turns : ℕ) → command_of words ≡ Some (Serve port turns) → AreInBounds port turns
 in_bounds [] port turns h = cc
 in_bounds (word ∷ []) port turns h = absurd (none_alone port turns (bytes_eq word (codes "run")) (bytes_eq word (codes "meet")) (bytes_eq word (codes "sdp")) h)
-in_bounds (word ∷ first ∷ []) port turns h = absurd (none_described port turns (bytes_eq word (codes "describe")) (number_within 1 65000 first) h)
+in_bounds (word ∷ first ∷ []) port turns h = absurd (none_described port turns (bytes_eq word (codes "describe")) (bytes_eq word (codes "pcap")) (number_within 1 65000 first) h)
 in_bounds (word ∷ first ∷ second ∷ []) port turns h =
     by (bytes_eq word (codes "make")) (bytes_eq word (codes "serve")) (number_within 0 (2 ^ 32 - 1) first) (number_within 1 50000 second) h
   where
@@ -190,17 +196,53 @@ described_port : (port : ℕ) (o : Option ℕ) → describe_of o ≡ Some (Descr
 described_port port None e = cc
 described_port port (Some p) e = let same : p ≡ port = cc in ap Some same
 
+only_described : (port : ℕ) (b q : Bool) (o : Option ℕ) → (if b then describe_of o else if q then pcap_of o else None) ≡ Some (Describe port) → describe_of o ≡ Some (Describe port)
+only_described port true q o e = e
+only_described port false true None e = cc
+only_described port false true (Some p) e = cc
+only_described port false false o e = cc
+
 pub describes_within : (words : List (List ℕ)) (port : ℕ) → command_of words ≡ Some (Describe port) → (1 ≤ port) × (port ≤ 65000)
 describes_within [] port h = cc
 describes_within (word ∷ []) port h = absurd (none_alone_described port (bytes_eq word (codes "run")) (bytes_eq word (codes "meet")) (bytes_eq word (codes "sdp")) h)
-describes_within (word ∷ first ∷ []) port h = by (bytes_eq word (codes "describe")) h
-  where
-    by : (b : Bool) → (if b then describe_of (number_within 1 65000 first) else None) ≡ Some (Describe port) → (1 ≤ port) × (port ≤ 65000)
-    by true e = within_bounds 1 65000 port (number_in first) (described_port port (number_within 1 65000 first) e)
-    by false e = cc
+describes_within (word ∷ first ∷ []) port h =
+    within_bounds 1 65000 port (number_in first) (described_port port (number_within 1 65000 first) (only_described port (bytes_eq word (codes "describe")) (bytes_eq word (codes "pcap")) (number_within 1 65000 first) h))
 describes_within (word ∷ first ∷ second ∷ []) port h =
     absurd (none_of_three port (bytes_eq word (codes "make")) (bytes_eq word (codes "serve")) (number_within 0 (2 ^ 32 - 1) first) (number_within 1 50000 second) (number_within 1024 65000 first) (number_within 1 500000 second) h)
 describes_within (word ∷ first ∷ second ∷ other ∷ rest) port h = cc
+
+-- ---- and that of `pcap`
+
+none_of_three_captured : (port : ℕ) (m s : Bool) (seed blocks p t : Option ℕ) → (if m then make_of seed blocks else if s then serve_of p t else None) ≡ Some (Pcap port) → ⊥
+none_of_three_captured port true s None blocks p t e = cc
+none_of_three_captured port true s (Some seed) None p t e = cc
+none_of_three_captured port true s (Some seed) (Some blocks) p t e = cc
+none_of_three_captured port false true seed blocks None t e = cc
+none_of_three_captured port false true seed blocks (Some p) None e = cc
+none_of_three_captured port false true seed blocks (Some p) (Some t) e = cc
+none_of_three_captured port false false seed blocks p t e = cc
+
+none_alone_captured : (port : ℕ) (r m s : Bool) → (if r then Some Run else if m then Some Meet else if s then Some Sdp else None) ≡ Some (Pcap port) → ⊥
+none_alone_captured port true m s e = cc
+none_alone_captured port false true s e = cc
+none_alone_captured port false false true e = cc
+none_alone_captured port false false false e = cc
+
+captured_port : (port : ℕ) (b q : Bool) (o : Option ℕ) → (if b then describe_of o else if q then pcap_of o else None) ≡ Some (Pcap port) → o ≡ Some port
+captured_port port true q None e = cc
+captured_port port true q (Some p) e = cc
+captured_port port false true None e = cc
+captured_port port false true (Some p) e = let same : p ≡ port = cc in ap Some same
+captured_port port false false o e = cc
+
+pub captures_within : (words : List (List ℕ)) (port : ℕ) → command_of words ≡ Some (Pcap port) → port ≤ 65000
+captures_within [] port h = cc
+captures_within (word ∷ []) port h = absurd (none_alone_captured port (bytes_eq word (codes "run")) (bytes_eq word (codes "meet")) (bytes_eq word (codes "sdp")) h)
+captures_within (word ∷ first ∷ []) port h =
+    (within_bounds 1 65000 port (number_in first) (captured_port port (bytes_eq word (codes "describe")) (bytes_eq word (codes "pcap")) (number_within 1 65000 first) h)).1
+captures_within (word ∷ first ∷ second ∷ []) port h =
+    absurd (none_of_three_captured port (bytes_eq word (codes "make")) (bytes_eq word (codes "serve")) (number_within 0 (2 ^ 32 - 1) first) (number_within 1 50000 second) (number_within 1024 65000 first) (number_within 1 500000 second) h)
+captures_within (word ∷ first ∷ second ∷ other ∷ rest) port h = cc
 
 -- ---- and the blocks of `make`
 
@@ -210,10 +252,12 @@ none_alone_made seed blocks false true s e = cc
 none_alone_made seed blocks false false true e = cc
 none_alone_made seed blocks false false false e = cc
 
-none_described_made : (seed blocks : ℕ) (b : Bool) (o : Option ℕ) → (if b then describe_of o else None) ≡ Some (Make seed blocks) → ⊥
-none_described_made seed blocks false o e = cc
-none_described_made seed blocks true None e = cc
-none_described_made seed blocks true (Some p) e = cc
+none_described_made : (seed blocks : ℕ) (b q : Bool) (o : Option ℕ) → (if b then describe_of o else if q then pcap_of o else None) ≡ Some (Make seed blocks) → ⊥
+none_described_made seed blocks false false o e = cc
+none_described_made seed blocks false true None e = cc
+none_described_made seed blocks false true (Some p) e = cc
+none_described_made seed blocks true q None e = cc
+none_described_made seed blocks true q (Some p) e = cc
 
 made_blocks : (seed blocks : ℕ) (m s : Bool) (o b p t : Option ℕ) → (if m then make_of o b else if s then serve_of p t else None) ≡ Some (Make seed blocks) → b ≡ Some blocks
 made_blocks seed blocks true s None b p t e = cc
@@ -227,7 +271,7 @@ made_blocks seed blocks false false o b p t e = cc
 pub makes_within : (words : List (List ℕ)) (seed blocks : ℕ) → command_of words ≡ Some (Make seed blocks) → blocks ≤ 50000
 makes_within [] seed blocks h = cc
 makes_within (word ∷ []) seed blocks h = absurd (none_alone_made seed blocks (bytes_eq word (codes "run")) (bytes_eq word (codes "meet")) (bytes_eq word (codes "sdp")) h)
-makes_within (word ∷ first ∷ []) seed blocks h = absurd (none_described_made seed blocks (bytes_eq word (codes "describe")) (number_within 1 65000 first) h)
+makes_within (word ∷ first ∷ []) seed blocks h = absurd (none_described_made seed blocks (bytes_eq word (codes "describe")) (bytes_eq word (codes "pcap")) (number_within 1 65000 first) h)
 makes_within (word ∷ first ∷ second ∷ []) seed blocks h =
     (within_bounds 1 50000 blocks (number_in second) (made_blocks seed blocks (bytes_eq word (codes "make")) (bytes_eq word (codes "serve")) (number_within 0 (2 ^ 32 - 1) first) (number_within 1 50000 second) (number_within 1024 65000 first) (number_within 1 500000 second) h)).1
 makes_within (word ∷ first ∷ second ∷ other ∷ rest) seed blocks h = cc

@@ -3,7 +3,7 @@ use Rattle.std.specs.Prelude.{◌≡◌, ℕ, ◌-◌, ◌^◌, ◌||◌, if◌t
 use Rattle.std.specs.Int.{is_in_range}
 use Rattle.rams_model.specs.Texts.{number_in}
 use Rattle.rams_replay.specs.declared.words.Command.{Command}
-use Rattle.rams_replay.specs.declared.words.Command.TheVariants.{Run, Meet, Make, Serve, Sdp, Describe}
+use Rattle.rams_replay.specs.declared.words.Command.TheVariants.{Run, Meet, Make, Serve, Sdp, Describe, Pcap}
 
 -- the number, where it is from low to high
 abbrev pub within : ℕ → ℕ → Option ℕ → Option ℕ
@@ -28,6 +28,10 @@ abbrev pub describe_of : Option ℕ → Option Command
 describe_of None = None
 describe_of (Some port) = Some (Describe port)
 
+abbrev pub pcap_of : Option ℕ → Option Command
+pcap_of None = None
+pcap_of (Some port) = Some (Pcap port)
+
 -- `run`, `meet` or `sdp` alone
 abbrev pub alone : List ℕ → Option Command
 alone word =
@@ -36,11 +40,18 @@ alone word =
     else if bytes_eq word (codes "sdp") then Some Sdp
     else None
 
--- `run`, `meet` or `sdp` alone, `describe PORT`, `make SEED BLOCKS` or `serve PORT TURNS`
+-- `describe PORT` or `pcap PORT`
+abbrev pub with_port : List ℕ → List ℕ → Option Command
+with_port word port =
+    if bytes_eq word (codes "describe") then describe_of (number_within 1 65000 port)
+    else if bytes_eq word (codes "pcap") then pcap_of (number_within 1 65000 port)
+    else None
+
+-- `run`, `meet` or `sdp` alone, `describe PORT`, `pcap PORT`, `make SEED BLOCKS` or `serve PORT TURNS`
 abbrev pub command_of : List (List ℕ) → Option Command
 command_of [] = None
 command_of (word ∷ []) = alone word
-command_of (word ∷ first ∷ []) = if bytes_eq word (codes "describe") then describe_of (number_within 1 65000 first) else None
+command_of (word ∷ first ∷ []) = with_port word first
 command_of (word ∷ first ∷ second ∷ []) =
     if bytes_eq word (codes "make") then make_of (number_within 0 (2 ^ 32 - 1) first) (number_within 1 50000 second)
     else if bytes_eq word (codes "serve") then serve_of (number_within 1024 65000 first) (number_within 1 500000 second) else None
@@ -51,7 +62,7 @@ abbrev pub begins_with_plain : List (List ℕ) → Bool
 begins_with_plain [] = false
 begins_with_plain (word ∷ rest) =
     bytes_eq word (codes "run") || bytes_eq word (codes "meet") || bytes_eq word (codes "make") || bytes_eq word (codes "sdp")
-    || bytes_eq word (codes "describe")
+    || bytes_eq word (codes "describe") || bytes_eq word (codes "pcap")
 
 -- the words are `run`
 abbrev pub AreRun : List (List ℕ) → Type 0
@@ -68,6 +79,10 @@ AreSdp words = command_of words ≡ Some Sdp
 -- the words are `describe PORT`
 abbrev pub AreDescribe : List (List ℕ) → ℕ → Type 0
 AreDescribe words port = command_of words ≡ Some (Describe port)
+
+-- the words are `pcap PORT`
+abbrev pub ArePcap : List (List ℕ) → ℕ → Type 0
+ArePcap words port = command_of words ≡ Some (Pcap port)
 
 -- the words are `make SEED BLOCKS`
 abbrev pub AreMake : List (List ℕ) → ℕ → ℕ → Type 0

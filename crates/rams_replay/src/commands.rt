@@ -6,13 +6,15 @@ ghost use Rattle.serve_loop.specs.{Given, HasRoom, IsGiven, served_datagrams, se
 ghost use Rattle.description_loop.specs.{DescribesItsHead, WritesATrace, description_outcome, settings_outcome};
 ghost use Rattle.summary.specs.{made_summary};
 ghost use Rattle.world_book.specs.{EndsSo as WorldEndsSo, IsServedByAWorld, ReceiversPresent, meet as world, world_of};
-ghost use Rattle.rams_replay.specs.{AreDescribe, AreMake, AreMeet, AreRun, AreSdp, AreServe, Replies, begins_with_plain, command_of, no_room, port_of, status_of, is_words, HasServed, HasSummary, IsCaused, IsCausedOverWire, IsOrLacksMemory, Writes};
+ghost use Rattle.std.specs.Io.KnownBytes.{IsAtEnd};
+ghost use Rattle.rams_replay.specs.{AreDescribe, AreMake, AreMeet, ArePcap, AreRun, AreSdp, AreServe, Replies, WritesCapture, begins_with_plain, command_of, no_room, port_of, status_of, is_words, HasServed, HasSummary, IsCaused, IsCausedOverWire, IsOrLacksMemory, Writes};
 ghost use Rattle.trace_loop.specs.{IfTold};
 
 use crate::made::write_summary;
 use crate::replay::new_replay;
 use crate::served::serve_status;
 use crate::words::{Command, begins_with_plain, command_of, serve_words};
+use capture_loop::write_capture;
 use description_loop::{
     settings_are_traces, settings_are_turned_back, write_description, write_settings,
 };
@@ -38,7 +40,8 @@ use world_book::laws::{
 /// `words` are those of the command line behind the program's name. `run` reads a trace and writes
 /// its book; `meet` does so of a trace with set-tops, the trace of a world; `sdp` reads the head of a channel
 /// and a session description, and writes the head with the description's settings; `describe PORT` reads
-/// such a head, and writes a description of its channel; `make SEED BLOCKS` writes the summary of a generated
+/// such a head, and writes a description of its channel; `pcap PORT` reads a head and a capture file, and
+/// writes a trace of what came to the ports of the head's channels; `make SEED BLOCKS` writes the summary of a generated
 /// trace and reads nothing; `serve PORT TURNS` reads a head, and serves its channels over the wire for so many
 /// turns, while the gate looks on. Any other words are refused, and nothing is read or written.
 #[tactic(auto, using(crate::proofs::ServeWords::no_command))]
@@ -58,6 +61,8 @@ pub fn run<R: Threads + Wait + Sync, S: Source, K: Sink, W: Wire, C: Clock, G: G
     ensures world { AreMeet words.now → Writes world (S.left source.old) (S.left source.new) (S.is_steady source.old) (K.held sink.old) (K.held sink.new) (K.faults sink.old) (K.faults sink.new) (K.is_steady sink.old) result }
     ensures settings { AreSdp words.now → Replies settings_outcome (S.left source.old) (S.is_steady source.old) (K.held sink.old) (K.held sink.new) (K.is_steady sink.old) result }
     ensures description { (port : ℕ) → AreDescribe words.now port → Replies (description_outcome port) (S.left source.old) (S.is_steady source.old) (K.held sink.old) (K.held sink.new) (K.is_steady sink.old) result }
+    ensures capture { (port : ℕ) → ArePcap words.now port → WritesCapture port (S.left source.old) (S.left source.new) (S.is_steady source.old) (K.held sink.old) (K.held sink.new) (K.faults sink.old) (K.faults sink.new) (K.is_steady sink.old) result }
+    ensures captured { (port : ℕ) → ArePcap words.now port → result ≡ Done → IsAtEnd (S.left source.new) }
     ensures undescribed { AreSdp words.now ⊎ ((port : ℕ) × AreDescribe words.now port) → result ≡ ReadFault → sink.new ≡ sink.old }
     ensures lines { IfTold (S.left source.old) IsServed }
     ensures ends { IfTold (S.left source.old) EndsSo }
@@ -93,7 +98,7 @@ pub fn run<R: Threads + Wait + Sync, S: Source, K: Sink, W: Wire, C: Clock, G: G
     }
 }
 
-/// Runs a command that waits for nobody: the first word is `run`, `meet`, `make`, `sdp` or `describe`.
+/// Runs a command that waits for nobody: the first word is `run`, `meet`, `make`, `sdp`, `describe` or `pcap`.
 pub fn plain<S: Source, K: Sink>(
     alloc: Global,
     words: &[Octets],
@@ -107,6 +112,8 @@ pub fn plain<S: Source, K: Sink>(
     ensures world { AreMeet words.now → Writes world (S.left source.old) (S.left source.new) (S.is_steady source.old) (K.held sink.old) (K.held sink.new) (K.faults sink.old) (K.faults sink.new) (K.is_steady sink.old) result }
     ensures settings { AreSdp words.now → Replies settings_outcome (S.left source.old) (S.is_steady source.old) (K.held sink.old) (K.held sink.new) (K.is_steady sink.old) result }
     ensures description { (port : ℕ) → AreDescribe words.now port → Replies (description_outcome port) (S.left source.old) (S.is_steady source.old) (K.held sink.old) (K.held sink.new) (K.is_steady sink.old) result }
+    ensures capture { (port : ℕ) → ArePcap words.now port → WritesCapture port (S.left source.old) (S.left source.new) (S.is_steady source.old) (K.held sink.old) (K.held sink.new) (K.faults sink.old) (K.faults sink.new) (K.is_steady sink.old) result }
+    ensures captured { (port : ℕ) → ArePcap words.now port → result ≡ Done → IsAtEnd (S.left source.new) }
     ensures undescribed { AreSdp words.now ⊎ ((port : ℕ) × AreDescribe words.now port) → result ≡ ReadFault → sink.new ≡ sink.old }
     ensures lines { IfTold (S.left source.old) IsServed }
     ensures ends { IfTold (S.left source.old) EndsSo }
@@ -130,6 +137,7 @@ pub fn plain<S: Source, K: Sink>(
         Some(Command::Make { seed, blocks }) => status_of(write_summary(alloc, seed, blocks, sink)),
         Some(Command::Sdp) => settings_status(alloc, source, sink),
         Some(Command::Describe { port }) => description_status(alloc, port, source, sink),
+        Some(Command::Pcap { port }) => capture_status(alloc, port, source, sink),
         // Its first word is none of those.
         Some(Command::Serve { .. }) => Status::Words,
         None => Status::Words,
@@ -206,6 +214,23 @@ fn description_status<S: Source, K: Sink>(
     ensures cause { IsCaused (S.faults source.old) (S.faults source.new) (K.faults sink.old) (K.faults sink.new) result }
 {
     status_of(write_description(alloc, port, source, sink))
+}
+
+/// Writes the trace of the capture file behind the head that the source begins with, and says how that
+/// ended.
+fn capture_status<S: Source, K: Sink>(
+    alloc: Global,
+    port: u16,
+    source: &mut S,
+    sink: &mut K,
+) -> Status
+    requires { port ≤ 65000 }
+    ensures words { is_words result ≡ false }
+    ensures writes { WritesCapture port (S.left source.old) (S.left source.new) (S.is_steady source.old) (K.held sink.old) (K.held sink.new) (K.faults sink.old) (K.faults sink.new) (K.is_steady sink.old) result }
+    ensures ended { result ≡ Done → IsAtEnd (S.left source.new) }
+    ensures cause { IsCaused (S.faults source.old) (S.faults source.new) (K.faults sink.old) (K.faults sink.new) result }
+{
+    status_of(write_capture(alloc, port, source, sink))
 }
 
 fn status_of(ended: Result<Status, Stop>) -> Status

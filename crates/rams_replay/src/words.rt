@@ -20,10 +20,12 @@ pub enum Command {
     Sdp,
     /// The session description of a channel, its media on this UDP port.
     Describe { port: u16 },
+    /// The trace of a capture file, with this live port of its first channel.
+    Pcap { port: u16 },
 }
 
-/// The command that the words spell: `run`; `meet`; `sdp`; `describe PORT` with a port from 1 to 65,000;
-/// `make SEED BLOCKS` with a seed of up to 2^32 - 1 and 1 to 50,000 blocks; or `serve PORT TURNS` with a port
+/// The command that the words spell: `run`; `meet`; `sdp`; `describe PORT` or `pcap PORT` with a port from 1 to
+/// 65,000; `make SEED BLOCKS` with a seed of up to 2^32 - 1 and 1 to 50,000 blocks; or `serve PORT TURNS` with a port
 /// from 1,024 to 65,000 and 1 to 500,000 turns. Numbers stand in decimal digits without a zero in front.
 /// `None` exactly where the words spell none.
 pub fn command_of(words: &[Octets]) -> Option<Command>
@@ -34,6 +36,9 @@ pub fn command_of(words: &[Octets]) -> Option<Command>
         [word] if word.bytes() == b"meet".as_slice() => Some(Command::Meet),
         [word] if word.bytes() == b"sdp".as_slice() => Some(Command::Sdp),
         [word, port] if word.bytes() == b"describe".as_slice() => Some(Command::Describe {
+            port: port_from(1, port.bytes())?,
+        }),
+        [word, port] if word.bytes() == b"pcap".as_slice() => Some(Command::Pcap {
             port: port_from(1, port.bytes())?,
         }),
         [word, seed, blocks] if word.bytes() == b"make".as_slice() => Some(Command::Make {
@@ -78,7 +83,8 @@ pub fn port_of(words: &[Octets]) -> Option<u16>
             | Command::Meet
             | Command::Make { .. }
             | Command::Sdp
-            | Command::Describe { .. },
+            | Command::Describe { .. }
+            | Command::Pcap { .. },
         )
         | None => None,
     }
@@ -98,14 +104,15 @@ pub fn serve_words(words: &[Octets]) -> Option<(u16, u32)>
             | Command::Meet
             | Command::Make { .. }
             | Command::Sdp
-            | Command::Describe { .. },
+            | Command::Describe { .. }
+            | Command::Pcap { .. },
         )
         | None => None,
     }
 }
 
-/// Whether the first word is that of a command which waits for nobody: `run`, `meet`, `make`, `sdp` or
-/// `describe`.
+/// Whether the first word is that of a command which waits for nobody: `run`, `meet`, `make`, `sdp`,
+/// `describe` or `pcap`.
 pub fn begins_with_plain(words: &[Octets]) -> bool
     ensures { result ≡ begins_with_plain words.now }
 {
@@ -116,6 +123,7 @@ pub fn begins_with_plain(words: &[Octets]) -> bool
                 || word.bytes() == b"make".as_slice()
                 || word.bytes() == b"sdp".as_slice()
                 || word.bytes() == b"describe".as_slice()
+                || word.bytes() == b"pcap".as_slice()
         }
         [] => false,
     }
