@@ -1,6 +1,6 @@
 //! The lines of a trace.
 //!
-//! The modes `Threads` and `Describe` wait for commands that are still to come.
+//! The mode `Threads` waits for a command that is still to come.
 #![tactic(auto)]
 
 mod bytes;

@@ -8,7 +8,7 @@ ghost use Rattle.std.specs.List.{list_any};
 
 use crate::line::{Judged, Line};
 use crate::order::{
-    has_events, has_receivers, has_one_channel, kind_of, kind_of_first_word, version_spelled,
+    has_events, has_one_channel, has_receivers, kind_of, kind_of_first_word, version_spelled,
 };
 use crate::ranges::is_in_range;
 use crate::read::read_unranged;
