@@ -1,4 +1,4 @@
-//! The commands `sdp` and `describe`: their words, and a run of each.
+//! The commands `sdp`, `describe` and `pcap`: their words, and a run of each.
 use crate::row::OPENING;
 use ram_io::{MemSink, MemSource};
 use rams_replay::{Octets, Status, begins_with_plain, plain};
@@ -32,8 +32,14 @@ end
 const DESCRIBED: &str =
     "v=0\r\no=- 0 0 IN IP4 127.0.0.1\r\ns=channel 7\r\nt=0 0\r\nm=video 5000 RTP/AVPF 33\r\nc=IN IP4 127.0.0.1\r\na=rtpmap:33 MP2T/90000\r\na=rtcp-fb:33 nack\r\na=rtcp-fb:33 nack rai\r\na=ssrc:287454020 cname:rams\r\nm=video 5001 RTP/AVPF 99\r\nc=IN IP4 127.0.0.1\r\na=rtpmap:99 rtx/90000\r\na=fmtp:99 apt=33\r\n";
 
+/// The opening, and a capture that ends before it begins.
+const SHORT: &str = "rams-trace 1 tick 10 link 100000
+channel 7 ssrc 11223344 pt 33 rtx 99 server aabbccdd seq0 500 ring 64 window 0 access marker share 10000 reserve 1500 burst 4000 declared 100 minwire 42 limit 100 idle 100 clients 4
+refused-capture 0 short
+";
+
 /// The words, what stands behind the opening, how the command ends, and with what text.
-const ROWS: [(&[&str], &str, Status, &str); 12] = [
+const ROWS: [(&[&str], &str, Status, &str); 17] = [
     (&["sdp"], OFFER, Status::Done, SET),
     (&["sdp"], "end\n", Status::BadSdp, "refused-sdp version\n"),
     (&["sdp"], "tick\n", Status::BadTrace, "refused 3 order\n"),
@@ -56,6 +62,16 @@ const ROWS: [(&[&str], &str, Status, &str); 12] = [
     (&["describe", "65001"], "end\n", Status::Words, ""),
     (&["describe", "05000"], "end\n", Status::Words, ""),
     (&["describe", "5000", "1"], "end\n", Status::Words, ""),
+    (&["pcap", "5000"], "end\n", Status::BadCapture, SHORT),
+    (
+        &["pcap", "65000"],
+        "x\n",
+        Status::BadTrace,
+        "refused 3 form\n",
+    ),
+    (&["pcap"], "end\n", Status::Words, ""),
+    (&["pcap", "0"], "end\n", Status::Words, ""),
+    (&["pcap", "65001"], "end\n", Status::Words, ""),
 ];
 
 /// How the command of these words ends over the opening and these lines, and the sink with what it wrote.
