@@ -1,0 +1,58 @@
+-- How a trace for threads ends, by what was read of it.
+use Rattle.std.proofs.Common.{◌≡◌, ℕ, List, length, Option, Some, None, Result, Ok, Err, IfErr, sym, ap, subst, inr}
+use Rattle.std.specs.Prelude.{◌⊎◌, IfOk, OnOk}
+use Rattle.std.specs.Io.KnownBytes.{Appends}
+use Rattle.line_io.specs.Passes.{Passes}
+use Rattle.rams_model.specs.declared.status.Status.{Status}
+use Rattle.rams_model.specs.declared.status.Status.TheVariants.{Done}
+use Rattle.trace_serving.specs.{Outcome, served_text}
+use Rattle.trace_loop.specs.declared.stop.Stop.{Stop}
+use Rattle.trace_loop.specs.{IfTold, OnlyMemoryStops}
+use Rattle.threads_loop.specs.declared.dealing.Dealt.{Dealt}
+use Rattle.threads_loop.specs.{threads, IsReadOf, MayWrite, HasEnded, HasStopped, HasRoomFor}
+
+-- the trace was read to its end by as many workers
+own_read : (workers : ℕ) (xs : List ℕ) (d : Dealt) → IsReadOf workers xs d → IsReadOf d.workers xs d
+own_read workers xs d r = subst (λ (n : ℕ). IsReadOf n xs d) (sym r.workers_are) r
+
+module _ (workers : ℕ) (held holds : Option (List ℕ)) (steady : ℕ → Type 0) (d : Dealt) where
+  pub lawful_text : (left : Option (List ℕ)) (result : Result Status Stop) → IfTold left (λ xs. IsReadOf workers xs d) → IfOk result (λ st. st ≡ Done)
+      → ((xs : List ℕ) → IsReadOf d.workers xs d → OnOk result (HasEnded d.workers xs held holds Done)) → IfOk result (λ st. IfTold left (λ xs. HasEnded workers xs held holds st))
+  lawful_text None (Ok st) read done text = tt
+  lawful_text (Some xs) (Ok st) read done text =
+      subst (λ (s : Status). HasEnded workers xs held holds s) (sym done) (subst (λ (n : ℕ). HasEnded n xs held holds Done) read.workers_are (text xs (own_read workers xs d read)))
+  lawful_text left (Err stop) read done text = tt
+
+  pub lawful_front : (left : Option (List ℕ)) (result : Result Status Stop) → IfTold left (λ xs. IsReadOf workers xs d)
+      → ((xs : List ℕ) → IsReadOf d.workers xs d → IfErr result (λ _. (holds ≡ held) ⊎ HasStopped d.workers xs held holds)) → IfErr result (λ _. IfTold left (λ xs. (holds ≡ held) ⊎ HasStopped workers xs held holds))
+  lawful_front left (Ok st) read front = tt
+  lawful_front None (Err stop) read front = tt
+  lawful_front (Some xs) (Err stop) read front = subst (λ (n : ℕ). (holds ≡ held) ⊎ HasStopped n xs held holds) read.workers_are (front xs (own_read workers xs d read))
+
+  pub lawful_steady : (left : Option (List ℕ)) (result : Result Status Stop) → IfTold left (λ xs. IsReadOf workers xs d)
+      → ((xs : List ℕ) → IsReadOf d.workers xs d → HasRoomFor d.workers xs steady → OnlyMemoryStops result (Unit {0})) → IfTold left (λ xs. HasRoomFor workers xs steady → OnlyMemoryStops result (Unit {0}))
+  lawful_steady None result read calm = tt
+  lawful_steady (Some xs) result read calm = λ room. calm xs (own_read workers xs d read) (subst (λ (n : ℕ). HasRoomFor n xs steady) (sym read.workers_are) room)
+
+-- one line is written
+module _ (workers : ℕ) (held holds : Option (List ℕ)) (steady : ℕ → Type 0) (o : Outcome) (may : (xs text : List ℕ) → text ≡ (served_text threads xs).text → MayWrite workers xs o.status text) where
+  pub line_text : (left : Option (List ℕ)) (result : Result Status Stop) → IfTold left (λ xs. served_text threads xs ≡ o) → IfOk result (λ st. st ≡ o.status) → OnOk result (Appends held holds o.text)
+      → IfOk result (λ st. IfTold left (λ xs. HasEnded workers xs held holds st))
+  line_text None (Ok st) read is text = tt
+  line_text (Some xs) (Ok st) read is text =
+      subst (λ (s : Status). HasEnded workers xs held holds s) (sym is) (sym (ap (λ (x : Outcome). x.status) read), o.text, may xs o.text (sym (ap (λ (x : Outcome). x.text) read)), text)
+  line_text left (Err stop) read is text = tt
+
+  own_line : (xs : List ℕ) → served_text threads xs ≡ o → MayWrite workers xs (served_text threads xs).status o.text
+  own_line xs read = subst (λ (s : Status). MayWrite workers xs s o.text) (sym (ap (λ (x : Outcome). x.status) read)) (may xs o.text (sym (ap (λ (x : Outcome). x.text) read)))
+
+  pub line_front : (left : Option (List ℕ)) (result : Result Status Stop) → IfTold left (λ xs. served_text threads xs ≡ o) → (rest : List ℕ) × Passes held holds o.text rest
+      → IfErr result (λ _. IfTold left (λ xs. (holds ≡ held) ⊎ HasStopped workers xs held holds))
+  line_front left (Ok st) read front = tt
+  line_front None (Err stop) read front = tt
+  line_front (Some xs) (Err stop) read front = inr (o.text, front.0, own_line xs read, front.1)
+
+  pub line_steady : (left : Option (List ℕ)) (result : Result Status Stop) → IfTold left (λ xs. served_text threads xs ≡ o) → (steady (length o.text) → OnlyMemoryStops result (Unit {0}))
+      → IfTold left (λ xs. HasRoomFor workers xs steady → OnlyMemoryStops result (Unit {0}))
+  line_steady None result read calm = tt
+  line_steady (Some xs) result read calm = λ room. calm (room o.text (own_line xs read))

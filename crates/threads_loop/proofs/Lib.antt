@@ -1,0 +1,10 @@
+pub mod Hexes
+pub mod Accepted
+pub mod Heads
+pub mod Taking
+pub mod LineByLine
+pub mod Histories
+pub mod Pieces
+pub mod Putting
+pub mod Written
+pub mod Closing

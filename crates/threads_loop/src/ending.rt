@@ -1,0 +1,126 @@
+//! The command for threads, from the source's bytes to the sink's.
+ghost use Rattle.std.specs.Prelude.{◌≡◌, ◌⊎◌, ◌<◌, ◌≤◌, ℕ, List, Err, IfErr, IfOk, OnOk, codes, is_some, length, true};
+ghost use Rattle.std.specs.Io.KnownBytes.{Appends};
+ghost use Rattle.line_io.specs.Passes.{Passes};
+ghost use Rattle.rams_model.specs.declared.status.Status.TheVariants.{BadTrace, Done, TooLong};
+ghost use Rattle.rams_model.specs.Texts.{refused_line};
+ghost use Rattle.server_hub.specs.Served.{Served};
+ghost use Rattle.trace_serving.specs.{Stage};
+ghost use Rattle.trace_loop.specs.declared.stop.Stop.TheVariants.{Read};
+ghost use Rattle.trace_loop.specs.{IfTold, IsEnd, IsStopped, IsStoppedByWrite, OnlyMemoryStops};
+ghost use Rattle.threads_loop.specs.{HasDealt, HasEnded, HasRoomFor, HasStopped, IsReadOf};
+
+use crate::dealing::Dealt;
+use crate::reading::{ReadTrace, read_trace};
+use crate::writing::write_worked;
+use book_text::append_refused;
+use journal_book::laws::{journals_replay, runs_of_journals};
+use line_io::put_all;
+use ram_io::{Gate, Sink, Source};
+use rams_model::{LineFault, Status};
+use session_core::Core;
+use session_worker::run_lists;
+use std::alloc::Global;
+use std::sync::Wait;
+use std::thread::Threads;
+use trace_loop::Stop;
+
+/// Writes one line.
+fn write_alone<K: Sink>(sink: &mut K, line: &[u8]) -> Result<(), Stop>
+    ensures all { OnOk result (Appends (K.held sink.old) (K.held sink.new) line.now) }
+    ensures front { (rest : List ℕ) × Passes (K.held sink.old) (K.held sink.new) line.now rest }
+    ensures cause { IsStoppedByWrite (K.faults sink.old) (K.faults sink.new) result }
+    ensures steady { K.is_steady sink.old (length line.now) → OnlyMemoryStops result (Unit {0}) }
+{
+    match put_all(sink, line) {
+        Ok(()) => Ok(()),
+        Err(_) => Err(Stop::Write),
+    }
+}
+
+/// Writes that a line is refused.
+fn refuse<K: Sink>(alloc: Global, sink: &mut K, line: u64, fault: LineFault) -> Result<Status, Stop>
+    ensures status { IfOk result (λ status. status ≡ BadTrace) }
+    ensures text { OnOk result (Appends (K.held sink.old) (K.held sink.new) (refused_line line fault)) }
+    ensures front { (rest : List ℕ) × Passes (K.held sink.old) (K.held sink.new) (refused_line line fault) rest }
+    ensures cause { IsStoppedByWrite (K.faults sink.old) (K.faults sink.new) result }
+    ensures steady { K.is_steady sink.old (length (refused_line line fault)) → OnlyMemoryStops result (Unit {0}) }
+{
+    let mut text = Vec::new(alloc);
+    append_refused(&mut text, line, fault)?;
+    write_alone(sink, &text)?;
+    Ok(Status::BadTrace)
+}
+
+/// Writes that an event is one too many.
+fn refuse_more<K: Sink>(sink: &mut K) -> Result<Status, Stop>
+    ensures status { IfOk result (λ status. status ≡ TooLong) }
+    ensures text { OnOk result (Appends (K.held sink.old) (K.held sink.new) (codes "too-long\n")) }
+    ensures front { (rest : List ℕ) × Passes (K.held sink.old) (K.held sink.new) (codes "too-long\n") rest }
+    ensures cause { IsStoppedByWrite (K.faults sink.old) (K.faults sink.new) result }
+    ensures steady { K.is_steady sink.old (length (codes "too-long\n")) → OnlyMemoryStops result (Unit {0}) }
+{
+    write_alone(sink, b"too-long\n")?;
+    Ok(Status::TooLong)
+}
+
+/// Runs the lists, and writes what came of them.
+fn work_and_write<R: Threads + Wait + Sync, K: Sink, G: Gate + Sync>(
+    rt: &R,
+    alloc: Global,
+    dealt: &Dealt,
+    sink: &mut K,
+    gate: &G,
+) -> Result<Status, Stop>
+    requires { (stage : Stage (List Served)) × HasDealt dealt.now stage × (is_some dealt.now.config ≡ true) }
+    ensures status { IfOk result (λ status. status ≡ Done) }
+    ensures text { (xs : List ℕ) → IsReadOf dealt.now.workers xs dealt.now → OnOk result (HasEnded dealt.now.workers xs (K.held sink.old) (K.held sink.new) Done) }
+    ensures front { (xs : List ℕ) → IsReadOf dealt.now.workers xs dealt.now → IfErr result (λ _. (K.held sink.new ≡ K.held sink.old) ⊎ HasStopped dealt.now.workers xs (K.held sink.old) (K.held sink.new)) }
+    ensures cause { IsStoppedByWrite (K.faults sink.old) (K.faults sink.new) result }
+    ensures steady { (xs : List ℕ) → IsReadOf dealt.now.workers xs dealt.now → HasRoomFor dealt.now.workers xs (K.is_steady sink.old) → OnlyMemoryStops result (Unit {0}) }
+{
+    journals_replay();
+    runs_of_journals();
+    let Some(config) = &dealt.config else {
+        unreachable!()
+    };
+    let core = Core::new(alloc, config)?;
+    let worked = run_lists(rt, alloc, core, &dealt.lists, dealt.workers, gate)?;
+    write_worked(
+        alloc,
+        sink,
+        config,
+        &dealt.head,
+        worked.book.entries(),
+        &worked.drawn,
+    )
+}
+
+/// Reads a trace of one channel to its end, deals its events into a list of live packets, one of ticks,
+/// and one for the feedback of each worker's clients, and takes each list on a thread of its own. Then
+/// it writes a trace of what came of it, and that trace's book. May wait.
+///
+/// Nothing is written before the whole trace was read. Where a line of it is refused, or its event
+/// 200,001 comes, one line says so.
+pub fn write_threads<R: Threads + Wait + Sync, S: Source, K: Sink, G: Gate + Sync>(
+    rt: &R,
+    alloc: Global,
+    workers: u32,
+    source: &mut S,
+    sink: &mut K,
+    gate: &G,
+) -> Result<Status, Stop>
+    requires { (0 < workers) × (workers ≤ 16) }
+    ensures status { IfOk result IsEnd }
+    ensures text { IfOk result (λ status. IfTold (S.left source.old) (λ xs. HasEnded workers xs (K.held sink.old) (K.held sink.new) status)) }
+    ensures front { IfErr result (λ _. IfTold (S.left source.old) (λ xs. (K.held sink.new ≡ K.held sink.old) ⊎ HasStopped workers xs (K.held sink.old) (K.held sink.new))) }
+    ensures read { result ≡ Err Read → sink.new ≡ sink.old }
+    ensures cause { IsStopped (S.faults source.old) (S.faults source.new) (K.faults sink.old) (K.faults sink.new) result }
+    ensures steady { S.is_steady source.old → IfTold (S.left source.old) (λ xs. HasRoomFor workers xs (K.is_steady sink.old) → OnlyMemoryStops result (Unit {0})) }
+{
+    match read_trace(alloc, workers, source)? {
+        ReadTrace::Lawful(dealt) => work_and_write(rt, alloc, &dealt, sink, gate),
+        ReadTrace::Unlawful { line, fault } => refuse(alloc, sink, line, fault),
+        ReadTrace::TooLong => refuse_more(sink),
+    }
+}

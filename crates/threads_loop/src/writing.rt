@@ -1,0 +1,178 @@
+//! The trace of what came of the lists, and its book.
+ghost use Rattle.std.specs.Prelude.{◌≡◌, ◌+◌, ◌++◌, ℕ, List, [], map, IfErr, IfOk, OnOk, length};
+ghost use Rattle.std.specs.Io.KnownBytes.{Appends};
+ghost use Rattle.line_io.specs.Passes.{Passes};
+ghost use Rattle.rams_model.specs.declared.status.Status.TheVariants.{Done};
+ghost use Rattle.live_writer.specs.{datagrams_of};
+ghost use Rattle.session_worker.specs.{answered_with};
+ghost use Rattle.trace_serving.specs.{done};
+ghost use Rattle.trace_loop.specs.{IsStoppedByWrite, OnlyMemoryStops, StopsIn};
+ghost use Rattle.threads_loop.specs.{part_text, piece_text, written_text};
+
+use crate::answer::{append_answer, append_event};
+use book_text::append_count;
+use channel_book::Entry;
+use channel_config::Config;
+use line_io::Gather;
+use ram_io::{NoMemory, Octets, Sink};
+use rams_model::Status;
+use std::alloc::Global;
+use trace_loop::{Stop, flush, put};
+
+/// The text that waits for the sink, and room for lines and for digits.
+#[derive(Drop)]
+struct Pen {
+    gather: Gather,
+    lines: Vec<u8>,
+    digits: Vec<u8>,
+}
+
+/// What is written for each entry.
+#[derive(Clone, Copy, Debug, PartialEq, Eq)]
+enum Part {
+    /// Its event's line.
+    Trace,
+    /// Its answer's lines.
+    Book,
+}
+
+/// A pen with which nothing waits.
+fn new_pen(alloc: Global) -> Result<Pen, NoMemory>
+    ensures { IfOk result (λ pen. pen.gather ≡ []) }
+{
+    Ok(Pen {
+        gather: Gather::new(alloc)?,
+        lines: Vec::new(alloc),
+        digits: Vec::new(alloc),
+    })
+}
+
+/// Adds what is written for an entry.
+fn write_piece<K: Sink>(
+    pen: &mut Pen,
+    sink: &mut K,
+    config: &Config,
+    part: Part,
+    event: u64,
+    entry: &Entry,
+    datagrams: &[Octets],
+) -> Result<(), Stop>
+    requires { datagrams.now ≡ datagrams_of config.now entry.now.answer }
+    ensures all { OnOk result (Passes (K.held sink.old) (K.held sink.new) (pen.old.gather ++ piece_text config.now part event entry.now) pen.new.gather) }
+    ensures front { IfErr result (StopsIn (K.held sink.old) (K.held sink.new) (pen.old.gather ++ piece_text config.now part event entry.now) pen.new.gather) }
+    ensures cause { IsStoppedByWrite (K.faults sink.old) (K.faults sink.new) result }
+    ensures steady { (room : ℕ) → K.is_steady sink.old (length pen.old.gather + length (piece_text config.now part event entry.now) + room)
+        → OnlyMemoryStops result (K.is_steady sink.new (length pen.new.gather + room)) }
+{
+    pen.lines.clear();
+    append_piece(
+        &mut pen.lines,
+        &mut pen.digits,
+        config,
+        part,
+        event,
+        entry,
+        datagrams,
+    )?;
+    put(&mut pen.gather, sink, &pen.lines)
+}
+
+fn append_piece(
+    text: &mut Vec<u8>,
+    room: &mut Vec<u8>,
+    config: &Config,
+    part: Part,
+    event: u64,
+    entry: &Entry,
+    datagrams: &[Octets],
+) -> Result<(), NoMemory>
+    requires { datagrams.now ≡ datagrams_of config.now entry.now.answer }
+    ensures { OnOk result (text.new.items ≡ text.old.items ++ piece_text config.now part event entry.now) }
+{
+    match part {
+        Part::Trace => append_event(text, room, config.channel().id, &entry.event),
+        Part::Book => append_answer(text, config, event, &entry.answer, datagrams),
+    }
+}
+
+/// Adds what is written for the entries; they are counted from 1.
+fn write_part<K: Sink>(
+    pen: &mut Pen,
+    sink: &mut K,
+    config: &Config,
+    part: Part,
+    entries: &[Entry],
+    drawn: &[Vec<Octets>],
+) -> Result<(), Stop>
+    requires { map (λ d. d.items) drawn.now ≡ answered_with config.now entries.now }
+    ensures all { OnOk result (Passes (K.held sink.old) (K.held sink.new) (pen.old.gather ++ part_text config.now part 1 entries.now) pen.new.gather) }
+    ensures front { IfErr result (StopsIn (K.held sink.old) (K.held sink.new) (pen.old.gather ++ part_text config.now part 1 entries.now) pen.new.gather) }
+    ensures cause { IsStoppedByWrite (K.faults sink.old) (K.faults sink.new) result }
+    ensures steady { (room : ℕ) → K.is_steady sink.old (length pen.old.gather + length (part_text config.now part 1 entries.now) + room)
+        → OnlyMemoryStops result (K.is_steady sink.new (length pen.new.gather + room)) }
+{
+    for place in 0..entries.len() {
+        let event = place as u64 + 1;
+        let datagrams = drawn[place].as_slice();
+        write_piece(pen, sink, config, part, event, &entries[place], datagrams)?;
+    }
+    Ok(())
+}
+
+/// Adds the line of the end of a book of so many events.
+fn write_done<K: Sink>(pen: &mut Pen, sink: &mut K, events: u64) -> Result<(), Stop>
+    ensures all { OnOk result (Passes (K.held sink.old) (K.held sink.new) (pen.old.gather ++ (done events).text) pen.new.gather) }
+    ensures front { IfErr result (StopsIn (K.held sink.old) (K.held sink.new) (pen.old.gather ++ (done events).text) pen.new.gather) }
+    ensures cause { IsStoppedByWrite (K.faults sink.old) (K.faults sink.new) result }
+    ensures steady { (room : ℕ) → K.is_steady sink.old (length pen.old.gather + length (done events).text + room)
+        → OnlyMemoryStops result (K.is_steady sink.new (length pen.new.gather + room)) }
+{
+    pen.lines.clear();
+    append_count(&mut pen.lines, b"done", events)?;
+    put(&mut pen.gather, sink, &pen.lines)
+}
+
+/// Adds a trace, and then its book.
+fn write_parts<K: Sink>(
+    pen: &mut Pen,
+    sink: &mut K,
+    config: &Config,
+    head: &[u8],
+    entries: &[Entry],
+    drawn: &[Vec<Octets>],
+) -> Result<(), Stop>
+    requires { map (λ d. d.items) drawn.now ≡ answered_with config.now entries.now }
+    ensures all { OnOk result (Passes (K.held sink.old) (K.held sink.new) (pen.old.gather ++ written_text config.now head.now entries.now) pen.new.gather) }
+    ensures front { IfErr result (StopsIn (K.held sink.old) (K.held sink.new) (pen.old.gather ++ written_text config.now head.now entries.now) pen.new.gather) }
+    ensures cause { IsStoppedByWrite (K.faults sink.old) (K.faults sink.new) result }
+    ensures steady { (room : ℕ) → K.is_steady sink.old (length pen.old.gather + length (written_text config.now head.now entries.now) + room)
+        → OnlyMemoryStops result (K.is_steady sink.new (length pen.new.gather + room)) }
+{
+    put(&mut pen.gather, sink, head)?;
+    write_part(pen, sink, config, Part::Trace, entries, drawn)?;
+    put(&mut pen.gather, sink, b"end\nrams-book 1\n")?;
+    write_part(pen, sink, config, Part::Book, entries, drawn)?;
+    write_done(pen, sink, entries.len() as u64)
+}
+
+/// Writes a trace: the lines of its head, those of the entries' events, and `end`; and then its book.
+pub(crate) fn write_worked<K: Sink>(
+    alloc: Global,
+    sink: &mut K,
+    config: &Config,
+    head: &[u8],
+    entries: &[Entry],
+    drawn: &[Vec<Octets>],
+) -> Result<Status, Stop>
+    requires { map (λ d. d.items) drawn.now ≡ answered_with config.now entries.now }
+    ensures status { IfOk result (λ status. status ≡ Done) }
+    ensures text { OnOk result (Appends (K.held sink.old) (K.held sink.new) (written_text config.now head.now entries.now)) }
+    ensures front { (rest : List ℕ) × Passes (K.held sink.old) (K.held sink.new) (written_text config.now head.now entries.now) rest }
+    ensures cause { IsStoppedByWrite (K.faults sink.old) (K.faults sink.new) result }
+    ensures steady { K.is_steady sink.old (length (written_text config.now head.now entries.now)) → OnlyMemoryStops result (Unit {0}) }
+{
+    let mut pen = new_pen(alloc)?;
+    write_parts(&mut pen, sink, config, head, entries, drawn)?;
+    flush(&mut pen.gather, sink)?;
+    Ok(Status::Done)
+}
