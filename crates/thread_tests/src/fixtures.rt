@@ -1,0 +1,82 @@
+//! A channel's settings, and what comes to it.
+ghost use Rattle.std.specs.Prelude.{◌≡◌, [], IfOk, length};
+ghost use Rattle.session_core.specs.{StandsFor};
+
+use channel_config::{Access, Channel, Config};
+use rams_model::{Event, Octets};
+use session_core::Core;
+use std::alloc::{AllocError, Global};
+use std::test::Fail;
+
+/// The media source of the channel.
+const SOURCE: u32 = 0x1122_3344;
+
+/// Settings of a channel that may send all that its ring holds in one tick.
+const CHANNEL: Channel = Channel {
+    id: 7,
+    ssrc: SOURCE,
+    pt: 33,
+    rtx: 99,
+    server: 0xaabb_ccdd,
+    seq0: 500,
+    ring: 32_768,
+    window: 0,
+    access: Access::Marker,
+    share: 1_000_000_000,
+    reserve: 1500,
+    burst: 900_000_000,
+    declared: 100,
+    minwire: 42,
+    limit: 100,
+    idle: 100,
+    clients: 4,
+    depth: 0,
+    swell: 0,
+};
+
+/// A channel to which nothing came, with ticks of 10 ms.
+pub fn new_core(alloc: Global) -> Result<Core, Fail>
+    ensures calls { IfOk result (λ core. core.calls ≡ 0) }
+    ensures stands { IfOk result (λ core. StandsFor core []) }
+{
+    let config = Config::check(CHANNEL, 10)?;
+    Ok(Core::new(alloc, &config)?)
+}
+
+/// Words in network byte order.
+fn octets_of(alloc: Global, words: &[u32]) -> Result<Octets, AllocError> {
+    let mut bytes = Vec::new(alloc);
+    for word in words {
+        bytes.extend_from_slice(&word.to_be_bytes())?;
+    }
+    Ok(Octets::of(bytes))
+}
+
+/// A packet (RFC 3550, 5.1) with this number and four bytes of payload. Only number 0 has the marker.
+pub fn packet(alloc: Global, number: u16) -> Result<Event, AllocError> {
+    // v=2, p=0, x=0, cc=0, marker or none, payload type 33
+    let head: u32 = if number == 0 {
+        0x80a1_0000
+    } else {
+        0x8021_0000
+    };
+    let words = [head | u32::from(number), 0, SOURCE, 0];
+    Ok(Event::Live(octets_of(alloc, &words)?))
+}
+
+/// A RAMS-R without TLVs (RFC 6285, 7.2).
+pub fn request(alloc: Global, client: u64) -> Result<Event, AllocError> {
+    // v=2, p=0, FMT=6 (RAMS), RTPFB, length 3; sender; media source; SFMT=1 (RAMS-R)
+    let bytes = octets_of(alloc, &[0x86cd_0003, 0x0000_c001, SOURCE, 0x0100_0000])?;
+    Ok(Event::Feedback { client, bytes })
+}
+
+/// A list of two events.
+pub fn pair(alloc: Global, first: Event, second: Event) -> Result<Vec<Event>, AllocError>
+    ensures { IfOk result (λ list. length list.items ≡ 2) }
+{
+    let mut list = Vec::new(alloc);
+    list.push(first)?;
+    list.push(second)?;
+    Ok(list)
+}

@@ -1,0 +1,15 @@
+//! Tests of the callers of one channel, on threads and by hand, on public calls alone.
+//!
+//! `fixtures` has a channel's settings and what comes to it, `gates` the gate at which threads meet.
+#![tactic(auto)]
+
+#[cfg(test)]
+mod fixtures;
+#[cfg(test)]
+mod gates;
+// session_worker, live_writer
+#[cfg(test)]
+mod lists;
+// channel_lock
+#[cfg(test)]
+mod locks;

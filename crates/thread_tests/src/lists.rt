@@ -1,0 +1,94 @@
+//! Lists of one channel on threads.
+ghost use Rattle.std.specs.Prelude.{◌<◌};
+
+use crate::fixtures::{new_core, packet, pair, request};
+use crate::gates::{Meeting, Point};
+use ram_io::Open;
+use rams_model::{Event, Octets};
+use session_worker::{Worked, run_lists};
+use std::alloc::{AllocError, Global};
+use std::process::Abort;
+use std::sync::Wait;
+use std::test::Fail;
+use std::thread::Threads;
+
+/// Packets of the long list. So many orders of one answer are rendered by several threads, where there may be.
+const PACKETS: u16 = 20_000;
+
+/// The threads of two packets and of two ticks wait for each other at this point.
+fn expect_meeting(
+    rt: &(impl Threads + Wait + Abort + Sync),
+    alloc: Global,
+    point: Point,
+) -> Result<(), Fail> {
+    let first = packet(alloc, 0)?;
+    let second = packet(alloc, 1)?;
+    let packets = pair(alloc, first, second)?;
+    let ticks = pair(alloc, Event::Tick, Event::Tick)?;
+    let gate = Meeting::new(point);
+    let worked = run_lists(rt, alloc, new_core(alloc)?, &[packets, ticks], 2, &gate)?;
+    assert!(rt; gate.was_held(), "both were there at once");
+    assert_eq!(rt; worked.book.entries().len(), 4, "each event once");
+    assert_eq!(rt; worked.drawn.len(), 4, "with its datagrams");
+    Ok(())
+}
+
+/// Each list has a thread.
+#[test]
+fn lists_run_beside_each_other(rt: HostRuntime) -> Result<(), Fail> {
+    expect_meeting(&rt, rt.alloc(), Point::Enter)
+}
+
+/// A list steps the channel while the answer of another is still to be rendered: no turn is held meanwhile.
+#[test]
+fn a_list_steps_while_another_draws(rt: HostRuntime) -> Result<(), Fail> {
+    expect_meeting(&rt, rt.alloc(), Point::Drawing)
+}
+
+/// Packets, the first of them an access point, a RAMS-R, and the tick that sends the whole burst.
+fn burst(alloc: Global) -> Result<Vec<Event>, AllocError> {
+    let mut list = Vec::new(alloc);
+    for number in 0..PACKETS {
+        list.push(packet(alloc, number)?)?;
+    }
+    list.push(request(alloc, 5)?)?;
+    list.push(Event::Tick)?;
+    Ok(list)
+}
+
+/// One list, rendered by so many threads.
+fn worked(
+    rt: &(impl Threads + Wait + Abort + Sync),
+    alloc: Global,
+    workers: u32,
+) -> Result<Worked, Fail>
+    requires { 0 < workers }
+{
+    let list = burst(alloc)?;
+    assert!(rt; list.len() <= 1 << 20, "a short list");
+    Ok(run_lists(rt, alloc, new_core(alloc)?, &[list], workers, &Open)?)
+}
+
+fn are_same(some: &[Octets], others: &[Octets]) -> bool {
+    some.len() == others.len()
+        && some
+            .iter()
+            .zip(others)
+            .all(|(one, other)| one.bytes() == other.bytes())
+}
+
+/// The same datagrams at each place, however many threads render.
+#[test]
+fn the_threads_of_rendering_change_nothing(rt: HostRuntime) -> Result<(), Fail> {
+    let alloc = rt.alloc();
+    let alone = worked(&rt, alloc, 1)?;
+    let beside = worked(&rt, alloc, 4)?;
+    assert_eq!(&rt; alone.drawn.len(), 20_002, "a place for each event");
+    assert_eq!(&rt; beside.drawn.len(), 20_002, "a place for each event");
+    for (some, others) in alone.drawn.iter().zip(beside.drawn.iter()) {
+        assert!(&rt; are_same(some, others), "the same at each place");
+    }
+    let tick = alone.drawn.last().expect(&rt, "the tick");
+    assert_eq!(&rt; tick.len(), 20_000, "the whole burst");
+    Ok(())
+}

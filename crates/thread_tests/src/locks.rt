@@ -1,0 +1,79 @@
+//! A lock of three seats.
+ghost use Rattle.std.specs.Prelude.{◌≡◌, ◌<◌, IfOk};
+
+use crate::fixtures::new_core;
+use channel_lock::{ChannelLock, CloseFault, Pass};
+use std::alloc::Global;
+use std::process::Abort;
+use std::sync::Wait;
+use std::test::Fail;
+
+/// A lock of three seats, and their passes.
+fn three_seats(rt: &impl Abort, alloc: Global) -> Result<(ChannelLock, Pass, Pass, Pass), Fail>
+    ensures made { IfOk result (λ r. (r.1.lock ≡ r.0.lock) × (r.2.lock ≡ r.0.lock) × (r.3.lock ≡ r.0.lock)) }
+    ensures left { IfOk result (λ r. (0 < r.1.left) × (0 < r.2.left)) }
+{
+    let (lock, mut passes) = ChannelLock::new(alloc, new_core(alloc)?, 3)?;
+    let third = passes.pop().expect(rt, "the third");
+    let second = passes.pop().expect(rt, "the second");
+    let first = passes.pop().expect(rt, "the first");
+    Ok((lock, first, second, third))
+}
+
+/// A tick of each; then the first learns of the other's.
+fn expect_ticks(
+    rt: &(impl Wait + Abort),
+    alloc: Global,
+    lock: &ChannelLock,
+    first: &mut Pass,
+    second: &mut Pass,
+) -> Result<(), Fail>
+    requires made { (first.old.lock ≡ lock.now.lock) × (second.old.lock ≡ lock.now.lock) }
+    requires left { (0 < first.old.left) × (0 < second.old.left) }
+    ensures { (first.new.lock ≡ lock.now.lock) × (second.new.lock ≡ lock.now.lock) }
+{
+    let (place, _) = lock.tick(rt, alloc, first)?;
+    assert_eq!(rt; place, 0, "the place of its tick");
+    let (place, _) = lock.tick(rt, alloc, second)?;
+    assert_eq!(rt; place, 1, "the place of the other");
+    assert_eq!(rt; first.seen(), 1, "its own call");
+    lock.meet(first, second);
+    assert_eq!(rt; first.seen(), 2, "and what the other had seen");
+    Ok(())
+}
+
+/// With two passes all comes back; with three there is a book.
+fn expect_closing(
+    rt: &impl Abort,
+    alloc: Global,
+    lock: ChannelLock,
+    first: Pass,
+    second: Pass,
+    third: Pass,
+) -> Result<(), Fail>
+    requires { (first.lock ≡ lock.lock) × (second.lock ≡ lock.lock) × (third.lock ≡ lock.lock) }
+{
+    let mut passes = Vec::new(alloc);
+    passes.push(first)?;
+    passes.push(second)?;
+    let Err((lock, mut passes, fault)) = lock.close(passes) else {
+        panic!(rt; "closed with one pass missing");
+    };
+    let want = CloseFault::Passes { made: 3, given: 2 };
+    assert_eq!(rt; fault, want, "why it isn't closed");
+    assert_eq!(rt; passes.len(), 2, "all is given back");
+    passes.push(third)?;
+    let Ok(book) = lock.close(passes) else {
+        panic!(rt; "not closed with all passes");
+    };
+    assert_eq!(rt; book.entries().len(), 2, "the two ticks");
+    Ok(())
+}
+
+#[test]
+fn passes_meet_and_close(rt: HostRuntime) -> Result<(), Fail> {
+    let alloc = rt.alloc();
+    let (lock, mut first, mut second, third) = three_seats(&rt, alloc)?;
+    expect_ticks(&rt, alloc, &lock, &mut first, &mut second)?;
+    expect_closing(&rt, alloc, lock, first, second, third)
+}
