@@ -12,6 +12,7 @@ from functools import cache
 
 FOLDER, KIT, *PLAIN = sys.argv[1:]
 LOG = "out/build.log"
+TRACE = f"{FOLDER}/../../examples/catches_up.trace"
 PARENT = os.getppid()
 
 # What a kit of another release may answer where its module rtlib has other names.
@@ -43,8 +44,8 @@ class Line:
 
 
 def run_program(log):
-    """Builds the program over the libraries that are there, and runs it on its stored trace."""
-    with open(f"{FOLDER}/stdin") as trace:
+    """Builds the program over the libraries that are there, and runs it on a trace."""
+    with open(TRACE) as trace:
         how = {"stdin": trace, "stdout": subprocess.DEVNULL, "stderr": log}
         return subprocess.run(["rt", "run", "--", "run"], cwd=FOLDER, **how).returncode
 
@@ -109,7 +110,7 @@ class Build:
             flags = ["--jobs", str(jobs)]
             if crate != self.program:
                 return crate.build_rlib(flags, anew=False)
-            with open(f"{FOLDER}/stdin", "rb") as trace:
+            with open(TRACE, "rb") as trace:
                 return crate.run(flags, ["run"], stdin=trace, stdout=subprocess.PIPE)
 
     def start(self):

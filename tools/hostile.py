@@ -16,6 +16,7 @@ import socket
 import struct
 import subprocess
 import sys
+import tempfile
 import threading
 import time
 
@@ -164,17 +165,34 @@ def ask(port, state, got):
             pass
 
 
+def replayed(program, journal, mine):
+    """What `run` sends to one client for the whole lines of a journal, its last line, and its status. (The
+    book of an attack is long, so its lines are looked at one by one.)"""
+    size = journal.seek(0, os.SEEK_END)
+    journal.seek(max(size - 5_000, 0))
+    size -= len(journal.read().rpartition(b"\n")[2])
+    journal.truncate(size)
+    journal.seek(size)
+    journal.write(b"end\n")
+    journal.seek(0)
+    ran = subprocess.Popen([program, "run"], stdin=journal, stdout=subprocess.PIPE)
+    sent, last = [], b""
+    for last in ran.stdout:
+        if mine in last:
+            sent.append(bytes.fromhex(last.split()[4].decode()))
+    return sent, last, ran.wait()
+
+
 def serve_attacked(program, seed, port, seconds):
     """Attacks a server, and returns what is wrong with what it did."""
     state, got = {"goes on": True, "newest": 0, "attacks": 0, "client": 0}, []
-    server = subprocess.Popen([program, "serve", str(port), "500000"], stdin=subprocess.PIPE, stdout=subprocess.PIPE, stderr=subprocess.DEVNULL)
+    journal = tempfile.TemporaryFile()
+    server = subprocess.Popen([program, "serve", str(port), "500000"], stdin=subprocess.PIPE, stdout=journal, stderr=subprocess.DEVNULL)
     server.stdin.write((HEAD + "end\n").encode())
     server.stdin.close()
-    journal = []
-    reader = threading.Thread(target=lambda: journal.append(server.stdout.read()))
     work = [threading.Thread(target=attack, args=(seed, port, state)), threading.Thread(target=feed, args=(port, state)), threading.Thread(target=ask, args=(port, state, got))]
     time.sleep(0.3)
-    for each in (reader, *work):
+    for each in work:
         each.start()
     time.sleep(seconds)
     is_alive = server.poll() is None
@@ -185,21 +203,19 @@ def serve_attacked(program, seed, port, seconds):
         each.join()
     time.sleep(0.2)
     server.terminate()
-    reader.join()
-    whole = journal[0][: journal[0].rfind(b"\n") + 1] + b"end\n"
-    book = subprocess.run([program, "run"], input=whole, stdout=subprocess.PIPE)
-    mine = str(state["client"]).encode()
-    sent = [bytes.fromhex(words[4].decode()) for words in (line.split() for line in book.stdout.splitlines() if b" send " in line) if words[3] == mine]
+    server.wait()
+    sent, last, code = replayed(program, journal, b" send %d " % state["client"])
     wrong = []
     if not is_alive:
         wrong.append("the server ended")
-    if book.returncode:
-        wrong.append(f"its journal is no trace: {book.stdout.splitlines()[-1:]}")
+    if code:
+        wrong.append(f"its journal is no trace: {last}")
     if sent != got:
         wrong.append(f"the honest set-top got {len(got)} datagrams, and {len(sent)} were sent to it")
     if memory > 64:
         wrong.append(f"{memory:.0f} MB")
-    feedbacks = whole.count(b"\nfb ")
+    journal.seek(0)
+    feedbacks = sum(line.startswith(b"fb ") for line in journal)
     print(f"a server, {seconds} s: {state['attacks']} datagrams against it, {feedbacks} of feedback in its journal, {len(got)} repairs to the honest set-top, {memory:.0f} MB: {wrong or 'ok'}", flush=True)
     return wrong
 

@@ -12,6 +12,7 @@ use crate::events::{Progress, write_record};
 use crate::intake::Intake;
 use crate::last::{End, write_last};
 use crate::records::{Next, next_within, read_order};
+use crate::watch::CaptureWatch;
 use crate::writer::Writer;
 use head_loop::Opened;
 use pcap_trace::{Due, Endian};
@@ -23,7 +24,7 @@ use trace_loop::Stop;
 const MOST_EVENTS: u64 = 1_000_000;
 
 /// Adds the lines of the events of the records that are left, and says how these end.
-fn write_records<S: Source, K: Sink>(
+fn write_records<S: Source, K: Sink, T: CaptureWatch>(
     opened: &Opened,
     port: u16,
     endian: Endian,
@@ -31,6 +32,7 @@ fn write_records<S: Source, K: Sink>(
     source: &mut S,
     writer: &mut Writer,
     sink: &mut K,
+    watch: &T,
 ) -> Result<End, Stop>
     requires port { port ≤ 65000 }
     requires few { length opened.now.ids.items ≤ 64 }
@@ -58,10 +60,9 @@ fn write_records<S: Source, K: Sink>(
             Ok(Next::Ended) => return Ok(End::Whole),
             Ok(Next::TooMany) => return Ok(End::TooLong),
             Ok(Next::Broken(fault)) => {
-                return Ok(End::Refused {
-                    number: count + 1,
-                    fault,
-                });
+                let number = count + 1;
+                watch.refuses_record(number, fault);
+                return Ok(End::Refused { number, fault });
             }
             Ok(Next::Whole(header)) => {
                 if !write_record(opened, port, header, &mut progress, intake, writer, sink)? {
@@ -74,13 +75,14 @@ fn write_records<S: Source, K: Sink>(
 }
 
 /// Adds the lines of the events of a file, and says how it ends.
-fn write_events<S: Source, K: Sink>(
+fn write_events<S: Source, K: Sink, T: CaptureWatch>(
     opened: &Opened,
     port: u16,
     intake: &mut Intake,
     source: &mut S,
     writer: &mut Writer,
     sink: &mut K,
+    watch: &T,
 ) -> Result<End, Stop>
     requires port { port ≤ 65000 }
     requires few { length opened.now.ids.items ≤ 64 }
@@ -98,21 +100,22 @@ fn write_events<S: Source, K: Sink>(
         (λ xs. (room : ℕ) → K.is_steady sink.old (length (writer.old.gather ++ (file_text port channels (new_clock opened.now.hub.tick) xs).text) + room)
         → MatchResult result (λ end. K.is_steady sink.new (length writer.new.gather + length (last end).text + room)) (λ stop. stop ≡ Memory)) }
 {
-    match read_order(intake, source) {
+    match read_order(intake, source, watch) {
         Err(_) => Err(Stop::Read),
         Ok(Err(fault)) => Ok(End::Refused { number: 0, fault }),
-        Ok(Ok(endian)) => write_records(opened, port, endian, intake, source, writer, sink),
+        Ok(Ok(endian)) => write_records(opened, port, endian, intake, source, writer, sink, watch),
     }
 }
 
 /// Adds the text of a file, and says with which status it ends.
-pub(crate) fn write_file<S: Source, K: Sink>(
+pub(crate) fn write_file<S: Source, K: Sink, T: CaptureWatch>(
     opened: &Opened,
     port: u16,
     intake: &mut Intake,
     source: &mut S,
     writer: &mut Writer,
     sink: &mut K,
+    watch: &T,
 ) -> Result<Status, Stop>
     requires port { port ≤ 65000 }
     requires few { length opened.now.ids.items ≤ 64 }
@@ -131,6 +134,6 @@ pub(crate) fn write_file<S: Source, K: Sink>(
         (λ xs. (room : ℕ) → K.is_steady sink.old (length (writer.old.gather ++ (file_text port channels (new_clock opened.now.hub.tick) xs).text) + room)
         → OnlyMemoryStops result (K.is_steady sink.new (length writer.new.gather + room))) }
 {
-    let end = write_events(opened, port, intake, source, writer, sink)?;
+    let end = write_events(opened, port, intake, source, writer, sink, watch)?;
     write_last(writer, sink, end)
 }

@@ -8,9 +8,12 @@ mod intake;
 mod last;
 mod records;
 mod text;
+mod watch;
 mod writer;
 
+pub use pcap_trace::{CaptureFault, FileKind};
 pub use ram_io::{Sink, Source};
 pub use rams_model::Status;
 pub use text::write_capture;
 pub use trace_loop::Stop;
+pub use watch::CaptureWatch;

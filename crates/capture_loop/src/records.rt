@@ -7,7 +7,10 @@ ghost use Rattle.ram_io.specs.{HasCause};
 ghost use Rattle.capture_loop.specs.{HasOrder, IsNext, IsNextWithin, order_in, record_in};
 
 use crate::intake::Intake;
-use pcap_trace::{CaptureFault, Endian, HEAD_SIZE, HEADER_SIZE, Record, read_head, read_record};
+use crate::watch::{CaptureWatch, tell_file};
+use pcap_trace::{
+    CaptureFault, Endian, FileKind, HEAD_SIZE, HEADER_SIZE, Record, read_head, read_record,
+};
 use ram_io::{Failed, Source};
 
 /// Most records of a file.
@@ -28,9 +31,10 @@ pub(crate) enum Next {
 
 /// Takes the head of a file, and says its byte order or its first fault. What stands behind a head
 /// without fault is left.
-pub(crate) fn read_order<S: Source>(
+pub(crate) fn read_order<S: Source, T: CaptureWatch>(
     intake: &mut Intake,
     source: &mut S,
+    watch: &T,
 ) -> Result<Result<Endian, CaptureFault>, Failed>
     ensures order { IfOk result (HasOrder (prepend_known intake.old (S.left source.old)) (prepend_known intake.new (S.left source.new))) }
     ensures same { OnErr result (Keeps
@@ -41,9 +45,12 @@ pub(crate) fn read_order<S: Source>(
     ensures steady { S.is_steady source.old → IsOkAnd result (λ _. S.is_steady source.new) }
 {
     if !intake.fill(source, HEAD_SIZE)? {
+        watch.refuses_file(CaptureFault::Short, FileKind::Unknown);
         return Ok(Err(CaptureFault::Short));
     }
-    let order = read_head(&intake.bytes()[..HEAD_SIZE]);
+    let head = &intake.bytes()[..HEAD_SIZE];
+    let order = read_head(head);
+    tell_file(watch, head, order);
     intake.skip(HEAD_SIZE);
     Ok(order)
 }

@@ -13,6 +13,7 @@ ghost use Rattle.capture_loop.specs.{AreWritten, HasLinesOf, HasReadCapture, IsC
 
 use crate::capture::write_file;
 use crate::intake::Intake;
+use crate::watch::CaptureWatch;
 use crate::writer::{Writer, new_writer};
 use book_text::append_refused;
 use head_loop::{Head, Opened, read_head};
@@ -39,13 +40,14 @@ fn refuse<K: Sink>(alloc: Global, sink: &mut K, line: u64, fault: LineFault) -> 
 }
 
 /// Adds the text of a head and of the file behind it.
-fn write_all<S: Source, K: Sink>(
+fn write_all<S: Source, K: Sink, T: CaptureWatch>(
     opened: &Opened,
     port: u16,
     intake: &mut Intake,
     source: &mut S,
     writer: &mut Writer,
     sink: &mut K,
+    watch: &T,
 ) -> Result<Status, Stop>
     requires port { port ≤ 65000 }
     requires few { length opened.now.ids.items ≤ 64 }
@@ -65,18 +67,19 @@ fn write_all<S: Source, K: Sink>(
         → OnlyMemoryStops result (K.is_steady sink.new (length writer.new.gather + room))) }
 {
     put(&mut writer.gather, sink, &opened.text)?;
-    write_file(opened, port, intake, source, writer, sink)
+    write_file(opened, port, intake, source, writer, sink, watch)
 }
 
 /// Writes the text of a head that was read whole, and of what stands behind it: these bytes, and what the
 /// source has left.
-fn write_behind<S: Source, K: Sink>(
+fn write_behind<S: Source, K: Sink, T: CaptureWatch>(
     alloc: Global,
     opened: &Opened,
     bytes: &[u8],
     port: u16,
     source: &mut S,
     sink: &mut K,
+    watch: &T,
 ) -> Result<Status, Stop>
     requires port { port ≤ 65000 }
     requires few { length opened.now.ids.items ≤ 64 }
@@ -99,7 +102,7 @@ fn write_behind<S: Source, K: Sink>(
 {
     let mut writer = new_writer(alloc)?;
     let mut intake = Intake::new(alloc, bytes)?;
-    let ended = write_all(opened, port, &mut intake, source, &mut writer, sink);
+    let ended = write_all(opened, port, &mut intake, source, &mut writer, sink, watch);
     close(&mut writer.gather, sink, ended)
 }
 
@@ -112,12 +115,13 @@ fn write_behind<S: Source, K: Sink>(
 /// Where a line of the head is refused, one line says so, and nothing else is written. Where the file's
 /// head or a record has a fault, a last line says so in place of `end`, and where an event or a record is
 /// one too many, `too-long` does. Whatever stops the writing, what waits is put still, unless the sink
-/// failed.
-pub fn write_capture<S: Source, K: Sink>(
+/// failed. `watch` is told which file or record was refused.
+pub fn write_capture<S: Source, K: Sink, T: CaptureWatch>(
     alloc: Global,
     port: u16,
     source: &mut S,
     sink: &mut K,
+    watch: &T,
 ) -> Result<Status, Stop>
     requires { port ≤ 65000 }
     ensures status { IfOk result IsCaptureEnd }
@@ -137,6 +141,14 @@ pub fn write_capture<S: Source, K: Sink>(
     let mut reader = LineReader::new(alloc)?;
     match read_head(alloc, &mut reader, source)? {
         Head::Unlawful { line, fault } => refuse(alloc, sink, line, fault),
-        Head::Lawful(opened) => write_behind(alloc, &opened, reader.kept(), port, source, sink),
+        Head::Lawful(opened) => write_behind(
+            alloc,
+            &opened,
+            reader.kept(),
+            port,
+            source,
+            sink,
+            watch,
+        ),
     }
 }

@@ -1,7 +1,7 @@
 //! Captures, written as traces.
 use crate::fixtures::{Words, bytes_of, joined};
 use capture_loop::{Status, Stop, write_capture};
-use ram_io::{MemSink, MemSource};
+use ram_io::{MemSink, MemSource, Open};
 use std::alloc::Global;
 use std::str;
 use std::test::Fail;
@@ -197,7 +197,7 @@ fn written(
     let mut source = MemSource::new(bytes, piece.max(1), source_fails.to_vec(alloc)?);
     let sink = MemSink::new(alloc, 1_000_000, 1_000, sink_fails.to_vec(alloc)?);
     let mut sink = sink.ok().ok_or("memory")?;
-    let ended = write_capture(alloc, 5000, &mut source, &mut sink);
+    let ended = write_capture(alloc, 5000, &mut source, &mut sink, &Open);
     Ok((ended, sink.held().to_vec(alloc)?))
 }
 
@@ -269,7 +269,7 @@ fn a_trace_has_room_for_a_million_events(rt: HostRuntime) -> Result<(), Fail> {
         let mut source = MemSource::new(bytes, 4_096, Vec::new(alloc));
         let sink = MemSink::new(alloc, 6_000_000, 100_000, Vec::new(alloc));
         let mut sink = sink.ok().ok_or("memory")?;
-        let ended = write_capture(alloc, 5000, &mut source, &mut sink);
+        let ended = write_capture(alloc, 5000, &mut source, &mut sink, &Open);
         assert_eq!(rt; ended, Ok(*status), "{seconds}");
         let count = sink.held().iter().filter(|b| **b == b'\n').count();
         assert_eq!(rt; count, *lines, "{seconds}");

@@ -16,3 +16,5 @@ mod frames;
 mod settings;
 #[cfg(test)]
 mod ticks;
+#[cfg(test)]
+mod watched;

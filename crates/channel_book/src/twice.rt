@@ -73,7 +73,8 @@ fn feedback_twice(
         return Err(NoMemory);
     }
     let room = Room::new(alloc, 5 * bytes.len() + 4, 1)?;
-    let given = core.feedback(alloc, client, bytes)?;
+    let mut given = core.feedback(alloc, client, bytes)?;
+    given.notes.shrink_to_fit();
     Ok(Twice {
         kept: room.copy(&given),
         given,

@@ -1,5 +1,6 @@
 //! The keys of the known clients, found by a hash.
-ghost use Rattle.std.specs.Prelude.{◌≡◌, ℕ, Option, Some, None, IfOk};
+ghost use Rattle.std.specs.Prelude.{◌≡◌, ℕ, [], true, Option, Some, None, IfOk, cond, nat_eq};
+ghost use Rattle.std.specs.HashMap.{get};
 ghost use Rattle.std.specs.Ordering.{nat_cmp};
 ghost use Rattle.std.specs.Map.{lookup};
 ghost use Rattle.std.specs.BTreeMap.{BTreeMap as Tree, Updates, is_at};
@@ -56,9 +57,6 @@ impl Keys {
         take_key(&mut self.keys, client);
     }
 }
-
-ghost use Rattle.std.specs.Prelude.{[], true, cond, nat_eq};
-ghost use Rattle.std.specs.HashMap.{get};
 
 // Puts the key of a client among the others. Whether there was memory for it.
 fn add_key(keys: &mut HashMap<u64, usize>, client: u64, key: usize) -> bool

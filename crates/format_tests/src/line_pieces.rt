@@ -240,13 +240,13 @@ fn passed(
 
 #[test]
 fn texts_pass(rt: HostRuntime) -> Result<(), Fail> {
-    let short = run(rt.alloc(), b'p', 30000, b"")?;
-    let long = run(rt.alloc(), b'l', 70000, b"")?;
-    let mut whole = run(rt.alloc(), b'p', 90000, &long)?;
+    let short = run(rt.alloc(), b'p', 100000, b"")?;
+    let long = run(rt.alloc(), b'l', 270000, b"")?;
+    let mut whole = run(rt.alloc(), b'p', 300000, &long)?;
     whole.extend_from_slice(b"end")?;
-    for most in [7, 1000, 100000] {
+    for most in [7, 1000, 300000] {
         let (held, bytes) = passed(rt.alloc(), most, &short, &long)?;
-        same(&rt, &held, &[0, 60000, 160000], &most);
+        same(&rt, &held, &[0, 200000, 570000], &most);
         holds(&rt, bytes == whole, &most);
     }
     Ok(())

@@ -9,9 +9,9 @@ use std::alloc::Global;
 use std::marker::Model;
 
 // Most bytes that wait.
-const ROOM: usize = 65536;
+const ROOM: usize = 262144;
 
-/// Texts that wait to be put to a sink together, at most 65,536 bytes.
+/// Texts that wait to be put to a sink together, at most 262,144 bytes.
 #[derive(Drop)]
 pub struct Gather {
     waiting: Vec<u8>,
@@ -24,7 +24,7 @@ impl Model for Gather {
 
     ghost view = { λ g. g.waiting.items };
 
-    ghost invariant = { λ g. (length g.waiting.items ≤ 65536) × (65536 ≤ vec_capacity g.waiting) };
+    ghost invariant = { λ g. (length g.waiting.items ≤ 262144) × (262144 ≤ vec_capacity g.waiting) };
 }
 
 impl Gather {
@@ -38,7 +38,7 @@ impl Gather {
     }
 
     /// Lets a piece wait behind the others. Where they have no room together, what waits goes to the
-    /// sink, and a piece of more than 65,536 bytes goes there at once.
+    /// sink, and a piece of more than 262,144 bytes goes there at once.
     ///
     /// Where the sink fails, what waits stays as it was, though a front of it may have gone: the
     /// sink's text is right only if the caller then puts no more.
@@ -105,7 +105,7 @@ impl Gather {
 
     // Puts what waits to the sink, and lets the piece wait.
     fn put_after_flush<K: Sink>(&mut self, sink: &mut K, piece: &[u8]) -> Result<(), Failed>
-        requires { length piece.now ≤ 65536 }
+        requires { length piece.now ≤ 262144 }
         ensures all { OnOk result (Passes (K.held sink.old) (K.held sink.new) (self.old ++ piece.now) self.new) }
         ensures prefix { (rest : List ℕ) × Passes (K.held sink.old) (K.held sink.new) (self.old ++ piece.now) rest }
         ensures same { OnErr result (self.new ≡ self.old) }
@@ -119,13 +119,13 @@ impl Gather {
     }
 
     fn has_room(&self, count: usize) -> bool
-        ensures { IsTrue result ↔ (length self.now + count ≤ 65536) }
+        ensures { IsTrue result ↔ (length self.now + count ≤ 262144) }
     {
         count <= ROOM - self.waiting.len()
     }
 
     fn append(&mut self, piece: &[u8])
-        requires { length self.old + length piece.now ≤ 65536 }
+        requires { length self.old + length piece.now ≤ 262144 }
         ensures { self.new ≡ self.old ++ piece.now }
     {
         self.waiting.extend_from_slice(piece).unwrap();

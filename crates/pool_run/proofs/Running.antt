@@ -6,13 +6,13 @@ use Rattle.std.proofs.lemmas.List.Elements.{All-from_recursion, recursion_from_A
 use Rattle.ram_io.specs.declared.failed.NoMemory.{NoMemory}
 use Rattle.channel_book.specs.{Kept}
 use Rattle.link_pool.specs.declared.claim.Claim.{Claim}
-use Rattle.link_pool.specs.{Divided, Claimer, fresh_takers, bytes_of, claims_of}
+use Rattle.link_pool.specs.{Divided, Claimer, fresh_takers, bytes_of, claims_of, NotAmong}
 use Rattle.link_pool.specs.Sharing.{numbers}
 use Rattle.link_pool.specs.Parties.{claimer}
 use Rattle.pool_run.specs.declared.lane.Lane.{Lane}
 use Rattle.pool_run.specs.declared.lane.Job.{Job}
 use Rattle.pool_run.specs.declared.lane.Ran.{Ran}
-use Rattle.pool_run.specs.{job, pairs, ran_of, IsFresh, CanRun, HasRun, HaveRun, ArePulled, AreBooks, ClaimsAreSizes}
+use Rattle.pool_run.specs.{job, pairs, ran_of, IsFresh, CanRun, HasRun, HaveRun, ArePulled, AreBooks, ClaimsAreSizes, NoOthersClaim}
 
 -- ---- before the threads
 
@@ -101,3 +101,14 @@ pulled_claims pool lanes books takers claims h own = λ i b less.
     let ran = h.each i (some_of lanes i lane) b t lane in
     let mine = own i t (omega (arith, lane, h.takers_many)) in
     ap (λ (n : ℕ). map bytes_of (claims_of n claims)) (sym ran.number) ∙ (ap (map bytes_of) mine ∙ ran.claims)
+
+-- nobody else claims
+pub pulled_others : (pool : Divided) (lanes : List Lane) (books : List Kept) (takers : List Claimer) (claims : List Claim) → HasPulled pool lanes books takers
+    → ((number : ℕ) → NotAmong takers number → claims_of number claims ≡ []) → NoOthersClaim books claims
+pulled_others pool lanes books takers claims h none = λ number behind.
+    none number
+    (λ i t less same.
+    let lane : i < length lanes = omega (arith, less, h.takers_many) in
+    let book : i < length books = omega (arith, lane, h.books_many) in
+    let own = (h.each i (some_of lanes i lane) (some_of books i book) t lane).number in
+    absurd (omega (arith, own, same, book, behind)))

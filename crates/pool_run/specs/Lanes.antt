@@ -68,3 +68,7 @@ AreBooks lanes books = (length books ≡ length lanes)
 -- The claims of each lane are the wire sizes of the packets that its book sends again, in their order.
 abbrev pub ClaimsAreSizes : List Kept → List Claim → Type 0
 ClaimsAreSizes books claims = (i : ℕ) (d : Kept) → i < length books → map bytes_of (claims_of i claims) ≡ sizes_of (slice_index_or books i d).entries
+
+-- No claim has a number behind those of the lanes.
+abbrev pub NoOthersClaim : List Kept → List Claim → Type 0
+NoOthersClaim books claims = (number : ℕ) → length books ≤ number → claims_of number claims ≡ []

@@ -1,7 +1,7 @@
 //! All channels of a link.
 ghost use Rattle.std.specs.Prelude.{◌≡◌, ◌*◌, ◌^◌, ◌<◌, ◌≤◌, All, IfOk, vec_len};
 ghost use Rattle.link_pool.specs.{claimed, Fill, PaidWithin};
-ghost use Rattle.pool_run.specs.{IsFresh, AreBooks, ClaimsAreSizes, CanRun, HasRun, HaveRun};
+ghost use Rattle.pool_run.specs.{IsFresh, AreBooks, ClaimsAreSizes, NoOthersClaim, CanRun, HasRun, HaveRun};
 
 use crate::granting::grant_all;
 use crate::lane::{Job, Lane, Ran, run_lane};
@@ -93,6 +93,7 @@ pub fn run_pool<R: Threads + Sync, G: Gate + Sync>(
     requires rate { rate ≤ 1000000000 }
     ensures books { IfOk result (λ pooled. AreBooks lanes.items pooled.books.items) }
     ensures claims { IfOk result (λ pooled. ClaimsAreSizes pooled.books.items pooled.ledger.claims.items) }
+    ensures others { IfOk result (λ pooled. NoOthersClaim pooled.books.items pooled.ledger.claims.items) }
     ensures granted { IfOk result (λ pooled. pooled.ledger.granted ≡ ticks * rate) }
     ensures fills { IfOk result (λ pooled. Fill pooled.ledger.claims.items) }
     ensures most { IfOk result (λ pooled. claimed pooled.ledger.claims.items ≤ 2 ^ 54) }

@@ -10,6 +10,9 @@ mod gates;
 // pool_run
 #[cfg(test)]
 mod lanes;
+// pool_loop
+#[cfg(test)]
+mod traces;
 // link_pool
 #[cfg(test)]
 mod links;

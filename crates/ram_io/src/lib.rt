@@ -1,10 +1,8 @@
 //! What the program reads from and writes to, as traits whose clauses say what a call did.
 //!
 //! Each trait but `Clock` and `Gate` counts its faults, and answers `Failed` only where that count
-//! rose in the call. What an object has left or holds is told by the objects in memory, and not by
-//! the real ones: the clauses on content hold where it is told.
-//!
-//! No command uses `Wire`, `Clock` and `Gate` yet: they wait for commands that are still to come.
+//! rose in the call. What an object has left or holds is told by the objects in memory, and by the
+//! real ones where their reader or writer tells it: the clauses on content hold where it is told.
 #![tactic(auto)]
 
 mod calls;

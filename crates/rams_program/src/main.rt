@@ -4,13 +4,17 @@
 
 mod report;
 
-ghost use Rattle.std.specs.Prelude.{◌≡◌, ◌<◌, ◌≤◌};
+ghost use Rattle.std.specs.Prelude.{◌≡◌, ◌<◌, ◌≤◌, IfOk, None, drop, is_none, map, true};
+ghost use Rattle.std.specs.Process.{exit_status};
+ghost use Rattle.std.specs.String.{string_bytes};
+ghost use Rattle.rams_model.specs.declared.status.Status.TheVariants.{Words};
+ghost use Rattle.rams_replay.specs.{IsOrLacksMemory, command_of, is_words};
 ghost use Rattle.rams_program.specs.{exit_number};
 
 use crate::report::Report;
-use ram_io::{Clock, Gate, MemClock, MemWire, Octets, Open, StdClock, StdSink, StdSource, Wire};
-use rams_replay::{Status, Watch, port_of, run};
-use std::alloc::Global;
+use ram_io::{Clock, Gate, MemClock, MemWire, Octets, StdClock, StdSink, StdSource, Wire};
+use rams_replay::{CaptureWatch, Status, Watch, port_of, run};
+use std::alloc::{AllocError, Global};
 use std::net::Net;
 use std::process::ExitCode;
 use std::sync::Wait;
@@ -19,19 +23,37 @@ use std::{env, io, rt};
 use udp_edge::{BindFault, FailedWire, UdpWire, busy_port};
 
 const USAGE: &str =
-    "usage: rams-replay run | meet | serve PORT TURNS | make SEED BLOCKS | pcap PORT | sdp | describe PORT";
+    "usage: rams-replay run | meet | serve PORT TURNS | make SEED BLOCKS | pcap PORT | sdp | describe PORT | threads WORKERS | pool RATE | takeover PORT TURNS";
 
 fn main(rt: HostRuntime) -> ExitCode {
-    let status = match words(&rt) {
-        Ok(words) => match port_of(&words) {
-            Some(port) => served(&rt, rt.alloc(), &words, port),
-            None => unserved(&rt, rt.alloc(), &words),
-        },
-        Err(status) => status,
-    };
+    let status = ended(&rt, rt.alloc(), words(&rt));
     if status == Status::Words {
         let _ = eprintln!(rt; "{USAGE}");
     }
+    code_of(status)
+}
+
+/// How the command ends that these words ask for, or why there are none.
+fn ended<R: Threads + Wait + Net + rt::Clock + Sync + Input + Print + Eprint>(
+    rt: &R,
+    alloc: Global,
+    words: Result<Vec<Octets>, Status>,
+) -> Status
+    ensures { is_words result ≡ true → IfOk words (λ w. is_none (command_of w.items) ≡ true) }
+{
+    match words {
+        Ok(words) => match port_of(&words) {
+            Some(port) => served(rt, alloc, &words, port),
+            None => unserved(rt, alloc, &words),
+        },
+        Err(status) => status,
+    }
+}
+
+/// What the program ends with after this status.
+fn code_of(status: Status) -> ExitCode
+    ensures { exit_status result ≡ exit_number status }
+{
     ExitCode::from(number(status))
 }
 
@@ -43,13 +65,19 @@ fn words(rt: &HostRuntime) -> Result<Vec<Octets>, Status> {
         // No word of the program is other than text.
         Err(_) => return Err(Status::Words),
     };
-    let mut words = Vec::new(rt.alloc());
-    for word in given.skip(1) {
-        if words.push(Octets::of(word.into_bytes())).is_err() {
-            return Err(Status::NoMemory);
-        }
-    }
-    Ok(words)
+    let given = given.collect(rt.alloc()).map_err(|_| Status::NoMemory)?;
+    octets_of(rt.alloc(), given).map_err(|_| Status::NoMemory)
+}
+
+/// The bytes of the words behind the first.
+fn octets_of(alloc: Global, given: Vec<String>) -> Result<Vec<Octets>, AllocError>
+    ensures { IfOk result (λ words. words.items ≡ map string_bytes (drop 1 given.items)) }
+{
+    given
+        .into_iter()
+        .skip(1)
+        .map(|word| Octets::of(word.into_bytes()))
+        .collect(alloc)
 }
 
 /// Most channels of a server.
@@ -59,16 +87,20 @@ const CHANNELS: u16 = 64;
 const WAIT_MS: u32 = 1;
 
 /// Runs a command that has no wire.
-fn unserved<R: Threads + Wait + Sync + Input + Print>(
+fn unserved<R: Threads + Wait + Sync + Input + Print + Eprint>(
     rt: &R,
     alloc: Global,
     words: &[Octets],
-) -> Status {
+) -> Status
+    ensures refuses { is_words result ≡ true → is_none (command_of words.now) ≡ true }
+    ensures refused { command_of words.now ≡ None → IsOrLacksMemory Words result }
+{
     let Ok(mut wire) = MemWire::new(alloc, Vec::new(alloc), 0, 0, Vec::new(alloc)) else {
         return Status::NoMemory;
     };
     let mut clock = MemClock::new(Vec::new(alloc));
-    command(rt, alloc, words, &mut wire, &mut clock, &Open)
+    let report = Report::new(rt, alloc);
+    command(rt, alloc, words, &mut wire, &mut clock, &report)
 }
 
 /// Runs `serve` over the ports of 64 channels, since its head isn't read yet. Where one of them can't be
@@ -81,6 +113,7 @@ fn served<R: Threads + Wait + Net + rt::Clock + Sync + Input + Print + Eprint>(
 ) -> Status
     requires first { 0 < port }
     requires last { port ≤ 65000 }
+    ensures { is_words result ≡ true → is_none (command_of words.now) ≡ true }
 {
     let last = port + (2 * CHANNELS - 1);
     let mut clock = StdClock::new(rt);
@@ -122,14 +155,14 @@ fn tell_busy<R: Net + Eprint>(rt: &R, port: u16, last: u16)
 }
 
 /// Runs the command over this machine's input and output.
-fn command<R: Threads + Wait + Sync + Input + Print, W: Wire, C: Clock, G: Gate + Watch + Sync>(
-    rt: &R,
-    alloc: Global,
-    words: &[Octets],
-    wire: &mut W,
-    clock: &mut C,
-    gate: &G,
-) -> Status {
+fn command<
+    R: Threads + Wait + Sync + Input + Print,
+    W: Wire,
+    C: Clock,
+    G: Gate + Watch + CaptureWatch + Sync,
+>(rt: &R, alloc: Global, words: &[Octets], wire: &mut W, clock: &mut C, gate: &G) -> Status
+    ensures { is_words result ≡ is_none (command_of words.now) }
+{
     let mut source = StdSource::new(rt.reader());
     let mut sink = StdSink::new(io::writer(rt));
     run(rt, alloc, words, &mut source, &mut sink, wire, clock, gate)

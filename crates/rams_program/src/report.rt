@@ -1,7 +1,7 @@
-//! What `serve` tells its operator on standard error.
+//! What `serve` and `pcap` tell their operator on standard error.
 use ram_io::Gate;
 use rams_model::{LineFault, Note, Status};
-use rams_replay::Watch;
+use rams_replay::{CaptureFault, CaptureWatch, FileKind, Watch};
 use server_hub::{At, Heard, HubAnswer};
 use std::alloc::Global;
 use std::collections::{BTreeMap, BTreeSet};
@@ -75,7 +75,11 @@ impl Totals {
     }
 }
 
-/// Tells of a server's ports as it begins, and counts what comes and goes.
+/// What puts an Ethernet header in front of each packet of a file of raw IP, up to the file's name.
+const TO_ETHERNET: &str =
+    "tcprewrite --dlt=user --user-dlt=1 --user-dlink=2,0,0,0,0,2,2,0,0,0,0,1,8,0 -i";
+
+/// Tells of a server's ports as it begins, and counts what comes and goes; or of a capture that is refused.
 #[derive(Drop)]
 pub struct Report<'a, R> {
     rt: &'a R,
@@ -112,6 +116,33 @@ impl<'a, R: Wait + Eprint> Report<'a, R> {
         let _ = eprintln!(self.rt;
             ": the journal is whole up to there, and `run` answers it; start the server anew, and the set-tops ask again"
         );
+    }
+
+    /// The line of a capture file that isn't classic, of microseconds and of Ethernet frames.
+    fn tell_kind(&self, kind: FileKind) {
+        let _ = match kind {
+            FileKind::Pcapng => eprintln!(self.rt;
+                "rams-replay: the capture is pcapng: `editcap -F pcap FILE OUT` converts it"
+            ),
+            FileKind::Nanoseconds => eprintln!(self.rt;
+                "rams-replay: the capture is of nanoseconds: `editcap -F pcap FILE OUT` converts it"
+            ),
+            FileKind::RawIp => eprintln!(self.rt;
+                "rams-replay: the capture is of raw IP (link type 101): `{TO_ETHERNET} FILE -o OUT` converts it"
+            ),
+            FileKind::LinuxCooked => eprintln!(self.rt;
+                "rams-replay: the capture is of Linux's device `any` (link type 113): `editcap -F pcap -C 2 -L -T ether FILE OUT` converts it"
+            ),
+            FileKind::LinuxCooked2 => eprintln!(self.rt;
+                "rams-replay: the capture is of Linux's device `any` (link type 276): `editcap -F pcap -C 20 -L -T rawip FILE RAW` and `{TO_ETHERNET} RAW -o OUT` convert it"
+            ),
+            FileKind::OtherLink(link) => eprintln!(self.rt;
+                "rams-replay: the capture's link type is {link}: capture at an Ethernet device (`tcpdump -i eth0`)"
+            ),
+            FileKind::Ethernet | FileKind::Unknown => eprintln!(self.rt;
+                "rams-replay: no capture file begins right behind the head's line `end`; if one does, `editcap -F pcap FILE OUT` converts it"
+            ),
+        };
     }
 
     /// The line of totals.
@@ -158,7 +189,7 @@ impl<R: Wait + Eprint> Watch for Report<'_, R> {
         let why = match fault {
             LineFault::Form => "it is no line of a trace",
             LineFault::Order => {
-                "it may not come here, or it is missing: a head line, then channel lines of its version, then `end`"
+                "it may not come here, or it is missing: a head line comes first, then channel lines of its version"
             }
             LineFault::Range => "a number is out of its range",
             LineFault::Twice => "a channel line before has this number",
@@ -167,7 +198,7 @@ impl<R: Wait + Eprint> Watch for Report<'_, R> {
             }
         };
         let _ = eprintln!(self.rt;
-            "rams-replay: nothing is served, line {line} of the head is refused: {why}"
+            "rams-replay: nothing is served, since line {line} of the input is refused: {why}"
         );
     }
 
@@ -188,5 +219,31 @@ impl<R: Wait + Eprint> Watch for Report<'_, R> {
     fn lags(&self) {
         let mut totals = self.totals.lock(self.rt);
         totals.late = totals.late.saturating_add(1);
+    }
+}
+
+impl<R: Wait + Eprint> CaptureWatch for Report<'_, R> {
+    fn refuses_file(&self, fault: CaptureFault, kind: FileKind) {
+        let why = match fault {
+            CaptureFault::Short => {
+                "no capture file stands behind the head: `cat HEAD FILE | rams-replay pcap PORT`"
+            }
+            CaptureFault::Version => {
+                "the capture's version isn't 2.4: `editcap -F pcap FILE OUT` converts it"
+            }
+            _ => {
+                self.tell_kind(kind);
+                return;
+            }
+        };
+        let _ = eprintln!(self.rt; "rams-replay: {why}");
+    }
+
+    fn refuses_record(&self, number: u64, fault: CaptureFault) {
+        let what = match fault {
+            CaptureFault::Cut => "ends early: the lines so far and a line `end` are a trace",
+            _ => "has more than 262,144 bytes: the file is damaged there, or in front of it",
+        };
+        let _ = eprintln!(self.rt; "rams-replay: record {number} of the capture {what}");
     }
 }

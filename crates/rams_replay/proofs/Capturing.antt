@@ -18,7 +18,7 @@ abbrev IsWhole : Option (List ℕ) → Option (List ℕ) → Outcome → Status 
 IsWhole held holds o status = (status ≡ o.status) × Appends held holds o.text
 
 -- no wire stops it
-abbrev HasNoWire : Result Status Stop → Type 0
+abbrev pub HasNoWire : Result Status Stop → Type 0
 HasNoWire r = r ≡ Err Wire → ⊥
 
 -- none of what stops it is the wire

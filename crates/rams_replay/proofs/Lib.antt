@@ -3,6 +3,7 @@ pub mod Turning
 pub mod Telling
 pub mod Opening
 pub mod Ending
-pub mod ServeWords
 pub mod Serving
 pub mod Capturing
+pub mod Threading
+pub mod TakingOver

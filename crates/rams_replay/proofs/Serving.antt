@@ -1,5 +1,5 @@
 -- How a server ends, as a status.
-use Rattle.std.proofs.Common.{◌≡◌, ℕ, List, Option, Some, Result, Ok, Err, IfOk, IfErr, sym, subst, ◌∙◌, arith}
+use Rattle.std.proofs.Common.{◌≡◌, ℕ, List, Option, Some, Result, Ok, Err, IfOk, IfErr, sym, subst, ◌∙◌}
 use Rattle.rams_model.specs.declared.status.Status.{Status}
 use Rattle.rams_model.specs.declared.status.Status.TheVariants.{Done, NoMemory, Words, ReadFault, WriteFault, BadTrace, WireFault, TooLong, BadCapture, BadSdp}
 use Rattle.ram_io.specs.declared.wire.Incoming.{Incoming}
@@ -9,7 +9,7 @@ use Rattle.serve_loop.specs.declared.stop.Stop.TheVariants.{Memory, Read, Write,
 use Rattle.serve_loop.specs.{Given, HasEnded, HasStopped, IsGiven, IsServeEnd, OnlyMemoryStops, served_text}
 use Rattle.rams_replay.specs.declared.words.Command.{Command}
 use Rattle.rams_replay.specs.declared.words.Command.TheVariants.{Serve}
-use Rattle.rams_replay.specs.{HasFault, HasFaultOf, HasServed, IsCaused, IsCausedOverWire, IsOrLacksMemory, served_status}
+use Rattle.rams_replay.specs.{HasServed, IsOrLacksMemory, served_status}
 
 pub has_served : (g : Given) (held holds : Option (List ℕ)) (went sent : Option (List Outgoing)) (left : Option (List Incoming)) (r : Result Status Stop) → IfOk r IsServeEnd → IfOk r (HasEnded g held holds went sent left)
     → IfErr r (λ stop. HasStopped g held holds went sent) → HasServed g held holds went sent left (served_status r)
@@ -41,22 +41,6 @@ or_lacks_memory g held holds went sent left P (Ok TooLong) end ended only = absu
 or_lacks_memory g held holds went sent left P (Ok BadCapture) end ended only = absurd end
 or_lacks_memory g held holds went sent left P (Ok BadSdp) end ended only = absurd end
 or_lacks_memory g held holds went sent left P (Err stop) end ended only = subst (λ (s : Stop). IsOrLacksMemory (served_text g).status (served_status (Err s))) (sym only) tt
-
--- a command that has no wire
-pub over_wire : (read reads write writes wire : ℕ) (status : Status) → IsCaused read reads write writes status → IsCausedOverWire read reads write writes wire wire status
-over_wire read reads write writes wire status is = record { read_later = is.read_later; write_later = is.write_later; wire_later = omega arith; cause = by status is.cause }
-  where
-    by : (s : Status) → HasFault read reads write writes s → HasFaultOf read reads write writes wire wire s
-    by Done h = tt
-    by NoMemory h = tt
-    by Words h = tt
-    by ReadFault h = h
-    by WriteFault h = h
-    by BadTrace h = tt
-    by WireFault h = absurd h
-    by TooLong h = tt
-    by BadCapture h = tt
-    by BadSdp h = tt
 
 -- one command has one port and one number of turns
 pub same_serve : (o : Option Command) (p t port turns : ℕ) → o ≡ Some (Serve p t) → o ≡ Some (Serve port turns) → (p ≡ port) × (t ≡ turns)

@@ -9,8 +9,9 @@ mod served;
 mod words;
 mod writer;
 
+pub use capture_loop::{CaptureFault, CaptureWatch, FileKind};
 pub use commands::{plain, run};
 pub use ram_io::{NoMemory, Octets, Sink, Source};
 pub use rams_model::Status;
 pub use serve_loop::Watch;
-pub use words::{Command, begins_with_plain, command_of, port_of};
+pub use words::{Command, command_of, port_of};

@@ -1,6 +1,6 @@
 //! The words of the command line.
-ghost use Rattle.std.specs.Prelude.{◌≡◌, ◌≤◌, ℕ, IfNone, IfSome};
-ghost use Rattle.rams_replay.specs.{AreServe, begins_with_plain, command_of, number_within, port_of};
+ghost use Rattle.std.specs.Prelude.{◌≡◌, ◌≤◌, IfSome};
+ghost use Rattle.rams_replay.specs.{IsWithin, command_of, number_within, port_of};
 
 use ram_io::Octets;
 use trace_text::number;
@@ -22,14 +22,23 @@ pub enum Command {
     Describe { port: u16 },
     /// The trace of a capture file, with this live port of its first channel.
     Pcap { port: u16 },
+    /// What comes of a trace of one channel whose feedback goes to so many workers, each on a thread.
+    Threads { workers: u32 },
+    /// The book of a trace, and the ledger of a link of so many bytes a tick that its channels share.
+    Pool { rate: u32 },
+    /// The journal of another server read as far as it goes, and then so many turns of a server over a wire, with
+    /// this live port of its first channel.
+    Takeover { port: u16, turns: u32 },
 }
 
 /// The command that the words spell: `run`; `meet`; `sdp`; `describe PORT` or `pcap PORT` with a port from 1 to
-/// 65,000; `make SEED BLOCKS` with a seed of up to 2^32 - 1 and 1 to 50,000 blocks; or `serve PORT TURNS` with a port
-/// from 1,024 to 65,000 and 1 to 500,000 turns. Numbers stand in decimal digits without a zero in front.
-/// `None` exactly where the words spell none.
+/// 65,000; `threads WORKERS` with 1 to 16 workers; `pool RATE` with a rate of 1 to 1,000,000,000; `make SEED BLOCKS`
+/// with a seed of up to 2^32 - 1 and 1 to 50,000 blocks; or `serve PORT TURNS` or `takeover PORT TURNS` with a port
+/// from 1,024 to 65,000 and 1 to 500,000 turns. Numbers stand in decimal digits without a zero in front. `None`
+/// exactly where the words spell none.
 pub fn command_of(words: &[Octets]) -> Option<Command>
-    ensures { result ≡ command_of words.now }
+    ensures value { result ≡ command_of words.now }
+    ensures within { IfSome result IsWithin }
 {
     match words {
         [word] if word.bytes() == b"run".as_slice() => Some(Command::Run),
@@ -41,11 +50,21 @@ pub fn command_of(words: &[Octets]) -> Option<Command>
         [word, port] if word.bytes() == b"pcap".as_slice() => Some(Command::Pcap {
             port: port_from(1, port.bytes())?,
         }),
+        [word, workers] if word.bytes() == b"threads".as_slice() => Some(Command::Threads {
+            workers: number_within(1, 16, workers.bytes())?,
+        }),
+        [word, rate] if word.bytes() == b"pool".as_slice() => Some(Command::Pool {
+            rate: number_within(1, 1_000_000_000, rate.bytes())?,
+        }),
         [word, seed, blocks] if word.bytes() == b"make".as_slice() => Some(Command::Make {
             seed: number_within(0, u32::MAX, seed.bytes())?,
             blocks: number_within(1, 50_000, blocks.bytes())?,
         }),
         [word, port, turns] if word.bytes() == b"serve".as_slice() => Some(Command::Serve {
+            port: port_from(1024, port.bytes())?,
+            turns: number_within(1, 500_000, turns.bytes())?,
+        }),
+        [word, port, turns] if word.bytes() == b"takeover".as_slice() => Some(Command::Takeover {
             port: port_from(1024, port.bytes())?,
             turns: number_within(1, 500_000, turns.bytes())?,
         }),
@@ -55,7 +74,8 @@ pub fn command_of(words: &[Octets]) -> Option<Command>
 
 /// The number of a word, where it is one from `low` to `high`.
 fn number_within(low: u32, high: u32, word: &[u8]) -> Option<u32>
-    ensures { result ≡ number_within low high word.now }
+    ensures value { result ≡ number_within low high word.now }
+    ensures within { IfSome result (λ n. (low ≤ n) × (n ≤ high)) }
 {
     let number = u32::try_from(number(word)?).ok()?;
     (low..=high).contains(&number).then_some(number)
@@ -63,68 +83,32 @@ fn number_within(low: u32, high: u32, word: &[u8]) -> Option<u32>
 
 /// The number of a word, where it is a port from `low` to 65,000.
 fn port_from(low: u32, word: &[u8]) -> Option<u16>
-    ensures { result ≡ number_within low 65000 word.now }
+    ensures value { result ≡ number_within low 65000 word.now }
+    ensures within { IfSome result (λ n. (low ≤ n) × (n ≤ 65000)) }
 {
     let number = number_within(low, 65_000, word)?;
     u16::try_from(number).ok()
 }
 
-/// The live port of the first channel, where the words are `serve PORT TURNS`; `None` exactly where they
-/// aren't.
+/// The live port of the first channel, where the words are `serve PORT TURNS` or `takeover PORT TURNS`; `None`
+/// exactly where they are neither.
 pub fn port_of(words: &[Octets]) -> Option<u16>
     ensures value { result ≡ port_of words.now }
     ensures least { IfSome result (λ port. 1024 ≤ port) }
     ensures most { IfSome result (λ port. port ≤ 65000) }
 {
     match command_of(words) {
-        Some(Command::Serve { port, .. }) => Some(port),
+        Some(Command::Serve { port, .. } | Command::Takeover { port, .. }) => Some(port),
         Some(
             Command::Run
             | Command::Meet
             | Command::Make { .. }
             | Command::Sdp
             | Command::Describe { .. }
-            | Command::Pcap { .. },
+            | Command::Pcap { .. }
+            | Command::Threads { .. }
+            | Command::Pool { .. },
         )
         | None => None,
-    }
-}
-
-/// The port and the turns, where the words are `serve PORT TURNS`.
-pub fn serve_words(words: &[Octets]) -> Option<(u16, u32)>
-    ensures asked { IfSome result (λ asked. AreServe words.now asked.0 asked.1) }
-    ensures other { IfNone result ((port turns : ℕ) → AreServe words.now port turns → ⊥) }
-    ensures port { IfSome result (λ asked. asked.0 ≤ 65000) }
-    ensures turns { IfSome result (λ asked. asked.1 ≤ 500000) }
-{
-    match command_of(words) {
-        Some(Command::Serve { port, turns }) => Some((port, turns)),
-        Some(
-            Command::Run
-            | Command::Meet
-            | Command::Make { .. }
-            | Command::Sdp
-            | Command::Describe { .. }
-            | Command::Pcap { .. },
-        )
-        | None => None,
-    }
-}
-
-/// Whether the first word is that of a command which waits for nobody: `run`, `meet`, `make`, `sdp`,
-/// `describe` or `pcap`.
-pub fn begins_with_plain(words: &[Octets]) -> bool
-    ensures { result ≡ begins_with_plain words.now }
-{
-    match words {
-        [word, ..] => {
-            word.bytes() == b"run".as_slice()
-                || word.bytes() == b"meet".as_slice()
-                || word.bytes() == b"make".as_slice()
-                || word.bytes() == b"sdp".as_slice()
-                || word.bytes() == b"describe".as_slice()
-                || word.bytes() == b"pcap".as_slice()
-        }
-        [] => false,
     }
 }

@@ -1,5 +1,5 @@
 //! Traces of the commands `run` and `meet` and their books, worked out by hand, as tables; and runs of the
-//! other commands that wait for nobody.
+//! other commands.
 //!
 //! `row` says what a row is, and runs it. Each of the other modules has the rows of one subject:
 //! tables of data, and where a trace is long the few functions that write it out.
@@ -33,6 +33,8 @@ mod settings;
 mod stops;
 #[cfg(test)]
 mod summaries;
+#[cfg(test)]
+mod threads;
 #[cfg(test)]
 mod words;
 #[cfg(test)]

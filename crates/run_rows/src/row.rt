@@ -1,6 +1,6 @@
 //! What a row of a table is, and how it is run.
-use ram_io::{MemSink, MemSource};
-use rams_replay::{Octets, Status, begins_with_plain, plain};
+use ram_io::{MemSink, MemSource, Open};
+use rams_replay::{Octets, Status, plain};
 use std::alloc::{AllocError, Global};
 use std::process::Abort;
 use std::str;
@@ -155,8 +155,7 @@ pub fn ran_by(
     let mut sink = sink.ok().ok_or("memory")?;
     let mut words = Vec::new(alloc);
     words.push(Octets::of(command.word.as_bytes().to_vec(alloc)?))?;
-    assert!(rt; begins_with_plain(&words));
-    let status = plain(alloc, &words, &mut source, &mut sink);
+    let status = plain(alloc, &words, &mut source, &mut sink, &Open);
     Ok((status, sink))
 }
 

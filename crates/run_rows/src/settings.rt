@@ -1,7 +1,7 @@
 //! The commands `sdp`, `describe` and `pcap`: their words, and a run of each.
 use crate::row::OPENING;
-use ram_io::{MemSink, MemSource};
-use rams_replay::{Octets, Status, begins_with_plain, plain};
+use ram_io::{MemSink, MemSource, Open};
+use rams_replay::{Octets, Status, plain};
 use std::alloc::Global;
 use std::process::Abort;
 use std::str;
@@ -89,8 +89,7 @@ fn ran(
     let mut source = MemSource::new(input.into_bytes(), 100, Vec::new(alloc));
     let sink = MemSink::new(alloc, 1_000, 100, Vec::new(alloc));
     let mut sink = sink.ok().ok_or("memory")?;
-    assert!(rt; begins_with_plain(&octets));
-    let status = plain(alloc, &octets, &mut source, &mut sink);
+    let status = plain(alloc, &octets, &mut source, &mut sink, &Open);
     Ok((status, sink))
 }
 

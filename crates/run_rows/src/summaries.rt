@@ -1,6 +1,6 @@
 //! Summaries of generated traces: the numbers are those of an independent model.
-use ram_io::{MemSink, MemSource};
-use rams_replay::{Octets, Status, begins_with_plain, plain};
+use ram_io::{MemSink, MemSource, Open};
+use rams_replay::{Octets, Status, plain};
 use std::alloc::Global;
 use std::process::Abort;
 use std::test::Fail;
@@ -46,8 +46,7 @@ fn made(
     let sink = MemSink::new(alloc, room, 100, Vec::new(alloc));
     let mut sink = sink.ok().ok_or("memory")?;
     let mut source = MemSource::new(Vec::new(alloc), 1, Vec::new(alloc));
-    assert!(rt; begins_with_plain(&octets));
-    let status = plain(alloc, &octets, &mut source, &mut sink);
+    let status = plain(alloc, &octets, &mut source, &mut sink, &Open);
     Ok((status, sink))
 }
 

@@ -13,8 +13,8 @@ returns-then-not-branch-clause-order g c =
     let none = when_not c.in_ok-fill.field-0 _ _ c.in_ok-fill.ensures.filled c.if-not-branch.true in
     short_order _ c.fill.new.self (g.S.Source.left c.fill.new.source) c.fill.ensures.same none.0 none.1
 
-pub slice_bounds-read_head-end : goal.slice_bounds-read_head-end
-slice_bounds-read_head-end g c =
+pub slice_bounds-head-end : goal.slice_bounds-head-end
+slice_bounds-head-end g c =
     let there = when_full c.in_ok-fill.field-0 _ _ c.in_ok-fill.ensures.filled c.if-not-branch.false in
     let same : length c.bytes.result.now ≡ length c.fill.new.self = ap length c.bytes.ensures in
     let enough : 24 ≤ length c.bytes.result.now = omega (arith, there, same) in

@@ -1,7 +1,7 @@
 use Rattle.std.proofs.Common.{◌≡◌, length, ap, ◌∙◌, rules}
 use Rattle.link_pool.specs.{fresh_takers}
 use Rattle.pool_run.specs.{HaveRun}
-use Rattle.pool_run.proofs.Running.{can_run, has_pulled, at_ok, pulled_made, pulled_books, pulled_claims}
+use Rattle.pool_run.proofs.Running.{can_run, has_pulled, at_ok, pulled_made, pulled_books, pulled_claims, pulled_others}
 use Rattle.pool_run.proofs.run.run_pool.Goals as goal
 
 pub run_beside-ticker-requires-clause-jobs : goal.run_beside-ticker-requires-clause-jobs
@@ -40,3 +40,14 @@ returns-clause-claims g c =
     let whole = has_pulled pool lanes fresh c.in_ok-jobs.jobs.items c.in_ok-all.field-0.items pulled.books.items pulled.takers.items (c.in_ok-pool.ensures.takers ∙ ap (fresh_takers pool.pool) many) c.in_ok-jobs.ensures
     (at_ok c.run_beside-ticker.result.1 c.in_ok-all.field-0 (λ v. HaveRun c.in_ok-jobs.jobs.items v.items) c.in_ok-all.was c.run_beside-ticker.ensures.ran) c.in_ok-pulled.ensures in
     pulled_claims pool lanes pulled.books.items pulled.takers.items c.in-Ok.ledger.claims.items whole c.in-Ok.ensures.own
+
+pub returns-clause-others : goal.returns-clause-others
+returns-clause-others g c =
+    let pool = c.in_ok-pool.pool in
+    let lanes = c.args.lanes.items in
+    let fresh = c.in_ok-pool.takers.items in
+    let pulled = c.in_ok-pulled.pulled in
+    let many : c.len.result ≡ length lanes = search rules in
+    let whole = has_pulled pool lanes fresh c.in_ok-jobs.jobs.items c.in_ok-all.field-0.items pulled.books.items pulled.takers.items (c.in_ok-pool.ensures.takers ∙ ap (fresh_takers pool.pool) many) c.in_ok-jobs.ensures
+    (at_ok c.run_beside-ticker.result.1 c.in_ok-all.field-0 (λ v. HaveRun c.in_ok-jobs.jobs.items v.items) c.in_ok-all.was c.run_beside-ticker.ensures.ran) c.in_ok-pulled.ensures in
+    pulled_others pool lanes pulled.books.items pulled.takers.items c.in-Ok.ledger.claims.items whole c.in-Ok.ensures.others

@@ -1,6 +1,7 @@
 use Rattle.std.specs.Prelude.{All}
 use Rattle.trace_book.specs.{KeepsPromises, KeepsTheLink, served_by}
 use Rattle.trace_loop.proofs.Whole.{told_all}
+use Rattle.rams_replay.specs.{ComesPromised}
 use Rattle.world_book.specs.{ReceiversPresent, world_of}
 use Rattle.rams_replay.proofs.commands.promise.Goals as goal
 
@@ -15,3 +16,11 @@ returns-clause-lawful_world g c = told_all (g.S.Source.left c.args._source.now) 
 
 pub returns-clause-receivers : goal.returns-clause-receivers
 returns-clause-receivers g c = told_all (g.S.Source.left c.args._source.now) (λ xs. ReceiversPresent (world_of xs)) c.receivers_present_their_sources.ensures
+
+pub returns-clause-comes : goal.returns-clause-comes
+returns-clause-comes g c = told_all (g.S.Source.left c.args._source.now) ComesPromised (λ xs workers trace may. record {
+  lines = c.traces_are_served_by_their_lines.ensures trace;
+  ends = c.traces_end_so.ensures trace;
+  lawful = c.traces_are_served_lawfully.ensures trace;
+  link = c.traces_stay_within_the_link.ensures trace;
+})

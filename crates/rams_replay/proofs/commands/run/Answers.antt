@@ -1,25 +1,21 @@
-use Rattle.std.proofs.Common.{sym, ◌∙◌}
+use Rattle.std.proofs.Common.{Some, ap, sym, ◌∙◌}
 use Rattle.rams_replay.specs.{command_of}
-use Rattle.rams_replay.proofs.ServeWords.{plain_serves_none}
-use Rattle.rams_replay.proofs.Serving.{given_so, over_wire, same_serve}
+use Rattle.rams_replay.proofs.Serving.{given_so, same_serve}
+use Rattle.rams_replay.proofs.TakingOver.{same_takeover}
 use Rattle.rams_replay.proofs.commands.run.Goals as goal
 
-pub returns-then-begins_with_plain-clause-served : goal.returns-then-begins_with_plain-clause-served
-returns-then-begins_with_plain-clause-served g c = λ port turns given serves. absurd (plain_serves_none c.args.words.now port turns (sym c.begins_with_plain.ensures ∙ c.if-begins_with_plain.true) serves)
+pub returns-in-Some-Serve-clause-served : goal.returns-in-Some-Serve-clause-served
+returns-in-Some-Serve-clause-served g c = λ port turns given serves is.
+    c.serve_status.ensures.served given (given_so given _ _ port turns _ _ _ (same_serve (command_of c.args.words.now) _ _ port turns (sym c.command_of.ensures.value ∙ (c.in-Some-Serve.is ∙ ap Some c.in-Some-Serve.field-0-is)) serves) is)
 
-pub returns-then-begins_with_plain-clause-served_whole : goal.returns-then-begins_with_plain-clause-served_whole
-returns-then-begins_with_plain-clause-served_whole g c = λ port turns given serves. absurd (plain_serves_none c.args.words.now port turns (sym c.begins_with_plain.ensures ∙ c.if-begins_with_plain.true) serves)
+pub returns-in-Some-Serve-clause-served_whole : goal.returns-in-Some-Serve-clause-served_whole
+returns-in-Some-Serve-clause-served_whole g c = λ port turns given serves is.
+    c.serve_status.ensures.whole given (given_so given _ _ port turns _ _ _ (same_serve (command_of c.args.words.now) _ _ port turns (sym c.command_of.ensures.value ∙ (c.in-Some-Serve.is ∙ ap Some c.in-Some-Serve.field-0-is)) serves) is)
 
-pub returns-then-begins_with_plain-clause-unread : goal.returns-then-begins_with_plain-clause-unread
-returns-then-begins_with_plain-clause-unread g c = λ port turns serves. absurd (plain_serves_none c.args.words.now port turns (sym c.begins_with_plain.ensures ∙ c.if-begins_with_plain.true) serves)
+pub returns-in-Some-Takeover-clause-taken : goal.returns-in-Some-Takeover-clause-taken
+returns-in-Some-Takeover-clause-taken g c = λ port turns given takes is.
+    c.takeover_status.ensures.taken given (given_so given _ _ port turns _ _ _ (same_takeover (command_of c.args.words.now) _ _ port turns (sym c.command_of.ensures.value ∙ (c.in-Some-Takeover.is ∙ ap Some c.in-Some-Takeover.field-0-is)) takes) is)
 
-pub returns-then-begins_with_plain-clause-causes : goal.returns-then-begins_with_plain-clause-causes
-returns-then-begins_with_plain-clause-causes g c = over_wire _ _ _ _ (g.W.Wire.faults c.args.wire.now) c.plain.result c.plain.ensures.cause
-
-pub returns-in-Some-clause-served : goal.returns-in-Some-clause-served
-returns-in-Some-clause-served g c = λ port turns given serves is.
-    c.serve_status.ensures.served given (given_so given _ _ port turns _ _ _ (same_serve (command_of c.args.words.now) _ _ port turns c.in-Some.ensures.asked serves) is)
-
-pub returns-in-Some-clause-served_whole : goal.returns-in-Some-clause-served_whole
-returns-in-Some-clause-served_whole g c = λ port turns given serves is.
-    c.serve_status.ensures.whole given (given_so given _ _ port turns _ _ _ (same_serve (command_of c.args.words.now) _ _ port turns c.in-Some.ensures.asked serves) is)
+pub returns-in-Some-Takeover-clause-taken_whole : goal.returns-in-Some-Takeover-clause-taken_whole
+returns-in-Some-Takeover-clause-taken_whole g c = λ port turns given takes is.
+    c.takeover_status.ensures.whole given (given_so given _ _ port turns _ _ _ (same_takeover (command_of c.args.words.now) _ _ port turns (sym c.command_of.ensures.value ∙ (c.in-Some-Takeover.is ∙ ap Some c.in-Some-Takeover.field-0-is)) takes) is)

@@ -1,0 +1,11 @@
+pub mod Turns
+pub mod Halves
+pub mod Changing
+pub mod Taking
+pub mod LineByLine
+pub mod Walked
+pub mod Books
+pub mod Pieces
+pub mod Sides
+pub mod Written
+pub mod Closing

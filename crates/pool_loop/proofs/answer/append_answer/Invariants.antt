@@ -1,0 +1,11 @@
+use Rattle.std.proofs.Common.{◌≡◌, ◌++◌, drop}
+use Rattle.std.specs.Prelude.{All}
+use Rattle.order_datagrams.specs.{Renders}
+use Rattle.rams_model.specs.Texts.{answer_text, notes_text}
+use Rattle.pool_loop.proofs.answer.append_answer.Given as goal
+
+abbrev pub invariant-loop-note : goal.invariant-loop-note
+invariant-loop-note l = record {
+  rendered : All Renders l.orders;
+  written : l.text.items ++ notes_text l.config l.event (drop l.note-index l.note-items) l.orders ≡ l.fn.text.items ++ answer_text l.config l.event l.answer;
+}

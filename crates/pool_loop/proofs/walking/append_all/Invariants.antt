@@ -1,0 +1,10 @@
+use Rattle.std.proofs.Common.{◌≡◌, length}
+use Rattle.pool_loop.specs.{all_left}
+use Rattle.pool_loop.proofs.Sides.{Halfway}
+use Rattle.pool_loop.proofs.walking.append_all.Given as goal
+
+abbrev pub invariant-loop-place : goal.invariant-loop-place
+invariant-loop-place l = record {
+  halfway : Halfway l.event l.route l.fn.text.items (all_left l.fn.left) (all_left l.left) l.text.items l.place;
+  many : length l.left ≡ length l.fn.left;
+}

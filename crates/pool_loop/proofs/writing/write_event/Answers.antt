@@ -1,0 +1,15 @@
+use Rattle.std.proofs.Common.{◌++◌, Result, IfErr, sym, subst}
+use Rattle.std.proofs.lemmas.Result.{err_from_is_err_and}
+use Rattle.trace_loop.specs.declared.stop.Stop.{Stop}
+use Rattle.trace_loop.specs.{StopsIn}
+use Rattle.trace_loop.proofs.Writing.{unwritten}
+use Rattle.pool_loop.specs.{all_left, route_text}
+use Rattle.pool_loop.proofs.writing.write_event.Goals as goal
+
+pub returns-in_err-append_event-clause-front : goal.returns-in_err-append_event-clause-front
+returns-in_err-append_event-clause-front g c =
+    let held = g.K.Sink.held c.args.sink.now in
+    let waits = c.args.pen.now.gather in
+    let text = route_text c.args.event c.args.route.now (all_left c.args.left.now) in
+    let p = err_from_is_err_and c.from_residual.result c.from_residual.ensures.1 in
+    subst (λ (r : Result (Unit {0}) Stop). IfErr r (StopsIn held held (waits ++ text) waits)) (sym p.1) (unwritten held waits text p.0)

@@ -1,0 +1,97 @@
+//! What is written of whole traces.
+use super::run::{sink_of, source_of, status_of};
+use crate::row::OPENING;
+use ram_io::Open;
+use rams_replay::Status;
+use std::alloc::Global;
+use std::process::Abort;
+use std::str;
+use std::sync::Wait;
+use std::test::Fail;
+use std::thread::Threads;
+
+/// Packets 65,534, with the marker, and 65,535; the second is asked for twice; a request for a burst; the
+/// first is asked for; and a tick.
+pub const EARLY_AND_ALREADY: &str = "live 7 80a1fffe000000001122334400000000
+live 7 8021ffff000003841122334400000000
+fb 7 5 81cd00030000c00111223344ffff0000
+fb 7 5 81cd00030000c00111223344ffff0000
+fb 7 5 86cd00030000c0011122334401000000
+fb 7 5 81cd00030000c00111223344fffe0000
+tick
+end
+";
+
+/// Two live packets alone: they are one list.
+const ONE_LIST: &str = "live 7 80a1000a000000001122334400000000
+live 7 8021000b000003841122334400000000
+end
+";
+
+/// The lines of a text that begin so, in order.
+fn lines_of(alloc: Global, text: &str, begin: &str) -> Result<String, Fail> {
+    let mut found = String::new(alloc);
+    for line in text.lines() {
+        if line.starts_with(begin) {
+            found.push_str(line)?;
+            found.push_str("\n")?;
+        }
+    }
+    Ok(found)
+}
+
+/// The text that a command writes of the trace whose lines behind the opening are these.
+fn written(
+    rt: &(impl Threads + Wait + Abort + Sync),
+    alloc: Global,
+    words: &[&str],
+    rest: &str,
+) -> Result<String, Fail> {
+    let mut source = source_of(alloc, rest, &[])?;
+    let mut sink = sink_of(alloc, &[])?;
+    let status = status_of(rt, alloc, words, &mut source, &mut sink, &Open)?;
+    assert_eq!(rt; status, Status::Done, "{words:?}");
+    Ok(String::from_str(alloc, str::from_utf8(sink.held())?)?)
+}
+
+/// What so many workers write of a trace: a trace with the same lines, each list's in their order, and the
+/// book that `run` writes of it.
+fn expect_its_book(
+    rt: &(impl Threads + Wait + Abort + Sync),
+    alloc: Global,
+    workers: &str,
+    rest: &str,
+) -> Result<(), Fail> {
+    let text = written(rt, alloc, &["threads", workers], rest)?;
+    let (trace, _) = text.split_once("rams-book 1\n").ok_or("a book")?;
+    let came = trace.strip_prefix(OPENING).ok_or("the same opening")?;
+    for begin in ["live", "fb", "tick", "end"] {
+        let wanted = lines_of(alloc, rest, begin)?;
+        assert_eq!(rt; lines_of(alloc, came, begin)?.as_str(), wanted.as_str());
+    }
+    assert_eq!(rt; came.len(), rest.len(), "no other line");
+    let book = written(rt, alloc, &["run"], came)?;
+    let both = format!(in alloc; "{trace}{book}")?;
+    assert_eq!(rt; text.as_str(), both.as_str());
+    Ok(())
+}
+
+#[test]
+fn threads_write_the_same_book(rt: HostRuntime) -> Result<(), Fail> {
+    for workers in ["1", "4", "16"] {
+        for rest in [EARLY_AND_ALREADY, ONE_LIST, "end\n"] {
+            expect_its_book(&rt, rt.alloc(), workers, rest)?;
+        }
+    }
+    Ok(())
+}
+
+/// One list comes in its order.
+#[test]
+fn one_list_is_its_trace(rt: HostRuntime) -> Result<(), Fail> {
+    let text = written(&rt, rt.alloc(), &["threads", "2"], ONE_LIST)?;
+    let book = "rams-book 1\n1 7 took 65546\n2 7 took 65547\ndone 2\n";
+    let wanted = format!(in rt.alloc(); "{OPENING}{ONE_LIST}{book}")?;
+    assert_eq!(rt; text.as_str(), wanted.as_str());
+    Ok(())
+}

@@ -1,0 +1,10 @@
+pub mod Within
+pub mod Pacing
+pub mod Closing
+pub mod Lines
+pub mod Pieces
+pub mod Ends
+pub mod OneJournal
+pub mod Taken
+pub mod Over
+pub mod Parts
