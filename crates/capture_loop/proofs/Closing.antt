@@ -14,6 +14,7 @@ use Rattle.std.specs.Prelude.{◌≤◌, IsOkAnd, MatchResult}
 use Rattle.trace_loop.specs.{EndsAs, Ends, IfBothTold, IfTold, IsStop, IsStoppedByWrite, IsWriteStop, OnlyMemoryStops, StopsIn}
 use Rattle.pcap_trace.specs.declared.head.CaptureFault.{CaptureFault}
 use Rattle.trace_loop.proofs.Reading.{passes_whole, rose_since}
+use Rattle.trace_loop.proofs.Stopping.{err_so}
 use Rattle.capture_loop.specs.declared.last.End.{End}
 use Rattle.capture_loop.specs.declared.last.End.TheVariants.{Whole, Refused, TooLong}
 use Rattle.capture_loop.specs.{ComesTo, HasLinesOf, last}
@@ -51,13 +52,6 @@ stops_before_more a b text waits more Memory p = (p.0 ++ more, subst (Passes a b
 stops_before_more a b text waits more Read p = (p.0 ++ more, subst (Passes a b (text ++ more)) (append_assoc waits p.0 more) (Passes-more a b text (waits ++ p.0) more p.1))
 stops_before_more a b text waits more Write p = (p.0 ++ more, Passes-more a b text p.0 more p.1)
 stops_before_more a b text waits more Wire p = (p.0 ++ more, subst (Passes a b (text ++ more)) (append_assoc waits p.0 more) (Passes-more a b text (waits ++ p.0) more p.1))
-
--- a front went, whatever stopped the call
-pub stops_front : (a b : Option (List ℕ)) (text waits : List ℕ) (stop : Stop) → StopsIn a b text waits stop → (rest : List ℕ) × Passes a b text rest
-stops_front a b text waits Memory p = (waits ++ p.0, p.1)
-stops_front a b text waits Read p = (waits ++ p.0, p.1)
-stops_front a b text waits Write p = p
-stops_front a b text waits Wire p = (waits ++ p.0, p.1)
 
 -- only a file without fault is done
 pub done_is_whole : (end : End) → (last end).status ≡ Done → end ≡ Whole
@@ -118,13 +112,6 @@ done_before before now (Err stop) result ends e = let no : Err stop ≡ Ok Done 
 -- what waited went too
 pub lines_gone : (a d e : Option (List ℕ)) (waited waits : List ℕ) (events : List ℕ → List HubEvent) (xs ys : List ℕ) → HasLinesOf events a d waited waits xs ys → Passes d e waits [] → HasLinesOf events a e waited [] xs ys
 lines_gone a d e waited waits events xs ys h p = (h.0, h.1, Passes-then a d e (waited ++ event_lines (events h.0)) waits [] h.2 p)
-
--- what holds of the stop that a call gives on
-pub err_so : {T : Type 0} (r : Result T Stop) (stop was : Stop) (P : Stop → Type 0) → r ≡ Err stop → stop ≡ was → P was → IfErr r P
-err_so {T} r stop was P is same p = subst (λ (q : Result T Stop). IfErr q P) (sym is) (subst P (sym same) p)
-
-pub only_err : {T : Type 0} (r : Result T Stop) (stop was : Stop) (P : Type 0) → r ≡ Err stop → stop ≡ was → was ≡ Memory → OnlyMemoryStops r P
-only_err {T} r stop was P is same memory = subst (λ (q : Result T Stop). OnlyMemoryStops q P) (sym is) (same ∙ memory)
 
 -- a count that rose has risen since it was no greater
 pub write_since : (before mid now : ℕ) (stop : Stop) → before ≤ mid → IsWriteStop mid now stop → IsWriteStop before now stop

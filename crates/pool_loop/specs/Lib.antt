@@ -12,5 +12,5 @@ pub use Rattle.pool_loop.specs.Reading.{GoesOnAfter, EndsAt, IsReadOf}
 unfoldable pub use Rattle.pool_loop.specs.Walking.{kept, left_of, all_left, number_of, numbers_of, first_text, next_text, turned, heard_text, past, all_past, unheard_text, route_text, walk_text, CanRender, AllCanRender}
 unfoldable pub use Rattle.pool_loop.specs.Pooling.{numbers_in, granted_in, MayWrite, HasEnded, HasStopped, HasRoomFor}
 pub use Rattle.pool_loop.specs.Pooling.{ClaimsOf, IsPooled}
-unfoldable pub use Rattle.pool_loop.specs.Writing.{entry_text, closing_text, pooled_text}
+unfoldable pub use Rattle.pool_loop.specs.Writing.{closing_text, pooled_text}
 pub use Rattle.pool_loop.specs.Writing.{IsLaneOf}

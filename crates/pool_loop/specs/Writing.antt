@@ -1,10 +1,5 @@
 -- What is written of the books of some channels, and of their ledger.
-use Rattle.std.specs.Prelude.{◌≡◌, ℕ, ◌++◌, List, [], take, length}
-use Rattle.std.specs.List.{flat_map}
-use Rattle.rams_model.specs.declared.answer.Order.{Order}
-use Rattle.rams_model.specs.declared.note.Note.{Note}
-use Rattle.rams_model.specs.Service.{Settings}
-use Rattle.rams_model.specs.Texts.{note_line, order_count, order_line}
+use Rattle.std.specs.Prelude.{◌≡◌, ℕ, ◌++◌, List, [], length}
 use Rattle.channel_book.specs.{Kept}
 use Rattle.session_core.specs.{StandsFor}
 use Rattle.trace_serving.specs.{done}
@@ -15,10 +10,6 @@ use Rattle.pool_run.specs.declared.lane.Lane.{Lane}
 use Rattle.pool_loop.specs.declared.dealing.Coming.{Coming}
 use Rattle.pool_loop.specs.declared.routes.Route.{Route}
 use Rattle.pool_loop.specs.Walking.{numbers_of, walk_text}
-
--- the text of one note with the datagram that it asks for
-abbrev pub entry_text : Settings → ℕ → Note → List Order → List ℕ
-entry_text s event note orders = note_line event s.channel.id note ++ flat_map (order_line s event) (take (order_count note) orders)
 
 -- the end of the book of so many events, and the ledger
 abbrev pub closing_text : ℕ → List ℕ → ℕ → List Claim → List ℕ

@@ -2,7 +2,6 @@
 //! source's bytes to the trace's book and the link's ledger.
 #![tactic(auto)]
 
-mod answer;
 mod dealing;
 mod ending;
 mod lanes;

@@ -1,4 +1,3 @@
-pub mod Entries
 pub mod Turns
 pub mod CommandWords
 pub mod Served
@@ -7,7 +6,6 @@ pub mod Described
 pub mod Captured
 pub mod Threaded
 pub mod TakenOver
-unfoldable pub use Rattle.rams_replay.specs.Entries.{entry_text}
 unfoldable pub use Rattle.rams_replay.specs.Turns.{claim_of, HubServes, settled_text, at_text, told_text, AllRender, SaidRender, OpensIn, Took}
 pub use Rattle.rams_replay.specs.Turns.{Serves, Stands, Tells, CountsOne, CanOpen, Opens, Comes}
 unfoldable pub use Rattle.rams_replay.specs.CommandWords.{within, number_within, make_of, serve_of, describe_of, pcap_of, threads_of, pool_of, takeover_of, alone, with_number, command_of, is_plain, IsWithin, AreRun, AreMeet, AreSdp, AreDescribe, ArePcap, AreThreads, ArePool, AreMake, AreServe, AreTakeover, port_in, port_of}

@@ -2,7 +2,6 @@
 #![tactic(auto)]
 
 mod commands;
-mod entry;
 mod made;
 mod replay;
 mod served;

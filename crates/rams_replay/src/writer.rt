@@ -7,9 +7,10 @@ ghost use Rattle.order_datagrams.specs.{Renders};
 ghost use Rattle.server_hub.specs.{told};
 ghost use Rattle.book_text.specs.{no_channel_line};
 ghost use Rattle.trace_loop.specs.{IsStoppedByWrite, OnlyMemoryStops, StopsIn};
-ghost use Rattle.rams_replay.specs.{entry_text, told_text, at_text, AllRender, SaidRender};
+ghost use Rattle.answer_text.specs.{entry_text};
+ghost use Rattle.rams_replay.specs.{told_text, at_text, AllRender, SaidRender};
 
-use crate::entry::{after, append_entry};
+use answer_text::{after, append_entry};
 use book_text::append_no_channel;
 use ram_io::Sink;
 use rams_model::{Answer, Note, Order};

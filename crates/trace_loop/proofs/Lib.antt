@@ -4,3 +4,4 @@ pub mod FirstTurn
 pub mod Reading
 pub mod Running
 pub mod Whole
+pub mod Stopping

@@ -4,7 +4,8 @@ use Rattle.std.specs.Io.KnownBytes.{prepend_known}
 use Rattle.rams_model.specs.declared.status.Status.TheVariants.{Done}
 use Rattle.trace_loop.proofs.Running.{told_gives}
 use Rattle.capture_loop.specs.{file_text, new_clock}
-use Rattle.capture_loop.proofs.Closing.{err_so, last_goes, last_stops, never_read, only_err}
+use Rattle.trace_loop.proofs.Stopping.{err_so, only_err}
+use Rattle.capture_loop.proofs.Closing.{last_goes, last_stops, never_read}
 use Rattle.capture_loop.proofs.Heading.{all_stops}
 use Rattle.capture_loop.proofs.Stopping.{both_ok, done_end, ends_so, given_on, not_ok, read_was, stopped_then}
 use Rattle.capture_loop.proofs.capture.write_file.Goals as goal

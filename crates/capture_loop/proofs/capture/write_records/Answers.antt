@@ -7,7 +7,8 @@ use Rattle.trace_loop.proofs.Running.{told_gives}
 use Rattle.trace_loop.proofs.Whole.{told_all}
 use Rattle.capture_loop.specs.declared.records.Next.{Next}
 use Rattle.capture_loop.specs.{IsNextWithin, new_clock}
-use Rattle.capture_loop.proofs.Closing.{err_so, never_err, never_ok, match_err, memory_not_read, not_by_sink, not_refused, not_too_long, other_end, write_since, write_stops_so}
+use Rattle.trace_loop.proofs.Stopping.{err_so}
+use Rattle.capture_loop.proofs.Closing.{never_err, never_ok, match_err, memory_not_read, not_by_sink, not_refused, not_too_long, other_end, write_since, write_stops_so}
 use Rattle.capture_loop.proofs.Filling.{when_full, when_not}
 use Rattle.capture_loop.proofs.Running.{running_begins, running_breaks, running_broken, running_crowded, running_ended, running_full, running_goes_on, running_has_room, running_reads, running_stops}
 use Rattle.capture_loop.proofs.capture.write_records.Goals as goal

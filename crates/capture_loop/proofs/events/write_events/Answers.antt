@@ -10,7 +10,8 @@ use Rattle.journal_book.specs.{event_line, event_lines}
 use Rattle.trace_loop.specs.{StopsIn}
 use Rattle.capture_loop.specs.{ticks_and}
 use Rattle.capture_loop.proofs.Bringing.{only_ticks, ticks_and_none, ticks_and_one, ticks_front}
-use Rattle.capture_loop.proofs.Closing.{err_since, err_so, only_err, stops_before_more, stops_behind}
+use Rattle.trace_loop.proofs.Stopping.{err_so, only_err}
+use Rattle.capture_loop.proofs.Closing.{err_since, stops_before_more, stops_behind}
 use Rattle.capture_loop.proofs.Limits.{ticks_length}
 use Rattle.capture_loop.proofs.events.write_events.Goals as goal
 

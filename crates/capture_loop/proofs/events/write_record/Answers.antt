@@ -9,7 +9,7 @@ use Rattle.journal_book.specs.{CanCome, HasLine, event_lines}
 use Rattle.trace_loop.specs.{StopsIn}
 use Rattle.capture_loop.specs.{Numbered, ticks_and}
 use Rattle.capture_loop.proofs.Bringing.{events_are, events_spelled, frame_is}
-use Rattle.capture_loop.proofs.Closing.{err_so, only_err}
+use Rattle.trace_loop.proofs.Stopping.{err_so, only_err}
 use Rattle.capture_loop.proofs.events.write_record.Goals as goal
 
 abbrev event : Option Heard → Option HubEvent

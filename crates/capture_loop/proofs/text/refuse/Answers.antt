@@ -4,7 +4,8 @@ use Rattle.line_io.specs.Passes.{Passes}
 use Rattle.line_io.proofs.Passing.{Passes-none, Passes-then}
 use Rattle.rams_model.specs.Texts.{refused_line}
 use Rattle.trace_loop.proofs.Reading.{passes_whole}
-use Rattle.capture_loop.proofs.Closing.{err_since, only_err, stops_front}
+use Rattle.trace_loop.proofs.Stopping.{only_err, stops_front}
+use Rattle.capture_loop.proofs.Closing.{err_since}
 use Rattle.capture_loop.proofs.text.refuse.Goals as goal
 
 -- a line behind nothing

@@ -7,7 +7,8 @@ use Rattle.trace_loop.specs.{StopsIn}
 use Rattle.trace_loop.proofs.Running.{told_gives}
 use Rattle.trace_loop.proofs.Whole.{told_all}
 use Rattle.capture_loop.specs.{file_events, file_text, new_clock}
-use Rattle.capture_loop.proofs.Closing.{both_told, ends_behind, err_so, lines_behind, not_by_sink, only_err, stops_behind_text}
+use Rattle.trace_loop.proofs.Stopping.{err_so, only_err}
+use Rattle.capture_loop.proofs.Closing.{both_told, ends_behind, lines_behind, not_by_sink, stops_behind_text}
 use Rattle.capture_loop.proofs.Heading.{all_ends, all_stops}
 use Rattle.capture_loop.proofs.Stopping.{first_fits, first_stops, not_ok, stopped_behind, then_fits}
 use Rattle.capture_loop.proofs.text.write_all.Goals as goal

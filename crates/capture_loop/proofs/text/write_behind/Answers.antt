@@ -11,7 +11,8 @@ use Rattle.trace_loop.proofs.Reading.{either, ended_by_source, rose_since}
 use Rattle.trace_loop.proofs.Running.{told_gives}
 use Rattle.trace_loop.proofs.Whole.{told_all}
 use Rattle.capture_loop.specs.{AreWritten, HasLinesOf, Numbered, file_events, file_text, new_clock}
-use Rattle.capture_loop.proofs.Closing.{both_told, done_before, lines_gone, only_err}
+use Rattle.trace_loop.proofs.Stopping.{only_err}
+use Rattle.capture_loop.proofs.Closing.{both_told, done_before, lines_gone}
 use Rattle.capture_loop.proofs.Stopping.{not_ok}
 use Rattle.capture_loop.proofs.Whole.{closed_cause, closed_front, closed_status, closed_text, for_all, for_one, memory_never_reads, memory_stopped, stop_for_one}
 use Rattle.capture_loop.proofs.text.write_behind.Goals as goal

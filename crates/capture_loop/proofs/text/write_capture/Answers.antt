@@ -12,7 +12,8 @@ use Rattle.trace_loop.proofs.Whole.{told_all}
 use Rattle.head_loop.specs.declared.head.Head.{Head}
 use Rattle.head_loop.specs.{HasRead, IsCutBefore, IsHeadOf, LeavesBehind, behind_head, head_end}
 use Rattle.capture_loop.specs.{capture_text}
-use Rattle.capture_loop.proofs.Closing.{never_read, only_err}
+use Rattle.trace_loop.proofs.Stopping.{only_err}
+use Rattle.capture_loop.proofs.Closing.{never_read}
 use Rattle.capture_loop.proofs.Heading.{all_ends, stopped_later}
 use Rattle.capture_loop.proofs.Stopping.{both_ok, not_ok, read_was, stopped_alone}
 use Rattle.capture_loop.proofs.Whole.{bad_ends, bad_is_not_done, cut_read, keeps_nothing, lawful_front, lawful_read, lawful_steady, lawful_text, lawful_trace, memory_never_reads, memory_stopped, read_stopped, refused_is}

@@ -7,7 +7,8 @@ use Rattle.trace_loop.specs.declared.stop.Stop.{Stop}
 use Rattle.trace_loop.specs.{StopsIn}
 use Rattle.trace_loop.proofs.Writing.{unwritten, writing_begins, writing_has_room, writing_goes_on, writing_stops}
 use Rattle.pool_loop.specs.{AllCanRender, all_left, closing_text, numbers_of, pooled_text, walk_text}
-use Rattle.pool_loop.proofs.Pieces.{last_part, from_events, err_so, only_err, together, writing_last}
+use Rattle.trace_loop.proofs.Stopping.{err_so, only_err, together, writing_last}
+use Rattle.pool_loop.proofs.Pieces.{last_part, from_events}
 use Rattle.pool_loop.proofs.writing.write_parts.Goals as goal
 
 pub returns-in_err-ids-clause-front : goal.returns-in_err-ids-clause-front

@@ -4,7 +4,8 @@ use Rattle.line_io.specs.Passes.{Passes}
 use Rattle.line_io.proofs.Passing.{Passes-none, Passes-then}
 use Rattle.trace_loop.specs.{StopsIn}
 use Rattle.pool_loop.specs.{pooled_text}
-use Rattle.pool_loop.proofs.Pieces.{only_err, passes_whole, stops_front}
+use Rattle.trace_loop.proofs.Stopping.{only_err, stops_front}
+use Rattle.trace_loop.proofs.Reading.{passes_whole}
 use Rattle.pool_loop.proofs.writing.write_pooled.Goals as goal
 
 pub returns-in_err-pen-clause-front : goal.returns-in_err-pen-clause-front

@@ -2,7 +2,7 @@ use Rattle.std.proofs.Common.{◌++◌, Result, IfErr, sym, subst}
 use Rattle.std.proofs.lemmas.Result.{err_from_is_err_and}
 use Rattle.trace_loop.specs.declared.stop.Stop.{Stop}
 use Rattle.trace_loop.specs.{StopsIn}
-use Rattle.rams_replay.specs.{entry_text}
+use Rattle.answer_text.specs.{entry_text}
 use Rattle.trace_loop.proofs.Writing.{unwritten}
 use Rattle.rams_replay.proofs.writer.write_entry.Goals as goal
 

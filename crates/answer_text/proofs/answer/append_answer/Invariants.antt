@@ -2,7 +2,7 @@ use Rattle.std.proofs.Common.{◌≡◌, ◌++◌, drop}
 use Rattle.std.specs.Prelude.{All}
 use Rattle.order_datagrams.specs.{Renders}
 use Rattle.rams_model.specs.Texts.{answer_text, notes_text}
-use Rattle.pool_loop.proofs.answer.append_answer.Given as goal
+use Rattle.answer_text.proofs.answer.append_answer.Given as goal
 
 abbrev pub invariant-loop-note : goal.invariant-loop-note
 invariant-loop-note l = record {

@@ -1,8 +1,8 @@
 -- One note more.
 use Rattle.std.proofs.Common.{◌+◌, ◌++◌, drop, sym, ap, ◌∙◌, append_assoc, append-nil}
 use Rattle.rams_model.specs.Texts.{notes_text}
-use Rattle.pool_loop.proofs.Pieces.{notes_more, notes_past}
-use Rattle.pool_loop.proofs.answer.append_answer.Goals as goal
+use Rattle.answer_text.proofs.Notes.{notes_text-step, notes_text-past}
+use Rattle.answer_text.proofs.answer.append_answer.Goals as goal
 
 pub loop-note-preserved : goal.loop-note-preserved
 loop-note-preserved c =
@@ -10,7 +10,7 @@ loop-note-preserved c =
     let notes = c.deref-note-items.result.now in
     let orders = c.loop-note.orders.now in
     let later = notes_text s c.args.event (drop (c.loop-note.note-index + 1) notes) c.after-orders.result.now in
-    let more = notes_more s c.args.event notes orders c.after-orders.result.now c.loop-note.note-index _ c.loop-note-test.true c.after-orders.ensures.after in
+    let more = notes_text-step s c.args.event notes orders c.after-orders.result.now c.loop-note.note-index _ c.loop-note-test.true c.after-orders.ensures.after in
     record {
       rendered = c.after-orders.ensures.render c.loop-note.invariant.rendered;
       written = ap (λ t. t ++ later) c.in_ok-append_entry.ensures ∙ append_assoc c.loop-note.text.items _ later ∙ ap (λ t. c.loop-note.text.items ++ t) (sym more) ∙ c.loop-note.invariant.written;
@@ -18,5 +18,5 @@ loop-note-preserved c =
 
 pub returns : goal.returns
 returns c =
-    let none = notes_past c.args.config.now c.args.event c.deref-note-items.result.now c.loop-note.orders.now c.loop-note.note-index c.loop-note-test.false in
+    let none = notes_text-past c.args.config.now c.args.event c.deref-note-items.result.now c.loop-note.orders.now c.loop-note.note-index c.loop-note-test.false in
     sym (append-nil c.loop-note.text.items) ∙ ap (λ t. c.loop-note.text.items ++ t) (sym none) ∙ c.loop-note.invariant.written

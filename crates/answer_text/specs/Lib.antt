@@ -1,0 +1,2 @@
+pub mod Entries
+unfoldable pub use Rattle.answer_text.specs.Entries.{entry_text}

@@ -1,0 +1,63 @@
+//! The lines of an answer, note by note.
+ghost use Rattle.std.specs.Prelude.{All, ◌≡◌, ◌++◌, OnOk, drop, if◌then◌else◌, map};
+ghost use Rattle.rams_model.specs.Service.{datagram};
+ghost use Rattle.rams_model.specs.Texts.{answer_text};
+ghost use Rattle.order_datagrams.specs.{Renders};
+
+use crate::asking::{after, asks};
+use crate::entry::{append_entry, append_entry_with};
+use order_datagrams::Config;
+use ram_io::NoMemory;
+use rams_model::{Answer, Octets};
+
+/// Appends the lines of an answer, to the event of this number: each note, followed at once by the
+/// datagram that it asks for. The datagrams are made in `room`.
+pub fn append_answer(
+    text: &mut Vec<u8>,
+    room: &mut Vec<u8>,
+    config: &Config,
+    event: u64,
+    answer: &Answer,
+) -> Result<(), NoMemory>
+    requires { All Renders answer.now.orders }
+    ensures { OnOk result (text.new.items ≡ text.old.items ++ answer_text config.now event answer.now) }
+{
+    let mut orders = answer.orders.as_slice();
+    for note in answer.notes.iter() {
+        append_entry(text, room, config, event, note, orders)?;
+        orders = after(note, orders);
+    }
+    Ok(())
+}
+
+/// Appends the lines of an answer whose datagrams are made already.
+pub fn append_answer_with(
+    text: &mut Vec<u8>,
+    config: &Config,
+    event: u64,
+    answer: &Answer,
+    datagrams: &[Octets],
+) -> Result<(), NoMemory>
+    requires { datagrams.now ≡ map (datagram config.now) answer.now.orders }
+    ensures { OnOk result (text.new.items ≡ text.old.items ++ answer_text config.now event answer.now) }
+{
+    let mut orders = answer.orders.as_slice();
+    let mut made = datagrams;
+    for note in answer.notes.iter() {
+        append_entry_with(text, config, event, note, orders, made)?;
+        let asks = asks(note);
+        orders = behind(asks, orders);
+        made = behind(asks, made);
+    }
+    Ok(())
+}
+
+/// What is behind the first of some, where that is taken.
+fn behind<'a, T>(taken: bool, all: &'a [T]) -> &'a [T]
+    ensures { result.now ≡ drop (if taken then 1 else 0) all.now }
+{
+    match (taken, all) {
+        (true, [_, rest @ ..]) => rest,
+        _ => all,
+    }
+}

@@ -1,0 +1,10 @@
+//! The lines of an answer: those of its notes, and of the datagrams that they ask for.
+#![tactic(auto)]
+
+mod answer;
+mod asking;
+mod entry;
+
+pub use answer::{append_answer, append_answer_with};
+pub use entry::append_entry;
+pub use asking::after;
