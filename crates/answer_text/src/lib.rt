@@ -6,5 +6,5 @@ mod asking;
 mod entry;
 
 pub use answer::{append_answer, append_answer_with};
-pub use entry::append_entry;
 pub use asking::after;
+pub use entry::append_entry;

@@ -1,8 +1,8 @@
 -- Why an event stopped a server.
 use Rattle.std.proofs.Common.{ℕ, ◌≤◌, Result, Ok, Err, IfErr, arith}
 use Rattle.ram_io.specs.{Rose}
-use Rattle.serve_loop.specs.declared.stop.Stop.{Stop}
-use Rattle.serve_loop.specs.declared.stop.Stop.TheVariants.{Memory, Read, Write, Wire}
+use Rattle.trace_loop.specs.declared.stop.Stop.{Stop}
+use Rattle.trace_loop.specs.declared.stop.Stop.TheVariants.{Memory, Read, Write, Wire}
 use Rattle.serve_loop.specs.{IsOutStop, IsWireStop, IsWriteStop, IsStoppedByWire, IsStoppedOutside}
 
 -- a count that rose later rose

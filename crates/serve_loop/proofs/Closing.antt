@@ -20,8 +20,8 @@ use Rattle.server_hub.specs.Served.{Served}
 use Rattle.trace_serving.specs.{Outcome, done, ended, refused}
 use Rattle.trace_book.specs.{trace_text}
 use Rattle.journal_book.specs.{HasLine, IsJournal, event_lines, events_of, journal_of, replayed, sent_for, behind, FrontsReplay, HeadsOpenNewChannels, JournalsReplay, RunsWriteJournals}
-use Rattle.serve_loop.specs.declared.stop.Stop.{Stop}
-use Rattle.serve_loop.specs.declared.stop.Stop.TheVariants.{Memory, Read, Write, Wire}
+use Rattle.trace_loop.specs.declared.stop.Stop.{Stop}
+use Rattle.trace_loop.specs.declared.stop.Stop.TheVariants.{Memory, Read, Write, Wire}
 use Rattle.serve_loop.specs.{Begun, Broken, Ending, EndsAs, Given, GoOut, HasEnded, HasRoom, HasStopped, IsBetween, IsHeadOf, OnlyMemoryStops, Room, Serving, Stopping, StopsIn, WaitsIn, datagrams_by, given_events, given_journal, head_end, head_stage, head_text, sent_by, served_datagrams, served_text, text_by}
 use Rattle.serve_loop.proofs.GoingOut.{GoOut-none}
 use Rattle.serve_loop.proofs.Rooms.{quiet_room, wire_none}

@@ -8,7 +8,7 @@ use Rattle.server_hub.specs.declared.event.HubEvent.{HubEvent}
 use Rattle.server_hub.specs.{after_event}
 use Rattle.server_hub.specs.Served.{Served}
 use Rattle.journal_book.specs.{behind, datagrams_of, event_line, event_lines, sent_for}
-use Rattle.serve_loop.specs.declared.stop.Stop.{Stop}
+use Rattle.trace_loop.specs.declared.stop.Stop.{Stop}
 use Rattle.serve_loop.specs.{bytes_of, OnlyMemoryStops, Room, HasRoom}
 
 pub bytes_append : (xs ys : List Outgoing) → bytes_of (xs ++ ys) ≡ bytes_of xs + bytes_of ys

@@ -19,8 +19,8 @@ use Rattle.server_hub.proofs.Finding.{with_id}
 use Rattle.trace_book.specs.Stages.{settings_of as settings_all}
 use Rattle.journal_book.specs.{behind, datagrams_of, event_line, event_lines}
 use Rattle.journal_book.proofs.Served.{journal_grows}
-use Rattle.serve_loop.specs.declared.stop.Stop.{Stop}
-use Rattle.serve_loop.specs.declared.stop.Stop.TheVariants.{Memory, Read, Write, Wire}
+use Rattle.trace_loop.specs.declared.stop.Stop.{Stop}
+use Rattle.trace_loop.specs.declared.stop.Stop.TheVariants.{Memory, Read, Write, Wire}
 use Rattle.serve_loop.specs.{Begun, Ready, Serving, Broken, WaitsIn, sent_by, AnswersFrom, Sends, StopsIn, GoOut, order_datagrams, settled_datagrams, said_datagrams}
 use Rattle.serve_loop.proofs.GoingOut.{GoOut-then}
 use Rattle.serve_loop.proofs.Writing.{unwritten}

@@ -1,8 +1,8 @@
 -- A line on its way to the sink.
 use Rattle.std.proofs.Common.{ℕ, List, ◌++◌, Option}
 use Rattle.line_io.proofs.Passing.{Passes-none}
-use Rattle.serve_loop.specs.declared.stop.Stop.{Stop}
-use Rattle.serve_loop.specs.declared.stop.Stop.TheVariants.{Memory, Read, Write, Wire}
+use Rattle.trace_loop.specs.declared.stop.Stop.{Stop}
+use Rattle.trace_loop.specs.declared.stop.Stop.TheVariants.{Memory, Read, Write, Wire}
 use Rattle.serve_loop.specs.{StopsIn}
 
 -- nothing is written yet

@@ -11,11 +11,12 @@ use Rattle.trace_serving.specs.{Outcome, done, ended}
 use Rattle.trace_book.specs.{first_line, trace_text}
 use Rattle.line_io.specs.Passes.{Passes}
 use Rattle.journal_book.specs.{CanArrive, IsJournal, event_lines, events_of, journal_of, replayed, sent_for, text_for}
-use Rattle.serve_loop.specs.declared.stop.Stop.{Stop}
-use Rattle.serve_loop.specs.declared.stop.Stop.TheVariants.{Memory, Read, Write, Wire}
+use Rattle.trace_loop.specs.declared.stop.Stop.{Stop}
+use Rattle.trace_loop.specs.declared.stop.Stop.TheVariants.{Memory, Read, Write, Wire}
 use Rattle.head_loop.specs.{head_end, head_stage, head_text}
 use Rattle.serve_loop.specs.Progress.{Begun, WaitsIn, sent_by}
-use Rattle.serve_loop.specs.Sending.{GoOut, IsWriteStop}
+use Rattle.trace_loop.specs.{IsWriteStop}
+use Rattle.serve_loop.specs.Sending.{GoOut}
 
 -- What a server of so many turns is given: the live port of its first channel, what its source has left, what its wire brings, and the moments of its clock.
 pub record Given : Type 0 where

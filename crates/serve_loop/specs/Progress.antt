@@ -9,8 +9,8 @@ use Rattle.server_hub.specs.Seen.{Seen}
 use Rattle.server_hub.specs.Served.{Served}
 use Rattle.journal_book.specs.{AreApart, heard, behind, event_lines, sent_for}
 use Rattle.head_loop.specs.{numbers, AnswersFrom, StandsSomewhere}
-use Rattle.serve_loop.specs.declared.stop.Stop.{Stop}
-use Rattle.serve_loop.specs.declared.stop.Stop.TheVariants.{Memory, Read, Write, Wire}
+use Rattle.trace_loop.specs.declared.stop.Stop.{Stop}
+use Rattle.trace_loop.specs.declared.stop.Stop.TheVariants.{Memory, Read, Write, Wire}
 use Rattle.serve_loop.specs.Sending.{GoOut}
 
 -- With what a server began its turns: the live port of the first channel, the head and the channels that it opens, what the sink held in front of the head, and what the wire had sent.

@@ -2,12 +2,11 @@
 use Rattle.std.specs.Prelude.{◌≡◌, ℕ, ◌+◌, ◌==◌, ◌≤◌, List, [], ◌∷◌, ◌++◌, map, find, All, Option, None, Some, Result, IfErr, IfSome}
 use Rattle.rams_model.specs.declared.answer.Order.{Order}
 use Rattle.rams_model.specs.Service.{Answered, Settings, client_of, datagram}
-use Rattle.line_io.specs.Passes.{Passes}
 use Rattle.ram_io.specs.{Outgoing, outgoing, Rose}
 use Rattle.order_datagrams.specs.{Renders}
 use Rattle.server_hub.specs.declared.event.At.{At}
-use Rattle.serve_loop.specs.declared.stop.Stop.{Stop}
-use Rattle.serve_loop.specs.declared.stop.Stop.TheVariants.{Memory, Write, Wire}
+use Rattle.trace_loop.specs.declared.stop.Stop.{Stop}
+use Rattle.trace_loop.specs.declared.stop.Stop.TheVariants.{Memory, Wire}
 
 -- these datagrams went out, where the wire tells them
 abbrev pub GoOut : Option (List Outgoing) → Option (List Outgoing) → List Outgoing → Type 0
@@ -51,19 +50,3 @@ IsWireStop before now _ = ⊥
 pub record IsStoppedByWire {T : Type 0} (before now : ℕ) (result : Result T Stop) : Type 0 where
   pub later : before ≤ now
   pub cause : IfErr result (IsWireStop before now)
-
--- the sink's faults rose where the stop is said to be the sink's
-abbrev pub IsWriteStop : ℕ → ℕ → Stop → Type 0
-IsWriteStop before now Memory = Unit {0}
-IsWriteStop before now Write = Rose before now
-IsWriteStop before now _ = ⊥
-
--- The sink's count of faults didn't fall, and it rose where the sink is said to have stopped the call. Neither the source nor the wire is.
-pub record IsStoppedByWrite {T : Type 0} (before now : ℕ) (result : Result T Stop) : Type 0 where
-  pub later : before ≤ now
-  pub cause : IfErr result (IsWriteStop before now)
-
--- A front of the text went to the sink. Where the sink didn't stop the call, what waits goes on from there.
-abbrev pub StopsIn : Option (List ℕ) → Option (List ℕ) → List ℕ → List ℕ → Stop → Type 0
-StopsIn held holds text waits Write = (rest : List ℕ) × Passes held holds text rest
-StopsIn held holds text waits _ = (more : List ℕ) × Passes held holds text (waits ++ more)

@@ -1,12 +1,6 @@
 -- What a server needs of its sink and its wire so that nothing but want of memory stops it.
-use Rattle.std.specs.Prelude.{◌≡◌, ℕ, ◌+◌, List, length, sum_by, Result, MatchResult}
+use Rattle.std.specs.Prelude.{ℕ, ◌+◌, List, length, sum_by}
 use Rattle.ram_io.specs.{Outgoing}
-use Rattle.serve_loop.specs.declared.stop.Stop.{Stop}
-use Rattle.serve_loop.specs.declared.stop.Stop.TheVariants.{Memory}
-
--- only want of memory stops the call, and P holds where nothing does
-abbrev pub OnlyMemoryStops : {T : Type 0} → Result T Stop → Type 0 → Type 0
-OnlyMemoryStops result P = MatchResult result (λ _. P) (λ stop. stop ≡ Memory)
 
 -- the bytes of these datagrams, together
 abbrev pub bytes_of : List Outgoing → ℕ

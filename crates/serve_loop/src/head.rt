@@ -3,7 +3,7 @@ ghost use Rattle.std.specs.Prelude.{IfOk};
 ghost use Rattle.head_loop.specs.{HasRead, IsIdle};
 ghost use Rattle.serve_loop.specs.{IfTold, IsStoppedByRead, OnlyMemoryStops};
 
-use crate::stop::Stop;
+use trace_loop::Stop;
 use head_loop::Head;
 use line_io::LineReader;
 use ram_io::Source;

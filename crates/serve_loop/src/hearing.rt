@@ -6,9 +6,9 @@ ghost use Rattle.server_hub.specs.{answers_said, event_of, told};
 ghost use Rattle.journal_book.specs.{behind, datagrams_of, event_line};
 ghost use Rattle.serve_loop.specs.{Begun, Ready, Broken, GoesOn, HasRoom, IsStoppedOutside, OnlyMemoryStops, Room, StandsSomewhere};
 
-use crate::journal::{Journal, flush, write_event};
+use crate::journal::{Journal, write_event};
 use crate::send::send_all;
-use crate::stop::Stop;
+use trace_loop::{Stop, flush};
 use crate::watch::Watch;
 use ram_io::{Sink, Wire};
 use server_hub::{At, Heard, Hub, HubAnswer};

@@ -6,7 +6,7 @@ ghost use Rattle.server_hub.specs.{event_of};
 ghost use Rattle.journal_book.specs.{event_line};
 ghost use Rattle.serve_loop.specs.{IsStoppedByWrite, OnlyMemoryStops, StopsIn};
 
-use crate::stop::Stop;
+use trace_loop::{Stop, put};
 use book_text::append_refused;
 use hex_text::append_encoded;
 use line_io::Gather;
@@ -33,36 +33,6 @@ pub fn new_journal(alloc: Global) -> Result<Journal, NoMemory>
         line: Vec::new(alloc),
         digits: Vec::new(alloc),
     })
-}
-
-/// Adds a text.
-pub fn put<K: Sink>(gather: &mut Gather, sink: &mut K, text: &[u8]) -> Result<(), Stop>
-    ensures all { OnOk result (Passes (K.held sink.old) (K.held sink.new) (gather.old ++ text.now) gather.new) }
-    ensures front { IfErr result (StopsIn (K.held sink.old) (K.held sink.new) (gather.old ++ text.now) gather.new) }
-    ensures cause { IsStoppedByWrite (K.faults sink.old) (K.faults sink.new) result }
-    ensures steady { (room : ℕ) → K.is_steady sink.old (length gather.old + length text.now + room)
-        → OnlyMemoryStops result (K.is_steady sink.new (length gather.new + room)) }
-{
-    match gather.put(sink, text) {
-        Ok(()) => Ok(()),
-        Err(_) => Err(Stop::Write),
-    }
-}
-
-/// Puts all that waits to the sink.
-pub fn flush<K: Sink>(gather: &mut Gather, sink: &mut K) -> Result<(), Stop>
-    ensures all { OnOk result (Passes (K.held sink.old) (K.held sink.new) gather.old []) }
-    ensures empty { OnOk result (gather.new ≡ []) }
-    ensures prefix { (rest : List ℕ) × Passes (K.held sink.old) (K.held sink.new) gather.old rest }
-    ensures front { IfErr result (StopsIn (K.held sink.old) (K.held sink.new) gather.old gather.new) }
-    ensures cause { IsStoppedByWrite (K.faults sink.old) (K.faults sink.new) result }
-    ensures steady { (room : ℕ) → K.is_steady sink.old (length gather.old + room)
-        → OnlyMemoryStops result (K.is_steady sink.new room) }
-{
-    match gather.flush(sink) {
-        Ok(()) => Ok(()),
-        Err(_) => Err(Stop::Write),
-    }
 }
 
 /// Bytes in hexadecimal digits, in place of what `digits` holds; `-` for none.

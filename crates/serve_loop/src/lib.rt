@@ -7,7 +7,6 @@ mod hearing;
 mod journal;
 mod send;
 mod serving;
-mod stop;
 mod turns;
 mod watch;
 
@@ -17,6 +16,6 @@ pub use hearing::{Server, hear, new_server};
 pub use journal::{Journal, new_journal, write_event, write_refused};
 pub use send::send_all;
 pub use serving::serve;
-pub use stop::Stop;
+pub use trace_loop::Stop;
 pub use turns::take_turns;
-pub use watch::Watch;
+pub use watch::{Watch, tell_ports};

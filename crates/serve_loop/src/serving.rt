@@ -6,13 +6,13 @@ ghost use Rattle.rams_model.specs.declared.status.Status.TheVariants.{BadTrace, 
 ghost use Rattle.rams_model.specs.Texts.{refused_line};
 ghost use Rattle.ram_io.specs.declared.wire.Incoming.{Incoming};
 ghost use Rattle.journal_book.specs.{event_lines, events_of, sent_for};
-ghost use Rattle.serve_loop.specs.declared.stop.Stop.TheVariants.{Read, Write};
+ghost use Rattle.trace_loop.specs.declared.stop.Stop.TheVariants.{Read, Write};
 ghost use Rattle.serve_loop.specs.{Begun, Ending, EndsAs, Given, HasEnded, HasRoom, HasStopped, IsBetween, IsGiven, IsHeadOf, IsServeEnd, IsServer, IsStopped, IsStoppedByWrite, IsStoppedOutside, OnlyMemoryStops, Room, StandsSomewhere, Stopping, served_datagrams, served_text};
 
 use crate::head::read_head;
 use crate::hearing::{Server, new_server};
-use crate::journal::{flush, new_journal, put, write_refused};
-use crate::stop::Stop;
+use crate::journal::{new_journal, write_refused};
+use trace_loop::{Stop, flush, put};
 use crate::turns::take_turns;
 use crate::watch::{Watch, tell_ports};
 use head_loop::{Head, Opened};

@@ -7,8 +7,7 @@ ghost use Rattle.journal_book.specs.{next_moment, tick_at, due_after, event_line
 ghost use Rattle.serve_loop.specs.{Begun, Broken, HasRoom, IsBetween, IsServer, IsStoppedOutside, OnlyMemoryStops, Room, Serving, next_events};
 
 use crate::hearing::{Server, hear};
-use crate::journal::flush;
-use crate::stop::Stop;
+use trace_loop::{Stop, flush};
 use crate::watch::Watch;
 use head_loop::event_at;
 use ram_io::{Clock, Sink, Wire};

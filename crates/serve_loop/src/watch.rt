@@ -32,7 +32,7 @@ impl Watch for Open {
 }
 
 /// Tells of the ports of the channels with these numbers, of which the first has this live port.
-pub(crate) fn tell_ports<T: Watch>(watch: &T, ids: &[u16], first: u16)
+pub fn tell_ports<T: Watch>(watch: &T, ids: &[u16], first: u16)
     requires port { first ≤ 65000 }
 {
     for place in 0..64 {

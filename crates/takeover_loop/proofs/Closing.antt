@@ -18,8 +18,8 @@ use Rattle.rams_model.specs.Texts.{tick_of}
 use Rattle.trace_serving.specs.{Outcome, after_text}
 use Rattle.trace_book.specs.Stages.{settings_of}
 use Rattle.journal_book.specs.{HeadsOpenNewChannels, behind, event_lines, events_of}
-use Rattle.serve_loop.specs.declared.stop.Stop.{Stop}
-use Rattle.serve_loop.specs.declared.stop.Stop.TheVariants.{Memory, Read, Write, Wire}
+use Rattle.trace_loop.specs.declared.stop.Stop.{Stop}
+use Rattle.trace_loop.specs.declared.stop.Stop.TheVariants.{Memory, Read, Write, Wire}
 use Rattle.serve_loop.specs.{Begun, Broken, Given, GoOut, HasRoom, IsBetween, OnlyMemoryStops, Room, Serving, StopsIn, WaitsIn, sent_by}
 use Rattle.serve_loop.proofs.Closing.{passes_whole, serving_begins}
 use Rattle.serve_loop.proofs.GoingOut.{GoOut-none}

@@ -9,8 +9,8 @@ use Rattle.line_io.specs.{HasNoFeed}
 use Rattle.line_io.specs.Passes.{Passes}
 use Rattle.line_io.proofs.Passing.{Passes-more, Passes-then}
 use Rattle.trace_serving.specs.{Outcome, done}
-use Rattle.serve_loop.specs.declared.stop.Stop.{Stop}
-use Rattle.serve_loop.specs.declared.stop.Stop.TheVariants.{Memory, Read, Write, Wire}
+use Rattle.trace_loop.specs.declared.stop.Stop.{Stop}
+use Rattle.trace_loop.specs.declared.stop.Stop.TheVariants.{Memory, Read, Write, Wire}
 use Rattle.serve_loop.specs.{StopsIn}
 use Rattle.standby.specs.declared.fault.FeedFault.{FeedFault}
 use Rattle.standby.specs.declared.fault.FeedFault.TheVariants.{Line, TooLong, NoMemory}

@@ -11,8 +11,8 @@ use Rattle.ram_io.specs.{Outgoing, Rose}
 use Rattle.ram_io.specs.declared.wire.Incoming.{Incoming}
 use Rattle.trace_serving.specs.{Outcome, after_text}
 use Rattle.journal_book.specs.{event_lines, sent_for}
-use Rattle.serve_loop.specs.declared.stop.Stop.{Stop}
-use Rattle.serve_loop.specs.declared.stop.Stop.TheVariants.{Memory, Read, Write, Wire}
+use Rattle.trace_loop.specs.declared.stop.Stop.{Stop}
+use Rattle.trace_loop.specs.declared.stop.Stop.TheVariants.{Memory, Read, Write, Wire}
 use Rattle.serve_loop.specs.{Given, HasRoom, IfBothTold, IsGiven, IsOutStop, IsStop, IsStopped, IsStoppedByWrite, IsStoppedOutside, IsWriteStop, OnlyMemoryStops, Room, StopsIn, datagrams_by}
 use Rattle.serve_loop.proofs.Closing.{passes_whole}
 use Rattle.serve_loop.proofs.Rooms.{only_weaker, quiet_room, wire_none}

@@ -8,8 +8,8 @@ use Rattle.rams_model.specs.Texts.{whole_lines}
 use Rattle.line_io.specs.Passes.{Passes}
 use Rattle.line_io.proofs.Passing.{Passes-none, Passes-then}
 use Rattle.trace_serving.specs.{Outcome}
-use Rattle.serve_loop.specs.declared.stop.Stop.{Stop}
-use Rattle.serve_loop.specs.declared.stop.Stop.TheVariants.{Memory}
+use Rattle.trace_loop.specs.declared.stop.Stop.{Stop}
+use Rattle.trace_loop.specs.declared.stop.Stop.TheVariants.{Memory}
 use Rattle.serve_loop.specs.{IfBothTold, StopsIn}
 use Rattle.serve_loop.proofs.Closing.{passes_whole}
 use Rattle.standby.specs.declared.fault.FeedFault.{FeedFault}

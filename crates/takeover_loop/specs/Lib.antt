@@ -4,7 +4,8 @@ pub mod Taking
 pub mod Journals
 unfoldable pub use Rattle.takeover_loop.specs.Reading.{is_fed, has_lines, left_text, IsFollowStop}
 pub use Rattle.takeover_loop.specs.Reading.{KeepsLines, IsReading, IsOver, IsFresh, IsFollowing, FollowsWithin, HasFollowed, HoldsItsLines, IsStoppedFollowing}
-unfoldable pub use Rattle.takeover_loop.specs.Turns.{DoesWithin, IsWithin, last_line, EndsAs}
+unfoldable pub use Rattle.takeover_loop.specs.Turns.{DoesWithin, IsWithin, last_line}
+unfoldable pub use Rattle.trace_loop.specs.{EndsAs}
 pub use Rattle.takeover_loop.specs.Turns.{Stopping, Ending}
 unfoldable pub use Rattle.takeover_loop.specs.Taking.{opened_by, end_or, reading_end, given_events, events_left, done_events, turns_end, behind_by, behind_journal, taken_text, taken_datagrams, outcome_of, IsServedEnd, IsTakeoverEnd}
 pub use Rattle.takeover_loop.specs.Taking.{IsTaken, HasEnded, SentBehind, HasStopped}

@@ -4,8 +4,8 @@ use Rattle.std.specs.Io.KnownBytes.{Appends, Consumes}
 use Rattle.rams_model.specs.Texts.{whole_lines}
 use Rattle.ram_io.specs.{Rose}
 use Rattle.line_io.specs.Passes.{Passes}
-use Rattle.serve_loop.specs.declared.stop.Stop.{Stop}
-use Rattle.serve_loop.specs.declared.stop.Stop.TheVariants.{Memory, Read, Write, Wire}
+use Rattle.trace_loop.specs.declared.stop.Stop.{Stop}
+use Rattle.trace_loop.specs.declared.stop.Stop.TheVariants.{Memory, Read, Write, Wire}
 use Rattle.standby.specs.{HasRead, HasReadSome, Seen, end_of, rest_of, whole_text}
 use Rattle.standby_book.specs.{followed_text}
 

@@ -1,16 +1,15 @@
 -- The turns of a server that may have only so many more events.
-use Rattle.std.specs.Prelude.{◌≡◌, ℕ, ◌+◌, ◌<◌, ◌≤◌, Bool, true, false, List, ◌++◌, length, Option, None, Some, Result, Ok, Err, MatchResult, codes}
+use Rattle.std.specs.Prelude.{◌≡◌, ℕ, ◌+◌, ◌<◌, ◌≤◌, Bool, true, false, List, ◌++◌, length, Option, None, Some, codes}
 use Rattle.std.specs.Io.KnownBytes.{Appends}
-use Rattle.rams_model.specs.declared.status.Status.{Status}
 use Rattle.rams_model.specs.declared.status.Status.TheVariants.{Done}
 use Rattle.ram_io.specs.{Outgoing}
 use Rattle.line_io.specs.Passes.{Passes}
 use Rattle.server_hub.specs.declared.event.HubEvent.{HubEvent}
 use Rattle.trace_serving.specs.{Outcome, ended, too_long}
 use Rattle.journal_book.specs.{event_lines}
-use Rattle.serve_loop.specs.declared.stop.Stop.{Stop}
-use Rattle.serve_loop.specs.declared.stop.Stop.TheVariants.{Memory}
-use Rattle.serve_loop.specs.{Begun, GoOut, IsWriteStop, WaitsIn, sent_by}
+use Rattle.trace_loop.specs.declared.stop.Stop.{Stop}
+use Rattle.trace_loop.specs.declared.stop.Stop.TheVariants.{Memory}
+use Rattle.serve_loop.specs.{Begun, GoOut, WaitsIn, sent_by}
 
 -- Where so many events may come, all of these did, and so many may come still; or one of them is one too many.
 abbrev pub DoesWithin : List HubEvent → ℕ → Option ℕ → Type 0
@@ -48,7 +47,3 @@ pub record Ending (b : Begun) (events : List HubEvent) (last : List ℕ) (holds 
   pub wire : GoOut b.went sent (sent_by b events)
   pub stopping : Stopping b events last holds waits sent Memory
 
--- what ended so ends so still, or is stopped by the sink
-abbrev pub EndsAs : ℕ → ℕ → Result Status Stop → Result Status Stop → Type 0
-EndsAs before now (Ok status) result = MatchResult result (λ s. s ≡ status) (IsWriteStop before now)
-EndsAs before now (Err stop) result = result ≡ Err stop

@@ -1,17 +1,16 @@
 //! A journal that a source has, read as far as it goes.
 ghost use Rattle.std.specs.Prelude.{◌≡◌, ◌+◌, ◌<◌, ◌≤◌, ◌++◌, Bool, ℕ, List, [], Option, Ok, Err, None, Some, IfErr, IfOk, MatchBool, MatchResult, OnErr, OnOk, false, take, true, length};
 ghost use Rattle.std.specs.Io.KnownBytes.{Consumes, IsAtEnd, Keeps};
-ghost use Rattle.serve_loop.specs.declared.stop.Stop.TheVariants.{Memory, Read};
+ghost use Rattle.trace_loop.specs.declared.stop.Stop.TheVariants.{Memory, Read};
 ghost use Rattle.serve_loop.specs.{IfBothTold, IsStoppedByRead, IsStoppedByWrite, OnlyMemoryStops, StopsIn};
 ghost use Rattle.standby.specs.{HasReadSome, end_of};
 ghost use Rattle.standby_book.specs.{followed_text};
 ghost use Rattle.takeover_loop.specs.{FollowsWithin, HasFollowed, HoldsItsLines, IsFollowing, IsFresh, IsOver, IsReading, IsStoppedFollowing, left_text};
 
-use crate::putting::flush;
 use crate::reading::{Reading, take_part};
 use ram_io::{Sink, Source};
-use serve_loop::Stop;
 use std::alloc::Global;
+use trace_loop::{Stop, flush};
 
 /// Most bytes that one call asks of the source.
 const PIECE: usize = 8_192;

@@ -6,7 +6,6 @@
 
 mod following;
 pub mod laws;
-mod putting;
 mod reading;
 mod taking;
 mod turns;

@@ -7,11 +7,11 @@ ghost use Rattle.standby.specs.{HasRead, HasReadSome, end_of, first_part, whole_
 ghost use Rattle.standby_book.specs.{followed_text};
 ghost use Rattle.takeover_loop.specs.{IsFresh, IsOver, IsReading, KeepsLines, is_fed, left_text};
 
-use crate::putting::put;
 use ram_io::{NoMemory, Sink};
-use serve_loop::{Journal, Stop, new_journal};
+use serve_loop::{Journal, new_journal};
 use standby::{FeedFault, Standby};
 use std::alloc::Global;
+use trace_loop::{Stop, put};
 
 /// What has been read of a journal.
 #[derive(Drop)]

@@ -6,24 +6,24 @@ ghost use Rattle.rams_model.specs.declared.status.Status.TheVariants.{BadTrace, 
 ghost use Rattle.ram_io.specs.declared.wire.Incoming.{Incoming};
 ghost use Rattle.journal_book.specs.{event_lines, events_of, sent_for};
 ghost use Rattle.server_hub.specs.{IsHub};
-ghost use Rattle.serve_loop.specs.declared.stop.Stop.TheVariants.{Read};
+ghost use Rattle.trace_loop.specs.declared.stop.Stop.TheVariants.{Read};
 ghost use Rattle.serve_loop.specs.{Begun, Given, HasRoom, IfBothTold, IsBetween, IsGiven, IsServer, IsStopped, IsStoppedByWrite, IsStoppedOutside, OnlyMemoryStops, Room, StandsSomewhere, StopsIn};
 ghost use Rattle.standby.specs.{HasRead, HasReadSome, end_of};
 ghost use Rattle.standby_book.specs.{followed_text};
 ghost use Rattle.takeover_loop.specs.{Ending, HasEnded, HasStopped, HoldsItsLines, IsOver, IsServedEnd, IsTaken, IsTakeoverEnd, Stopping, behind_journal, done_events, has_lines, last_line, outcome_of, reading_end, taken_datagrams, taken_text, turns_end};
 
 use crate::following::follow;
-use crate::putting::{close, flush, put};
 use crate::reading::{Reading, new_reading, next_number};
 use crate::turns::take_turns;
 use journal_book::laws::heads_open_new_channels;
 use line_io::Gather;
 use ram_io::{Clock, NoMemory, Sink, Source, Wire};
 use rams_model::{LineFault, Status};
-use serve_loop::{Journal, Server, Stop, Watch, new_server, write_refused};
+use serve_loop::{Journal, Server, Watch, new_server, tell_ports, write_refused};
 use standby::{FeedFault, Hub, Standby};
 use standby_book::laws::journals_are_taken_over;
 use std::alloc::Global;
+use trace_loop::{Stop, close, flush, put};
 
 /// Most events of a journal.
 const MOST_EVENTS: u64 = 1_000_000;
@@ -73,19 +73,6 @@ fn know_lawful(hub: &Hub)
     ensures { IsHub hub.now }
 {
     let _tick_ms = hub.tick_ms();
-}
-
-/// Tells of the ports of the channels with these numbers, of which the first has this live port.
-fn tell_ports<T: Watch>(watch: &T, ids: &[u16], first: u16)
-    requires port { first ≤ 65000 }
-{
-    for place in 0..64 {
-        let Some(id) = ids.get(usize::from(place)) else {
-            return;
-        };
-        let live = first + 2 * place;
-        watch.opens(*id, live, live + 1);
-    }
 }
 
 /// Tells of a line that is refused.

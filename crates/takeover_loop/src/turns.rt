@@ -8,12 +8,12 @@ ghost use Rattle.journal_book.specs.{next_moment, tick_at, due_after, event_line
 ghost use Rattle.serve_loop.specs.{AnswersFrom, Begun, Broken, HasRoom, IsBetween, IsServer, IsStoppedOutside, OnlyMemoryStops, Room, Serving, next_events};
 ghost use Rattle.takeover_loop.specs.{DoesWithin, IsWithin};
 
-use crate::putting::flush;
 use head_loop::event_at;
 use ram_io::{Clock, Sink, Wire};
-use serve_loop::{Server, Stop, Watch, hear};
+use serve_loop::{Server, Watch, hear};
 use server_hub::Heard;
 use std::alloc::Global;
+use trace_loop::{Stop, flush};
 
 /// Most bytes of a datagram.
 const MOST: usize = 2_000;

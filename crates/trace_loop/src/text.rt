@@ -29,6 +29,7 @@ pub fn close<K: Sink>(
     ensures prefix { (rest : List ℕ) × Passes (K.held sink.old) (K.held sink.new) gather.old rest }
     ensures read { ended ≡ Err Read → Passes (K.held sink.old) (K.held sink.new) gather.old [] ⊎ Rose (K.faults sink.old) (K.faults sink.new) }
     ensures steady { (room : ℕ) → OnlyMemoryStops ended (K.is_steady sink.old (length gather.old + room)) → OnlyMemoryStops result (Unit {0}) }
+    ensures stays { (room : ℕ) → OnlyMemoryStops ended (K.is_steady sink.old (length gather.old + room)) → OnlyMemoryStops result (K.is_steady sink.new room) }
 {
     match ended {
         Ok(status) => {

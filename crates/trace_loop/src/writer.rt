@@ -49,6 +49,7 @@ pub fn flush<K: Sink>(gather: &mut Gather, sink: &mut K) -> Result<(), Stop>
     ensures all { OnOk result (Passes (K.held sink.old) (K.held sink.new) gather.old []) }
     ensures empty { OnOk result (gather.new ≡ []) }
     ensures prefix { (rest : List ℕ) × Passes (K.held sink.old) (K.held sink.new) gather.old rest }
+    ensures front { IfErr result (StopsIn (K.held sink.old) (K.held sink.new) gather.old gather.new) }
     ensures fault { OnErr result (Rose (K.faults sink.old) (K.faults sink.new)) }
     ensures cause { IsStoppedByWrite (K.faults sink.old) (K.faults sink.new) result }
     ensures steady { (room : ℕ) → K.is_steady sink.old (length gather.old + room)

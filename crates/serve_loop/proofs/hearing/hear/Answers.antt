@@ -7,7 +7,7 @@ use Rattle.server_hub.specs.{answers_said, event_of, after_event, settings_of, t
 use Rattle.server_hub.specs.declared.event.At.{At}
 use Rattle.line_io.proofs.Passing.{Passes-then}
 use Rattle.journal_book.specs.{behind, datagrams_of, event_line}
-use Rattle.serve_loop.specs.declared.stop.Stop.{Stop}
+use Rattle.trace_loop.specs.declared.stop.Stop.{Stop}
 use Rattle.serve_loop.specs.{AllRender, Broken, HasRoom, Sends, Serving, bytes_of, said_datagrams}
 use Rattle.serve_loop.proofs.Rooms.{only_weaker, quiet_room, text_parts, wire_quiet}
 use Rattle.serve_loop.proofs.Steps.{StopsIn-then, quiet_goes_on, line_breaks, sent_goes_on, sending_breaks, none_ordered, each_error, where_ok, heard_sends, heard_stands}

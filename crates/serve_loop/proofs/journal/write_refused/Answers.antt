@@ -1,7 +1,7 @@
 use Rattle.std.proofs.Common.{◌++◌, Result, IfErr, sym, subst}
 use Rattle.std.proofs.lemmas.Result.{err_from_is_err_and}
 use Rattle.rams_model.specs.Texts.{refused_line}
-use Rattle.serve_loop.specs.declared.stop.Stop.{Stop}
+use Rattle.trace_loop.specs.declared.stop.Stop.{Stop}
 use Rattle.serve_loop.specs.{StopsIn}
 use Rattle.serve_loop.proofs.Writing.{unwritten}
 use Rattle.serve_loop.proofs.journal.write_refused.Goals as goal

@@ -4,7 +4,7 @@ use Rattle.line_io.specs.Passes.{Passes}
 use Rattle.line_io.proofs.Passing.{Passes-none, Passes-then}
 use Rattle.rams_model.specs.declared.status.Status.{Status}
 use Rattle.rams_model.specs.Texts.{refused_line}
-use Rattle.serve_loop.specs.declared.stop.Stop.{Stop}
+use Rattle.trace_loop.specs.declared.stop.Stop.{Stop}
 use Rattle.serve_loop.specs.{OnlyMemoryStops}
 use Rattle.serve_loop.proofs.serving.refuse.Goals as goal
 

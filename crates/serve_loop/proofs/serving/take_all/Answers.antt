@@ -2,7 +2,7 @@ use Rattle.std.proofs.Common.{◌≡◌, ℕ, ◌+◌, List, [], ◌++◌, lengt
 use Rattle.std.proofs.lemmas.Result.{err_from_is_err_and}
 use Rattle.journal_book.specs.{event_lines, events_of, sent_for}
 use Rattle.ram_io.specs.{Outgoing}
-use Rattle.serve_loop.specs.declared.stop.Stop.{Stop}
+use Rattle.trace_loop.specs.declared.stop.Stop.{Stop}
 use Rattle.serve_loop.specs.{HasRoom, OnlyMemoryStops, Room, Stopping}
 use Rattle.serve_loop.proofs.Between.{err_weaker}
 use Rattle.serve_loop.proofs.Closing.{end_text, end_goes, end_breaks, turns_stop}

@@ -3,7 +3,7 @@ use Rattle.std.proofs.lemmas.Result.{err_from_is_err_and}
 use Rattle.server_hub.specs.declared.event.HubEvent.{HubEvent}
 use Rattle.server_hub.specs.declared.event.HubEvent.TheVariants.{Tick}
 use Rattle.journal_book.specs.{behind, tick_at}
-use Rattle.serve_loop.specs.declared.stop.Stop.{Stop}
+use Rattle.trace_loop.specs.declared.stop.Stop.{Stop}
 use Rattle.serve_loop.specs.{HasRoom, IsBetween, OnlyMemoryStops}
 use Rattle.serve_loop.proofs.Between.{between_ready, between_after, tick_due, no_tick_due}
 use Rattle.serve_loop.proofs.Rooms.{room_none, room_one}

@@ -2,7 +2,7 @@ use Rattle.std.proofs.Common.{rules, ◌≡◌, ℕ, ◌+◌, length, refl, arit
 use Rattle.ram_io.specs.{Outgoing}
 use Rattle.server_hub.specs.{event_of}
 use Rattle.journal_book.specs.{behind, datagrams_of, event_line}
-use Rattle.serve_loop.specs.declared.stop.Stop.TheVariants.{Wire}
+use Rattle.trace_loop.specs.declared.stop.Stop.TheVariants.{Wire}
 use Rattle.serve_loop.specs.{Broken, HasRoom, next_events}
 use Rattle.serve_loop.proofs.Between.{told_next, nothing_next, datagram_next, err_weaker}
 use Rattle.serve_loop.proofs.Rooms.{only_both, only_weaker, quiet_room, room_at, room_none, room_one, wire_none}

@@ -1,7 +1,7 @@
 use Rattle.std.proofs.Common.{rules, ◌≡◌, ℕ, List, Some, Result, IfErr, sym, subst, ◌∙◌, arith}
 use Rattle.std.proofs.lemmas.Result.{err_from_is_err_and}
-use Rattle.serve_loop.specs.declared.stop.Stop.{Stop}
-use Rattle.serve_loop.specs.declared.stop.Stop.TheVariants.{Memory}
+use Rattle.trace_loop.specs.declared.stop.Stop.{Stop}
+use Rattle.trace_loop.specs.declared.stop.Stop.TheVariants.{Memory}
 use Rattle.serve_loop.specs.{OnlyMemoryStops, StopsIn}
 use Rattle.standby_book.specs.{followed_text}
 use Rattle.takeover_loop.specs.{FollowsWithin, HasFollowed, IsFollowing}

@@ -1,8 +1,8 @@
 use Rattle.std.proofs.Common.{◌++◌, Result, IfErr, sym, subst}
 use Rattle.std.proofs.lemmas.Result.{err_from_is_err_and}
 use Rattle.rams_model.specs.declared.status.Status.{Status}
-use Rattle.serve_loop.specs.declared.stop.Stop.{Stop}
-use Rattle.serve_loop.specs.declared.stop.Stop.TheVariants.{Memory}
+use Rattle.trace_loop.specs.declared.stop.Stop.{Stop}
+use Rattle.trace_loop.specs.declared.stop.Stop.TheVariants.{Memory}
 use Rattle.serve_loop.specs.{StopsIn}
 use Rattle.serve_loop.proofs.Writing.{unwritten}
 use Rattle.standby.specs.declared.fault.FeedFault.{FeedFault}

@@ -75,4 +75,4 @@ returns-clause-steady g c = λ given held more is taken text h.
     let second = for_given given c.args.taken.left events taken.left_is are (λ (es : List HubEvent) (o : Outcome). HasRoom sink wire (event_lines es ++ o.text) (sent_for (given.live + 1) (stage_of given.source).state es) more) first in
     let third = subst (λ (w : List ℕ). HasRoom sink wire (w ++ (event_lines (take c.args.taken.left events) ++ (last_line (nat_lt c.args.taken.left (length events))).text)) (sent_for (given.live + 1) (stage_of given.source).state (take c.args.taken.left events)) more) (sym empty) second in
     closed_room c.take_all-ended.result c.close.result _ _ (g.K.Sink.is_steady c.take_all-ended.new.sink) (g.K.Sink.is_steady c.close.new.sink) (g.W.Wire.is_steady c.take_all-ended.new.wire) c.take_all-ended.new.server.journal.gather more
-    c.close.ensures.ends (c.take_all-ended.ensures.steady b given.arrivals given.moments more between is.arrivals_are is.moments_are third) (c.close.ensures.steady more.text)
+    c.close.ensures.ends (c.take_all-ended.ensures.steady b given.arrivals given.moments more between is.arrivals_are is.moments_are third) (c.close.ensures.stays more.text)

@@ -3,7 +3,7 @@ use Rattle.std.proofs.lemmas.Result.{err_from_is_err_and}
 use Rattle.server_hub.specs.declared.event.HubEvent.{HubEvent}
 use Rattle.server_hub.specs.{event_of}
 use Rattle.journal_book.specs.{behind}
-use Rattle.serve_loop.specs.declared.stop.Stop.{Stop}
+use Rattle.trace_loop.specs.declared.stop.Stop.{Stop}
 use Rattle.serve_loop.specs.{Broken, HasRoom, IsBetween, OnlyMemoryStops}
 use Rattle.serve_loop.proofs.Between.{between_ready, between_after}
 use Rattle.serve_loop.proofs.Rooms.{room_none, room_one}

@@ -3,8 +3,8 @@ use Rattle.std.proofs.lemmas.Result.{err_from_is_err_and}
 use Rattle.ram_io.specs.{Outgoing}
 use Rattle.server_hub.specs.declared.event.HubEvent.{HubEvent}
 use Rattle.journal_book.specs.{behind}
-use Rattle.serve_loop.specs.declared.stop.Stop.{Stop}
-use Rattle.serve_loop.specs.declared.stop.Stop.TheVariants.{Wire}
+use Rattle.trace_loop.specs.declared.stop.Stop.{Stop}
+use Rattle.trace_loop.specs.declared.stop.Stop.TheVariants.{Wire}
 use Rattle.serve_loop.specs.{Broken, HasRoom, next_events}
 use Rattle.serve_loop.proofs.Between.{told_next, nothing_next, datagram_next}
 use Rattle.serve_loop.proofs.Rooms.{quiet_room, room_at, room_none, wire_none}

@@ -4,7 +4,7 @@ use Rattle.std.proofs.lemmas.Result.{err_from_is_err_and}
 use Rattle.server_hub.specs.declared.event.HubEvent.{HubEvent}
 use Rattle.server_hub.specs.Served.{Served}
 use Rattle.journal_book.specs.{behind, event_lines, next_moment, sent_for, tick_at}
-use Rattle.serve_loop.specs.declared.stop.Stop.{Stop}
+use Rattle.trace_loop.specs.declared.stop.Stop.{Stop}
 use Rattle.serve_loop.specs.{Broken, HasRoom, IsBetween, OnlyMemoryStops, next_events}
 use Rattle.serve_loop.proofs.Closing.{ok_weaker}
 use Rattle.serve_loop.proofs.Rooms.{behind_append, room_join}
