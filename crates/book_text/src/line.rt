@@ -1,5 +1,5 @@
 //! A line's beginning, and the lines that are no notes.
-ghost use Rattle.std.specs.Prelude.{◌≡◌, ◌+◌, ◌≤◌, ◌++◌, OnOk, codes, decimal, length};
+ghost use Rattle.std.specs.Prelude.{◌≡◌, ◌+◌, ◌≤◌, ◌<◌, ◌++◌, OnOk, OnErr, codes, decimal, length, vec_capacity};
 ghost use Rattle.book_text.specs.{no_channel_line};
 ghost use Rattle.rams_model.specs.Texts.{spaced, send_line, line_fault_word, refused_line, hex_word};
 
@@ -28,7 +28,9 @@ pub fn append_send(
     client: u64,
     bytes: &[u8],
 ) -> Result<(), NoMemory>
-    ensures { OnOk result (text.new.items ≡ text.old.items ++ send_line event id client bytes.now) }
+    ensures text { OnOk result (text.new.items ≡ text.old.items ++ send_line event id client bytes.now) }
+    ensures full { OnErr result (vec_capacity text.old < length text.old.items + length (send_line event id client bytes.now)) }
+    ensures room { vec_capacity text.old ≤ vec_capacity text.new }
 {
     let mut line = Tail::new();
     line.byte(b' ');
@@ -41,8 +43,11 @@ pub fn append_send(
 }
 
 /// Bytes in hexadecimal digits, whose letters are small; `-` for none.
+#[tactic(auto, using(crate::proofs::Digits::digits_fit))]
 pub fn append_hex(text: &mut Vec<u8>, bytes: &[u8]) -> Result<(), NoMemory>
-    ensures { OnOk result (text.new.items ≡ text.old.items ++ hex_word bytes.now) }
+    ensures text { OnOk result (text.new.items ≡ text.old.items ++ hex_word bytes.now) }
+    ensures full { OnErr result (vec_capacity text.old < length text.old.items + length (hex_word bytes.now)) }
+    ensures room { vec_capacity text.old ≤ vec_capacity text.new }
 {
     if bytes.is_empty() {
         text.push(b'-')?;
@@ -54,7 +59,9 @@ pub fn append_hex(text: &mut Vec<u8>, bytes: &[u8]) -> Result<(), NoMemory>
 
 /// The line of an event of a channel that isn't there: `EVENT ID no-channel`.
 pub fn append_no_channel(text: &mut Vec<u8>, event: u64, id: u16) -> Result<(), NoMemory>
-    ensures { OnOk result (text.new.items ≡ text.old.items ++ no_channel_line event id) }
+    ensures text { OnOk result (text.new.items ≡ text.old.items ++ no_channel_line event id) }
+    ensures full { OnErr result (vec_capacity text.old < length text.old.items + length (no_channel_line event id)) }
+    ensures room { vec_capacity text.old ≤ vec_capacity text.new }
 {
     let mut line = Tail::new();
     line.word(b"no-channel\n");
@@ -64,7 +71,9 @@ pub fn append_no_channel(text: &mut Vec<u8>, event: u64, id: u16) -> Result<(), 
 
 /// The line of a trace's line that is refused: `refused NUMBER WORD`, as `refused 4 form`.
 pub fn append_refused(text: &mut Vec<u8>, line: u64, fault: LineFault) -> Result<(), NoMemory>
-    ensures { OnOk result (text.new.items ≡ text.old.items ++ refused_line line fault) }
+    ensures text { OnOk result (text.new.items ≡ text.old.items ++ refused_line line fault) }
+    ensures full { OnErr result (vec_capacity text.old < length text.old.items + length (refused_line line fault)) }
+    ensures room { vec_capacity text.old ≤ vec_capacity text.new }
 {
     let mut tail = Tail::new();
     tail.byte(b'\n');
@@ -93,7 +102,9 @@ fn fault_word(tail: &mut Tail, fault: LineFault)
 
 /// The line of a word and a number, as `done 6`.
 pub fn append_count(text: &mut Vec<u8>, word: &[u8], n: u64) -> Result<(), NoMemory>
-    ensures { OnOk result (text.new.items ≡ text.old.items ++ (word.now ++ spaced n ++ codes "\n")) }
+    ensures text { OnOk result (text.new.items ≡ text.old.items ++ (word.now ++ spaced n ++ codes "\n")) }
+    ensures full { OnErr result (vec_capacity text.old < length text.old.items + length (word.now ++ spaced n ++ codes "\n")) }
+    ensures room { vec_capacity text.old ≤ vec_capacity text.new }
 {
     text.extend_from_slice(word)?;
     let mut line = Tail::new();

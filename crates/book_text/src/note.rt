@@ -1,5 +1,5 @@
 //! The lines of notes.
-ghost use Rattle.std.specs.Prelude.{◌≡◌, ◌∷◌, ◌++◌, ◌+◌, ◌≤◌, OnOk, codes, length};
+ghost use Rattle.std.specs.Prelude.{◌≡◌, ◌∷◌, ◌++◌, ◌+◌, ◌≤◌, ◌<◌, OnOk, OnErr, codes, length, vec_capacity};
 ghost use Rattle.rams_model.specs.Texts.{spaced, of_number, of_word, live_words, note_words, note_line, rtp_fault_word, frame_fault_word, cause_word};
 
 use crate::line::begin;
@@ -10,7 +10,9 @@ use rams_model::{Cause, FrameFault, LiveNote, Note, RtpFault};
 /// The line of a note: `EVENT ID`, and the note's words, as `5 7 burst 5 65547 500`.
 #[tactic(auto, unfolding(rams_model::specs::Texts::BookText::note_line))]
 pub fn append_note(text: &mut Vec<u8>, event: u64, id: u16, note: &Note) -> Result<(), NoMemory>
-    ensures { OnOk result (text.new.items ≡ text.old.items ++ note_line event id note.now) }
+    ensures text { OnOk result (text.new.items ≡ text.old.items ++ note_line event id note.now) }
+    ensures full { OnErr result (vec_capacity text.old < length text.old.items + length (note_line event id note.now)) }
+    ensures room { vec_capacity text.old ≤ vec_capacity text.new }
 {
     let mut line = Tail::new();
     line.byte(b'\n');

@@ -24,8 +24,7 @@ pub fn render_order(alloc: Global, config: &Config, order: &Order) -> Result<Vec
 }
 
 /// `render_order`, behind what is there: a retransmission packet (RFC 4588, 4), or a RAMS-I (RFC
-/// 6285, 7.3). An error in a retransmission changes nothing, and comes only where the vector lacks
-/// the room; one in a RAMS-I may leave a part of the message.
+/// 6285, 7.3). An error changes nothing, and comes only where the vector lacks the room.
 #[tactic(auto, unfolding(rams_model::specs::Service::Orders::datagram))]
 pub fn append_order(text: &mut Vec<u8>, config: &Config, order: &Order) -> Result<(), NoMemory>
     requires { Renders order.now }
@@ -33,6 +32,8 @@ pub fn append_order(text: &mut Vec<u8>, config: &Config, order: &Order) -> Resul
     ensures same { IsRetransmission order.now → OnErr result (text.new.items ≡ text.old.items) }
     ensures full { IsRetransmission order.now
         → OnErr result (vec_capacity text.old < vec_len text.old + length (datagram config.now order.now)) }
+    ensures unchanged { OnErr result (text.new.items ≡ text.old.items) }
+    ensures lacks { OnErr result (vec_capacity text.old < length text.old.items + length (datagram config.now order.now)) }
 {
     let channel = config.channel();
     match order {
