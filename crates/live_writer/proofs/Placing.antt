@@ -1,15 +1,15 @@
 -- Calls of a list, piece by piece, and their places.
-use Rattle.std.proofs.Common.{◌≡◌, ℕ, zero, suc, ◌+◌, ◌≤◌, ◌==◌, Bool, true, false, List, [], ◌∷◌, ◌++◌, map, length, refl, sym, ap, ◌∙◌, subst, arith, append_assoc, All}
-use Rattle.std.specs.Prelude.{if◌then◌else◌}
+use Rattle.std.proofs.Common.{◌≡◌, ℕ, zero, suc, ◌+◌, ◌≤◌, ◌==◌, Bool, true, false, List, [], ◌∷◌, ◌++◌, map, length, take, drop, refl, sym, ap, ◌∙◌, subst, arith, append_assoc}
+use Rattle.std.specs.Prelude.{if◌then◌else◌, Result, Ok, Err, OnOk, MatchResult}
 use Rattle.std.specs.List.{AllByRecursion as Each}
-use Rattle.std.proofs.lemmas.List.{append-nil, length-append, length-map, map-append}
+use Rattle.std.proofs.lemmas.List.{append-nil, length-append, length-map, map-append, take-append-drop}
 use Rattle.std.proofs.lemmas.List.Elements.{filter-append, All-from_recursion}
 use Rattle.rams_model.specs.declared.event.Event.{Event}
 use Rattle.rams_model.specs.Service.{Settings, Answered}
 use Rattle.channel_book.specs.declared.entry.Entry.{Entry}
 use Rattle.channel_book.specs.{LegalFrom, IsLegal, is_of, calls_by, StartsWith, HasAnsweredAll, HasAnsweredFront}
 use Rattle.live_writer.specs.declared.writer.Placed.{Placed}
-use Rattle.live_writer.specs.{places_from, places_by, datagrams_of, numbers_from, WasAnswered, HasDrawn, HasWritten, HasWrittenFront, HasWrittenPiece}
+use Rattle.live_writer.specs.{places_from, places_by, datagrams_of, numbers_from, WasAnswered, WereAnswered, HasDrawn, HasWritten, HasWrittenFront, HasWrittenPiece}
 
 -- ---- beginnings
 
@@ -55,12 +55,12 @@ module _ (list : ℕ) where
   -- where all calls are of the list, each has a place
   all_places : (first : ℕ) (xs : List Entry) → calls_by list xs ≡ xs → places_from list first xs ≡ numbers_from first (length xs)
   all_places first [] own = refl
-  all_places first (x ∷ xs) own = go (x.list == list) own
+  all_places first (x ∷ xs) own = go (x.list == list) (all_places (first + 1) xs) own
     where
-      go : (b : Bool) → (if b then x ∷ calls_by list xs else calls_by list xs) ≡ x ∷ xs
+      go : (b : Bool) → (calls_by list xs ≡ xs → places_from list (first + 1) xs ≡ numbers_from (first + 1) (length xs)) → (if b then x ∷ calls_by list xs else calls_by list xs) ≡ x ∷ xs
           → (if b then first ∷ places_from list (first + 1) xs else places_from list (first + 1) xs) ≡ numbers_from first (length (x ∷ xs))
-      go true e = let tails : calls_by list xs ≡ xs = cc in ap (λ (l : List ℕ). first ∷ l) (all_places (first + 1) xs tails)
-      go false e = absurd (omega (arith, ap length e, calls_le xs))
+      go true later e = let tails : calls_by list xs ≡ xs = cc in ap (λ (l : List ℕ). first ∷ l) (later tails)
+      go false later e = absurd (omega (arith, ap length e, calls_le xs))
 
 zero_more : (n : ℕ) → 0 + n ≡ n
 zero_more n = omega arith
@@ -133,7 +133,7 @@ drawn_entries s [] = refl
 drawn_entries s (e ∷ made) = ap (λ (l : List (List (List ℕ))). datagrams_of s e.answer ∷ l) (drawn_entries s made)
 
 -- its answers and their datagrams
-pub writes_piece : (list : ℕ) (s : Settings) (events : List Event) (old : List Entry) (place : ℕ) (answers : List Answered) (new : List Entry) (before after : List Placed)
+writes_piece : (list : ℕ) (s : Settings) (events : List Event) (old : List Entry) (place : ℕ) (answers : List Answered) (new : List Entry) (before after : List Placed)
     → HasAnsweredAll list events old place answers new → HasDrawn s place answers before after → HasWrittenPiece list s events old before after new
 writes_piece list s events old place answers new before after h d = record {
   placed = d.placed;
@@ -150,7 +150,7 @@ writes_piece list s events old place answers new before after h d = record {
 }
 
 -- its calls were answered, and not all was drawn
-pub answers_front : (list : ℕ) (events : List Event) (old : List Entry) (place : ℕ) (answers : List Answered) (new : List Entry) → HasAnsweredAll list events old place answers new
+answers_front : (list : ℕ) (events : List Event) (old : List Entry) (place : ℕ) (answers : List Answered) (new : List Entry) → HasAnsweredAll list events old place answers new
     → HasWrittenFront list events old new
 answers_front list events old place answers new h = record {
   made = h.made;
@@ -160,10 +160,22 @@ answers_front list events old place answers new h = record {
   starts = starts_answered list events old place answers new h;
 }
 
-pub tries_front : (list : ℕ) (events : List Event) (old new : List Entry) → HasAnsweredFront list events old new → HasWrittenFront list events old new
-tries_front list events old new h = record { made = h.made; rest = h.rest; front = h.front; own = h.own; starts = h.starts }
+pub length_answers : (list : ℕ) (events : List Event) (old : List Entry) (place : ℕ) (answers : List Answered) (new : List Entry) → HasAnsweredAll list events old place answers new
+    → length answers ≡ length events
+length_answers list events old place answers new h =
+    omega (arith, ap length h.calls.events_are, ap length h.calls.answers_are, length-map h.made (λ (e : Entry). e.event), length-map h.made (λ (e : Entry). e.answer))
+
+-- what a piece tells, by whether all was drawn
+pub piece_told : {A E : Type 0} (list : ℕ) (s : Settings) (events : List Event) (old : List Entry) (place : ℕ) (answers : List Answered) (new : List Entry) (before after : List Placed) (r : Result A E)
+    → HasAnsweredAll list events old place answers new → OnOk r (HasDrawn s place answers before after)
+    → MatchResult r (λ _. HasWrittenPiece list s events old before after new) (λ _. HasWrittenFront list events old new)
+piece_told list s events old place answers new before after (Ok x) h drawn = writes_piece list s events old place answers new before after h drawn
+piece_told list s events old place answers new before after (Err e) h drawn = answers_front list events old place answers new h
 
 -- ---- one piece more
+
+pub cut : (mid : ℕ) (events piece later : List Event) → piece ≡ take mid events → later ≡ drop mid events → piece ++ later ≡ events
+cut mid events piece later front back = (λ i. front i ++ back i) ∙ take-append-drop mid events
 
 pub nothing_written : (list : ℕ) (s : Settings) (old : List Entry) → HasWritten list s [] old [] old
 nothing_written list s old = record {
@@ -195,6 +207,15 @@ writes_on list s events more old all after middle new w piece =
           ∙ ap (λ (l : List (List (List ℕ))). map (λ (x : Entry). datagrams_of s x.answer) w.made ++ l) h.drawn ∙ sym (map-append (λ (x : Entry). datagrams_of s x.answer) w.made h.made);
     })
 
+pub no_front : (list : ℕ) (events : List Event) (old : List Entry) → HasWrittenFront list events old old
+no_front list events old = record {
+  made = [];
+  rest = events;
+  front = refl;
+  own = sym (append-nil (calls_by list old));
+  starts = record { rest = []; is = sym (append-nil old) };
+}
+
 -- the next piece, of which a front was taken
 pub tries_on : (list : ℕ) (s : Settings) (events piece later : List Event) (old : List Entry) (all : List Placed) (middle new : List Entry) → HasWritten list s events old all middle
     → HasWrittenFront list piece middle new → HasWrittenFront list (events ++ (piece ++ later)) old new
@@ -219,7 +240,7 @@ answered_behind s before (x ∷ front) made l = answered_behind s (x.event ∷ b
 
 -- each was given to its event
 pub all_answered : (list : ℕ) (s : Settings) (events : List Event) (old : List Entry) (place : ℕ) (answers : List Answered) (new : List Entry) → HasAnsweredAll list events old place answers new
-    → IsLegal s new → All (WasAnswered s) answers
+    → IsLegal s new → WereAnswered s answers
 all_answered list s events old place answers new h legal =
-    subst (All (WasAnswered s)) h.calls.answers_are
-    (All-from_recursion (WasAnswered s) (map (λ (e : Entry). e.answer) h.made) (answered_behind s [] (old ++ h.between) h.made (subst (IsLegal s) h.history legal)))
+    subst (WereAnswered s) h.calls.answers_are
+    (record { each = All-from_recursion (WasAnswered s) (map (λ (e : Entry). e.answer) h.made) (answered_behind s [] (old ++ h.between) h.made (subst (IsLegal s) h.history legal)) })

@@ -1,5 +1,5 @@
 -- Where the calls of a list stand in a history, and what is drawn of their answers.
-use Rattle.std.specs.Prelude.{◌≡◌, ℕ, ◌+◌, ◌==◌, if◌then◌else◌, List, [], ◌∷◌, ◌++◌, map}
+use Rattle.std.specs.Prelude.{◌≡◌, ℕ, ◌+◌, ◌==◌, if◌then◌else◌, List, [], ◌∷◌, ◌++◌, map, All}
 use Rattle.rams_model.specs.declared.event.Event.{Event}
 use Rattle.rams_model.specs.Service.{Settings, Answered, answer, datagram}
 use Rattle.channel_book.specs.declared.entry.Entry.{Entry}
@@ -23,6 +23,10 @@ pub record WasAnswered (s : Settings) (a : Answered) : Type 0 where
   pub before : List Event
   pub event : Event
   pub lawful : a ≡ answer s before event
+
+-- each was given to some event behind some others
+pub record WereAnswered (s : Settings) (answers : List Answered) : Type 0 where
+  pub each : All (WasAnswered s) answers
 
 -- A front of these events was taken as calls of the list, in order.
 pub record HasWrittenFront (list : ℕ) (events : List Event) (old new : List Entry) : Type 0 where

@@ -1,7 +1,7 @@
 //! The calls of one list.
 ghost use Rattle.std.specs.Prelude.{◌≡◌, ◌+◌, ◌^◌, ◌<◌, ◌≤◌, All, length, OnOk, MatchResult};
 ghost use Rattle.order_datagrams.specs.{Renders};
-ghost use Rattle.live_writer.specs.{HasDrawn, HasWritten, HasWrittenFront, HasWrittenPiece, WasAnswered};
+ghost use Rattle.live_writer.specs.{HasDrawn, HasWritten, HasWrittenFront, HasWrittenPiece, WasAnswered, WereAnswered};
 
 use crate::rendering::render;
 use channel_book::{Answer, Config, Event, NoMemory, Shared};
@@ -56,7 +56,7 @@ fn draw_all<R: Threads + Wait + Sync, G: Gate>(
 ) -> Result<(), NoMemory>
     requires workers { 0 < workers }
     requires places { place + length answers.items ≤ 2 ^ 40 }
-    requires answered { All (WasAnswered config.now) answers.items }
+    requires answered { WereAnswered config.now answers.items }
     ensures { OnOk result (HasDrawn config.now place answers.items all.old.items all.new.items) }
 {
     let mut next = place;
