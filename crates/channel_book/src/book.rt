@@ -30,8 +30,8 @@ impl Model for Book {
 }
 
 impl Book {
-    ghost use Rattle.std.specs.Prelude.{◌≡◌, ◌^◌, ◌<◌, [], ◌∷◌, ◌++◌, length, IfOk, OnOk, OnErr};
-    ghost use Rattle.channel_book.specs.{IsLegal, calls_by, entry};
+    ghost use Rattle.std.specs.Prelude.{◌≡◌, ◌+◌, ◌^◌, ◌<◌, ◌≤◌, [], ◌∷◌, ◌++◌, length, IfOk, OnOk, OnErr, MatchResult};
+    ghost use Rattle.channel_book.specs.{IsLegal, HasTaken, HasTakenFront, calls_by, entry};
     ghost use Rattle.session_core.specs.{StandsFor};
 
     /// The book of a channel to which nothing came yet. It keeps `alloc` for its entries, and takes no
@@ -96,6 +96,28 @@ impl Book {
             answer: twice.kept,
         });
         Ok((place, twice.given))
+    }
+
+    /// `take` of several events, one after another: their answers. After want of memory a front of them
+    /// was taken.
+    pub fn take_all(
+        &mut self,
+        alloc: Global,
+        list: u16,
+        events: Vec<Event>,
+    ) -> Result<Vec<Answer>, NoMemory>
+        requires few { length self.old.entries + length events.items ≤ 2 ^ 40 }
+        ensures told { MatchResult result
+            (λ answers. HasTaken list events.items self.old.entries answers.items self.new.entries)
+            (λ _. HasTakenFront list events.items self.old.entries self.new.entries) }
+        ensures settings { self.new.settings ≡ self.old.settings }
+    {
+        let mut answers = Vec::with_capacity(alloc, events.len())?;
+        for event in events {
+            let (_, answer) = self.take(alloc, list, event)?;
+            answers.push_reserved(answer);
+        }
+        Ok(answers)
     }
 
     /// All entries, in order.

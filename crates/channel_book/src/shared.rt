@@ -7,10 +7,10 @@ use std::sync::Wait;
 /// One channel that several callers step, each through a pass of its own. A pass knows the history as
 /// its caller has seen it.
 pub trait Shared {
-    ghost use Rattle.std.specs.Prelude.{◌≡◌, ℕ, ◌+◌, ◌<◌, ◌≤◌, List, OnOk};
+    ghost use Rattle.std.specs.Prelude.{◌≡◌, ℕ, ◌+◌, ◌^◌, ◌<◌, ◌≤◌, List, length, IfOk, OnOk, MatchResult};
     ghost use Rattle.rams_model.specs.Service.{Settings};
     ghost use Rattle.channel_book.specs.declared.entry.Entry.{Entry};
-    ghost use Rattle.channel_book.specs.{IsLegal, Tells};
+    ghost use Rattle.channel_book.specs.{IsLegal, Tells, HasAnsweredAll, HasAnsweredFront};
 
     type Pass;
 
@@ -46,5 +46,28 @@ pub trait Shared {
         ensures list { list pass.new ≡ list pass.old }
         ensures left { left pass.old ≤ left pass.new + 1 }
         ensures told { Tells (list pass.old) event.now (seen pass.old) result (seen pass.new) }
+        ensures legal { OnOk result (IsLegal (settings pass.new) (seen pass.new)) };
+
+    /// Takes some events in one turn, one after another: the place of the first in the history, and the
+    /// answers. The others stand behind the first, with nothing between. The history that the pass has
+    /// seen then ends with these entries; of the pass's own calls it has these more. After want of memory
+    /// a front of the events was taken. May wait.
+    fn step_all<R: Wait>(
+        &self,
+        rt: &R,
+        alloc: Global,
+        pass: &mut Self::Pass,
+        events: &[Event],
+    ) -> Result<(u64, Vec<Answer>), NoMemory>
+        requires made { made self.now pass.old }
+        requires left { (0 < length events.now) × (length events.now ≤ left pass.old) }
+        ensures made { made self.now pass.new }
+        ensures settings { settings pass.new ≡ settings pass.old }
+        ensures list { list pass.new ≡ list pass.old }
+        ensures left { left pass.old ≤ left pass.new + length events.now }
+        ensures told { MatchResult result
+            (λ r. HasAnsweredAll (list pass.old) events.now (seen pass.old) r.0 r.1.items (seen pass.new))
+            (λ _. HasAnsweredFront (list pass.old) events.now (seen pass.old) (seen pass.new)) }
+        ensures places { IfOk result (λ r. r.0 + length events.now ≤ 2 ^ 40) }
         ensures legal { OnOk result (IsLegal (settings pass.new) (seen pass.new)) };
 }

@@ -14,7 +14,7 @@ use Rattle.channel_lock.proofs.Dealing.{numbers_snoc}
 use Rattle.channel_lock.proofs.Beginnings.{length_starts}
 use Rattle.channel_lock.proofs.Gathering.{stands_alone}
 
-pub at_rest : (s : Settings) (list seen : ℕ) (log : List Entry) (left : ℕ) (me : Mine) → me ≡ (waiting s list log left 0, []) → seen ≡ length log → IsLegal s log → IsAtRest s list seen me
+pub at_rest : (s : Settings) (list seen : ℕ) (log : List Entry) (left : ℕ) (me : Mine) → me ≡ (waiting s list log left 0 0, []) → seen ≡ length log → IsLegal s log → IsAtRest s list seen me
 at_rest s list seen log left me is count legal = subst (IsAtRest s list seen) (sym is) (record { seat_is = refl; counted = count; legal = legal })
 
 -- ---- passes are made
@@ -45,7 +45,7 @@ longest a b n la lb one = grind (arith, nat_tests)
 pub heard : (s : Settings) (list a b : ℕ) (old w : Mine) (other : List Entry) → IsAtRest s list a old → b ≡ length other → HasLearnt (record old.0 { told = other }, old.1) w
     → HasHeard s list (max a b) old w other
 heard s list a b old w other r count l =
-    let is : w ≡ (waiting s list l.log old.0.left 0, []) = l.seat_is ∙ ap (λ (m : Mine). (record m.0 { log = l.log; told = [] }, m.1)) r.seat_is in
+    let is : w ≡ (waiting s list l.log old.0.left 0 0, []) = l.seat_is ∙ ap (λ (m : Mine). (record m.0 { log = l.log; told = [] }, m.1)) r.seat_is in
     let log : w.0.log ≡ l.log = ap (λ (m : Mine). m.0.log) is in
     let left : w.0.left ≡ old.0.left = ap (λ (m : Mine). m.0.left) is in
     let settings : old.0.config ≡ Some s = ap (λ (m : Mine). m.0.config) r.seat_is in

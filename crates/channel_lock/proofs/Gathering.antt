@@ -36,7 +36,7 @@ each_snoc log [] p e i = (i, tt)
 each_snoc log (x ∷ past) p e i = (e.0, each_snoc log past p e.1 i)
 
 abbrev given : Option Settings → ℕ → List Entry → ℕ → View
-given config list log left = view config log [] (list ∷ []) [] left 0 0
+given config list log left = view config log [] (list ∷ []) [] left 0 0 0
 
 weight_given : (past : List (ℕ × List Entry)) (left : ℕ) (config : Option Settings) (list : ℕ) (log : List Entry) (more : ℕ) (k : Count)
     → weight k (with_pass (gathering past left) (given config list log more)) + weight k blank ≡ weight k (gathering past left) + weight k (given config list log more)

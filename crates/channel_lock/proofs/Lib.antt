@@ -9,3 +9,4 @@ pub mod Dealing
 pub mod Gathering
 pub mod Calling
 pub mod Closing
+pub mod Taking

@@ -30,7 +30,7 @@ fits_blank s log serving = record {
 }
 
 abbrev note : Option Settings → List Entry → View
-note config log = view config log [] [] [] 0 0 0
+note config log = view config log [] [] [] 0 0 0 0
 
 pub weight_note : (k : Count) (config : Option Settings) (log : List Entry) → weight k (note config log) ≡ 0
 weight_note of_calls config log = refl

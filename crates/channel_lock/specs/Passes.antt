@@ -32,13 +32,13 @@ known lock s list seen left = record { lock = lock; settings = s; list = list; s
 abbrev pub fresh : TableId → Settings → ℕ → List Known
 fresh lock s n = map (λ list. known lock s list [] (2 ^ 34)) (numbers 0 n)
 
--- the view of a pass: its ticket is the one before this number, and it has none at 0
-abbrev pub waiting : Settings → ℕ → List Entry → ℕ → ℕ → View
-waiting s list log left ticket = view (Some s) log [] (list ∷ []) [] left ticket 0
+-- the view of a pass with so many tickets, the first of which is the one before this number
+abbrev pub waiting : Settings → ℕ → List Entry → ℕ → ℕ → ℕ → View
+waiting s list log left ticket size = view (Some s) log [] (list ∷ []) [] left ticket size 0
 
 -- a pass that has no ticket
 pub record IsAtRest (s : Settings) (list seen : ℕ) (me : Mine) : Type 0 where
-  pub seat_is : me ≡ (waiting s list me.0.log me.0.left 0, [])
+  pub seat_is : me ≡ (waiting s list me.0.log me.0.left 0 0, [])
   pub counted : seen ≡ length me.0.log
   pub legal : IsLegal s me.0.log
 

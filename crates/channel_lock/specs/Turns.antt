@@ -23,8 +23,8 @@ times n (x ∷ xs) = (if x == n then 1 else 0) + times n xs
 
 -- ---- views
 
-abbrev pub view : Option Settings → List Entry → List Entry → List ℕ → List (ℕ × List Entry) → ℕ → ℕ → ℕ → View
-view config log told owns past left ticket taken = record {
+abbrev pub view : Option Settings → List Entry → List Entry → List ℕ → List (ℕ × List Entry) → ℕ → ℕ → ℕ → ℕ → View
+view config log told owns past left ticket size taken = record {
   config = config;
   log = log;
   told = told;
@@ -32,12 +32,13 @@ view config log told owns past left ticket taken = record {
   past = past;
   left = left;
   ticket = ticket;
+  size = size;
   taken = taken;
 }
 
 -- the view of one that knows nothing
 abbrev pub blank : View
-blank = view None [] [] [] [] 0 0 0
+blank = view None [] [] [] [] 0 0 0 0
 
 -- so many numbers from the first on
 abbrev pub numbers : ℕ → ℕ → List ℕ
@@ -46,7 +47,7 @@ numbers first (suc n) = first ∷ numbers (first + 1) n
 
 -- the view of one from whom the passes of these lists are still to be cut off
 abbrev pub dealing : Settings → List ℕ → ℕ → View
-dealing s owns left = view (Some s) [] [] owns [] left 0 0
+dealing s owns left = view (Some s) [] [] owns [] left 0 0 0
 
 -- the first view: it has the calls of all lists
 abbrev pub first_view : Settings → ℕ → View
@@ -54,7 +55,7 @@ first_view s passes = dealing s (numbers 0 passes) (2 ^ 40)
 
 -- the view of one that gathers passes
 abbrev pub gathering : List (ℕ × List Entry) → ℕ → View
-gathering past left = view None [] [] [] past left 0 0
+gathering past left = view None [] [] [] past left 0 0 0
 
 abbrev pub lists_past : View → List ℕ
 lists_past v = map (λ (p : ℕ × List Entry). p.0) v.past
@@ -73,8 +74,12 @@ calls_left v = v.left
 abbrev pub is_taken : View → ℕ
 is_taken v = v.taken
 
+-- 1 for a ticket among so many, the first of which is the one before this number
+abbrev pub among : ℕ → ℕ → ℕ → ℕ
+among first size n = if nat_lt (n + 1) first then 0 else (if nat_lt (n + 1) (first + size) then 1 else 0)
+
 abbrev pub has_ticket : ℕ → View → ℕ
-has_ticket n v = if v.ticket == n + 1 then 1 else 0
+has_ticket n v = among v.ticket v.size n
 
 -- 1 for a ticket that was drawn and isn't passed on yet
 abbrev pub waits : ℕ → ℕ → ℕ → ℕ
@@ -94,7 +99,7 @@ pub record Fits (s : Settings) (log : List Entry) (serving : ℕ) (v : View) : T
   pub told : StartsWith log v.told
   pub own : (list : ℕ) → 0 < times list v.owns → calls_by list log ≡ calls_by list v.log
   pub past : Each (IsPast log) v.past
-  pub turn : 0 < v.taken → (v.ticket ≡ serving + 1) × (v.log ≡ log)
+  pub turn : 0 < v.taken → (v.ticket ≡ serving + 1) × (0 < v.size) × (v.log ≡ log)
   pub idle : length v.owns ≡ 0 → (v.ticket ≡ 0) × (v.taken ≡ 0)
 
 abbrev pub kept : Settings → List Entry → Kept

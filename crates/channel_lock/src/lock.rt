@@ -3,9 +3,9 @@ use crate::pass::Pass;
 use crate::passes::{deal, gather};
 use crate::steps::{BOOK, TICKETS, draw, wait};
 use crate::turns::{About, InTurn, Learn, Tell, View};
-use crate::work::work;
+use crate::work::{work, work_all};
 use atomic_table::Table;
-use channel_book::{Answer, Book, Core, Event, NoMemory};
+use channel_book::{Answer, Book, Core, Event, NoMemory, copy_events};
 use rams_model::Octets;
 use std::alloc::Global;
 use std::marker::Model;
@@ -38,10 +38,10 @@ pub enum CloseFault {
 }
 
 impl ChannelLock {
-    ghost use Rattle.std.specs.Prelude.{◌≡◌, ℕ, ◌+◌, ◌<◌, ◌≤◌, ◌↔◌, [], length, All, IsOk, IfOk, OnOk, IfErr};
+    ghost use Rattle.std.specs.Prelude.{◌≡◌, ℕ, ◌+◌, ◌^◌, ◌<◌, ◌≤◌, ◌↔◌, [], length, All, IsOk, IfOk, OnOk, IfErr, MatchResult};
     ghost use Rattle.rams_model.specs.declared.event.Event.TheVariants.{Live, Feedback, Tick};
     ghost use Rattle.session_core.specs.{StandsFor};
-    ghost use Rattle.channel_book.specs.{IsLegal, calls_by, Tells};
+    ghost use Rattle.channel_book.specs.{IsLegal, calls_by, Tells, HasAnsweredAll, HasAnsweredFront};
     ghost use Rattle.channel_lock.specs.declared.lock.CloseFault.TheVariants.{Passes};
     ghost use Rattle.channel_lock.specs.{fresh, IsSamePass, HasMet, IsOfPass, NotAmong};
 
@@ -144,11 +144,62 @@ impl ChannelLock {
         ensures legal { IsLegal pass.new.settings pass.new.seen }
     {
         let shared = &self.table.shared;
-        let ticket = draw(shared, &mut pass.seat);
+        let ticket = draw(shared, &mut pass.seat, 1);
         wait(rt, shared, &mut pass.seat, &pass.config, ticket);
         let turn = work(alloc, shared, &mut pass.seat, pass.list, event);
         pass.seen = turn.seen;
         turn.answer
+    }
+
+    /// Events of the pass's list in one turn, one after another: the place of the first in the history,
+    /// and the answers. The others stand behind the first, with nothing between. After want of memory a
+    /// front of them was taken. May wait.
+    pub fn take_all<R: Wait>(
+        &self,
+        rt: &R,
+        alloc: Global,
+        pass: &mut Pass,
+        events: &[Event],
+    ) -> Result<(u64, Vec<Answer>), NoMemory>
+        requires made { pass.old.lock ≡ self.now.lock }
+        requires left { (0 < length events.now) × (length events.now ≤ pass.old.left) }
+        ensures same { IsSamePass pass.old pass.new }
+        ensures left { pass.old.left ≤ pass.new.left + length events.now }
+        ensures told { MatchResult result
+            (λ r. HasAnsweredAll pass.old.list events.now pass.old.seen r.0 r.1.items pass.new.seen)
+            (λ _. HasAnsweredFront pass.old.list events.now pass.old.seen pass.new.seen) }
+        ensures places { IfOk result (λ r. r.0 + length events.now ≤ 2 ^ 40) }
+        ensures legal { OnOk result (IsLegal pass.new.settings pass.new.seen) }
+    {
+        let events = copy_events(alloc, events)?;
+        self.ask_all(rt, alloc, pass, events)
+    }
+
+    /// Draws a ticket for each event, waits for its turn, steps the book with all and passes the turn on,
+    /// whatever came of it.
+    fn ask_all<R: Wait>(
+        &self,
+        rt: &R,
+        alloc: Global,
+        pass: &mut Pass,
+        events: Vec<Event>,
+    ) -> Result<(u64, Vec<Answer>), NoMemory>
+        requires made { pass.old.lock ≡ self.now.lock }
+        requires left { (0 < length events.items) × (length events.items ≤ pass.old.left) }
+        ensures same { IsSamePass pass.old pass.new }
+        ensures left { pass.old.left ≡ pass.new.left + length events.items }
+        ensures told { MatchResult result
+            (λ r. HasAnsweredAll pass.old.list events.items pass.old.seen r.0 r.1.items pass.new.seen)
+            (λ _. HasAnsweredFront pass.old.list events.items pass.old.seen pass.new.seen) }
+        ensures places { IfOk result (λ r. r.0 + length events.items ≤ 2 ^ 40) }
+        ensures legal { IsLegal pass.new.settings pass.new.seen }
+    {
+        let shared = &self.table.shared;
+        let ticket = draw(shared, &mut pass.seat, events.len() as u64);
+        wait(rt, shared, &mut pass.seat, &pass.config, ticket);
+        let round = work_all(alloc, shared, &mut pass.seat, pass.list, events);
+        pass.seen = round.seen;
+        Ok((round.place, round.answers?))
     }
 
     /// The pass has then seen what the other had, which stays as it was. Takes no memory.

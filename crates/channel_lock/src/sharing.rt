@@ -35,4 +35,14 @@ impl Shared for ChannelLock {
             Event::Tick => self.tick(rt, alloc, pass),
         }
     }
+
+    fn step_all<R: Wait>(
+        &self,
+        rt: &R,
+        alloc: Global,
+        pass: &mut Pass,
+        events: &[Event],
+    ) -> Result<(u64, Vec<Answer>), NoMemory> {
+        self.take_all(rt, alloc, pass, events)
+    }
 }

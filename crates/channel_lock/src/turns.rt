@@ -25,8 +25,10 @@ pub struct View {
     pub past: LinkedList<(u64, LinkedList<Entry>)>,
     /// The calls that are left.
     pub left: u64,
-    /// One more than its ticket; 0 where it has none.
+    /// One more than the first of its tickets; 0 where it has none.
     pub ticket: u64,
+    /// How many tickets it has, one behind the other.
+    pub size: u64,
     /// 1 while the book is out with it.
     pub taken: u64,
 }
@@ -42,7 +44,7 @@ impl TableRule<Book, View, About> for InTurn {
     ghost first = { λ about. first_view about.config about.passes };
 }
 
-/// Draws a ticket.
+/// Draws tickets.
 pub struct Draw;
 
 impl Play<Book, View> for Draw {
@@ -51,7 +53,7 @@ impl Play<Book, View> for Draw {
     ghost then = { Drawn };
 }
 
-/// Looks whether the ticket is served; if it is, the book is taken out.
+/// Looks whether the first ticket is served; if it is, the book is taken out.
 pub struct Look;
 
 impl Play<Book, View> for Look {
@@ -60,7 +62,7 @@ impl Play<Book, View> for Look {
     ghost then = { Looked };
 }
 
-/// Puts the book back and passes the turn on.
+/// Puts the book back and passes the turn on, with all its tickets.
 pub struct PassOn;
 
 impl Play<Book, View> for PassOn {

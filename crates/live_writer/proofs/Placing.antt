@@ -1,19 +1,15 @@
--- Calls of a list, one after another, and their places.
-use Rattle.std.proofs.Common.{◌≡◌, ℕ, ◌+◌, ◌<◌, ◌==◌, get_or, Bool, true, false, List, [], ◌∷◌, ◌++◌, map, length, take, drop, refl, sym, ap, ◌∙◌, subst, arith, append_assoc, inl, inr}
-use Rattle.std.specs.Prelude.{if◌then◌else◌}
-use Rattle.std.proofs.lemmas.Bool.{eq-eqb}
-use Rattle.std.proofs.lemmas.List.{append-nil, length-append, map-append, take_more, take-append-drop}
-use Rattle.std.proofs.lemmas.List.Elements.{filter-append}
+-- Calls of a list, piece by piece, and their places.
+use Rattle.std.proofs.Common.{◌≡◌, ℕ, zero, suc, ◌+◌, ◌≤◌, ◌==◌, Bool, true, false, List, [], ◌∷◌, ◌++◌, map, length, take, drop, refl, sym, ap, ◌∙◌, subst, arith, append_assoc}
+use Rattle.std.specs.Prelude.{if◌then◌else◌, Result, Ok, Err, OnOk, MatchResult}
+use Rattle.std.specs.List.{AllByRecursion as Each}
+use Rattle.std.proofs.lemmas.List.{append-nil, length-append, length-map, map-append, take-append-drop}
+use Rattle.std.proofs.lemmas.List.Elements.{filter-append, All-from_recursion}
 use Rattle.rams_model.specs.declared.event.Event.{Event}
 use Rattle.rams_model.specs.Service.{Settings, Answered}
 use Rattle.channel_book.specs.declared.entry.Entry.{Entry}
-use Rattle.channel_book.specs.{IsLegal, entry, is_of, calls_by, events_behind, StartsWith, HasAnswered}
-use Rattle.channel_book.proofs.Histories.{legal_last}
+use Rattle.channel_book.specs.{LegalFrom, IsLegal, is_of, calls_by, StartsWith, HasAnsweredAll, HasAnsweredFront}
 use Rattle.live_writer.specs.declared.writer.Placed.{Placed}
-use Rattle.live_writer.specs.{places_from, places_by, datagrams_of, WasAnswered, HasPlaced, HasTried, HasWritten, HasWrittenFront}
-
-event_of : Entry → Event
-event_of e = e.event
+use Rattle.live_writer.specs.{places_from, places_by, datagrams_of, numbers_from, WasAnswered, WereAnswered, HasDrawn, HasWritten, HasWrittenFront, HasWrittenPiece}
 
 -- ---- beginnings
 
@@ -21,12 +17,6 @@ starts_over : (new middle old : List Entry) → StartsWith new middle → Starts
 starts_over new middle old outer inner = record {
   rest = inner.rest ++ outer.rest;
   is = outer.is ∙ ap (λ l. l ++ outer.rest) inner.is ∙ append_assoc old inner.rest outer.rest;
-}
-
-starts_answered : (list : ℕ) (event : Event) (old : List Entry) (place : ℕ) (a : Answered) (new : List Entry) → HasAnswered list event old place a new → StartsWith new old
-starts_answered list event old place a new h = record {
-  rest = h.between ++ entry list event a ∷ [];
-  is = h.history ∙ append_assoc old h.between (entry list event a ∷ []);
 }
 
 -- ---- places
@@ -54,11 +44,23 @@ module _ (list : ℕ) where
       go true later e = absurd (omega (arith, ap length e))
       go false later e = later e
 
-  own_call : (event : Event) (a : Answered) → calls_by list (entry list event a ∷ []) ≡ entry list event a ∷ []
-  own_call event a = rw (eq-eqb list list refl) refl
+  calls_le : (xs : List Entry) → length (calls_by list xs) ≤ length xs
+  calls_le [] = omega arith
+  calls_le (x ∷ xs) = go (x.list == list) (calls_le xs)
+    where
+      go : (b : Bool) → length (calls_by list xs) ≤ length xs → length (if b then x ∷ calls_by list xs else calls_by list xs) ≤ length (x ∷ xs)
+      go true h = omega (arith, h)
+      go false h = omega (arith, h)
 
-  own_place : (place : ℕ) (event : Event) (a : Answered) → places_from list place (entry list event a ∷ []) ≡ place ∷ []
-  own_place place event a = rw (eq-eqb list list refl) refl
+  -- where all calls are of the list, each has a place
+  all_places : (first : ℕ) (xs : List Entry) → calls_by list xs ≡ xs → places_from list first xs ≡ numbers_from first (length xs)
+  all_places first [] own = refl
+  all_places first (x ∷ xs) own = go (x.list == list) (all_places (first + 1) xs) own
+    where
+      go : (b : Bool) → (calls_by list xs ≡ xs → places_from list (first + 1) xs ≡ numbers_from (first + 1) (length xs)) → (if b then x ∷ calls_by list xs else calls_by list xs) ≡ x ∷ xs
+          → (if b then first ∷ places_from list (first + 1) xs else places_from list (first + 1) xs) ≡ numbers_from first (length (x ∷ xs))
+      go true later e = let tails : calls_by list xs ≡ xs = cc in ap (λ (l : List ℕ). first ∷ l) (later tails)
+      go false later e = absurd (omega (arith, ap length e, calls_le xs))
 
 zero_more : (n : ℕ) → 0 + n ≡ n
 zero_more n = omega arith
@@ -67,25 +69,113 @@ no_more : (xs : List Entry) → length xs ≡ 0 → xs ≡ []
 no_more [] e = refl
 no_more (x ∷ xs) e = absurd (omega (arith, e))
 
--- the call's place is the one behind what was seen
-placed_last : (list : ℕ) (event : Event) (old : List Entry) (place : ℕ) (a : Answered) (new : List Entry) → HasAnswered list event old place a new
-    → places_by list new ≡ places_by list old ++ place ∷ []
-placed_last list event old place a new h =
-    let e = entry list event a in
-    let calls : calls_by list new ≡ (calls_by list old ++ calls_by list h.between) ++ e ∷ [] =
-    ap (calls_by list) h.history ∙ filter-append (is_of list) (old ++ h.between) (e ∷ [])
-    ∙ ap (λ l. l ++ calls_by list (e ∷ [])) (filter-append (is_of list) old h.between)
-    ∙ ap (λ l. (calls_by list old ++ calls_by list h.between) ++ l) (own_call list event a) in
+-- the places of the calls of a turn are those behind what was seen
+placed_last : (list : ℕ) (events : List Event) (old : List Entry) (place : ℕ) (answers : List Answered) (new : List Entry) → HasAnsweredAll list events old place answers new
+    → places_by list new ≡ places_by list old ++ numbers_from place (length answers)
+placed_last list events old place answers new h =
+    let calls : calls_by list new ≡ (calls_by list old ++ calls_by list h.between) ++ h.made =
+    ap (calls_by list) h.history ∙ filter-append (is_of list) (old ++ h.between) h.made
+    ∙ ap (λ (l : List Entry). l ++ calls_by list h.made) (filter-append (is_of list) old h.between)
+    ∙ ap (λ (l : List Entry). (calls_by list old ++ calls_by list h.between) ++ l) h.calls.own in
     let none : calls_by list h.between ≡ [] =
-    no_more (calls_by list h.between) (omega (arith, ap length (sym calls ∙ h.own), length-append (calls_by list old ++ calls_by list h.between) (e ∷ []), length-append (calls_by list old) (calls_by list h.between), length-append (calls_by list old) (e ∷ []))) in
+    no_more (calls_by list h.between) (omega (arith, ap length (sym calls ∙ h.own), length-append (calls_by list old ++ calls_by list h.between) h.made, length-append (calls_by list old) (calls_by list h.between), length-append (calls_by list old) h.made)) in
     let front : places_by list (old ++ h.between) ≡ places_by list old =
-    places_append list 0 old h.between ∙ ap (λ l. places_by list old ++ l) (no_places list (0 + length old) h.between none) ∙ append-nil (places_by list old) in
-    let last : places_from list (0 + length (old ++ h.between)) (e ∷ []) ≡ place ∷ [] =
-    own_place list (0 + length (old ++ h.between)) event a ∙ ap (λ n. n ∷ []) (zero_more (length (old ++ h.between)) ∙ sym h.place_is) in
-    ap (places_by list) h.history ∙ places_append list 0 (old ++ h.between) (e ∷ []) ∙ ap (λ l. l ++ places_from list (0 + length (old ++ h.between)) (e ∷ [])) front
-    ∙ ap (λ l. places_by list old ++ l) last
+    places_append list 0 old h.between ∙ ap (λ (l : List ℕ). places_by list old ++ l) (no_places list (0 + length old) h.between none) ∙ append-nil (places_by list old) in
+    let first : 0 + length (old ++ h.between) ≡ place = zero_more (length (old ++ h.between)) ∙ sym h.place_is in
+    let count : length h.made ≡ length answers = sym (length-map h.made (λ (e : Entry). e.answer)) ∙ ap length h.calls.answers_are in
+    let last : places_from list (0 + length (old ++ h.between)) h.made ≡ numbers_from place (length answers) =
+    ap (λ (n : ℕ). places_from list n h.made) first ∙ (all_places list place h.made h.calls.own ∙ ap (numbers_from place) count) in
+    ap (places_by list) h.history ∙ places_append list 0 (old ++ h.between) h.made ∙ ap (λ (l : List ℕ). l ++ places_from list (0 + length (old ++ h.between)) h.made) front
+    ∙ ap (λ (l : List ℕ). places_by list old ++ l) last
 
--- ---- one call more
+starts_answered : (list : ℕ) (events : List Event) (old : List Entry) (place : ℕ) (answers : List Answered) (new : List Entry) → HasAnsweredAll list events old place answers new → StartsWith new old
+starts_answered list events old place answers new h = record {
+  rest = h.between ++ h.made;
+  is = h.history ∙ append_assoc old h.between h.made;
+}
+
+-- ---- what is drawn
+
+numbers_snoc : (first n : ℕ) → numbers_from first (n + 1) ≡ numbers_from first n ++ (first + n) ∷ []
+numbers_snoc first zero = ap (λ (k : ℕ). k ∷ []) (omega arith)
+numbers_snoc first (suc n) =
+    let e : first + 1 + n ≡ first + suc n = omega arith in
+    let more : suc n + 1 ≡ suc (n + 1) = omega arith in
+    ap (numbers_from first) more ∙ ap (λ (l : List ℕ). first ∷ l) (numbers_snoc (first + 1) n ∙ ap (λ (k : ℕ). numbers_from (first + 1) n ++ k ∷ []) e)
+
+pub nothing_drawn : (s : Settings) (place : ℕ) (old : List Placed) → HasDrawn s place [] old old
+nothing_drawn s place old = record {
+  placed = [];
+  items = sym (append-nil old);
+  answers_are = refl;
+  places_are = refl;
+  drawn = refl;
+}
+
+pub draws_on : (s : Settings) (place : ℕ) (answers : List Answered) (old all : List Placed) (p : Placed) → HasDrawn s place answers old all → p.place ≡ place + length answers
+    → p.datagrams.items ≡ datagrams_of s p.answer → HasDrawn s place (answers ++ p.answer ∷ []) old (all ++ p ∷ [])
+draws_on s place answers old all p h at drawn = record {
+  placed = h.placed ++ p ∷ [];
+  items = ap (λ (l : List Placed). l ++ p ∷ []) h.items ∙ append_assoc old h.placed (p ∷ []);
+  answers_are = map-append (λ (x : Placed). x.answer) h.placed (p ∷ []) ∙ ap (λ (l : List Answered). l ++ p.answer ∷ []) h.answers_are;
+  places_are = map-append (λ (x : Placed). x.place) h.placed (p ∷ []) ∙ ap (λ (l : List ℕ). l ++ p.place ∷ []) h.places_are
+      ∙ ap (λ (k : ℕ). numbers_from place (length answers) ++ k ∷ []) at
+      ∙ sym (numbers_snoc place (length answers))
+      ∙ ap (numbers_from place) (sym (length-append answers (p.answer ∷ [])));
+  drawn = map-append (λ (x : Placed). x.datagrams.items) h.placed (p ∷ []) ∙ ap (λ (l : List (List (List ℕ))). l ++ p.datagrams.items ∷ []) h.drawn
+      ∙ ap (λ (d : List (List ℕ)). map (datagrams_of s) answers ++ d ∷ []) drawn ∙ sym (map-append (datagrams_of s) answers (p.answer ∷ []));
+}
+
+-- ---- a piece
+
+drawn_entries : (s : Settings) (made : List Entry) → map (datagrams_of s) (map (λ (e : Entry). e.answer) made) ≡ map (λ (e : Entry). datagrams_of s e.answer) made
+drawn_entries s [] = refl
+drawn_entries s (e ∷ made) = ap (λ (l : List (List (List ℕ))). datagrams_of s e.answer ∷ l) (drawn_entries s made)
+
+-- its answers and their datagrams
+writes_piece : (list : ℕ) (s : Settings) (events : List Event) (old : List Entry) (place : ℕ) (answers : List Answered) (new : List Entry) (before after : List Placed)
+    → HasAnsweredAll list events old place answers new → HasDrawn s place answers before after → HasWrittenPiece list s events old before after new
+writes_piece list s events old place answers new before after h d = record {
+  placed = d.placed;
+  items = d.items;
+  written = record {
+    made = h.made;
+    events_are = h.calls.events_are;
+    own = h.own;
+    starts = starts_answered list events old place answers new h;
+    answers = d.answers_are ∙ sym h.calls.answers_are;
+    places = placed_last list events old place answers new h ∙ ap (λ (l : List ℕ). places_by list old ++ l) (sym d.places_are);
+    drawn = d.drawn ∙ (ap (map (datagrams_of s)) (sym h.calls.answers_are) ∙ drawn_entries s h.made);
+  };
+}
+
+-- its calls were answered, and not all was drawn
+answers_front : (list : ℕ) (events : List Event) (old : List Entry) (place : ℕ) (answers : List Answered) (new : List Entry) → HasAnsweredAll list events old place answers new
+    → HasWrittenFront list events old new
+answers_front list events old place answers new h = record {
+  made = h.made;
+  rest = [];
+  front = sym (append-nil (map (λ (e : Entry). e.event) h.made) ∙ h.calls.events_are);
+  own = h.own;
+  starts = starts_answered list events old place answers new h;
+}
+
+pub length_answers : (list : ℕ) (events : List Event) (old : List Entry) (place : ℕ) (answers : List Answered) (new : List Entry) → HasAnsweredAll list events old place answers new
+    → length answers ≡ length events
+length_answers list events old place answers new h =
+    omega (arith, ap length h.calls.events_are, ap length h.calls.answers_are, length-map h.made (λ (e : Entry). e.event), length-map h.made (λ (e : Entry). e.answer))
+
+-- what a piece tells, by whether all was drawn
+pub piece_told : {A E : Type 0} (list : ℕ) (s : Settings) (events : List Event) (old : List Entry) (place : ℕ) (answers : List Answered) (new : List Entry) (before after : List Placed) (r : Result A E)
+    → HasAnsweredAll list events old place answers new → OnOk r (HasDrawn s place answers before after)
+    → MatchResult r (λ _. HasWrittenPiece list s events old before after new) (λ _. HasWrittenFront list events old new)
+piece_told list s events old place answers new before after (Ok x) h drawn = writes_piece list s events old place answers new before after h drawn
+piece_told list s events old place answers new before after (Err e) h drawn = answers_front list events old place answers new h
+
+-- ---- one piece more
+
+pub cut : (mid : ℕ) (events piece later : List Event) → piece ≡ take mid events → later ≡ drop mid events → piece ++ later ≡ events
+cut mid events piece later front back = (λ i. front i ++ back i) ∙ take-append-drop mid events
 
 pub nothing_written : (list : ℕ) (s : Settings) (old : List Entry) → HasWritten list s [] old [] old
 nothing_written list s old = record {
@@ -98,67 +188,59 @@ nothing_written list s old = record {
   drawn = refl;
 }
 
-writes_on : (list : ℕ) (s : Settings) (events : List Event) (old : List Entry) (placed : List Placed) (middle : List Entry) (event : Event) (p : Placed) (new : List Entry) → HasWritten list s events old placed middle
-    → HasPlaced list s event middle p.place p.answer p.datagrams.items new → HasWritten list s (events ++ event ∷ []) old (placed ++ p ∷ []) new
-writes_on list s events old placed middle event p new w h =
-    let e = entry list event p.answer in record {
-      made = w.made ++ e ∷ [];
-      events_are = map-append (λ (x : Entry). x.event) w.made (e ∷ []) ∙ ap (λ l. l ++ event ∷ []) w.events_are;
-      own = h.answered.own ∙ ap (λ l. l ++ e ∷ []) w.own ∙ append_assoc (calls_by list old) w.made (e ∷ []);
-      starts = starts_over new middle old (starts_answered list event middle p.place p.answer new h.answered) w.starts;
-      answers = map-append (λ (x : Placed). x.answer) placed (p ∷ []) ∙ ap (λ l. l ++ p.answer ∷ []) w.answers ∙ sym (map-append (λ (x : Entry). x.answer) w.made (e ∷ []));
-      places = placed_last list event middle p.place p.answer new h.answered ∙ ap (λ l. l ++ p.place ∷ []) w.places
-          ∙ append_assoc (places_by list old) (map (λ (x : Placed). x.place) placed) (p.place ∷ [])
-          ∙ ap (λ l. places_by list old ++ l) (sym (map-append (λ (x : Placed). x.place) placed (p ∷ [])));
-      drawn = map-append (λ (x : Placed). x.datagrams.items) placed (p ∷ []) ∙ ap (λ l. l ++ p.datagrams.items ∷ []) w.drawn
-          ∙ ap (λ d. map (λ (x : Entry). datagrams_of s x.answer) w.made ++ d ∷ []) h.drawn ∙ sym (map-append (λ (x : Entry). datagrams_of s x.answer) w.made (e ∷ []));
+pub writes_on : (list : ℕ) (s : Settings) (events more : List Event) (old : List Entry) (all after : List Placed) (middle new : List Entry) → HasWritten list s events old all middle
+    → HasWrittenPiece list s more middle all after new → HasWritten list s (events ++ more) old after new
+writes_on list s events more old all after middle new w piece =
+    let h = piece.written in
+    let p = piece.placed in
+    subst (λ (l : List Placed). HasWritten list s (events ++ more) old l new) (sym piece.items) (record {
+      made = w.made ++ h.made;
+      events_are = map-append (λ (x : Entry). x.event) w.made h.made ∙ ap (λ (l : List Event). l ++ map (λ (x : Entry). x.event) h.made) w.events_are ∙ ap (λ (l : List Event). events ++ l) h.events_are;
+      own = h.own ∙ ap (λ (l : List Entry). l ++ h.made) w.own ∙ append_assoc (calls_by list old) w.made h.made;
+      starts = starts_over new middle old h.starts w.starts;
+      answers = map-append (λ (x : Placed). x.answer) all p ∙ ap (λ (l : List Answered). l ++ map (λ (x : Placed). x.answer) p) w.answers
+          ∙ ap (λ (l : List Answered). map (λ (x : Entry). x.answer) w.made ++ l) h.answers ∙ sym (map-append (λ (x : Entry). x.answer) w.made h.made);
+      places = h.places ∙ ap (λ (l : List ℕ). l ++ map (λ (x : Placed). x.place) p) w.places
+          ∙ append_assoc (places_by list old) (map (λ (x : Placed). x.place) all) (map (λ (x : Placed). x.place) p)
+          ∙ ap (λ (l : List ℕ). places_by list old ++ l) (sym (map-append (λ (x : Placed). x.place) all p));
+      drawn = map-append (λ (x : Placed). x.datagrams.items) all p ∙ ap (λ (l : List (List (List ℕ))). l ++ map (λ (x : Placed). x.datagrams.items) p) w.drawn
+          ∙ ap (λ (l : List (List (List ℕ))). map (λ (x : Entry). datagrams_of s x.answer) w.made ++ l) h.drawn ∙ sym (map-append (λ (x : Entry). datagrams_of s x.answer) w.made h.made);
+    })
+
+pub no_front : (list : ℕ) (events : List Event) (old : List Entry) → HasWrittenFront list events old old
+no_front list events old = record {
+  made = [];
+  rest = events;
+  front = refl;
+  own = sym (append-nil (calls_by list old));
+  starts = record { rest = []; is = sym (append-nil old) };
+}
+
+-- the next piece, of which a front was taken
+pub tries_on : (list : ℕ) (s : Settings) (events piece later : List Event) (old : List Entry) (all : List Placed) (middle new : List Entry) → HasWritten list s events old all middle
+    → HasWrittenFront list piece middle new → HasWrittenFront list (events ++ (piece ++ later)) old new
+tries_on list s events piece later old all middle new w h =
+    let of : Entry → Event = λ (x : Entry). x.event in record {
+      made = w.made ++ h.made;
+      rest = h.rest ++ later;
+      front = ap (λ (l : List Event). l ++ (piece ++ later)) (sym w.events_are) ∙ ap (λ (l : List Event). map of w.made ++ (l ++ later)) h.front
+          ∙ ap (λ (l : List Event). map of w.made ++ l) (append_assoc (map of h.made) h.rest later)
+          ∙ sym (append_assoc (map of w.made) (map of h.made) (h.rest ++ later))
+          ∙ ap (λ (l : List Event). l ++ (h.rest ++ later)) (sym (map-append of w.made h.made));
+      own = h.own ∙ ap (λ (l : List Entry). l ++ h.made) w.own ∙ append_assoc (calls_by list old) w.made h.made;
+      starts = starts_over new middle old h.starts w.starts;
     }
 
--- ---- a front of the calls
+-- ---- the answers of a legal history
 
-tried_front : (list : ℕ) (s : Settings) (events rest : List Event) (old : List Entry) (placed : List Placed) (middle : List Entry) (event : Event) (new : List Entry) → HasWritten list s events old placed middle
-    → HasTried list event middle new → HasWrittenFront list (events ++ event ∷ rest) old new
-tried_front list s events rest old placed middle event new w (inl more) = record {
-  made = w.made;
-  rest = event ∷ rest;
-  front = ap (λ l. l ++ event ∷ rest) (sym w.events_are);
-  own = more.own ∙ w.own;
-  starts = starts_over new middle old more.starts w.starts;
-}
-tried_front list s events rest old placed middle event new w (inr (place, a, h)) =
-    let e = entry list event a in record {
-      made = w.made ++ e ∷ [];
-      rest = rest;
-      front = sym (append_assoc events (event ∷ []) rest) ∙ ap (λ l. l ++ rest) (ap (λ l. l ++ event ∷ []) (sym w.events_are) ∙ sym (map-append (λ (x : Entry). x.event) w.made (e ∷ [])));
-      own = h.own ∙ ap (λ l. l ++ e ∷ []) w.own ∙ append_assoc (calls_by list old) w.made (e ∷ []);
-      starts = starts_over new middle old (starts_answered list event middle place a new h) w.starts;
-    }
+answered_behind : (s : Settings) (before : List Event) (front made : List Entry) → LegalFrom s before (front ++ made) → Each (WasAnswered s) (map (λ (e : Entry). e.answer) made)
+answered_behind s before [] [] l = tt
+answered_behind s before [] (e ∷ made) l = (record { before = before; event = e.event; lawful = l.0 }, answered_behind s (e.event ∷ before) [] made l.1)
+answered_behind s before (x ∷ front) made l = answered_behind s (x.event ∷ before) front made l.1
 
--- ---- the events, one after another
-
-module _ (events : List Event) (k : ℕ) (event : Event) (inside : k < length events) (is : event ≡ get_or events k event) where
-  next_event : take (k + 1) events ≡ take k events ++ event ∷ []
-  next_event = take_more events k event inside ∙ ap (λ e. take k events ++ e ∷ []) (sym is)
-
-  events_split : take k events ++ event ∷ drop (k + 1) events ≡ events
-  events_split = sym (append_assoc (take k events) (event ∷ []) (drop (k + 1) events)) ∙ ap (λ l. l ++ drop (k + 1) events) (sym next_event) ∙ take-append-drop (k + 1) events
-
-  -- the next event of a list
-  pub writes_next : (list : ℕ) (s : Settings) (old : List Entry) (placed : List Placed) (middle : List Entry) (p : Placed) (new : List Entry) → HasWritten list s (take k events) old placed middle
-      → HasPlaced list s event middle p.place p.answer p.datagrams.items new → HasWritten list s (take (k + 1) events) old (placed ++ p ∷ []) new
-  writes_next list s old placed middle p new w h =
-      subst (λ (l : List Event). HasWritten list s l old (placed ++ p ∷ []) new) (sym next_event) (writes_on list s (take k events) old placed middle event p new w h)
-
-  -- the next one, which may have had no answer
-  pub tries_next : (list : ℕ) (s : Settings) (old : List Entry) (placed : List Placed) (middle new : List Entry) → HasWritten list s (take k events) old placed middle → HasTried list event middle new
-      → HasWrittenFront list events old new
-  tries_next list s old placed middle new w h =
-      subst (λ (l : List Event). HasWrittenFront list l old new) events_split (tried_front list s (take k events) (drop (k + 1) events) old placed middle event new w h)
-
--- the last answer of a legal history was given to its event
-pub last_answered : (list : ℕ) (s : Settings) (event : Event) (old : List Entry) (place : ℕ) (a : Answered) (new : List Entry) → HasAnswered list event old place a new → IsLegal s new → WasAnswered s a
-last_answered list s event old place a new h legal = record {
-  before = events_behind [] (old ++ h.between);
-  event = event;
-  lawful = legal_last s [] (old ++ h.between) (entry list event a) (subst (IsLegal s) h.history legal);
-}
+-- each was given to its event
+pub all_answered : (list : ℕ) (s : Settings) (events : List Event) (old : List Entry) (place : ℕ) (answers : List Answered) (new : List Entry) → HasAnsweredAll list events old place answers new
+    → IsLegal s new → WereAnswered s answers
+all_answered list s events old place answers new h legal =
+    subst (WereAnswered s) h.calls.answers_are
+    (record { each = All-from_recursion (WasAnswered s) (map (λ (e : Entry). e.answer) h.made) (answered_behind s [] (old ++ h.between) h.made (subst (IsLegal s) h.history legal)) })

@@ -1,9 +1,9 @@
--- Where the calls of a list stand in a history, and what one call of it leaves.
-use Rattle.std.specs.Prelude.{◌≡◌, ℕ, ◌+◌, ◌==◌, ◌⊎◌, if◌then◌else◌, List, [], ◌∷◌, ◌++◌, map}
+-- Where the calls of a list stand in a history, and what is drawn of their answers.
+use Rattle.std.specs.Prelude.{◌≡◌, ℕ, ◌+◌, ◌==◌, if◌then◌else◌, List, [], ◌∷◌, ◌++◌, map, All}
 use Rattle.rams_model.specs.declared.event.Event.{Event}
 use Rattle.rams_model.specs.Service.{Settings, Answered, answer, datagram}
 use Rattle.channel_book.specs.declared.entry.Entry.{Entry}
-use Rattle.channel_book.specs.{calls_by, StartsWith, HasAnswered, HasSeenMore}
+use Rattle.channel_book.specs.{calls_by, StartsWith}
 
 -- the places of the calls of a list among some entries, the first of which has this place
 abbrev pub places_from : ℕ → ℕ → List Entry → List ℕ
@@ -24,14 +24,9 @@ pub record WasAnswered (s : Settings) (a : Answered) : Type 0 where
   pub event : Event
   pub lawful : a ≡ answer s before event
 
--- A call of the list was answered at this place, and the datagrams of its answer are these.
-pub record HasPlaced (list : ℕ) (s : Settings) (event : Event) (old : List Entry) (place : ℕ) (a : Answered) (datagrams : List (List ℕ)) (new : List Entry) : Type 0 where
-  pub answered : HasAnswered list event old place a new
-  pub drawn : datagrams ≡ datagrams_of s a
-
--- The call was answered or not; no other one was made.
-abbrev pub HasTried : ℕ → Event → List Entry → List Entry → Type 0
-HasTried list event old new = HasSeenMore list old new ⊎ ((place : ℕ) × (a : Answered) × HasAnswered list event old place a new)
+-- each was given to some event behind some others
+pub record WereAnswered (s : Settings) (answers : List Answered) : Type 0 where
+  pub each : All (WasAnswered s) answers
 
 -- A front of these events was taken as calls of the list, in order.
 pub record HasWrittenFront (list : ℕ) (events : List Event) (old new : List Entry) : Type 0 where

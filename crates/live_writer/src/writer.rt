@@ -1,8 +1,7 @@
 //! The calls of one list.
-ghost use Rattle.std.specs.Prelude.{◌≡◌, ◌+◌, ◌<◌, ◌≤◌, All, length, map, IfOk, MatchResult};
-ghost use Rattle.rams_model.specs.Service.{datagram};
+ghost use Rattle.std.specs.Prelude.{◌≡◌, ◌+◌, ◌^◌, ◌<◌, ◌≤◌, All, length, OnOk, MatchResult};
 ghost use Rattle.order_datagrams.specs.{Renders};
-ghost use Rattle.live_writer.specs.{HasPlaced, HasTried, HasWritten, HasWrittenFront, WasAnswered};
+ghost use Rattle.live_writer.specs.{HasDrawn, HasWritten, HasWrittenFront, HasWrittenPiece, WasAnswered, WereAnswered};
 
 use crate::rendering::render;
 use channel_book::{Answer, Config, Event, NoMemory, Shared};
@@ -12,6 +11,9 @@ use rams_model::Octets;
 use std::alloc::Global;
 use std::sync::Wait;
 use std::thread::Threads;
+
+/// The most events that are taken in one turn. A turn costs as much as some ten events.
+const LARGEST_PIECE: usize = 256;
 
 /// What became of an event.
 #[derive(Drop)]
@@ -31,49 +33,86 @@ fn answer_renders(_config: &Config, _answer: &Answer)
     orders_of_answers_render();
 }
 
-/// Takes an event: a step of the channel, and then the datagrams of its answer, while no turn is held.
-/// It is the call of this number of the list.
-fn write_one<R: Threads + Wait + Sync, S: Shared, G: Gate>(
+/// Stands before the calls of a piece, from this number on.
+fn enter_all<G: Gate>(gate: &G, list: u16, first: usize, count: usize)
+    requires { first + count < 2 ^ 64 }
+{
+    for call in first..first + count {
+        gate.enter(list, call as u64);
+    }
+}
+
+/// Adds the answers of a piece, from this place on, each with its datagrams. No turn is held.
+fn draw_all<R: Threads + Wait + Sync, G: Gate>(
+    rt: &R,
+    alloc: Global,
+    list: u16,
+    place: u64,
+    answers: Vec<Answer>,
+    config: &Config,
+    workers: u32,
+    gate: &G,
+    all: &mut Vec<Placed>,
+) -> Result<(), NoMemory>
+    requires workers { 0 < workers }
+    requires places { place + length answers.items ≤ 2 ^ 40 }
+    requires answered { WereAnswered config.now answers.items }
+    ensures { OnOk result (HasDrawn config.now place answers.items all.old.items all.new.items) }
+{
+    let mut next = place;
+    for answer in answers {
+        gate.drawing(list, all.len() as u64);
+        answer_renders(config, &answer);
+        let datagrams = render(rt, alloc, config, &answer.orders, workers)?;
+        all.push(Placed {
+            place: next,
+            answer,
+            datagrams,
+        })?;
+        next += 1;
+    }
+    Ok(())
+}
+
+/// Takes a piece of a list in one turn, and then adds the datagrams of its answers, while no turn is
+/// held. Its calls have the numbers from the length of `all` on.
+fn write_piece<R: Threads + Wait + Sync, S: Shared, G: Gate>(
     rt: &R,
     alloc: Global,
     shared: &S,
     pass: &mut S::Pass,
     list: u16,
-    call: u64,
-    event: &Event,
+    events: &[Event],
     config: &Config,
     workers: u32,
     gate: &G,
-) -> Result<Placed, NoMemory>
+    all: &mut Vec<Placed>,
+) -> Result<(), NoMemory>
     requires workers { 0 < workers }
     requires made { S.made shared.now pass.old }
-    requires left { 0 < S.left pass.old }
+    requires left { (0 < length events.now) × (length events.now ≤ S.left pass.old) }
     requires settings { S.settings pass.old ≡ config.now }
     ensures made { S.made shared.now pass.new }
     ensures settings { S.settings pass.new ≡ S.settings pass.old }
     ensures list { S.list pass.new ≡ S.list pass.old }
-    ensures left { S.left pass.old ≤ S.left pass.new + 1 }
+    ensures left { S.left pass.old ≤ S.left pass.new + length events.now }
     ensures told { MatchResult result
-        (λ placed. HasPlaced (S.list pass.old) config.now event.now (S.seen pass.old) placed.place placed.answer placed.datagrams.items (S.seen pass.new))
-        (λ _. HasTried (S.list pass.old) event.now (S.seen pass.old) (S.seen pass.new)) }
+        (λ _. HasWrittenPiece (S.list pass.old) config.now events.now (S.seen pass.old) all.old.items all.new.items (S.seen pass.new))
+        (λ _. HasWrittenFront (S.list pass.old) events.now (S.seen pass.old) (S.seen pass.new)) }
 {
-    gate.enter(list, call);
-    let (place, answer) = shared.step(rt, alloc, pass, event)?;
-    gate.drawing(list, call);
-    answer_renders(config, &answer);
-    let datagrams = render(rt, alloc, config, &answer.orders, workers)?;
-    Ok(Placed {
-        place,
-        answer,
-        datagrams,
-    })
+    enter_all(gate, list, all.len(), events.len());
+    let (place, answers) = shared.step_all(rt, alloc, pass, events)?;
+    draw_all(
+        rt, alloc, list, place, answers, config, workers, gate, all,
+    )
 }
 
 /// Takes the events of a list, one after another: the place of each in the history, its answer, and
 /// the datagrams of its orders, by at most so many threads at once. May wait.
 ///
-/// The gate is passed before each step, and again when its turn was passed on, before its answer is
-/// rendered.
+/// Events are taken in pieces, each in one turn: the first event, the next two, the next four, and so
+/// on up to 256. The gate is passed before the turn in which a call is stepped, and again when that
+/// turn was passed on, before the call's answer is rendered.
 ///
 /// After want of memory a front of the events was taken.
 pub fn write_all<R: Threads + Wait + Sync, S: Shared, G: Gate>(
@@ -98,13 +137,16 @@ pub fn write_all<R: Threads + Wait + Sync, S: Shared, G: Gate>(
         (λ placed. HasWritten (S.list pass.old) config.now events.now (S.seen pass.old) placed.items (S.seen pass.new))
         (λ _. HasWrittenFront (S.list pass.old) events.now (S.seen pass.old) (S.seen pass.new)) }
 {
-    let mut all = Vec::new(alloc);
-    for event in events {
-        let call = all.len() as u64;
-        let placed = write_one(
-            rt, alloc, shared, pass, list, call, event, config, workers, gate,
+    let mut all = Vec::with_capacity(alloc, events.len())?;
+    let mut left = events;
+    let mut size = 1;
+    while !left.is_empty() {
+        let (piece, later) = left.split_at(size.min(left.len()));
+        write_piece(
+            rt, alloc, shared, pass, list, piece, config, workers, gate, &mut all,
         )?;
-        all.push(placed)?;
+        left = later;
+        size = (2 * size).min(LARGEST_PIECE);
     }
     Ok(all)
 }

@@ -33,7 +33,7 @@ join_seat-requires c =
       c.requires.table,
       subst (λ (m : Mine). Joins (Turns table.key.config table.key.passes) seat.id m.0 pass.id pass.me.0 (with_pass m.0 pass.me.0) blank) (sym i.gathered.3)
           (subst (λ (m : Mine). Joins (Turns table.key.config table.key.passes) seat.id (gathering past left) pass.id m.0 (with_pass (gathering past left) m.0) blank) (sym at)
-          (gives_back table.key.config table.key.passes seat.id pass.id past left (waiting c.pass.inside.config c.pass.inside.list pass.me.0.log pass.me.0.left 0).config c.pass.inside.list pass.me.0.log pass.me.0.left)),
+          (gives_back table.key.config table.key.passes seat.id pass.id past left (waiting c.pass.inside.config c.pass.inside.list pass.me.0.log pass.me.0.left 0 0).config c.pass.inside.list pass.me.0.log pass.me.0.left)),
     )
 
 pub loop-pass-preserved : goal.loop-pass-preserved

@@ -8,5 +8,5 @@ fetch_add-requires c =
     let seat = c.args.seat.now in (
       c.requires.table.0,
       omega (arith, c.requires.table.1),
-      draws table.key.config table.key.passes table.table_id.slots seat.id seat.me c.requires.free.0 c.requires.free.1 c.requires.may.0 c.requires.may.1,
+      draws table.key.config table.key.passes table.table_id.slots seat.id c.args.size seat.me c.requires.free.0 c.requires.free.1 c.requires.free.2 c.requires.may.0 c.requires.may.1,
     )

@@ -9,5 +9,5 @@ fetch_add-served-requires c =
     let grew = c.requires.grew in (
       c.requires.table.0,
       omega (arith, c.requires.table.1),
-      passes_on_as table.key.config table.key.passes table.table_id.slots seat.id seat.me grew.0 c.requires.table.2 grew.1 grew.2 grew.3,
+      passes_on_as table.key.config table.key.passes table.table_id.slots seat.id c.args.size seat.me grew.0 c.requires.table.2 grew.1 grew.2 c.requires.size grew.3,
     )

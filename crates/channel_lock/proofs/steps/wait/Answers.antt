@@ -1,4 +1,4 @@
-use Rattle.std.proofs.Common.{◌≡◌, ap, ◌∙◌, subst, arith}
+use Rattle.std.proofs.Common.{◌≡◌, ◌<◌, sym, ap, ◌∙◌, subst, arith}
 use Rattle.channel_lock.specs.Steps.{Mine, IsServed}
 use Rattle.channel_lock.proofs.Serving.{looks, is_served, not_served}
 use Rattle.channel_lock.proofs.steps.wait.Goals as goal
@@ -10,7 +10,7 @@ load-served-requires g c =
     let same = c.loop.invariant in (
       same.2 ∙ c.requires.table.0,
       omega (arith, c.requires.table.1),
-      looks table.key.config table.key.passes table.table_id.slots seat.id seat.me (ap (λ (m : Mine). m.0.taken) same.3 ∙ c.requires.ticket.1) c.requires.table.2,
+      looks table.key.config table.key.passes table.table_id.slots seat.id seat.me (subst (λ (m : Mine). 0 < m.0.size) (sym same.3) c.requires.ticket.1) (ap (λ (m : Mine). m.0.taken) same.3 ∙ c.requires.ticket.2) c.requires.table.2,
     )
 
 pub loop-preserved : goal.loop-preserved

@@ -1,59 +1,70 @@
--- One event more of the list.
-use Rattle.std.proofs.Common.{ℕ, ◌+◌, List, [], take, refl, sym, ◌∙◌, subst, arith, inr}
+-- One piece more of the list.
+use Rattle.std.proofs.Common.{◌≡◌, ◌++◌, List, [], refl, sym, ap, ◌∙◌, subst, arith, append_assoc}
 use Rattle.std.proofs.lemmas.Result.{err_from_is_err_and}
+use Rattle.rams_model.specs.declared.event.Event.{Event}
 use Rattle.live_writer.specs.declared.writer.Placed.{Placed}
-use Rattle.live_writer.specs.{HasPlaced, HasTried, HasWritten}
-use Rattle.live_writer.proofs.Placing.{nothing_written, writes_next, tries_next}
+use Rattle.live_writer.specs.{HasWritten, HasWrittenFront, HasWrittenPiece}
+use Rattle.live_writer.proofs.Placing.{cut, nothing_written, writes_on, tries_on, no_front}
 use Rattle.live_writer.proofs.writer.write_all.Goals as goal
 
-pub loop-event-init : goal.loop-event-init
-loop-event-init g c =
-    let list = g.S.Shared.list c.args.pass.now in
-    let seen = g.S.Shared.seen c.args.pass.now in record {
+pub returns-in_err-all-clause-told : goal.returns-in_err-all-clause-told
+returns-in_err-all-clause-told g c =
+    let s = g.S.Shared in
+    let p = err_from_is_err_and c.from_residual.result c.from_residual.ensures.1 in
+    rw p.1 (no_front (s.list c.args.pass.now) c.args.events.now (s.seen c.args.pass.now))
+
+pub loop-left-init : goal.loop-left-init
+loop-left-init g c =
+    let s = g.S.Shared in
+    let list = s.list c.args.pass.now in
+    let seen = s.seen c.args.pass.now in record {
       made = c.requires.made;
       settings = refl;
       list = refl;
-      left = omega arith;
-      written = subst (λ (l : List Placed). HasWritten list c.args.config.now [] seen l seen) (sym c.new-all.ensures.items) (nothing_written list c.args.config.now seen);
+      calls = c.requires.left;
+      written = ([], refl, subst (λ (l : List Placed). HasWritten list c.args.config.now [] seen l seen) (sym c.in_ok-all.ensures.items) (nothing_written list c.args.config.now seen));
+      size = (omega arith, omega arith);
     }
 
-pub returns-in_err-placed-clause-told : goal.returns-in_err-placed-clause-told
-returns-in_err-placed-clause-told g c =
-    let l = c.loop-event in
+pub returns-in_err-write_piece-clause-told : goal.returns-in_err-write_piece-clause-told
+returns-in_err-write_piece-clause-told g c =
     let s = g.S.Shared in
+    let l = c.loop-left in
     let list = s.list c.args.pass.now in
-    let p = err_from_is_err_and c.from_residual.result c.from_residual.ensures.1 in
-    let tried : HasTried list c.event-item.result (s.seen l.pass) (s.seen c.write_one.new.pass) =
-    subst (λ (n : ℕ). HasTried n c.event-item.result (s.seen l.pass) (s.seen c.write_one.new.pass)) l.invariant.list c.in_err-placed.ensures.told in
-    let front = tries_next c.args.events.now l.event-index c.event-item.result c.loop-event-test.true c.event-item.is list c.args.config.now (s.seen c.args.pass.now) l.all.items (s.seen l.pass) (s.seen c.write_one.new.pass) l.invariant.written tried in
-    rw p.1 front
+    let piece = c.split_at.result.0.now in
+    let later = c.split_at.result.1.now in
+    let old = s.seen c.args.pass.now in
+    let middle = s.seen l.pass in
+    let new = s.seen c.write_piece.new.pass in
+    let front = l.invariant.written.0 in
+    let whole : front ++ (piece ++ later) ≡ c.args.events.now = ap (λ (es : List Event). front ++ es) (cut c.min.result l.left.now piece later c.split_at.ensures.front c.split_at.ensures.back) ∙ l.invariant.written.1 in
+    let tried = subst (λ n. HasWrittenFront n piece middle new) l.invariant.list c.in_err-write_piece.ensures.told in
+    let p = err_from_is_err_and c.from_residual-in_err-write_piece.result c.from_residual-in_err-write_piece.ensures.1 in
+    rw p.1 (subst (λ (es : List Event). HasWrittenFront list es old new) whole
+    (tries_on list c.args.config.now front piece later old l.all.items middle new l.invariant.written.2 tried))
 
-pub returns-in_err-push-clause-told : goal.returns-in_err-push-clause-told
-returns-in_err-push-clause-told g c =
-    let l = c.loop-event in
+pub loop-left-preserved : goal.loop-left-preserved
+loop-left-preserved g c =
     let s = g.S.Shared in
+    let l = c.loop-left in
     let list = s.list c.args.pass.now in
-    let placed = c.in_ok-placed.placed in
-    let p = err_from_is_err_and c.from_residual-in_err-push.result c.from_residual-in_err-push.ensures.1 in
-    let told : HasPlaced list c.args.config.now c.event-item.result (s.seen l.pass) placed.place placed.answer placed.datagrams.items (s.seen c.write_one.new.pass) =
-    subst (λ (n : ℕ). HasPlaced n c.args.config.now c.event-item.result (s.seen l.pass) placed.place placed.answer placed.datagrams.items (s.seen c.write_one.new.pass)) l.invariant.list c.in_ok-placed.ensures.told in
-    let front = tries_next c.args.events.now l.event-index c.event-item.result c.loop-event-test.true c.event-item.is list c.args.config.now (s.seen c.args.pass.now) l.all.items (s.seen l.pass) (s.seen c.write_one.new.pass) l.invariant.written
-    (inr (placed.place, placed.answer, told.answered)) in
-    rw p.1 front
-
-pub loop-event-preserved : goal.loop-event-preserved
-loop-event-preserved g c =
-    let l = c.loop-event in
-    let s = g.S.Shared in
-    let list = s.list c.args.pass.now in
-    let placed = c.in_ok-placed.placed in
-    let told : HasPlaced list c.args.config.now c.event-item.result (s.seen l.pass) placed.place placed.answer placed.datagrams.items (s.seen c.write_one.new.pass) =
-    subst (λ (n : ℕ). HasPlaced n c.args.config.now c.event-item.result (s.seen l.pass) placed.place placed.answer placed.datagrams.items (s.seen c.write_one.new.pass)) l.invariant.list c.in_ok-placed.ensures.told in
-    let written = writes_next c.args.events.now l.event-index c.event-item.result c.loop-event-test.true c.event-item.is list c.args.config.now (s.seen c.args.pass.now) l.all.items (s.seen l.pass) placed (s.seen c.write_one.new.pass) l.invariant.written told in
+    let piece = c.split_at.result.0.now in
+    let later = c.split_at.result.1.now in
+    let old = s.seen c.args.pass.now in
+    let middle = s.seen l.pass in
+    let new = s.seen c.write_piece.new.pass in
+    let front = l.invariant.written.0 in
+    let whole : front ++ (piece ++ later) ≡ c.args.events.now = ap (λ (es : List Event). front ++ es) (cut c.min.result l.left.now piece later c.split_at.ensures.front c.split_at.ensures.back) ∙ l.invariant.written.1 in
+    let told = subst (λ n. HasWrittenPiece n c.args.config.now piece middle l.all.items c.write_piece.new.all.items new) l.invariant.list c.in_ok-write_piece.ensures.told in
     record {
-      made = c.in_ok-placed.ensures.made;
-      settings = c.in_ok-placed.ensures.settings ∙ l.invariant.settings;
-      list = c.in_ok-placed.ensures.list ∙ l.invariant.list;
-      left = omega (arith, l.invariant.left, c.in_ok-placed.ensures.left);
-      written = subst (λ (all : List Placed). HasWritten list c.args.config.now (take (l.event-index + 1) c.args.events.now) (s.seen c.args.pass.now) all (s.seen c.write_one.new.pass)) (sym c.in_ok-push.ensures.items) written;
+      made = c.in_ok-write_piece.ensures.made;
+      settings = c.in_ok-write_piece.ensures.settings ∙ l.invariant.settings;
+      list = c.in_ok-write_piece.ensures.list ∙ l.invariant.list;
+      calls = omega (arith, l.invariant.calls, c.in_ok-write_piece.ensures.left, c.split_at.ensures.front_len, c.split_at.ensures.back_len);
+      written = (
+        front ++ piece,
+        append_assoc front piece later ∙ whole,
+        writes_on list c.args.config.now front piece old l.all.items c.write_piece.new.all.items middle new l.invariant.written.2 told,
+      );
+      size = (omega (arith, l.invariant.size, c.min-size.ensures), omega (arith, c.min-size.ensures));
     }
