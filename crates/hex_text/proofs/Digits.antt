@@ -1,7 +1,9 @@
 -- One lower-case digit: what it stands for, and how it is written.
-use Rattle.std.proofs.Common.{◌≡◌, ℕ, ◌%◌, ◌+◌, ◌/◌, ◌^◌, bit_and, ◌<◌, Bool, true, false, ◌&&◌, ◌||◌, ◌==◌, not, nat_lt, slice_index, Some, refl, arith, suc, zero, inl, inr}
+use Rattle.std.proofs.Common.{◌≡◌, ℕ, ◌%◌, ◌+◌, ◌-◌, ◌^◌, ◌<◌, Bool, true, false, ◌&&◌, ◌||◌, ◌==◌, not, nat_le, nat_lt, cond, ltb, slice_index, Some, refl, arith, suc, zero, inl, inr}
 use Rattle.std.proofs.lemmas.Bool.{and_parts, cases_lt, eqb-true}
 use Rattle.std.proofs.lemmas.Bool.Decides.{nat_tests}
+use lib.Lanes.{top}
+use mathlib.Core.Bool.{beq}
 use Rattle.hex.specs.Hex.{lower_digits, hex_digit_value}
 use Rattle.hex_text.specs.{is_lower_digit, value_of}
 
@@ -46,8 +48,25 @@ lower_digits-value_of c h =
 pub is_lower-lower_digits : (d : ℕ) → d < 16 → is_lower_digit (slice_index lower_digits d) ≡ true
 is_lower-lower_digits d lt = below_at (λ k. is_lower_digit (slice_index lower_digits k)) 16 d refl lt
 
--- what it stands for, by its bits
-pub computed_value : (c : ℕ) → is_lower_digit c ≡ true → (bit_and c 15 + (c / 2 ^ 6 + bit_and (c / 2 ^ 3) 8) % 2 ^ 8) % 2 ^ 8 ≡ value_of c
-computed_value c h =
-    let test = below_at (λ k. not (is_lower_digit k) || ((bit_and k 15 + (k / 2 ^ 6 + bit_and (k / 2 ^ 3) 8) % 2 ^ 8) % 2 ^ 8 == value_of k)) 103 c refl (below_103 c h) in
+abbrev pub less : ℕ → ℕ → ℕ
+less a b = (a + (2 ^ 8 - b)) % 2 ^ 8
+
+abbrev pub below_mask : ℕ → ℕ → ℕ
+below_mask a b = cond (ltb a b) 255 0
+
+-- what it stands for, by its distances from `0` and from ten before `a`
+pub lesser_value : (c : ℕ) → is_lower_digit c ≡ true → cond (top 7 (below_mask (less c 48) (less c 87))) (less c 48) (less c 87) ≡ value_of c
+lesser_value c h =
+    let test = below_at (λ k. not (is_lower_digit k) || (cond (top 7 (below_mask (less k 48) (less k 87))) (less k 48) (less k 87) == value_of k)) 103 c refl (below_103 c h) in
     eqb-true _ (value_of c) (implied (is_lower_digit c) _ h test)
+
+same : (a b : Bool) → beq a b ≡ true → a ≡ b
+same true true e = refl
+same true false e = absurd cc
+same false true e = absurd cc
+same false false e = refl
+
+-- a byte is one where it is none of what lies outside
+pub is_lower-extremes : (c : ℕ) → c < 256 → (nat_le 48 c && (nat_le c 102 && nat_le (less c 97) 216)) ≡ is_lower_digit c
+is_lower-extremes c byte =
+    same _ _ (below_at (λ k. beq (nat_le 48 k && (nat_le k 102 && nat_le (less k 97) 216)) (is_lower_digit k)) 256 c refl byte)

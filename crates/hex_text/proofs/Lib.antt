@@ -1,7 +1,7 @@
-pub mod Apart
 pub mod Blocks
 pub mod Digits
 pub mod Lanes
 pub mod Values
+pub mod Extremes
 pub mod Reading
 pub mod Written

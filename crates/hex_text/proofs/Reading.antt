@@ -1,7 +1,7 @@
 -- Steps of the loops over pairs of digits, and what the pairs of a text decode to.
 use Rattle.std.proofs.Common.{◌≡◌, ℕ, ◌+◌, ◌-◌, ◌*◌, ◌/◌, ◌%◌, ◌<◌, ◌≤◌, Bool, true, false, ◌&&◌, ◌==◌, nat_lt, List, [], ◌∷◌, ◌++◌, length, take, drop, slice_index, slice_set, Ok, refl, sym, ap, ◌∙◌, arith, suc, zero}
 use Rattle.std.proofs.lemmas.Bool.{and_parts, eqb-true}
-use Rattle.std.proofs.lemmas.List.{append_assoc, append-nil, drop_all, take_all, take_more_set, length-drop, drop-drop}
+use Rattle.std.proofs.lemmas.List.{append_assoc, append-nil, drop_all, take_all, take_at, take-take, take_more_set, length-drop, length-take-le, drop-drop}
 use Rattle.std.proofs.lemmas.Slice.{take-put_mid}
 use borrow.Rule.Slice.PartMut.{put_mid}
 use Rattle.std.proofs.lemmas.List.Folds.{list_all_more}
@@ -106,3 +106,32 @@ bytes_part text out block k size room is_32 fits within long is inv =
     let split = pair_bytes-split 16 (drop (32 * k) text) (omega arith) in
     let whole : pair_bytes (drop (32 * k) text) ≡ block ++ pair_bytes (drop (32 * (k + 1)) text) = rw (rest, is, is_32) split in
     rw (front, append_assoc) (rw whole at inv)
+
+length-pair_bytes : (text : List ℕ) → length text % 2 ≡ 0 → 2 * length (pair_bytes text) ≡ length text
+unfolding pair_bytes
+length-pair_bytes [] even = refl
+length-pair_bytes (digit ∷ []) even = absurd (omega arith)
+length-pair_bytes (high ∷ low ∷ rest) even = omega (arith, length-pair_bytes rest (omega arith))
+
+-- the first bytes
+pair_bytes-take : (i : ℕ) (text : List ℕ) → 2 * i ≤ length text → take i (pair_bytes text) ≡ pair_bytes (take (2 * i) text)
+pair_bytes-take i text within =
+    let long = length-take-le (2 * i) text within in
+    ap (take i) (pair_bytes-split i text within)
+    ∙ take_at (pair_bytes (take (2 * i) text)) (pair_bytes (drop (2 * i) text)) i (omega (arith, length-pair_bytes (take (2 * i) text) (omega (arith, long)), long))
+
+-- a last block, of which a part is there already
+pub bytes_last : (text out block : List ℕ) (done room : ℕ) → 16 ≤ length out → length out < done + 16 → done ≤ length out → length text ≡ 2 * length out
+    → room ≡ length out - (length out - 16) → block ≡ pair_bytes (drop (2 * (length out - 16)) text) → take done out ++ pair_bytes (drop (2 * done) text) ≡ pair_bytes text
+    → put_mid (length out - 16) room out block ≡ pair_bytes text
+bytes_last text out block done room long short within whole is_room is inv =
+    let first = length out - 16 in
+    let there : take done (pair_bytes text) ≡ take done out =
+    ap (take done) (sym inv) ∙ take_at (take done out) (pair_bytes (drop (2 * done) text)) done (length-take-le done out (omega arith)) in
+    let front : take first out ≡ pair_bytes (take (2 * first) text) =
+    sym (take-take first done out (omega arith))
+    ∙ (ap (take first) (sym there) ∙ (take-take first done (pair_bytes text) (omega arith) ∙ pair_bytes-take first text (omega arith))) in
+    let none : drop room (drop first out) ≡ [] = drop_all room (drop first out) (omega (arith, length-drop first out)) in
+    ap (λ (l : List ℕ). l ++ (block ++ drop room (drop first out))) front
+    ∙ (ap (λ (l : List ℕ). pair_bytes (take (2 * first) text) ++ (block ++ l)) none
+    ∙ (ap (λ (l : List ℕ). pair_bytes (take (2 * first) text) ++ l) (append-nil block ∙ is) ∙ sym (pair_bytes-split first text (omega arith))))

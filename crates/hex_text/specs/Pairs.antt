@@ -18,3 +18,9 @@ unfoldable pub pair_bytes : List ℕ → List ℕ
 pair_bytes [] = []
 pair_bytes (digit ∷ []) = []
 pair_bytes (high ∷ low ∷ rest) = pair_byte high low ∷ pair_bytes rest
+
+-- the bytes of pairs of values below 16, the high one first
+abbrev pub joined_values : List ℕ → List ℕ
+joined_values [] = []
+joined_values (value ∷ []) = []
+joined_values (high ∷ low ∷ rest) = (high * 16 + low) ∷ joined_values rest

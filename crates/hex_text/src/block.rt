@@ -3,9 +3,9 @@ ghost use Rattle.std.specs.Prelude.{◌≡◌, ◌<◌, true, length, map, slice
 ghost use Rattle.std.specs.List.{list_all};
 ghost use lib.Lanes.{Each1};
 ghost use Rattle.hex.specs.Hex.{encode_lower, lower_digits};
-ghost use Rattle.hex_text.specs.{is_lower_digit, pair_bytes, value_of};
+ghost use Rattle.hex_text.specs.{is_lower_digit, joined_values, pair_bytes, value_of};
 
-use std::simd::u8x16;
+use std::simd::{u8x16, u8x32, u16x16};
 
 // Writes the 16 bytes of 32 digits over `out`.
 #[inline]
@@ -15,21 +15,29 @@ pub(crate) fn decode_block(digits: &[u8], out: &mut [u8])
     requires room { length out.old ≡ 16 }
     ensures { out.new ≡ pair_bytes digits.now }
 {
-    let front = u8x16::from_slice(&digits[..16]);
-    let (highs, lows) = front.deinterleave(u8x16::from_slice(&digits[16..]));
-    let bytes = (values_of(highs) << u8x16::splat(4)) + values_of(lows);
-    out.copy_from_slice(&bytes.to_array());
+    let values = values_of(u8x32::from_slice(digits));
+    out.copy_from_slice(&joined(values).to_array());
 }
 
-// What digits stand for. Of their bits the sixth is set in letters alone, which makes nine there: `a`
-// ends in the bits of 1.
+// What digits stand for. Of a digit's distances from `0` and from ten before `a`, modulo 256, the right one
+// is the less: for `0` to `9` the second wraps.
 #[inline]
-fn values_of(digits: u8x16) -> u8x16
+fn values_of(digits: u8x32) -> u8x32
     requires { Each1 (λ d. is_lower_digit d ≡ true) digits }
     ensures { result ≡ map value_of digits }
 {
-    let nines = (digits >> u8x16::splat(6)) + ((digits >> u8x16::splat(3)) & u8x16::splat(8));
-    (digits & u8x16::splat(15)) + nines
+    (digits - u8x32::splat(b'0')).simd_min(digits - u8x32::splat(b'a' - 10))
+}
+
+// The bytes of pairs of values below 16. A pair is a word whose low byte is the first value, the high half of
+// its byte.
+#[inline]
+fn joined(values: u8x32) -> u8x16
+    requires { Each1 (λ v. v < 16) values }
+    ensures { result ≡ joined_values values }
+{
+    let pairs = u16x16::from_le_bytes(values);
+    (((pairs << u16x16::splat(12)) + pairs) >> u16x16::splat(8)).cast()
 }
 
 // Writes the 32 digits of 16 bytes over `out`.

@@ -1,5 +1,5 @@
 //! Bytes of digits.
-ghost use Rattle.std.specs.Prelude.{◌≡◌, ◌*◌, ◌/◌, ◌≤◌, true, length, take, drop, Ok};
+ghost use Rattle.std.specs.Prelude.{◌≡◌, ◌+◌, ◌*◌, ◌/◌, ◌<◌, ◌≤◌, ◌++◌, true, length, take, drop, Ok};
 ghost use Rattle.std.specs.Bool.{OnTrue};
 ghost use Rattle.std.specs.List.{list_all};
 ghost use Rattle.hex.specs.Hex.{decode_of};
@@ -38,7 +38,7 @@ pub(crate) fn decode_known(digits: &[u8], out: &mut [u8])
     decode_blocks(digits, out);
 }
 
-// All but the last few bytes go in blocks of 16.
+// They go in blocks of 16 bytes.
 fn decode_blocks(digits: &[u8], out: &mut [u8])
     requires lower { list_all is_lower_digit digits.now ≡ true }
     requires room { length digits.now ≡ 2 * length out.old }
@@ -48,7 +48,25 @@ fn decode_blocks(digits: &[u8], out: &mut [u8])
     'parts: for k in 0..blocks {
         decode_block(&digits[32 * k..32 * k + 32], &mut out[16 * k..16 * k + 16]);
     }
-    decode_pairs(&digits[32 * blocks..], &mut out[16 * blocks..]);
+    decode_rest(digits, out, 16 * blocks);
+}
+
+// Writes the bytes from a place on, where those in front are written. The last 16 bytes go as a block, of
+// which a part was written before; fewer go one by one.
+fn decode_rest(digits: &[u8], out: &mut [u8], done: usize)
+    requires lower { list_all is_lower_digit digits.now ≡ true }
+    requires room { length digits.now ≡ 2 * length out.old }
+    requires within { done ≤ length out.old }
+    requires short { length out.old < done + 16 }
+    requires front { take done out.old ++ pair_bytes (drop (2 * done) digits.now) ≡ pair_bytes digits.now }
+    ensures { out.new ≡ pair_bytes digits.now }
+{
+    let size = out.len();
+    if size < 16 {
+        decode_pairs(&digits[2 * done..], &mut out[done..]);
+    } else {
+        decode_block(&digits[2 * (size - 16)..], &mut out[size - 16..]);
+    }
 }
 
 fn decode_pairs(text: &[u8], out: &mut [u8]) -> bool

@@ -10,9 +10,11 @@ mod block;
 mod decode;
 mod encode;
 mod laws;
+mod test;
 mod vectors;
 
 pub use decode::decode_into;
 pub use encode::encode_into;
 pub use laws::texts_are_bytes;
+pub use test::are_digits;
 pub use vectors::{append_encoded, decode_digits};

@@ -21,7 +21,7 @@ pub fn decode_digits(out: &mut Vec<u8>, digits: &[u8]) -> Result<(), AllocError>
     ensures full { OnErr result (vec_capacity out.old < length digits.now / 2) }
     ensures room { vec_capacity out.old ≤ vec_capacity out.new }
 {
-    resize(out, digits)?;
+    out.resize(digits.len() / 2, 0)?;
     decode_known(digits, out);
     Ok(())
 }
@@ -40,27 +40,10 @@ pub fn append_encoded(text: &mut Vec<u8>, bytes: &[u8]) -> Result<(), AllocError
 {
     let start = text.len();
     text.try_reserve(2 * bytes.len())?;
-    // What the digits are then written over is the bytes themselves, twice: a copy is cheap.
-    text.extend_from_slice(bytes)?;
-    text.extend_from_slice(bytes)?;
+    // What the digits are then written over. A fill of more than 2 KiB at once takes longer.
+    text.resize(start + bytes.len(), 0)?;
+    text.resize(start + 2 * bytes.len(), 0)?;
     let (_, room) = text.split_at_mut(start);
     encode_all(bytes, room);
     Ok(())
-}
-
-// Makes `out` half as long as the text. What it is lengthened by is digits of the text, which are
-// written over then: a copy is cheap.
-fn resize(out: &mut Vec<u8>, text: &[u8]) -> Result<(), AllocError>
-    ensures ok { OnOk result (length out.new.items ≡ length text.now / 2) }
-    ensures err { OnErr result (out.new.items ≡ out.old.items) }
-    ensures full { OnErr result (vec_capacity out.old < length text.now / 2) }
-    ensures room { vec_capacity out.old ≤ vec_capacity out.new }
-{
-    let wanted = text.len() / 2;
-    let had = out.len();
-    if wanted <= had {
-        out.truncate(wanted);
-        return Ok(());
-    }
-    out.extend_from_slice(&text[..wanted - had])
 }

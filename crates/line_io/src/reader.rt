@@ -73,8 +73,8 @@ impl LineReader {
         &self.bytes[self.line..self.end]
     }
 
-    /// Reads the next line; a last line may lack its line feed. Takes up to 4,096 bytes of the
-    /// source at a time, and none where a whole line is kept.
+    /// Reads the next line; a last line may lack its line feed. Takes 4,096 to 8,192
+    /// bytes of the source at a time, as far as it gives them, and none where a whole line is kept.
     ///
     /// Where the source fails, nothing is lost, and no whole line is kept: the next call goes on. After
     /// `Long` the reader is of no more use.

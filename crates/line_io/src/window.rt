@@ -7,7 +7,7 @@ ghost use Rattle.line_io.specs.{HasNoFeed, IsCutAt};
 use memchr::memchr;
 use ram_io::{Failed, Source};
 
-// Most bytes of a line without its line feed, and most that one call asks of a source.
+// Most bytes of a line without its line feed, and least that one call asks of a source.
 pub(crate) const LONGEST: usize = 4096;
 
 // The place of the first line feed. None of the first `seen` bytes is one.
@@ -39,7 +39,7 @@ pub(crate) fn make_room(bytes: &mut [u8], from: usize, to: usize) -> usize
     0
 }
 
-// Takes up to `LONGEST` bytes of the source to this place of the buffer, and says how many.
+// Takes bytes of the source to this place of the buffer, as many as have room behind it, and says how many.
 // Where the source fails, nothing is taken.
 pub(crate) fn take_into<S: Source>(
     source: &mut S,
@@ -48,12 +48,12 @@ pub(crate) fn take_into<S: Source>(
 ) -> Result<usize, Failed>
     requires { at + 4096 ≤ length bytes.old }
     ensures front { take at bytes.new ≡ take at bytes.old }
-    ensures bound { IfOk result (λ n. n ≤ 4096) }
+    ensures bound { IfOk result (λ n. at + n ≤ length bytes.old) }
     ensures bytes { IfOk result (λ n. Consumes (S.left source.old) (S.left source.new) (take n (drop at bytes.new))) }
     ensures end { IfOk result (λ n. n ≡ 0 → IsAtEnd (S.left source.new)) }
     ensures same { OnErr result (Keeps (S.left source.old) (S.left source.new)) }
     ensures cause { HasCause (S.faults source.old) (S.faults source.new) result }
     ensures steady { S.is_steady source.old → IsOkAnd result (λ _. S.is_steady source.new) }
 {
-    source.take(&mut bytes[at..at + LONGEST])
+    source.take(&mut bytes[at..])
 }

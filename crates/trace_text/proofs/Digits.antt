@@ -1,8 +1,9 @@
 -- Decimal digits one by one.
-use Rattle.std.proofs.Common.{◌≡◌, ℕ, ◌+◌, ◌-◌, ◌*◌, ◌^◌, ◌<◌, ◌≤◌, true, List, length, take, get_or, ap, ◌∙◌, arith, add-one}
+use Rattle.std.proofs.Common.{◌≡◌, ℕ, ◌+◌, ◌-◌, ◌*◌, ◌^◌, ◌<◌, ◌≤◌, true, List, length, take, get_or, refl, sym, ap, ◌∙◌, arith, add-one}
 use Rattle.std.proofs.lemmas.Bool.Decides.{nat_tests}
 use Rattle.std.proofs.Math.Nat.{pow-suc, pow-le-pow_right}
 use Rattle.std.proofs.lemmas.List.Elements.{All-get_or}
+use Rattle.std.proofs.lemmas.List.Folds.{list_all_more}
 use Rattle.std.proofs.lemmas.List.Sums.{AllPass-from_list_all}
 use Rattle.std.proofs.lemmas.Int.Digits.{digits_value_more}
 use Rattle.std.specs.List.{list_all}
@@ -25,6 +26,18 @@ pub one_more : (word : List ℕ) (i : ℕ) → list_all is_digit word ≡ true �
 one_more word i all within =
     let digit = digit_at word i all within in
     digits_value_more 10 word i within ∙ ap (λ d. digits_value 10 (take i word) * 10 + d) (digit_value-decimal _ digit.0 digit.1)
+
+pub one_digit : (c : ℕ) → is_digit c ≡ true → (48 ≤ c) × (c ≤ 57)
+one_digit c h = grind (arith, nat_tests)
+
+-- a digit behind digits alone
+pub another : (word : List ℕ) (i value : ℕ) → i < length word → is_digit (get_or word i 0) ≡ true → list_all is_digit (take i word) ≡ true → value ≡ digits_value 10 (take i word)
+    → (list_all is_digit (take (i + 1) word) ≡ true) × (value * 10 + (get_or word i 0 - 48) ≡ digits_value 10 (take (i + 1) word))
+another word i value within digit all is =
+    let range = one_digit (get_or word i 0) digit in (
+      rw (list_all_more is_digit word i 0 within, all, digit) refl,
+      rw is (sym (digits_value_more 10 word i within ∙ ap (λ d. digits_value 10 (take i word) * 10 + d) (digit_value-decimal _ range.0 range.1))),
+    )
 
 -- a number below a power of ten, with one more digit
 pub below_more : (i value digit : ℕ) → value < 10 ^ i → digit < 10 → value * 10 + digit < 10 ^ (i + 1)

@@ -13,14 +13,14 @@ other : (b : ℕ) → not (b == 32) ≡ true → ¬ (eqb b 32 ≡ true)
 other b h e = cc
 
 -- a word in front of a space
-word_first : (word rest : List ℕ) → has_no_space word ≡ true → words_of (word ++ 32 ∷ rest) ≡ word ∷ words_of rest
+pub word_first : (word rest : List ℕ) → has_no_space word ≡ true → words_of (word ++ 32 ∷ rest) ≡ word ∷ words_of rest
 word_first [] rest h = words_of-space 32 rest refl
 word_first (b ∷ word) rest h =
     let parts = and_parts (not (b == 32)) (has_no_space word) h in
     words_of-other b (word ++ 32 ∷ rest) (other b parts.0) ∙ ap (onto_first b) (word_first word rest parts.1)
 
 -- a word alone
-word_last : (word : List ℕ) → has_no_space word ≡ true → words_of word ≡ word ∷ []
+pub word_last : (word : List ℕ) → has_no_space word ≡ true → words_of word ≡ word ∷ []
 unfolding words_of
 word_last [] h = refl
 word_last (b ∷ word) h =
@@ -37,7 +37,7 @@ words_of-text_of word (next ∷ words) h =
     word_first word (text_of (next ∷ words)) parts.0 ∙ ap (λ ws. word ∷ ws) (words_of-text_of next words parts.1)
 
 -- a text has a first word
-some_words : (bytes : List ℕ) → (word : List ℕ) × (words : List (List ℕ)) × (words_of bytes ≡ word ∷ words)
+pub some_words : (bytes : List ℕ) → (word : List ℕ) × (words : List (List ℕ)) × (words_of bytes ≡ word ∷ words)
 unfolding words_of
 some_words [] = ([], [], refl)
 some_words (b ∷ bytes) = by (eqb b 32) refl (some_words bytes)

@@ -15,3 +15,5 @@ pub mod Spelled
 pub mod Spelling
 pub mod TooWide
 pub mod Word32
+pub mod LastWord
+pub mod FirstNumber

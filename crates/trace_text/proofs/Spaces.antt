@@ -12,7 +12,7 @@ use Rattle.trace_text.proofs.Spelled.{digits_of, and_both, is_word}
 use Rattle.trace_text.proofs.Steps.{two_versions}
 use Rattle.trace_text.proofs.Word32.{word32_digits}
 
-digit_no_space : (word : List ℕ) → list_all is_digit word ≡ true → has_no_space word ≡ true
+pub digit_no_space : (word : List ℕ) → list_all is_digit word ≡ true → has_no_space word ≡ true
 digit_no_space [] h = refl
 digit_no_space (c ∷ word) h =
     let parts = and_parts (is_digit c) (list_all is_digit word) h in

@@ -1,7 +1,7 @@
 -- The words of a line that are left to read, and what was read of them.
 use Rattle.std.specs.Prelude.{◌≡◌, ℕ, Bool, true, false, List, [], ◌∷◌, Option, Some, None, bytes_eq}
 use Rattle.std.specs.Borrow.{Bor}
-use Rattle.rams_model.specs.Texts.{one, whole, ◌>>=◌, words_of, number_in}
+use Rattle.rams_model.specs.Texts.{one, whole, ◌>>=◌, words_of, number_in, hex_in}
 use Rattle.rams_model.specs.Texts.TraceLines.{Words}
 
 -- the words of the bytes that are left, of which there may be none
@@ -24,11 +24,6 @@ abbrev pub Reads : {A : Type 0} → Option A → Words → Option (A × Words) �
 Reads (Some value) left read = read ≡ Some (value, left)
 Reads None left read = read ≡ None
 
--- the same of a value that is a word
-abbrev pub ReadsWord : Option (Bor (List ℕ)) → Words → Option (List ℕ × Words) → Type 0
-ReadsWord (Some word) left read = read ≡ Some (word.now, left)
-ReadsWord None left read = read ≡ None
-
 -- the word that was read, where a definition reads one
 abbrev pub IsWord : Option (Bor (List ℕ)) → Option (List ℕ) → Type 0
 IsWord (Some word) read = read ≡ Some word.now
@@ -40,3 +35,9 @@ pair_in words = do
   first ← one number_in words
   second ← one number_in first.1
   whole (first.0, second.0) second.1
+
+-- one word of hexadecimal digits that is all the words
+abbrev pub last_hex_in : Words → Option (List ℕ)
+last_hex_in words = do
+  hex ← one hex_in words
+  whole hex.0 hex.1

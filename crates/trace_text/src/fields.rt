@@ -1,7 +1,7 @@
 //! The fields of a line, read from its words one after another.
 ghost use Rattle.std.specs.Prelude.{◌≡◌, ◌∷◌, false, true, IfSome, MatchOption};
-ghost use Rattle.rams_model.specs.Texts.{number_in, word32_in, is_hex, field, one, access_in, version_in, hex_in};
-ghost use Rattle.trace_text.specs.{is_end, is_named, Reads, ReadsWord};
+ghost use Rattle.rams_model.specs.Texts.{number_in, word32_in, is_hex, field, one, access_in, version_in};
+ghost use Rattle.trace_text.specs.{is_end, is_named, last_hex_in, IsWord, Reads};
 
 use crate::values::{access, hex_word, number, version, word32};
 use crate::words::Words;
@@ -11,6 +11,9 @@ use rams_model::Access;
 pub fn next_number(words: &mut Words<'_>) -> Option<u64>
     ensures { Reads result words.new (one number_in words.old) }
 {
+    if let Some(number) = words.take_number() {
+        return Some(number);
+    }
     number(words.next()?)
 }
 
@@ -21,12 +24,13 @@ pub fn next_word32(words: &mut Words<'_>) -> Option<u32>
     word32(words.next()?)
 }
 
-/// The next word as hexadecimal digits.
-pub fn next_hex<'a>(words: &mut Words<'a>) -> Option<&'a [u8]>
-    ensures word { ReadsWord result words.new (one hex_in words.old) }
+/// The last word as hexadecimal digits. It isn't looked for a space, since none is a digit.
+#[tactic(auto, using(crate::proofs::LastWord::last_hex_is))]
+pub fn last_hex<'a>(words: &Words<'a>) -> Option<&'a [u8]>
+    ensures word { IsWord result (last_hex_in words.now) }
     ensures digits { IfSome result (λ word. is_hex word.now ≡ true) }
 {
-    hex_word(words.next()?)
+    hex_word(words.rest()?)
 }
 
 /// The next word as the version of the text.

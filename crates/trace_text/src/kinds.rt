@@ -4,7 +4,7 @@ ghost use Rattle.std.specs.Prelude.{◌≡◌, ◌∷◌, true, codes, IfOk, IfS
 ghost use Rattle.rams_model.specs.Texts.{head_line, live_line, feedback_line, head_in, live_in, feedback_in, is_hex};
 ghost use Rattle.trace_text.specs.{Narrows, HasDigits};
 
-use crate::fields::{ends, next_hex, next_number, next_version, number_field};
+use crate::fields::{ends, last_hex, next_number, next_version, number_field};
 use crate::line::Line;
 use crate::ranges::{channel_id, tick_ms};
 use crate::words::Words;
@@ -20,14 +20,14 @@ pub fn live<'a>(words: &mut Words<'a>) -> Result<Line<'a>, LineFault>
     Ok(Line::Live { id, hex })
 }
 
-#[tactic(auto, unfolding(rams_model::specs::Texts::TraceLines::live_in))]
+#[tactic(auto, unfolding(rams_model::specs::Texts::TraceLines::live_in), using(crate::proofs::LastWord::hex_ends))]
 fn live_words<'a>(words: &mut Words<'a>) -> Option<(u64, &'a [u8])>
     ensures words { live_in (codes "live" ∷ words.old) ≡ option_map (λ read. live_line read.0 read.1.now) result }
     ensures digits { IfSome result (λ read. is_hex read.1.now ≡ true) }
 {
     let id = next_number(words)?;
-    let hex = next_hex(words)?;
-    ends(words).then_some((id, hex))
+    let hex = last_hex(words)?;
+    Some((id, hex))
 }
 
 /// A feedback line.
@@ -40,15 +40,15 @@ pub fn feedback<'a>(words: &mut Words<'a>) -> Result<Line<'a>, LineFault>
     Ok(Line::Feedback { id, client, hex })
 }
 
-#[tactic(auto, unfolding(rams_model::specs::Texts::TraceLines::feedback_in))]
+#[tactic(auto, unfolding(rams_model::specs::Texts::TraceLines::feedback_in), using(crate::proofs::LastWord::hex_ends))]
 fn feedback_words<'a>(words: &mut Words<'a>) -> Option<(u64, u64, &'a [u8])>
     ensures words { feedback_in (codes "fb" ∷ words.old) ≡ option_map (λ read. feedback_line read.0 read.1 read.2.now) result }
     ensures digits { IfSome result (λ read. is_hex read.2.now ≡ true) }
 {
     let id = next_number(words)?;
     let client = next_number(words)?;
-    let hex = next_hex(words)?;
-    ends(words).then_some((id, client, hex))
+    let hex = last_hex(words)?;
+    Some((id, client, hex))
 }
 
 /// The head line.

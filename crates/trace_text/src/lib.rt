@@ -1,6 +1,4 @@
 //! The lines of a trace.
-//!
-//! The mode `Threads` waits for a command that is still to come.
 #![tactic(auto)]
 
 mod bytes;
@@ -9,6 +7,7 @@ mod fields;
 mod kinds;
 mod laws;
 mod line;
+mod numbers;
 mod order;
 mod ranges;
 mod read;

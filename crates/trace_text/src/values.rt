@@ -2,10 +2,10 @@
 ghost use Rattle.std.specs.Prelude.{◌≡◌, ◌<◌, ◌≤◌, true, IfSome, MatchOption, length, codes, bytes_eq};
 ghost use Rattle.std.specs.List.{list_all};
 ghost use Rattle.std.specs.Str.Parse.{digits_value};
-ghost use Rattle.rams_model.specs.Texts.{is_digit, is_hex_digit, is_hex, is_number, number_in, word32_in, access_in, hex_in, version_in};
+ghost use Rattle.rams_model.specs.Texts.{is_digit, is_hex, is_number, number_in, word32_in, access_in, hex_in, version_in};
 ghost use Rattle.trace_text.specs.{IsWord};
 
-use hex_text::decode_into;
+use hex_text::{are_digits, decode_into};
 use rams_model::Access;
 
 /// A number in decimal digits: no zero in front of others, and at most 15 digits.
@@ -87,7 +87,7 @@ pub fn hex_word(word: &[u8]) -> Option<&[u8]>
 fn is_hex_word(word: &[u8]) -> bool
     ensures { result ≡ is_hex word.now }
 {
-    is_dash(word) || (!word.is_empty() && word.len() % 2 == 0 && are_hex_digits(word))
+    is_dash(word) || (!word.is_empty() && word.len() % 2 == 0 && are_digits(word))
 }
 
 /// Whether the word stands for no bytes.
@@ -95,23 +95,6 @@ pub fn is_dash(word: &[u8]) -> bool
     ensures { result ≡ bytes_eq word.now (codes "-") }
 {
     word == b"-".as_slice()
-}
-
-// Each byte is looked at, whatever the ones before are, so that many are tested at once.
-fn are_hex_digits(word: &[u8]) -> bool
-    ensures { result ≡ list_all is_hex_digit word.now }
-{
-    let mut all = true;
-    for digit in word {
-        all = all & is_lower_hex(*digit);
-    }
-    all
-}
-
-fn is_lower_hex(digit: u8) -> bool
-    ensures { result ≡ is_hex_digit digit }
-{
-    digit.is_ascii_digit() | (b'a'..=b'f').contains(&digit)
 }
 
 /// A version of the text.

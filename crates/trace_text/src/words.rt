@@ -1,9 +1,10 @@
 //! The words of a line.
-ghost use Rattle.std.specs.Prelude.{◌≡◌, ◌∷◌};
+ghost use Rattle.std.specs.Prelude.{◌≡◌, ◌∷◌, Some, MatchOption};
 ghost use Rattle.std.specs.Iterator.{YieldsFirstRef, item_count};
-ghost use Rattle.rams_model.specs.Texts.{words_of, first_word};
+ghost use Rattle.rams_model.specs.Texts.{words_of, first_word, one, number_in};
 ghost use Rattle.trace_text.specs.{words_left};
 
+use crate::numbers::first_number;
 use memchr::memchr;
 use std::marker::Model;
 
@@ -28,6 +29,22 @@ impl<'a> Words<'a> {
         ensures { result ≡ words_of line.now }
     {
         Words { rest: Some(line) }
+    }
+
+    /// The words that are left with the spaces between them, if any is left.
+    pub fn rest(&self) -> Option<&'a [u8]>
+        ensures { words_left result ≡ self.now }
+    {
+        self.rest
+    }
+
+    /// The next word as a number. Where it is none, the words stay as they are.
+    pub fn take_number(&mut self) -> Option<u64>
+        ensures { MatchOption result (self.new ≡ self.old) (λ number. one number_in self.old ≡ Some (number, self.new)) }
+    {
+        let (number, rest) = first_number(self.rest?)?;
+        self.rest = rest;
+        Some(number)
     }
 }
 

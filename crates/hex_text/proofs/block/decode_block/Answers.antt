@@ -1,12 +1,18 @@
-use Rattle.std.proofs.Common.{◌∙◌, arith}
-use Rattle.hex_text.proofs.Values.{lower_apart, bytes_joined}
+use Rattle.std.proofs.Common.{◌∙◌, ap, sym, subst, arith, List, ℕ}
+use Rattle.std.proofs.lemmas.List.{take_all}
+use lib.Lanes.{Each1}
+use Rattle.hex_text.specs.{joined_values}
+use Rattle.hex_text.proofs.Values.{AreLower, are_lower, values_joined, values_small}
 use Rattle.hex_text.proofs.block.decode_block.Goals as goal
 
-pub values_of-requires : goal.values_of-requires
-values_of-requires c = lower_apart c.args.digits.now 0 c.requires.count c.requires.lower (omega arith)
+pub values_of-values-requires : goal.values_of-values-requires
+values_of-values-requires c = rw (take_all 32 c.args.digits.now (omega (arith, c.requires.count))) (are_lower c.args.digits.now c.requires.lower)
 
-pub values_of-requires-2 : goal.values_of-requires-2
-values_of-requires-2 c = lower_apart c.args.digits.now 1 c.requires.count c.requires.lower (omega arith)
+pub joined-requires : goal.joined-requires
+joined-requires c =
+    rw (c.values_of-values.ensures, take_all 32 c.args.digits.now (omega (arith, c.requires.count))) (values_small c.args.digits.now (are_lower c.args.digits.now c.requires.lower))
 
 pub returns : goal.returns
-returns c = c.copy_from_slice.ensures.after ∙ bytes_joined c.args.digits.now c.requires.count c.requires.lower _ _ c.values_of.ensures c.values_of-2.ensures
+returns c =
+    let all = take_all 32 c.args.digits.now (omega (arith, c.requires.count)) in
+    rw (c.copy_from_slice.ensures.after, c.joined.ensures, c.values_of-values.ensures, all) (values_joined c.args.digits.now (are_lower c.args.digits.now c.requires.lower))
