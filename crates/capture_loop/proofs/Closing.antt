@@ -11,7 +11,7 @@ use Rattle.trace_serving.specs.{Outcome, after_text}
 use Rattle.trace_loop.specs.declared.stop.Stop.{Stop}
 use Rattle.trace_loop.specs.declared.stop.Stop.TheVariants.{Memory, Read, Write, Wire}
 use Rattle.std.specs.Prelude.{◌≤◌, IsOkAnd, MatchResult}
-use Rattle.trace_loop.specs.{EndsAs, Ends, IfBothTold, IfTold, IsStop, IsStoppedByWrite, IsWriteStop, OnlyMemoryStops, StopsIn}
+use Rattle.trace_loop.specs.{EndsAs, Ends, IfBothTold, IfTold, IsStop, IsStoppedByWrite, IsWriteStop, StopsIn}
 use Rattle.pcap_trace.specs.declared.head.CaptureFault.{CaptureFault}
 use Rattle.trace_loop.proofs.Reading.{passes_whole, rose_since}
 use Rattle.trace_loop.proofs.Stopping.{err_so}

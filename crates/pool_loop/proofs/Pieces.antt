@@ -1,22 +1,11 @@
 -- Texts that are written one behind the other, and the pieces of what a pool writes.
-use Rattle.std.proofs.Common.{◌≡◌, ℕ, ◌+◌, ◌≤◌, ◌<◌, List, [], ◌∷◌, ◌++◌, get_or, length, drop, Option, Result, Err, IfErr, refl, sym, ap, ◌∙◌, subst, append-nil, length-append, arith}
+use Rattle.std.proofs.Common.{◌≡◌, ℕ, ◌+◌, ◌≤◌, ◌<◌, List, [], ◌∷◌, ◌++◌, get_or, length, drop, refl, sym, ap, ◌∙◌, subst}
 use Rattle.std.specs.List.{AllByRecursion as Each}
 use Rattle.std.specs.Prelude.{All, cond, Bool, true, false}
 use Rattle.std.proofs.lemmas.List.{drop_more, drop_all}
-use Rattle.std.specs.Io.KnownBytes.{Appends}
-use Rattle.line_io.specs.Passes.{Passes}
-use Rattle.line_io.proofs.Passing.{Passes-put}
-use Rattle.rams_model.specs.declared.answer.Order.{Order}
-use Rattle.rams_model.specs.declared.note.Note.{Note}
-use Rattle.rams_model.specs.Service.{Settings}
-use Rattle.rams_model.specs.Texts.{order_count, notes_text}
 use Rattle.channel_book.specs.declared.entry.Entry.{Entry}
 use Rattle.channel_book.specs.{Kept}
 use Rattle.order_datagrams.specs.{Renders}
-use Rattle.trace_loop.specs.declared.stop.Stop.{Stop}
-use Rattle.trace_loop.specs.declared.stop.Stop.TheVariants.{Memory, Read, Write, Wire}
-use Rattle.trace_loop.specs.{OnlyMemoryStops, StopsIn}
-use Rattle.trace_loop.proofs.Writing.{IsWriting}
 use Rattle.link_pool.specs.declared.claim.Claim.{Claim}
 use Rattle.pool_loop.specs.declared.routes.Route.{Route}
 use Rattle.pool_loop.specs.{reaches, number_of, turned, past, all_past, route_text, walk_text, CanRender, AllCanRender, numbers_of, closing_text}

@@ -2,7 +2,6 @@ pub mod Dealing
 pub mod Coming
 pub mod Lines
 pub mod Reading
-pub mod Written
 pub mod Writing
 unfoldable pub use Rattle.threads_loop.specs.Dealing.{threads, list_of, dealt, hub_event, with_feed, part_of, head_part, head_lines}
 pub use Rattle.threads_loop.specs.Dealing.{Interleaves}
@@ -12,5 +11,4 @@ unfoldable pub use Rattle.threads_loop.specs.Lines.{lists_in, holding, HaveLines
 pub use Rattle.threads_loop.specs.Lines.{HasDealt, HasTaken, Comes}
 unfoldable pub use Rattle.threads_loop.specs.Reading.{IsFirstLine, HasRead, IsWhole}
 pub use Rattle.threads_loop.specs.Reading.{GoesOnAfter, EndsAt, IsReadOf}
-unfoldable pub use Rattle.threads_loop.specs.Written.{entry_text}
 unfoldable pub use Rattle.threads_loop.specs.Writing.{piece_text, part_text, written_text}

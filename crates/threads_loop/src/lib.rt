@@ -2,9 +2,9 @@
 //! source's bytes to the trace of what came of it, and its book.
 #![tactic(auto)]
 
-mod answer;
 mod dealing;
 mod ending;
+mod event;
 mod reading;
 mod writing;
 

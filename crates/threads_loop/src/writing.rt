@@ -9,7 +9,8 @@ ghost use Rattle.trace_serving.specs.{done};
 ghost use Rattle.trace_loop.specs.{IsStoppedByWrite, OnlyMemoryStops, StopsIn};
 ghost use Rattle.threads_loop.specs.{part_text, piece_text, written_text};
 
-use crate::answer::{append_answer, append_event};
+use crate::event::append_event;
+use answer_text::append_answer_with;
 use book_text::append_count;
 use channel_book::Entry;
 use channel_config::Config;
@@ -91,7 +92,7 @@ fn append_piece(
 {
     match part {
         Part::Trace => append_event(text, room, config.channel().id, &entry.event),
-        Part::Book => append_answer(text, config, event, &entry.answer, datagrams),
+        Part::Book => append_answer_with(text, config, event, &entry.answer, datagrams),
     }
 }
 

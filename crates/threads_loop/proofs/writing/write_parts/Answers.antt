@@ -6,7 +6,8 @@ use Rattle.trace_loop.proofs.Writing.{writing_begins, writing_has_room, writing_
 use Rattle.trace_serving.specs.{done}
 use Rattle.threads_loop.specs.declared.writing.Part.TheVariants.{Trace, Book}
 use Rattle.threads_loop.specs.{part_text, written_text}
-use Rattle.threads_loop.proofs.Pieces.{from_book, from_end, from_trace, err_so, only_err, together, writing_last}
+use Rattle.trace_loop.proofs.Stopping.{err_so, only_err, together, writing_last}
+use Rattle.threads_loop.proofs.Pieces.{from_book, from_end, from_trace}
 use Rattle.threads_loop.proofs.writing.write_parts.Goals as goal
 
 pub returns-in_err-put-clause-front : goal.returns-in_err-put-clause-front

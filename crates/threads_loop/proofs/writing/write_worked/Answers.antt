@@ -4,7 +4,7 @@ use Rattle.line_io.specs.Passes.{Passes}
 use Rattle.line_io.proofs.Passing.{Passes-none, Passes-then}
 use Rattle.trace_loop.specs.{StopsIn}
 use Rattle.threads_loop.specs.{written_text}
-use Rattle.threads_loop.proofs.Pieces.{only_err, stops_front}
+use Rattle.trace_loop.proofs.Stopping.{only_err, stops_front}
 use Rattle.threads_loop.proofs.writing.write_worked.Goals as goal
 
 pub returns-in_err-pen-clause-front : goal.returns-in_err-pen-clause-front
