@@ -1,7 +1,8 @@
 //! The lines of a book, each appended to a given text.
 //!
 //! A call appends its whole line; where memory runs out, a part of the line may stand behind the
-//! text. It runs out only where the text lacks room for the line, and a text never loses room.
+//! text. In the lines of notes, datagrams and counts it runs out only where the text lacks room for the
+//! line, and the text never loses room.
 #![tactic(auto)]
 
 mod line;

@@ -18,7 +18,8 @@ pub fn append_note(text: &mut Vec<u8>, event: u64, id: u16, note: &Note) -> Resu
     line.byte(b'\n');
     words(&mut line, note);
     begin(&mut line, event, id);
-    line.append_to(text)
+    text.extend_from_slice(line.as_bytes())?;
+    Ok(())
 }
 
 // The words of a note, without a space in front.
