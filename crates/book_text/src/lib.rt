@@ -1,8 +1,7 @@
 //! The lines of a book, each appended to a given text.
 //!
 //! A call appends its whole line; where memory runs out, a part of the line may stand behind the
-//! text. In the lines of notes, datagrams and counts it runs out only where the text lacks room for the
-//! line, and the text never loses room.
+//! text. It runs out only where the text lacks room for the line, and a text never loses room.
 #![tactic(auto)]
 
 mod line;

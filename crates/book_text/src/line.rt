@@ -36,22 +36,15 @@ pub fn append_send(
     line.byte(b' ');
     line.named(b"send", client);
     begin(&mut line, event, id);
-    text.extend_from_slice(line.as_bytes())?;
-    append_word(text, bytes)?;
+    line.append_to(text)?;
+    append_hex(text, bytes)?;
     text.push(b'\n')?;
     Ok(())
 }
 
 /// Bytes in hexadecimal digits, whose letters are small; `-` for none.
-pub fn append_hex(text: &mut Vec<u8>, bytes: &[u8]) -> Result<(), NoMemory>
-    ensures { OnOk result (text.new.items ≡ text.old.items ++ hex_word bytes.now) }
-{
-    append_word(text, bytes)
-}
-
-// The same, with what it says of the text's room.
 #[tactic(auto, using(crate::proofs::Digits::digits_fit))]
-fn append_word(text: &mut Vec<u8>, bytes: &[u8]) -> Result<(), NoMemory>
+pub fn append_hex(text: &mut Vec<u8>, bytes: &[u8]) -> Result<(), NoMemory>
     ensures text { OnOk result (text.new.items ≡ text.old.items ++ hex_word bytes.now) }
     ensures full { OnErr result (vec_capacity text.old < length text.old.items + length (hex_word bytes.now)) }
     ensures room { vec_capacity text.old ≤ vec_capacity text.new }
@@ -66,7 +59,9 @@ fn append_word(text: &mut Vec<u8>, bytes: &[u8]) -> Result<(), NoMemory>
 
 /// The line of an event of a channel that isn't there: `EVENT ID no-channel`.
 pub fn append_no_channel(text: &mut Vec<u8>, event: u64, id: u16) -> Result<(), NoMemory>
-    ensures { OnOk result (text.new.items ≡ text.old.items ++ no_channel_line event id) }
+    ensures text { OnOk result (text.new.items ≡ text.old.items ++ no_channel_line event id) }
+    ensures full { OnErr result (vec_capacity text.old < length text.old.items + length (no_channel_line event id)) }
+    ensures room { vec_capacity text.old ≤ vec_capacity text.new }
 {
     let mut line = Tail::new();
     line.word(b"no-channel\n");
@@ -76,7 +71,9 @@ pub fn append_no_channel(text: &mut Vec<u8>, event: u64, id: u16) -> Result<(), 
 
 /// The line of a trace's line that is refused: `refused NUMBER WORD`, as `refused 4 form`.
 pub fn append_refused(text: &mut Vec<u8>, line: u64, fault: LineFault) -> Result<(), NoMemory>
-    ensures { OnOk result (text.new.items ≡ text.old.items ++ refused_line line fault) }
+    ensures text { OnOk result (text.new.items ≡ text.old.items ++ refused_line line fault) }
+    ensures full { OnErr result (vec_capacity text.old < length text.old.items + length (refused_line line fault)) }
+    ensures room { vec_capacity text.old ≤ vec_capacity text.new }
 {
     let mut tail = Tail::new();
     tail.byte(b'\n');
@@ -113,6 +110,5 @@ pub fn append_count(text: &mut Vec<u8>, word: &[u8], n: u64) -> Result<(), NoMem
     let mut line = Tail::new();
     line.byte(b'\n');
     line.spaced(n);
-    text.extend_from_slice(line.as_bytes())?;
-    Ok(())
+    line.append_to(text)
 }

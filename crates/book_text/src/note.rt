@@ -18,8 +18,7 @@ pub fn append_note(text: &mut Vec<u8>, event: u64, id: u16, note: &Note) -> Resu
     line.byte(b'\n');
     words(&mut line, note);
     begin(&mut line, event, id);
-    text.extend_from_slice(line.as_bytes())?;
-    Ok(())
+    line.append_to(text)
 }
 
 // The words of a note, without a space in front.

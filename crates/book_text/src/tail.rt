@@ -1,5 +1,5 @@
 //! The end of a line, which grows at its front.
-ghost use Rattle.std.specs.Prelude.{◌≡◌, ◌+◌, ◌≤◌, ◌<◌, ◌++◌, [], ◌∷◌, OnOk, length, decimal};
+ghost use Rattle.std.specs.Prelude.{◌≡◌, ◌+◌, ◌≤◌, ◌<◌, ◌++◌, [], ◌∷◌, OnOk, OnErr, length, decimal, vec_capacity};
 ghost use Rattle.rams_model.specs.Texts.{spaced, of_number};
 
 use itoa::write_digits;
@@ -39,19 +39,13 @@ impl Tail {
         }
     }
 
-    /// Its bytes.
-    #[inline]
-    pub fn as_bytes(&self) -> &[u8]
-        ensures { result.now ≡ self.now }
-    {
-        &self.bytes[self.start..]
-    }
-
-    /// Appends it to a text.
+    /// Appends it to a text. An error comes only where the text lacks the room.
     pub fn append_to(&self, text: &mut Vec<u8>) -> Result<(), NoMemory>
-        ensures { OnOk result (text.new.items ≡ text.old.items ++ self.now) }
+        ensures text { OnOk result (text.new.items ≡ text.old.items ++ self.now) }
+        ensures full { OnErr result (vec_capacity text.old < length text.old.items + length self.now) }
+        ensures room { vec_capacity text.old ≤ vec_capacity text.new }
     {
-        text.extend_from_slice(self.as_bytes())?;
+        text.extend_from_slice(&self.bytes[self.start..])?;
         Ok(())
     }
 

@@ -29,25 +29,25 @@ returns-in_err-append_refused-clause-front g c =
 
 pub returns-in_err-put-clause-front : goal.returns-in_err-put-clause-front
 returns-in_err-put-clause-front g c =
-    let is : c.deref.result.now ≡ refused_line c.args.line c.args.fault = c.deref.ensures.value ∙ (c.in_ok-append_refused.ensures ∙ ap (λ (l : List ℕ). l ++ refused_line c.args.line c.args.fault) c.in_ok-writer.ensures.line) in
+    let is : c.deref.result.now ≡ refused_line c.args.line c.args.fault = c.deref.ensures.value ∙ (c.in_ok-append_refused.ensures.text ∙ ap (λ (l : List ℕ). l ++ refused_line c.args.line c.args.fault) c.in_ok-writer.ensures.line) in
     let q = stops_front (g.K.Sink.held c.args.sink.now) (g.K.Sink.held c.put.new.sink) (c.in_ok-writer.writer.gather ++ c.deref.result.now) c.put.new.gather c.in_err-put.field-0.0 c.in_err-put.ensures.front in
     (q.0, alone (g.K.Sink.held c.args.sink.now) (g.K.Sink.held c.put.new.sink) c.in_ok-writer.writer.gather c.deref.result.now (refused_line c.args.line c.args.fault) q.0 c.in_ok-writer.ensures.gather is q.1)
 
 pub returns-in_err-put-clause-steady : goal.returns-in_err-put-clause-steady
 returns-in_err-put-clause-steady g c = λ h.
-    let is : c.deref.result.now ≡ refused_line c.args.line c.args.fault = c.deref.ensures.value ∙ (c.in_ok-append_refused.ensures ∙ ap (λ (l : List ℕ). l ++ refused_line c.args.line c.args.fault) c.in_ok-writer.ensures.line) in
+    let is : c.deref.result.now ≡ refused_line c.args.line c.args.fault = c.deref.ensures.value ∙ (c.in_ok-append_refused.ensures.text ∙ ap (λ (l : List ℕ). l ++ refused_line c.args.line c.args.fault) c.in_ok-writer.ensures.line) in
     let p = err_from_is_err_and c.from_residual-in_err-put.result c.from_residual-in_err-put.ensures.1 in
     only_err c.from_residual-in_err-put.result p.0 c.in_err-put.field-0.0 _ p.1 p.2 (c.in_err-put.ensures.steady 0 (room_alone (g.K.Sink.is_steady c.args.sink.now) c.in_ok-writer.writer.gather c.deref.result.now (refused_line c.args.line c.args.fault) c.in_ok-writer.ensures.gather is h))
 
 pub returns-in_err-flush-clause-front : goal.returns-in_err-flush-clause-front
 returns-in_err-flush-clause-front g c =
-    let is : c.deref.result.now ≡ refused_line c.args.line c.args.fault = c.deref.ensures.value ∙ (c.in_ok-append_refused.ensures ∙ ap (λ (l : List ℕ). l ++ refused_line c.args.line c.args.fault) c.in_ok-writer.ensures.line) in
+    let is : c.deref.result.now ≡ refused_line c.args.line c.args.fault = c.deref.ensures.value ∙ (c.in_ok-append_refused.ensures.text ∙ ap (λ (l : List ℕ). l ++ refused_line c.args.line c.args.fault) c.in_ok-writer.ensures.line) in
     let front = c.flush.ensures.prefix in
     (front.0, Passes-then (g.K.Sink.held c.args.sink.now) (g.K.Sink.held c.put.new.sink) (g.K.Sink.held c.flush.new.sink) (refused_line c.args.line c.args.fault) c.put.new.gather front.0 (alone (g.K.Sink.held c.args.sink.now) (g.K.Sink.held c.put.new.sink) c.in_ok-writer.writer.gather c.deref.result.now (refused_line c.args.line c.args.fault) c.put.new.gather c.in_ok-writer.ensures.gather is c.in_ok-put.ensures.all) front.1)
 
 pub returns-in_err-flush-clause-steady : goal.returns-in_err-flush-clause-steady
 returns-in_err-flush-clause-steady g c = λ h.
-    let is : c.deref.result.now ≡ refused_line c.args.line c.args.fault = c.deref.ensures.value ∙ (c.in_ok-append_refused.ensures ∙ ap (λ (l : List ℕ). l ++ refused_line c.args.line c.args.fault) c.in_ok-writer.ensures.line) in
+    let is : c.deref.result.now ≡ refused_line c.args.line c.args.fault = c.deref.ensures.value ∙ (c.in_ok-append_refused.ensures.text ∙ ap (λ (l : List ℕ). l ++ refused_line c.args.line c.args.fault) c.in_ok-writer.ensures.line) in
     let p = err_from_is_err_and c.from_residual-in_err-flush.result c.from_residual-in_err-flush.ensures.1 in
     only_err c.from_residual-in_err-flush.result p.0 c.in_err-flush.field-0.0 _ p.1 p.2 (c.in_err-flush.ensures.steady 0 (c.in_ok-put.ensures.steady 0 (room_alone (g.K.Sink.is_steady c.args.sink.now) c.in_ok-writer.writer.gather c.deref.result.now (refused_line c.args.line c.args.fault) c.in_ok-writer.ensures.gather is h)))
 
@@ -58,11 +58,11 @@ returns-in_err-flush-clause-cause g c =
 
 pub returns-clause-text : goal.returns-clause-text
 returns-clause-text g c =
-    let is : c.deref.result.now ≡ refused_line c.args.line c.args.fault = c.deref.ensures.value ∙ (c.in_ok-append_refused.ensures ∙ ap (λ (l : List ℕ). l ++ refused_line c.args.line c.args.fault) c.in_ok-writer.ensures.line) in
+    let is : c.deref.result.now ≡ refused_line c.args.line c.args.fault = c.deref.ensures.value ∙ (c.in_ok-append_refused.ensures.text ∙ ap (λ (l : List ℕ). l ++ refused_line c.args.line c.args.fault) c.in_ok-writer.ensures.line) in
     passes_whole (g.K.Sink.held c.args.sink.now) (g.K.Sink.held c.flush.new.sink) (refused_line c.args.line c.args.fault) (Passes-then (g.K.Sink.held c.args.sink.now) (g.K.Sink.held c.put.new.sink) (g.K.Sink.held c.flush.new.sink) (refused_line c.args.line c.args.fault) c.put.new.gather [] (alone (g.K.Sink.held c.args.sink.now) (g.K.Sink.held c.put.new.sink) c.in_ok-writer.writer.gather c.deref.result.now (refused_line c.args.line c.args.fault) c.put.new.gather c.in_ok-writer.ensures.gather is c.in_ok-put.ensures.all) c.in_ok-flush.ensures.all)
 
 pub returns-clause-front : goal.returns-clause-front
 returns-clause-front g c =
-    let is : c.deref.result.now ≡ refused_line c.args.line c.args.fault = c.deref.ensures.value ∙ (c.in_ok-append_refused.ensures ∙ ap (λ (l : List ℕ). l ++ refused_line c.args.line c.args.fault) c.in_ok-writer.ensures.line) in
+    let is : c.deref.result.now ≡ refused_line c.args.line c.args.fault = c.deref.ensures.value ∙ (c.in_ok-append_refused.ensures.text ∙ ap (λ (l : List ℕ). l ++ refused_line c.args.line c.args.fault) c.in_ok-writer.ensures.line) in
     let front = c.flush.ensures.prefix in
     (front.0, Passes-then (g.K.Sink.held c.args.sink.now) (g.K.Sink.held c.put.new.sink) (g.K.Sink.held c.flush.new.sink) (refused_line c.args.line c.args.fault) c.put.new.gather front.0 (alone (g.K.Sink.held c.args.sink.now) (g.K.Sink.held c.put.new.sink) c.in_ok-writer.writer.gather c.deref.result.now (refused_line c.args.line c.args.fault) c.put.new.gather c.in_ok-writer.ensures.gather is c.in_ok-put.ensures.all) front.1)

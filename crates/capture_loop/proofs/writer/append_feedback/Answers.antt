@@ -7,4 +7,4 @@ pub returns : goal.returns
 returns c =
     feedback_line_is c.args.id c.args.client c.args.bytes.now _ _ _ _ _ _ _ c.new-front.ensures c.byte.ensures
     (c.numbered.ensures.line ∙ ap (λ (n : ℕ). of_number (codes "fb") n c.args.client ++ c.byte.new.self) c.from.ensures)
-    c.in_ok-append_to.ensures c.in_ok-append_hex.ensures c.in_ok-push.ensures.items
+    c.in_ok-append_to.ensures.text c.in_ok-append_hex.ensures.text c.in_ok-push.ensures.items

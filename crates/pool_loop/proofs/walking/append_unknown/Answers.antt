@@ -13,4 +13,4 @@ pub returns : goal.returns
 returns c =
     let text = c.args.text.now.items in
     let line = unknown_is c.args.event c.args.id c.args.left.now false (sym c.if-has_number.false ∙ c.has_number.ensures) in
-    on_ok_weaker c.append_no_channel.result (λ e. e ∙ ap (λ (t : List ℕ). text ++ t) (sym line)) c.append_no_channel.ensures
+    on_ok_weaker c.append_no_channel.result (λ e. e ∙ ap (λ (t : List ℕ). text ++ t) (sym line)) c.append_no_channel.ensures.text
