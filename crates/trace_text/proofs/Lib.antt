@@ -17,3 +17,4 @@ pub mod TooWide
 pub mod Word32
 pub mod LastWord
 pub mod FirstNumber
+pub mod Fronts

@@ -1,6 +1,6 @@
 //! Reads a line of a trace.
 ghost use Rattle.std.specs.Prelude.{◌∷◌, IfOk};
-ghost use Rattle.rams_model.specs.Texts.{line_at, line_of, line_in, receiver_in, whole};
+ghost use Rattle.rams_model.specs.Texts.{line_at, line_of, line_in, receiver_in, whole, words_of};
 ghost use Rattle.trace_text.specs.{Gives, Narrows, HasDigits, shown};
 
 use crate::channel_line::channel;
@@ -38,6 +38,20 @@ pub fn read_unranged(line: &[u8]) -> Result<Line<'_>, LineFault>
     if line.len() > LONGEST_LINE {
         return Err(LineFault::Form);
     }
+    read_front(line)
+}
+
+// The kinds that come most often are told by the bytes in front, so their first word isn't looked for.
+fn read_front(line: &[u8]) -> Result<Line<'_>, LineFault>
+    ensures line { Narrows result (line_in (words_of line.now)) }
+    ensures digits { IfOk result HasDigits }
+{
+    if let Some(rest) = line.strip_prefix(b"live ".as_slice()) {
+        return live(&mut Words::of(rest));
+    }
+    if let Some(rest) = line.strip_prefix(b"fb ".as_slice()) {
+        return feedback(&mut Words::of(rest));
+    }
     read_words(Words::of(line))
 }
 
@@ -51,7 +65,6 @@ fn read_words<'a>(mut words: Words<'a>) -> Result<Line<'a>, LineFault>
     read_kind(kind, &mut words)
 }
 
-// The kinds that come most often are tried first.
 fn read_kind<'a>(kind: &[u8], words: &mut Words<'a>) -> Result<Line<'a>, LineFault>
     ensures line { Narrows result (line_in (kind.now ∷ words.old)) }
     ensures digits { IfOk result HasDigits }
