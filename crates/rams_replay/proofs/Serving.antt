@@ -9,10 +9,10 @@ use Rattle.trace_loop.specs.declared.stop.Stop.TheVariants.{Memory, Read, Write,
 use Rattle.serve_loop.specs.{Given, HasEnded, HasStopped, IsGiven, IsServeEnd, OnlyMemoryStops, served_text}
 use Rattle.rams_replay.specs.declared.words.Command.{Command}
 use Rattle.rams_replay.specs.declared.words.Command.TheVariants.{Serve}
-use Rattle.rams_replay.specs.{HasServed, IsOrLacksMemory, served_status}
+use Rattle.rams_replay.specs.{HasServed, IsOrLacksMemory, status_of}
 
 pub has_served : (g : Given) (held holds : Option (List ℕ)) (went sent : Option (List Outgoing)) (left : Option (List Incoming)) (r : Result Status Stop) → IfOk r IsServeEnd → IfOk r (HasEnded g held holds went sent left)
-    → IfErr r (λ stop. HasStopped g held holds went sent) → HasServed g held holds went sent left (served_status r)
+    → IfErr r (λ stop. HasStopped g held holds went sent) → HasServed g held holds went sent left (status_of r)
 has_served g held holds went sent left (Ok Done) end ended stopped = ended
 has_served g held holds went sent left (Ok BadTrace) end ended stopped = ended
 has_served g held holds went sent left (Ok NoMemory) end ended stopped = absurd end
@@ -29,7 +29,7 @@ has_served g held holds went sent left (Err Write) end ended stopped = stopped
 has_served g held holds went sent left (Err Wire) end ended stopped = stopped
 
 pub or_lacks_memory : (g : Given) (held holds : Option (List ℕ)) (went sent : Option (List Outgoing)) (left : Option (List Incoming)) (P : Type 0) (r : Result Status Stop) → IfOk r IsServeEnd → IfOk r (HasEnded g held holds went sent left)
-    → OnlyMemoryStops r P → IsOrLacksMemory (served_text g).status (served_status r)
+    → OnlyMemoryStops r P → IsOrLacksMemory (served_text g).status (status_of r)
 or_lacks_memory g held holds went sent left P (Ok Done) end ended only = ended.status_is
 or_lacks_memory g held holds went sent left P (Ok BadTrace) end ended only = ended.status_is
 or_lacks_memory g held holds went sent left P (Ok NoMemory) end ended only = absurd end
@@ -40,7 +40,7 @@ or_lacks_memory g held holds went sent left P (Ok WireFault) end ended only = ab
 or_lacks_memory g held holds went sent left P (Ok TooLong) end ended only = absurd end
 or_lacks_memory g held holds went sent left P (Ok BadCapture) end ended only = absurd end
 or_lacks_memory g held holds went sent left P (Ok BadSdp) end ended only = absurd end
-or_lacks_memory g held holds went sent left P (Err stop) end ended only = subst (λ (s : Stop). IsOrLacksMemory (served_text g).status (served_status (Err s))) (sym only) tt
+or_lacks_memory g held holds went sent left P (Err stop) end ended only = subst (λ (s : Stop). IsOrLacksMemory (served_text g).status (status_of (Err s))) (sym only) tt
 
 -- one command has one port and one number of turns
 pub same_serve : (o : Option Command) (p t port turns : ℕ) → o ≡ Some (Serve p t) → o ≡ Some (Serve port turns) → (p ≡ port) × (t ≡ turns)

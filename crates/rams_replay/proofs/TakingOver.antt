@@ -10,10 +10,10 @@ use Rattle.serve_loop.specs.{Given, OnlyMemoryStops}
 use Rattle.takeover_loop.specs.{HasEnded, HasStopped, IsTakeoverEnd, taken_text}
 use Rattle.rams_replay.specs.declared.words.Command.{Command}
 use Rattle.rams_replay.specs.declared.words.Command.TheVariants.{Takeover}
-use Rattle.rams_replay.specs.{HasTakenOver, IsOrLacksMemory, served_status}
+use Rattle.rams_replay.specs.{HasTakenOver, IsOrLacksMemory, status_of}
 
 module _ (g : Given) (held holds : Option (List ℕ)) (went sent : Option (List Outgoing)) (left : Option (List Incoming)) where
-  pub has_taken_over : (r : Result Status Stop) → IfOk r IsTakeoverEnd → IfOk r (HasEnded g held holds went sent left) → IfErr r (λ stop. HasStopped g held holds went sent) → HasTakenOver g held holds went sent left (served_status r)
+  pub has_taken_over : (r : Result Status Stop) → IfOk r IsTakeoverEnd → IfOk r (HasEnded g held holds went sent left) → IfErr r (λ stop. HasStopped g held holds went sent) → HasTakenOver g held holds went sent left (status_of r)
   has_taken_over (Ok Done) end ended stopped = ended
   has_taken_over (Ok BadTrace) end ended stopped = ended
   has_taken_over (Ok TooLong) end ended stopped = ended
@@ -29,7 +29,7 @@ module _ (g : Given) (held holds : Option (List ℕ)) (went sent : Option (List 
   has_taken_over (Err Write) end ended stopped = stopped
   has_taken_over (Err Wire) end ended stopped = stopped
 
-  pub or_lacks_memory : (P : Type 0) (r : Result Status Stop) → IfOk r IsTakeoverEnd → IfOk r (HasEnded g held holds went sent left) → OnlyMemoryStops r P → IsOrLacksMemory (taken_text g).status (served_status r)
+  pub or_lacks_memory : (P : Type 0) (r : Result Status Stop) → IfOk r IsTakeoverEnd → IfOk r (HasEnded g held holds went sent left) → OnlyMemoryStops r P → IsOrLacksMemory (taken_text g).status (status_of r)
   or_lacks_memory P (Ok Done) end ended only = ended.status_is
   or_lacks_memory P (Ok BadTrace) end ended only = ended.status_is
   or_lacks_memory P (Ok TooLong) end ended only = ended.status_is
@@ -40,7 +40,7 @@ module _ (g : Given) (held holds : Option (List ℕ)) (went sent : Option (List 
   or_lacks_memory P (Ok WireFault) end ended only = absurd end
   or_lacks_memory P (Ok BadCapture) end ended only = absurd end
   or_lacks_memory P (Ok BadSdp) end ended only = absurd end
-  or_lacks_memory P (Err stop) end ended only = subst (λ (s : Stop). IsOrLacksMemory (taken_text g).status (served_status (Err s))) (sym only) tt
+  or_lacks_memory P (Err stop) end ended only = subst (λ (s : Stop). IsOrLacksMemory (taken_text g).status (status_of (Err s))) (sym only) tt
 
 -- one command has one port and one number of turns
 pub same_takeover : (o : Option Command) (p t port turns : ℕ) → o ≡ Some (Takeover p t) → o ≡ Some (Takeover port turns) → (p ≡ port) × (t ≡ turns)

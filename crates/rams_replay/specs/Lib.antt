@@ -11,7 +11,7 @@ pub use Rattle.rams_replay.specs.Turns.{Serves, Stands, Tells, CountsOne, CanOpe
 unfoldable pub use Rattle.rams_replay.specs.CommandWords.{within, number_within, make_of, serve_of, describe_of, pcap_of, threads_of, pool_of, takeover_of, alone, with_number, command_of, is_plain, IsWithin, AreRun, AreMeet, AreSdp, AreDescribe, ArePcap, AreThreads, ArePool, AreMake, AreServe, AreTakeover, port_in, port_of}
 unfoldable pub use Rattle.rams_replay.specs.Statuses.{status_of, is_words, HasText, HasSummary, HasFault, IsOrLacksMemory}
 pub use Rattle.rams_replay.specs.Statuses.{Writes, IsCaused}
-unfoldable pub use Rattle.rams_replay.specs.Served.{served_status, HasServed, HasFaultOf, no_room}
+unfoldable pub use Rattle.rams_replay.specs.Served.{HasServed, HasFaultOf, no_room}
 pub use Rattle.rams_replay.specs.Served.{IsCausedOverWire}
 unfoldable pub use Rattle.rams_replay.specs.Described.{HasReply}
 pub use Rattle.rams_replay.specs.Described.{Replies}

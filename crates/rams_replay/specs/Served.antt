@@ -1,20 +1,10 @@
 -- What the status of `serve` says.
-use Rattle.std.specs.Prelude.{ℕ, ◌≤◌, List, Option, Result, Ok, Err}
+use Rattle.std.specs.Prelude.{ℕ, ◌≤◌, List, Option}
 use Rattle.rams_model.specs.declared.status.Status.{Status}
 use Rattle.rams_model.specs.declared.status.Status.TheVariants.{Done, NoMemory, ReadFault, WriteFault, BadTrace, WireFault}
 use Rattle.ram_io.specs.declared.wire.Incoming.{Incoming}
 use Rattle.ram_io.specs.{Outgoing, Rose}
-use Rattle.trace_loop.specs.declared.stop.Stop.{Stop}
-use Rattle.trace_loop.specs.declared.stop.Stop.TheVariants.{Memory, Read, Write, Wire}
 use Rattle.serve_loop.specs.{Given, HasEnded, HasStopped, Room}
-
--- the status of a server that ended so
-abbrev pub served_status : Result Status Stop → Status
-served_status (Ok status) = status
-served_status (Err Memory) = NoMemory
-served_status (Err Read) = ReadFault
-served_status (Err Write) = WriteFault
-served_status (Err Wire) = WireFault
 
 -- Where the status is Done or BadTrace the server came to its end, and what is written and sent is all of it; where something stopped it, fronts of it. It ends in no other way.
 abbrev pub HasServed : Given → Option (List ℕ) → Option (List ℕ) → Option (List Outgoing) → Option (List Outgoing) → Option (List Incoming) → Status → Type 0

@@ -322,7 +322,8 @@ fn pool_status<R: Threads + Sync, S: Source, K: Sink, G: Gate + Sync>(
     status_of(write_pool(rt, alloc, u64::from(rate), source, sink, gate))
 }
 
-fn status_of(ended: Result<Status, Stop>) -> Status
+/// The status of what ended so.
+pub(crate) fn status_of(ended: Result<Status, Stop>) -> Status
     ensures { result ≡ status_of ended }
 {
     match ended {

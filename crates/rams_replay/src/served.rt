@@ -3,11 +3,12 @@ ghost use Rattle.std.specs.Prelude.{◌≡◌, ◌≤◌, false};
 ghost use Rattle.rams_model.specs.declared.status.Status.TheVariants.{BadTrace, ReadFault};
 ghost use Rattle.serve_loop.specs.{Given, HasRoom, IfBothTold, IsGiven, served_datagrams, served_text};
 ghost use Rattle.takeover_loop.specs.{HoldsItsLines, taken_datagrams, taken_text};
-ghost use Rattle.rams_replay.specs.{HasServed, HasTakenOver, IsCausedOverWire, IsOrLacksMemory, is_words, no_room, served_status};
+ghost use Rattle.rams_replay.specs.{HasServed, HasTakenOver, IsCausedOverWire, IsOrLacksMemory, is_words, no_room};
 
+use crate::commands::status_of;
 use ram_io::{Clock, Sink, Source, Wire};
 use rams_model::Status;
-use serve_loop::{Stop, Watch, serve};
+use serve_loop::{Watch, serve};
 use std::alloc::Global;
 use takeover_loop::take_over;
 
@@ -58,16 +59,4 @@ pub fn takeover_status<S: Source, K: Sink, W: Wire, C: Clock, T: Watch>(
     ensures cause { IsCausedOverWire (S.faults source.old) (S.faults source.new) (K.faults sink.old) (K.faults sink.new) (W.faults wire.old) (W.faults wire.new) result }
 {
     status_of(take_over(alloc, source, sink, wire, clock, port, turns, watch))
-}
-
-fn status_of(ended: Result<Status, Stop>) -> Status
-    ensures { result ≡ served_status ended }
-{
-    match ended {
-        Ok(status) => status,
-        Err(Stop::Memory) => Status::NoMemory,
-        Err(Stop::Read) => Status::ReadFault,
-        Err(Stop::Write) => Status::WriteFault,
-        Err(Stop::Wire) => Status::WireFault,
-    }
 }
