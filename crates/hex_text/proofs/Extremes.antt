@@ -1,5 +1,5 @@
 -- The extremes of bytes tell whether all of these are digits.
-use Rattle.std.proofs.Common.{◌≡◌, ℕ, ◌*◌, ◌+◌, ◌-◌, ◌/◌, ◌%◌, ◌<◌, ◌≤◌, Bool, true, false, ◌&&◌, cond, ltb, nat_eq, nat_le, List, [], ◌∷◌, length, map, take, drop, replicate, Fits, w8, refl, sym, ap, ◌∙◌, suc, zero, arith, ltb-true, ltb-false}
+use Rattle.std.proofs.Common.{◌≡◌, ℕ, ◌*◌, ◌+◌, ◌%◌, ◌≤◌, Bool, true, false, ◌&&◌, cond, ltb, nat_eq, nat_le, List, [], ◌∷◌, length, map, take, drop, replicate, Fits, w8, refl, sym, ap, ◌∙◌, suc, zero, arith, ltb-true, ltb-false}
 use Rattle.std.proofs.lemmas.Bool.Decides.{nat_tests}
 use Rattle.std.proofs.lemmas.Simd.{mask_l-mod}
 use Rattle.std.specs.List.{list_all}

@@ -1,8 +1,6 @@
-use Rattle.std.proofs.Common.{◌∙◌, ap, sym, subst, arith, List, ℕ}
+use Rattle.std.proofs.Common.{arith}
 use Rattle.std.proofs.lemmas.List.{take_all}
-use lib.Lanes.{Each1}
-use Rattle.hex_text.specs.{joined_values}
-use Rattle.hex_text.proofs.Values.{AreLower, are_lower, values_joined, values_small}
+use Rattle.hex_text.proofs.Values.{are_lower, values_joined, values_small}
 use Rattle.hex_text.proofs.block.decode_block.Goals as goal
 
 pub values_of-values-requires : goal.values_of-values-requires

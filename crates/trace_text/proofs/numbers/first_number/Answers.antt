@@ -1,6 +1,5 @@
-use Rattle.std.proofs.Common.{◌+◌, ◌-◌, ap, ◌∙◌, sym, arith, length, drop, get_or, Some, ℕ, List}
+use Rattle.std.proofs.Common.{◌+◌, ◌-◌, arith, length, drop, get_or}
 use Rattle.std.proofs.lemmas.List.{take_all, length-drop}
-use Rattle.rams_model.specs.Texts.{words_of}
 use Rattle.trace_text.proofs.FirstNumber.{number_alone, number_first, not_led}
 use Rattle.trace_text.proofs.numbers.first_number.Goals as goal
 

@@ -1,4 +1,4 @@
-use Rattle.std.proofs.Common.{List, ℕ, subst, sym, ap, ◌∷◌, ◌∙◌, codes}
+use Rattle.std.proofs.Common.{subst, sym, ap, ◌∷◌, ◌∙◌, codes}
 use Rattle.rams_model.specs.Texts.{line_in}
 use Rattle.trace_text.specs.{Narrows}
 use Rattle.trace_text.proofs.Fronts.{behind_live, behind_fb}
