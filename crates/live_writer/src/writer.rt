@@ -12,7 +12,7 @@ use std::alloc::Global;
 use std::sync::Wait;
 use std::thread::Threads;
 
-/// The most events that are taken in one turn. A turn costs as much as some ten events.
+/// The most events that are taken in one turn. Beside so many, what it costs to pass a turn on is small.
 const LARGEST_PIECE: usize = 256;
 
 /// What became of an event.
@@ -102,9 +102,7 @@ fn write_piece<R: Threads + Wait + Sync, S: Shared, G: Gate>(
 {
     enter_all(gate, list, all.len(), events.len());
     let (place, answers) = shared.step_all(rt, alloc, pass, events)?;
-    draw_all(
-        rt, alloc, list, place, answers, config, workers, gate, all,
-    )
+    draw_all(rt, alloc, list, place, answers, config, workers, gate, all)
 }
 
 /// Takes the events of a list, one after another: the place of each in the history, its answer, and
