@@ -3,11 +3,11 @@ ghost use Rattle.std.specs.Prelude.{IfOk};
 ghost use Rattle.head_loop.specs.{HasRead, IsIdle};
 ghost use Rattle.serve_loop.specs.{IfTold, IsStoppedByRead, OnlyMemoryStops};
 
-use trace_loop::Stop;
 use head_loop::Head;
 use line_io::LineReader;
 use ram_io::Source;
 use std::alloc::Global;
+use trace_loop::Stop;
 
 /// Reads a head up to its `end`, or up to the first line that is refused; what follows isn't looked at.
 pub fn read_head<S: Source>(alloc: Global, source: &mut S) -> Result<Head, Stop>

@@ -8,12 +8,12 @@ ghost use Rattle.serve_loop.specs.{Begun, Ready, Broken, GoesOn, HasRoom, IsStop
 
 use crate::journal::{Journal, write_event};
 use crate::send::send_all;
-use trace_loop::{Stop, flush};
 use crate::watch::Watch;
 use ram_io::{Sink, Wire};
 use server_hub::{At, Heard, Hub, HubAnswer};
 use std::alloc::Global;
 use std::slice;
+use trace_loop::{Stop, flush};
 
 /// What a server has beside its source, sink, wire and clock.
 #[derive(Drop)]

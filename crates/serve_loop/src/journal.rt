@@ -6,7 +6,6 @@ ghost use Rattle.server_hub.specs.{event_of};
 ghost use Rattle.journal_book.specs.{event_line};
 ghost use Rattle.serve_loop.specs.{IsStoppedByWrite, OnlyMemoryStops, StopsIn};
 
-use trace_loop::{Stop, put};
 use book_text::append_refused;
 use hex_text::append_encoded;
 use line_io::Gather;
@@ -14,6 +13,7 @@ use ram_io::{NoMemory, Sink};
 use rams_model::LineFault;
 use server_hub::Heard;
 use std::alloc::Global;
+use trace_loop::{Stop, put};
 use trace_text::{Line, append_line};
 
 /// The text that waits for the sink, and room for a line and its digits.

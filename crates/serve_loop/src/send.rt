@@ -6,11 +6,11 @@ ghost use Rattle.rams_model.specs.Service.{client_of, datagram};
 ghost use Rattle.server_hub.specs.{settings_of};
 ghost use Rattle.serve_loop.specs.{Sends, IsStoppedByWire, OnlyMemoryStops, AllRender, bytes_of, order_datagrams, at_datagrams, said_datagrams};
 
-use trace_loop::Stop;
 use order_datagrams::{Config, append_order};
 use ram_io::Wire;
 use rams_model::Order;
 use server_hub::{At, Hub};
+use trace_loop::Stop;
 
 fn client_of(order: &Order) -> u64
     ensures { result ≡ client_of order.now }

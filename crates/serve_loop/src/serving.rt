@@ -12,7 +12,6 @@ ghost use Rattle.serve_loop.specs.{Begun, Ending, EndsAs, Given, HasEnded, HasRo
 use crate::head::read_head;
 use crate::hearing::{Server, new_server};
 use crate::journal::{new_journal, write_refused};
-use trace_loop::{Stop, flush, put};
 use crate::turns::take_turns;
 use crate::watch::{Watch, tell_ports};
 use head_loop::{Head, Opened};
@@ -23,6 +22,7 @@ use line_io::Gather;
 use ram_io::{Clock, Sink, Source, Wire};
 use rams_model::{LineFault, Status};
 use std::alloc::Global;
+use trace_loop::{Stop, flush, put};
 
 /// Writes that a line of the head is refused.
 fn refuse<K: Sink>(alloc: Global, sink: &mut K, line: u64, fault: LineFault) -> Result<Status, Stop>

@@ -7,12 +7,12 @@ ghost use Rattle.journal_book.specs.{next_moment, tick_at, due_after, event_line
 ghost use Rattle.serve_loop.specs.{Begun, Broken, HasRoom, IsBetween, IsServer, IsStoppedOutside, OnlyMemoryStops, Room, Serving, next_events};
 
 use crate::hearing::{Server, hear};
-use trace_loop::{Stop, flush};
 use crate::watch::Watch;
 use head_loop::event_at;
 use ram_io::{Clock, Sink, Wire};
 use server_hub::Heard;
 use std::alloc::Global;
+use trace_loop::{Stop, flush};
 
 /// Most bytes of a datagram.
 const MOST: usize = 2_000;

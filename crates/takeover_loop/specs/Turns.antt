@@ -46,4 +46,3 @@ pub record Ending (b : Begun) (events : List HubEvent) (last : List ℕ) (holds 
   pub text : Passes b.held holds (b.head ++ (event_lines events ++ last)) waits
   pub wire : GoOut b.went sent (sent_by b events)
   pub stopping : Stopping b events last holds waits sent Memory
-
