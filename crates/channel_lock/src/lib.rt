@@ -1,8 +1,9 @@
 //! A lock that serves its callers in turn, round the book of one channel.
 //!
-//! A caller draws a ticket, waits until it is served, steps the book and passes the turn on. Each caller
-//! has a pass, which knows the history as the caller has seen it; whichever callers step beside each
-//! other, what they have seen are beginnings of one legal history.
+//! A caller draws a ticket for each event that it has, waits until the first is served, steps the book
+//! with all of them and passes the turn on. Each caller has a pass, which knows the history as the caller
+//! has seen it; whichever callers step beside each other, what they have seen are beginnings of one legal
+//! history.
 #![tactic(auto)]
 
 mod lock;

@@ -1,5 +1,5 @@
-//! A caller of a shared channel: it takes the events of its list, one after another, and renders the
-//! datagrams of each answer while another caller may step the channel.
+//! A caller of a shared channel: it takes the events of its list in pieces, each in one turn, and renders
+//! the datagrams of the answers while another caller may step the channel.
 #![tactic(auto)]
 
 mod rendering;

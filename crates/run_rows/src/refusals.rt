@@ -101,6 +101,7 @@ fn refused_channels(rt: HostRuntime) -> Result<(), Fail> {
         ("share 10000", "share 100001", "rule-4"),
         ("rtx 99", "rtx 33", "rule-1"),
         ("declared 100", "declared 2501", "rule-2"),
+        ("channel 7", "channel 65536", "range"),
         ("ring 64", "ring 0", "range"),
         ("ring 64", "ring 32769", "range"),
         ("window 0", "window 65", "range"),
@@ -132,6 +133,9 @@ fn refused_lines(rt: HostRuntime) -> Result<(), Fail> {
         ("rams-trace 1 tick 0 link 1500", "order"),
         ("live 0 80", "range"),
         ("live 65536 80", "range"),
+        // a number has at most 15 digits
+        ("live 999999999999999 80", "range"),
+        ("live 1000000000000000 80", "form"),
         ("fb 7 281474976710656 80", "range"),
         // what a receiver does
         ("tune 7 5 0000c001", "order"),
