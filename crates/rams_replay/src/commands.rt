@@ -1,5 +1,6 @@
 //! The commands.
 ghost use Rattle.std.specs.Prelude.{◌≡◌, ◌≢◌, ◌≤◌, ◌<◌, ◌⊎◌, false, is_none, not, ℕ, All, None, length};
+ghost use Rattle.printed_books.specs.{PrintsItsBooks};
 ghost use Rattle.trace_book.specs.{EndsSo, IsServed, KeepsTheLink, KeepsPromises, served_by, run as book};
 ghost use Rattle.rams_model.specs.declared.status.Status.TheVariants.{BadTrace, Done, ReadFault};
 ghost use Rattle.serve_loop.specs.{Given, HasRoom, IfBothTold, IsGiven, served_datagrams, served_text};
@@ -21,6 +22,7 @@ use description_loop::{
 };
 use meet_loop::write_world;
 use pool_loop::write_pool;
+use printed_books::laws::books_are_printed;
 use ram_io::{Clock, Gate, Octets, Sink, Source, Wire};
 use rams_model::Status;
 use serve_loop::Watch;
@@ -83,6 +85,7 @@ pub fn run<
     ensures undescribed { AreSdp words.now ⊎ ((port : ℕ) × AreDescribe words.now port) → result ≡ ReadFault → sink.new ≡ sink.old }
     ensures lines { IfTold (S.left source.old) IsServed }
     ensures ends { IfTold (S.left source.old) EndsSo }
+    ensures printed { IfTold (S.left source.old) PrintsItsBooks }
     ensures lawful { IfTold (S.left source.old) (λ xs. All KeepsPromises (served_by xs)) }
     ensures link { IfTold (S.left source.old) KeepsTheLink }
     ensures world_lines { IfTold (S.left source.old) IsServedByAWorld }
@@ -162,6 +165,7 @@ pub fn plain<S: Source, K: Sink, V: CaptureWatch>(
     ensures undescribed { AreSdp words.now ⊎ ((port : ℕ) × AreDescribe words.now port) → result ≡ ReadFault → sink.new ≡ sink.old }
     ensures lines { IfTold (S.left source.old) IsServed }
     ensures ends { IfTold (S.left source.old) EndsSo }
+    ensures printed { IfTold (S.left source.old) PrintsItsBooks }
     ensures lawful { IfTold (S.left source.old) (λ xs. All KeepsPromises (served_by xs)) }
     ensures link { IfTold (S.left source.old) KeepsTheLink }
     ensures world_lines { IfTold (S.left source.old) IsServedByAWorld }
@@ -198,6 +202,7 @@ pub fn plain<S: Source, K: Sink, V: CaptureWatch>(
 fn promise<S: Source>(_source: &S)
     ensures lines { IfTold (S.left _source.now) IsServed }
     ensures ends { IfTold (S.left _source.now) EndsSo }
+    ensures printed { IfTold (S.left _source.now) PrintsItsBooks }
     ensures lawful { IfTold (S.left _source.now) (λ xs. All KeepsPromises (served_by xs)) }
     ensures link { IfTold (S.left _source.now) KeepsTheLink }
     ensures world_lines { IfTold (S.left _source.now) IsServedByAWorld }
@@ -210,6 +215,7 @@ fn promise<S: Source>(_source: &S)
 {
     traces_are_served_by_their_lines();
     traces_end_so();
+    books_are_printed();
     traces_are_served_lawfully();
     traces_stay_within_the_link();
     worlds_are_served_by_their_lines();

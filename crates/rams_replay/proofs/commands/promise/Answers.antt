@@ -1,9 +1,13 @@
 use Rattle.std.specs.Prelude.{All}
+use Rattle.printed_books.specs.{PrintsItsBooks}
 use Rattle.trace_book.specs.{KeepsPromises, KeepsTheLink, served_by}
 use Rattle.trace_loop.proofs.Whole.{told_all}
 use Rattle.rams_replay.specs.{ComesPromised}
 use Rattle.world_book.specs.{ReceiversPresent, world_of}
 use Rattle.rams_replay.proofs.commands.promise.Goals as goal
+
+pub returns-clause-printed : goal.returns-clause-printed
+returns-clause-printed g c = told_all (g.S.Source.left c.args._source.now) PrintsItsBooks c.books_are_printed.ensures
 
 pub returns-clause-lawful : goal.returns-clause-lawful
 returns-clause-lawful g c = told_all (g.S.Source.left c.args._source.now) (λ xs. All KeepsPromises (served_by xs)) c.traces_are_served_lawfully.ensures
