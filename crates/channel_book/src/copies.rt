@@ -120,6 +120,7 @@ impl Room {
         self.notes.extend_from_slice(&answer.notes).unwrap();
         self.notes.shrink_to_fit();
         push_infos(&mut self.orders, &answer.orders);
+        self.orders.shrink_to_fit();
         Answer::new(self.notes, self.orders)
     }
 }

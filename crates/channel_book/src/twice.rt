@@ -55,6 +55,19 @@ fn live_twice(alloc: Global, core: &mut Core, bytes: &[u8]) -> Result<Twice, NoM
     })
 }
 
+/// The same answer, without the room that it doesn't need.
+fn fitted(answer: Answer) -> Answer
+    ensures { result ≡ answer }
+{
+    let Answer {
+        mut notes,
+        mut orders,
+    } = answer;
+    notes.shrink_to_fit();
+    orders.shrink_to_fit();
+    Answer::new(notes, orders)
+}
+
 /// A datagram has at most five notes for each byte and four more, and no order but a RAMS-I.
 fn feedback_twice(
     alloc: Global,
@@ -73,8 +86,7 @@ fn feedback_twice(
         return Err(NoMemory);
     }
     let room = Room::new(alloc, 5 * bytes.len() + 4, 1)?;
-    let mut given = core.feedback(alloc, client, bytes)?;
-    given.notes.shrink_to_fit();
+    let given = fitted(core.feedback(alloc, client, bytes)?);
     Ok(Twice {
         kept: room.copy(&given),
         given,
@@ -92,6 +104,6 @@ fn tick_twice(alloc: Global, core: &mut Core) -> Result<Twice, NoMemory>
 {
     let plan = core.plan_tick(alloc)?;
     let kept = copy_answer(alloc, &plan.answer)?;
-    let given = core.commit_tick(plan);
+    let given = fitted(core.commit_tick(plan));
     Ok(Twice { kept, given })
 }
