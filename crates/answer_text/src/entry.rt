@@ -1,5 +1,5 @@
 //! The lines of one note: its own, and that of the datagram that it asks for.
-ghost use Rattle.std.specs.Prelude.{All, ◌≡◌, ◌++◌, OnOk, map};
+ghost use Rattle.std.specs.Prelude.{All, ◌≡◌, ◌++◌, OnErr, OnOk, map};
 ghost use Rattle.rams_model.specs.Service.{datagram};
 ghost use Rattle.rams_model.specs.Texts.{order_line};
 ghost use Rattle.order_datagrams.specs.{Renders};
@@ -12,7 +12,7 @@ use ram_io::NoMemory;
 use rams_model::{Note, Octets, Order};
 
 /// Appends the lines of a note, at the event of this number; `orders` are those of this note and of the
-/// notes after it. The datagram is made in `room`.
+/// notes after it. The datagram is made in `room`. An error changes nothing of the text.
 pub fn append_entry(
     text: &mut Vec<u8>,
     room: &mut Vec<u8>,
@@ -22,13 +22,19 @@ pub fn append_entry(
     orders: &[Order],
 ) -> Result<(), NoMemory>
     requires { All Renders orders.now }
-    ensures { OnOk result (text.new.items ≡ text.old.items ++ entry_text config.now event note.now orders.now) }
+    ensures text { OnOk result (text.new.items ≡ text.old.items ++ entry_text config.now event note.now orders.now) }
+    ensures err { OnErr result (text.new.items ≡ text.old.items) }
 {
+    let start = text.len();
     append_note(text, event, config.channel().id, note)?;
-    if let Some(order) = asked(note, orders) {
-        append_datagram(text, room, config, event, order)?;
+    let Some(order) = asked(note, orders) else {
+        return Ok(());
+    };
+    let ended = append_datagram(text, room, config, event, order);
+    if ended.is_err() {
+        text.truncate(start);
     }
-    Ok(())
+    ended
 }
 
 /// Appends the line of an order's datagram, which is made in `room`.
@@ -40,7 +46,8 @@ fn append_datagram(
     order: &Order,
 ) -> Result<(), NoMemory>
     requires { Renders order.now }
-    ensures { OnOk result (text.new.items ≡ text.old.items ++ order_line config.now event order.now) }
+    ensures text { OnOk result (text.new.items ≡ text.old.items ++ order_line config.now event order.now) }
+    ensures err { OnErr result (text.new.items ≡ text.old.items) }
 {
     room.clear();
     append_order(room, config, order)?;

@@ -1,13 +1,16 @@
 //! The lines of a book, each appended to a given text.
 //!
-//! A call appends its whole line; where memory runs out, a part of the line may stand behind the
-//! text. It runs out only where the text lacks room for the line, and a text never loses room.
+//! A call appends its whole line, or nothing where memory runs out. It runs out only where the text
+//! lacks room for the line, and a text never loses room.
 #![tactic(auto)]
 
 mod line;
 mod note;
 mod tail;
 
-pub use line::{append_count, append_hex, append_no_channel, append_refused, append_send, begin};
+pub use line::{
+    append_count, append_hex, append_no_channel, append_refused, append_send, append_with_hex,
+    begin,
+};
 pub use note::append_note;
 pub use tail::Tail;

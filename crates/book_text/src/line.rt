@@ -29,6 +29,7 @@ pub fn append_send(
     bytes: &[u8],
 ) -> Result<(), NoMemory>
     ensures text { OnOk result (text.new.items ≡ text.old.items ++ send_line event id client bytes.now) }
+    ensures err { OnErr result (text.new.items ≡ text.old.items) }
     ensures full { OnErr result (vec_capacity text.old < length text.old.items + length (send_line event id client bytes.now)) }
     ensures room { vec_capacity text.old ≤ vec_capacity text.new }
 {
@@ -36,8 +37,38 @@ pub fn append_send(
     line.byte(b' ');
     line.named(b"send", client);
     begin(&mut line, event, id);
-    line.append_to(text)?;
-    append_hex(text, bytes)?;
+    append_with_hex(text, &line, bytes)
+}
+
+/// A line whose front is this, and that goes on with bytes in hexadecimal digits.
+pub fn append_with_hex(text: &mut Vec<u8>, front: &Tail, bytes: &[u8]) -> Result<(), NoMemory>
+    ensures text { OnOk result (text.new.items ≡ text.old.items ++ (front.now ++ hex_word bytes.now ++ codes "\n")) }
+    ensures err { OnErr result (text.new.items ≡ text.old.items) }
+    ensures full { OnErr result (vec_capacity text.old < length text.old.items + length (front.now ++ hex_word bytes.now ++ codes "\n")) }
+    ensures room { vec_capacity text.old ≤ vec_capacity text.new }
+{
+    let start = text.len();
+    front.append_to(text)?;
+    let ended = append_hex_end(text, bytes);
+    if ended.is_err() {
+        text.truncate(start);
+    }
+    ended
+}
+
+// The end of a line: bytes in hexadecimal digits, and a line feed.
+#[tactic(auto, using(crate::proofs::Digits::digits_fit, crate::proofs::Digits::two_digits))]
+fn append_hex_end(text: &mut Vec<u8>, bytes: &[u8]) -> Result<(), NoMemory>
+    ensures text { OnOk result (text.new.items ≡ text.old.items ++ (hex_word bytes.now ++ codes "\n")) }
+    ensures err { OnErr result (text.new.items ≡ text.old.items) }
+    ensures full { OnErr result (vec_capacity text.old < length text.old.items + length (hex_word bytes.now ++ codes "\n")) }
+    ensures room { vec_capacity text.old ≤ vec_capacity text.new }
+{
+    if bytes.is_empty() {
+        return Ok(text.extend_from_slice(b"-\n")?);
+    }
+    text.try_reserve(2 * bytes.len() + 1)?;
+    append_encoded(text, bytes)?;
     text.push(b'\n')?;
     Ok(())
 }
@@ -46,6 +77,7 @@ pub fn append_send(
 #[tactic(auto, using(crate::proofs::Digits::digits_fit))]
 pub fn append_hex(text: &mut Vec<u8>, bytes: &[u8]) -> Result<(), NoMemory>
     ensures text { OnOk result (text.new.items ≡ text.old.items ++ hex_word bytes.now) }
+    ensures err { OnErr result (text.new.items ≡ text.old.items) }
     ensures full { OnErr result (vec_capacity text.old < length text.old.items + length (hex_word bytes.now)) }
     ensures room { vec_capacity text.old ≤ vec_capacity text.new }
 {
@@ -60,6 +92,7 @@ pub fn append_hex(text: &mut Vec<u8>, bytes: &[u8]) -> Result<(), NoMemory>
 /// The line of an event of a channel that isn't there: `EVENT ID no-channel`.
 pub fn append_no_channel(text: &mut Vec<u8>, event: u64, id: u16) -> Result<(), NoMemory>
     ensures text { OnOk result (text.new.items ≡ text.old.items ++ no_channel_line event id) }
+    ensures err { OnErr result (text.new.items ≡ text.old.items) }
     ensures full { OnErr result (vec_capacity text.old < length text.old.items + length (no_channel_line event id)) }
     ensures room { vec_capacity text.old ≤ vec_capacity text.new }
 {
@@ -72,6 +105,7 @@ pub fn append_no_channel(text: &mut Vec<u8>, event: u64, id: u16) -> Result<(), 
 /// The line of a trace's line that is refused: `refused NUMBER WORD`, as `refused 4 form`.
 pub fn append_refused(text: &mut Vec<u8>, line: u64, fault: LineFault) -> Result<(), NoMemory>
     ensures text { OnOk result (text.new.items ≡ text.old.items ++ refused_line line fault) }
+    ensures err { OnErr result (text.new.items ≡ text.old.items) }
     ensures full { OnErr result (vec_capacity text.old < length text.old.items + length (refused_line line fault)) }
     ensures room { vec_capacity text.old ≤ vec_capacity text.new }
 {
@@ -103,12 +137,14 @@ fn fault_word(tail: &mut Tail, fault: LineFault)
 /// The line of a word and a number, as `done 6`.
 pub fn append_count(text: &mut Vec<u8>, word: &[u8], n: u64) -> Result<(), NoMemory>
     ensures text { OnOk result (text.new.items ≡ text.old.items ++ (word.now ++ spaced n ++ codes "\n")) }
+    ensures err { OnErr result (text.new.items ≡ text.old.items) }
     ensures full { OnErr result (vec_capacity text.old < length text.old.items + length (word.now ++ spaced n ++ codes "\n")) }
     ensures room { vec_capacity text.old ≤ vec_capacity text.new }
 {
-    text.extend_from_slice(word)?;
     let mut line = Tail::new();
     line.byte(b'\n');
     line.spaced(n);
+    text.try_reserve(word.len() + line.len())?;
+    text.extend_from_slice(word)?;
     line.append_to(text)
 }

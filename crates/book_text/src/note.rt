@@ -11,6 +11,7 @@ use rams_model::{Cause, FrameFault, LiveNote, Note, RtpFault};
 #[tactic(auto, unfolding(rams_model::specs::Texts::BookText::note_line))]
 pub fn append_note(text: &mut Vec<u8>, event: u64, id: u16, note: &Note) -> Result<(), NoMemory>
     ensures text { OnOk result (text.new.items ≡ text.old.items ++ note_line event id note.now) }
+    ensures err { OnErr result (text.new.items ≡ text.old.items) }
     ensures full { OnErr result (vec_capacity text.old < length text.old.items + length (note_line event id note.now)) }
     ensures room { vec_capacity text.old ≤ vec_capacity text.new }
 {

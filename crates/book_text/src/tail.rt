@@ -39,9 +39,18 @@ impl Tail {
         }
     }
 
-    /// Appends it to a text. An error comes only where the text lacks the room.
+    /// How many bytes it has.
+    #[inline]
+    pub fn len(&self) -> usize
+        ensures { result ≡ length self.now }
+    {
+        ROOM - self.start
+    }
+
+    /// Appends it to a text. An error comes only where the text lacks the room, and changes nothing.
     pub fn append_to(&self, text: &mut Vec<u8>) -> Result<(), NoMemory>
         ensures text { OnOk result (text.new.items ≡ text.old.items ++ self.now) }
+        ensures err { OnErr result (text.new.items ≡ text.old.items) }
         ensures full { OnErr result (vec_capacity text.old < length text.old.items + length self.now) }
         ensures room { vec_capacity text.old ≤ vec_capacity text.new }
     {

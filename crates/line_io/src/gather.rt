@@ -1,5 +1,5 @@
 //! Text into a sink.
-ghost use Rattle.std.specs.Prelude.{◌≡◌, ◌+◌, ◌≤◌, ◌↔◌, ◌++◌, ℕ, List, [], length, IsTrue, IfOk, OnOk, OnErr, IsOkAnd};
+ghost use Rattle.std.specs.Prelude.{◌≡◌, ◌+◌, ◌<◌, ◌++◌, ℕ, List, [], length, IfOk, OnOk, OnErr, IsOkAnd};
 ghost use Rattle.std.specs.Io.KnownBytes.{Appends};
 ghost use Rattle.ram_io.specs.{HasCause};
 ghost use Rattle.line_io.specs.Passes.{Passes};
@@ -8,27 +8,31 @@ use ram_io::{Failed, NoMemory, Sink};
 use std::alloc::Global;
 use std::marker::Model;
 
-// Most bytes that wait.
-const ROOM: usize = 262144;
+// From so many bytes on, what waits goes to the sink.
+const FULL: usize = 262144;
 
-/// Texts that wait to be put to a sink together, at most 262,144 bytes.
+// Room for what is appended before that is seen: a line with a datagram has less than 4,200 bytes.
+const ROOM: usize = FULL + 8192;
+
+/// Texts that wait to be put to a sink together, in pieces of about 256 KiB.
 #[derive(Drop)]
 pub struct Gather {
     waiting: Vec<u8>,
 }
 
 impl Model for Gather {
-    ghost use Rattle.std.specs.Prelude.{ℕ, List, ◌≤◌, length, vec_capacity};
+    ghost use Rattle.std.specs.Prelude.{ℕ, List};
 
     ghost Value = { List ℕ };
 
     ghost view = { λ g. g.waiting.items };
-
-    ghost invariant = { λ g. (length g.waiting.items ≤ 262144) × (262144 ≤ vec_capacity g.waiting) };
 }
 
 impl Gather {
-    /// Takes the memory that all calls need.
+    ghost use Rattle.std.specs.Borrow.{Lends, sem};
+    ghost use Rattle.line_io.specs.Lending.{LendsText};
+
+    /// Takes memory for as much as waits, and for a line behind it.
     pub fn new(alloc: Global) -> Result<Gather, NoMemory>
         ensures { IfOk result (λ gather. gather ≡ []) }
     {
@@ -37,8 +41,36 @@ impl Gather {
         })
     }
 
-    /// Lets a piece wait behind the others. Where they have no room together, what waits goes to the
-    /// sink, and a piece of more than 262,144 bytes goes there at once.
+    /// The text that waits: what is appended to it waits too. `settle` puts it to the sink where it has
+    /// grown long.
+    pub fn text(&mut self) -> &mut Vec<u8>
+        ensures* lends { sem 𝓛 (LendsText self.entry result) }
+        ensures now { result.now.items ≡ self.old }
+    {
+        &mut self.waiting
+    }
+
+    /// Puts all that waits to the sink where that is 262,144 bytes or more, and else nothing.
+    ///
+    /// Where the sink fails, what waits stays as it was, though a front of it may have gone: the
+    /// sink's text is right only if the caller then puts no more.
+    pub fn settle<K: Sink>(&mut self, sink: &mut K) -> Result<(), Failed>
+        ensures all { OnOk result (Passes (K.held sink.old) (K.held sink.new) self.old self.new) }
+        ensures few { OnOk result (length self.new < 262144) }
+        ensures prefix { (rest : List ℕ) × Passes (K.held sink.old) (K.held sink.new) self.old rest }
+        ensures same { OnErr result (self.new ≡ self.old) }
+        ensures cause { HasCause (K.faults sink.old) (K.faults sink.new) result }
+        ensures steady { (room : ℕ) → K.is_steady sink.old (length self.old + room)
+            → IsOkAnd result (λ _. K.is_steady sink.new (length self.new + room)) }
+    {
+        if self.waiting.len() < FULL {
+            return Ok(());
+        }
+        self.flush(sink)
+    }
+
+    /// Lets a piece wait behind the others, where they have no more than 262,144 bytes together. Else
+    /// what waits goes to the sink, and a piece of more than so many goes there at once.
     ///
     /// Where the sink fails, what waits stays as it was, though a front of it may have gone: the
     /// sink's text is right only if the caller then puts no more.
@@ -50,13 +82,13 @@ impl Gather {
         ensures steady { (room : ℕ) → K.is_steady sink.old (length self.old + length piece.now + room)
             → IsOkAnd result (λ _. K.is_steady sink.new (length self.new + room)) }
     {
-        if piece.len() > ROOM {
-            return self.put_long(sink, piece);
+        let room = FULL
+            .min(self.waiting.capacity())
+            .saturating_sub(self.waiting.len());
+        if piece.len() > room {
+            return self.put_behind(sink, piece);
         }
-        if !self.has_room(piece.len()) {
-            return self.put_after_flush(sink, piece);
-        }
-        self.append(piece);
+        self.waiting.extend_from_slice(piece).unwrap();
         Ok(())
     }
 
@@ -88,8 +120,8 @@ impl Gather {
         put_all(sink, &self.waiting)
     }
 
-    // Puts what waits and then the piece to the sink.
-    fn put_long<K: Sink>(&mut self, sink: &mut K, piece: &[u8]) -> Result<(), Failed>
+    // Puts what waits to the sink. The piece then waits, or goes there too where it has no room.
+    fn put_behind<K: Sink>(&mut self, sink: &mut K, piece: &[u8]) -> Result<(), Failed>
         ensures all { OnOk result (Passes (K.held sink.old) (K.held sink.new) (self.old ++ piece.now) self.new) }
         ensures prefix { (rest : List ℕ) × Passes (K.held sink.old) (K.held sink.new) (self.old ++ piece.now) rest }
         ensures same { OnErr result (self.new ≡ self.old) }
@@ -98,37 +130,14 @@ impl Gather {
             → IsOkAnd result (λ _. K.is_steady sink.new (length self.new + room)) }
     {
         self.pass(sink)?;
-        put_all(sink, piece)?;
+        if piece.len() > FULL.min(self.waiting.capacity()) {
+            put_all(sink, piece)?;
+            self.waiting.clear();
+            return Ok(());
+        }
         self.waiting.clear();
-        Ok(())
-    }
-
-    // Puts what waits to the sink, and lets the piece wait.
-    fn put_after_flush<K: Sink>(&mut self, sink: &mut K, piece: &[u8]) -> Result<(), Failed>
-        requires { length piece.now ≤ 262144 }
-        ensures all { OnOk result (Passes (K.held sink.old) (K.held sink.new) (self.old ++ piece.now) self.new) }
-        ensures prefix { (rest : List ℕ) × Passes (K.held sink.old) (K.held sink.new) (self.old ++ piece.now) rest }
-        ensures same { OnErr result (self.new ≡ self.old) }
-        ensures cause { HasCause (K.faults sink.old) (K.faults sink.new) result }
-        ensures steady { (room : ℕ) → K.is_steady sink.old (length self.old + length piece.now + room)
-            → IsOkAnd result (λ _. K.is_steady sink.new (length self.new + room)) }
-    {
-        self.flush(sink)?;
-        self.append(piece);
-        Ok(())
-    }
-
-    fn has_room(&self, count: usize) -> bool
-        ensures { IsTrue result ↔ (length self.now + count ≤ 262144) }
-    {
-        count <= ROOM - self.waiting.len()
-    }
-
-    fn append(&mut self, piece: &[u8])
-        requires { length self.old + length piece.now ≤ 262144 }
-        ensures { self.new ≡ self.old ++ piece.now }
-    {
         self.waiting.extend_from_slice(piece).unwrap();
+        Ok(())
     }
 }
 

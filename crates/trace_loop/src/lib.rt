@@ -15,4 +15,4 @@ pub use server::TraceServer;
 pub use stop::Stop;
 pub use text::{close, write_text};
 pub use turn::Turn;
-pub use writer::{Writer, flush, put};
+pub use writer::{Writer, flush, put, settle};

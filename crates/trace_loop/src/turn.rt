@@ -1,5 +1,5 @@
 //! What a line of a trace does.
-ghost use Rattle.std.specs.Prelude.{◌≡◌, ◌++◌, IfSome, OnOk, List, ℕ};
+ghost use Rattle.std.specs.Prelude.{◌≡◌, ◌++◌, IfSome, OnOk, OnErr, List, ℕ};
 ghost use Rattle.trace_loop.specs.{IsEnd, ending, last_line};
 
 use book_text::{append_count, append_refused};
@@ -35,13 +35,14 @@ pub(crate) fn ending<A>(turn: &Turn<A>) -> Option<Status>
 }
 
 /// Appends the line with which a turn ends the run, at the line of this number; nothing where it goes
-/// on.
+/// on, or memory runs out.
 pub(crate) fn append_last<A>(
     text: &mut Vec<u8>,
     number: u64,
     turn: &Turn<A>,
 ) -> Result<(), NoMemory>
-    ensures { OnOk result (text.new.items ≡ text.old.items ++ last_line number turn.now) }
+    ensures text { OnOk result (text.new.items ≡ text.old.items ++ last_line number turn.now) }
+    ensures err { OnErr result (text.new.items ≡ text.old.items) }
 {
     match turn {
         Turn::GoesOn | Turn::Said(_) => Ok(()),

@@ -1,5 +1,5 @@
 //! Text on its way to the sink.
-ghost use Rattle.std.specs.Prelude.{◌≡◌, ℕ, ◌+◌, ◌++◌, IfOk, IfErr, OnOk, OnErr, List, [], length};
+ghost use Rattle.std.specs.Prelude.{◌≡◌, ℕ, ◌+◌, ◌<◌, ◌++◌, IfOk, IfErr, OnOk, OnErr, List, [], length};
 ghost use Rattle.ram_io.specs.{Rose};
 ghost use Rattle.line_io.specs.Passes.{Passes};
 ghost use Rattle.trace_loop.specs.{last_line, written, CanWrite, IsStoppedByWrite, OnlyMemoryStops, StopsIn};
@@ -11,11 +11,10 @@ use line_io::Gather;
 use ram_io::{NoMemory, Sink};
 use std::alloc::Global;
 
-/// The text that waits for the sink, and room for some lines and a datagram.
+/// The text that waits for the sink, and room for a datagram.
 #[derive(Drop)]
 pub struct Writer {
     pub gather: Gather,
-    pub lines: Vec<u8>,
     pub datagram: Vec<u8>,
 }
 
@@ -25,7 +24,6 @@ pub(crate) fn new_writer(alloc: Global) -> Result<Writer, NoMemory>
 {
     Ok(Writer {
         gather: Gather::new(alloc)?,
-        lines: Vec::new(alloc),
         datagram: Vec::new(alloc),
     })
 }
@@ -39,6 +37,22 @@ pub fn put<K: Sink>(gather: &mut Gather, sink: &mut K, text: &[u8]) -> Result<()
         → OnlyMemoryStops result (K.is_steady sink.new (length gather.new + room)) }
 {
     match gather.put(sink, text) {
+        Ok(()) => Ok(()),
+        Err(_) => Err(Stop::Write),
+    }
+}
+
+/// Puts all that waits to the sink where that is 262,144 bytes or more, and else nothing. It is called
+/// behind what is appended to `gather.text()`.
+pub fn settle<K: Sink>(gather: &mut Gather, sink: &mut K) -> Result<(), Stop>
+    ensures all { OnOk result (Passes (K.held sink.old) (K.held sink.new) gather.old gather.new) }
+    ensures few { OnOk result (length gather.new < 262144) }
+    ensures front { IfErr result (StopsIn (K.held sink.old) (K.held sink.new) gather.old gather.new) }
+    ensures cause { IsStoppedByWrite (K.faults sink.old) (K.faults sink.new) result }
+    ensures steady { (room : ℕ) → K.is_steady sink.old (length gather.old + room)
+        → OnlyMemoryStops result (K.is_steady sink.new (length gather.new + room)) }
+{
+    match gather.settle(sink) {
         Ok(()) => Ok(()),
         Err(_) => Err(Stop::Write),
     }
@@ -74,9 +88,8 @@ fn write_last<A, K: Sink>(
     ensures steady { (room : ℕ) → K.is_steady sink.old (length writer.old.gather + length (last_line number turn.now) + room)
         → OnlyMemoryStops result (K.is_steady sink.new (length writer.new.gather + room)) }
 {
-    writer.lines.clear();
-    append_last(&mut writer.lines, number, turn)?;
-    put(&mut writer.gather, sink, &writer.lines)
+    append_last(writer.gather.text(), number, turn)?;
+    settle(&mut writer.gather, sink)
 }
 
 /// Adds what is written for a turn at the line of this number.

@@ -13,7 +13,7 @@ loop-note-preserved c =
     let more = notes_text-step s c.args.event notes orders c.after-orders.result.now c.loop-note.note-index _ c.loop-note-test.true c.after-orders.ensures.after in
     record {
       rendered = c.after-orders.ensures.render c.loop-note.invariant.rendered;
-      written = ap (λ t. t ++ later) c.in_ok-append_entry.ensures ∙ append_assoc c.loop-note.text.items _ later ∙ ap (λ t. c.loop-note.text.items ++ t) (sym more) ∙ c.loop-note.invariant.written;
+      written = ap (λ t. t ++ later) c.in_ok-append_entry.ensures.text ∙ append_assoc c.loop-note.text.items _ later ∙ ap (λ t. c.loop-note.text.items ++ t) (sym more) ∙ c.loop-note.invariant.written;
     }
 
 pub returns : goal.returns
