@@ -6,11 +6,12 @@
 
 mod line;
 mod note;
+mod piece;
 mod tail;
 
 pub use line::{
     append_count, append_hex, append_no_channel, append_refused, append_send, append_with_hex,
     begin,
 };
-pub use note::append_note;
+pub use note::{append_note, append_told};
 pub use tail::Tail;

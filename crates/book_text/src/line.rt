@@ -11,7 +11,7 @@ use rams_model::LineFault;
 /// The number of the event, that of the channel, and a space, in front.
 #[inline]
 pub fn begin(line: &mut Tail, event: u64, id: u16)
-    requires { length line.old + 42 ≤ 160 }
+    requires { length line.old + 42 ≤ 224 }
     ensures { line.new ≡ decimal event ++ spaced id ++ codes " " ++ line.old }
 {
     line.byte(b' ');
@@ -118,7 +118,7 @@ pub fn append_refused(text: &mut Vec<u8>, line: u64, fault: LineFault) -> Result
 }
 
 fn fault_word(tail: &mut Tail, fault: LineFault)
-    requires { length tail.old + 25 ≤ 160 }
+    requires { length tail.old + 25 ≤ 224 }
     ensures tail { tail.new ≡ line_fault_word fault ++ tail.old }
     ensures few { length tail.new ≤ length tail.old + 25 }
 {

@@ -1,8 +1,9 @@
 //! The lines of notes.
 ghost use Rattle.std.specs.Prelude.{◌≡◌, ◌∷◌, ◌++◌, ◌+◌, ◌≤◌, ◌<◌, OnOk, OnErr, codes, length, vec_capacity};
-ghost use Rattle.rams_model.specs.Texts.{spaced, of_number, of_word, live_words, note_words, note_line, rtp_fault_word, frame_fault_word, cause_word};
+ghost use Rattle.rams_model.specs.Texts.{spaced, of_number, of_word, live_words, note_words, note_line, send_line, rtp_fault_word, frame_fault_word, cause_word};
 
-use crate::line::begin;
+use crate::line::{append_with_hex, begin};
+use crate::piece::Piece;
 use crate::tail::Tail;
 use ram_io::NoMemory;
 use rams_model::{Cause, FrameFault, LiveNote, Note, RtpFault};
@@ -22,9 +23,56 @@ pub fn append_note(text: &mut Vec<u8>, event: u64, id: u16, note: &Note) -> Resu
     line.append_to(text)
 }
 
+/// The line of a note, and behind it that of a datagram to a client.
+#[tactic(auto, unfolding(rams_model::specs::Texts::BookText::note_line, rams_model::specs::Texts::BookText::send_line))]
+pub fn append_told(
+    text: &mut Vec<u8>,
+    event: u64,
+    id: u16,
+    note: &Note,
+    client: u64,
+    bytes: &[u8],
+) -> Result<(), NoMemory>
+    ensures text { OnOk result (text.new.items ≡ text.old.items ++ (note_line event id note.now ++ send_line event id client bytes.now)) }
+    ensures err { OnErr result (text.new.items ≡ text.old.items) }
+    ensures full { OnErr result (vec_capacity text.old < length text.old.items + length (note_line event id note.now ++ send_line event id client bytes.now)) }
+    ensures room { vec_capacity text.old ≤ vec_capacity text.new }
+{
+    let front = Piece::front(event, id);
+    let to = Piece::spaced(client);
+    let mut lines = Tail::new();
+    lines.byte(b' ');
+    lines.piece(&to);
+    lines.word(b"send");
+    lines.piece(&front);
+    lines.byte(b'\n');
+    words_to(&mut lines, note, client, &to);
+    lines.piece(&front);
+    append_with_hex(text, &lines, bytes)
+}
+
+// The words of a note, where the digits of a client are at hand.
+fn words_to(line: &mut Tail, note: &Note, client: u64, to: &Piece)
+    requires to { to.now ≡ spaced client }
+    requires few { length to.now ≤ 21 }
+    requires room { length line.old + 110 ≤ 224 }
+    ensures line { line.new ≡ note_words note.now ++ line.old }
+    ensures few { length line.new ≤ length line.old + 110 }
+{
+    match note {
+        Note::Burst { client: of, n, seq } if *of == client => sent_to(
+            line, b"burst", to, *n, *seq,
+        ),
+        Note::Repair { client: of, n, seq } if *of == client => sent_to(
+            line, b"repair", to, *n, *seq,
+        ),
+        _ => words(line, note),
+    }
+}
+
 // The words of a note, without a space in front.
 fn words(line: &mut Tail, note: &Note)
-    requires { length line.old + 110 ≤ 160 }
+    requires { length line.old + 110 ≤ 224 }
     ensures line { line.new ≡ note_words note.now ++ line.old }
     ensures few { length line.new ≤ length line.old + 110 }
 {
@@ -63,7 +111,7 @@ fn words(line: &mut Tail, note: &Note)
 
 // What became of a live packet.
 fn live_words(line: &mut Tail, note: &LiveNote)
-    requires { length line.old + 34 ≤ 160 }
+    requires { length line.old + 34 ≤ 224 }
     ensures line { line.new ≡ live_words note.now ++ line.old }
     ensures few { length line.new ≤ length line.old + 34 }
 {
@@ -81,7 +129,7 @@ fn live_words(line: &mut Tail, note: &LiveNote)
 }
 
 fn bad(line: &mut Tail, fault: RtpFault)
-    requires { length line.old + 16 ≤ 160 }
+    requires { length line.old + 16 ≤ 224 }
     ensures line { line.new ≡ codes "bad " ++ rtp_fault_word fault ++ line.old }
     ensures few { length line.new ≤ length line.old + 16 }
 {
@@ -96,7 +144,7 @@ fn bad(line: &mut Tail, fault: RtpFault)
 }
 
 fn bad_feedback(line: &mut Tail, client: u64, fault: FrameFault)
-    requires { length line.old + 41 ≤ 160 }
+    requires { length line.old + 41 ≤ 224 }
     ensures line { line.new ≡ of_word (codes "bad-feedback") client (frame_fault_word fault) ++ line.old }
     ensures few { length line.new ≤ length line.old + 41 }
 {
@@ -117,7 +165,7 @@ fn frame_fault(fault: FrameFault) -> &'static [u8]
 }
 
 fn end(line: &mut Tail, client: u64, cause: Cause)
-    requires { length line.old + 32 ≤ 160 }
+    requires { length line.old + 32 ≤ 224 }
     ensures line { line.new ≡ of_word (codes "end") client (cause_word cause) ++ line.old }
     ensures few { length line.new ≤ length line.old + 32 }
 {
@@ -132,7 +180,7 @@ fn end(line: &mut Tail, client: u64, cause: Cause)
 
 // A word, a client, and what was told of it.
 fn told(line: &mut Tail, name: &[u8], client: u64, what: &[u8])
-    requires { length name.now + length what.now + length line.old + 21 ≤ 160 }
+    requires { length name.now + length what.now + length line.old + 21 ≤ 224 }
     ensures line { line.new ≡ name.now ++ spaced client ++ what.now ++ line.old }
     ensures few { length line.new ≤ length name.now + length what.now + length line.old + 21 }
 {
@@ -141,7 +189,7 @@ fn told(line: &mut Tail, name: &[u8], client: u64, what: &[u8])
 }
 
 fn accept(line: &mut Tail, client: u64, first: u64, rate: u64, join: u64)
-    requires { length line.old + 106 ≤ 160 }
+    requires { length line.old + 106 ≤ 224 }
     ensures line { line.new ≡ codes "accept" ++ spaced client ++ codes " first" ++ spaced first ++ codes " rate" ++ spaced rate ++ codes " join" ++ spaced join ++ line.old }
     ensures few { length line.new ≤ length line.old + 106 }
 {
@@ -152,7 +200,7 @@ fn accept(line: &mut Tail, client: u64, first: u64, rate: u64, join: u64)
 }
 
 fn update(line: &mut Tail, client: u64, rate: u64, join: u64)
-    requires { length line.old + 80 ≤ 160 }
+    requires { length line.old + 80 ≤ 224 }
     ensures line { line.new ≡ codes "update" ++ spaced client ++ codes " rate" ++ spaced rate ++ codes " join" ++ spaced join ++ line.old }
     ensures few { length line.new ≤ length line.old + 80 }
 {
@@ -163,10 +211,23 @@ fn update(line: &mut Tail, client: u64, rate: u64, join: u64)
 
 // A packet that is sent, under its number and its retransmission's.
 fn sent(line: &mut Tail, name: &[u8], client: u64, n: u64, seq: u16)
-    requires { length name.now + length line.old + 63 ≤ 160 }
+    requires { length name.now + length line.old + 63 ≤ 224 }
     ensures line { line.new ≡ name.now ++ spaced client ++ spaced n ++ spaced seq ++ line.old }
     ensures few { length line.new ≤ length name.now + length line.old + 63 }
 {
     line.spaced(u64::from(seq));
     line.numbered(name, client, n);
+}
+
+// The same, where the client's digits are at hand.
+fn sent_to(line: &mut Tail, name: &[u8], to: &Piece, n: u64, seq: u16)
+    requires few { length to.now ≤ 21 }
+    requires room { length name.now + length line.old + 63 ≤ 224 }
+    ensures line { line.new ≡ name.now ++ to.now ++ spaced n ++ spaced seq ++ line.old }
+    ensures few { length line.new ≤ length name.now + length line.old + 63 }
+{
+    line.spaced(u64::from(seq));
+    line.spaced(n);
+    line.piece(to);
+    line.word(name);
 }

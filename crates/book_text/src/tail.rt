@@ -2,12 +2,14 @@
 ghost use Rattle.std.specs.Prelude.{◌≡◌, ◌+◌, ◌≤◌, ◌<◌, ◌++◌, [], ◌∷◌, OnOk, OnErr, length, decimal, vec_capacity};
 ghost use Rattle.rams_model.specs.Texts.{spaced, of_number};
 
+use crate::piece::{PIECE, Piece};
 use itoa::write_digits;
 use ram_io::NoMemory;
 use std::marker::Model;
 
-// Bytes of the longest line of a note, and more.
-const ROOM: usize = 160;
+// Bytes of the longest line of a note and of the front of a datagram's line, and more; in front of
+// them a piece has the room that is copied with it.
+const ROOM: usize = 224 + PIECE;
 
 /// The end of a line. It is written from its last byte to its first, as digits are, and then appended
 /// to a text as a whole.
@@ -24,7 +26,7 @@ impl Model for Tail {
 
     ghost view = { λ tail. drop tail.start tail.bytes };
 
-    ghost invariant = { λ tail. tail.start ≤ 160 };
+    ghost invariant = { λ tail. tail.start ≤ 272 };
 }
 
 impl Tail {
@@ -61,7 +63,7 @@ impl Tail {
     /// A byte in front.
     #[inline]
     pub fn byte(&mut self, byte: u8)
-        requires { length self.old < 160 }
+        requires { length self.old < 224 }
         ensures { self.new ≡ byte ∷ self.old }
     {
         self.start -= 1;
@@ -71,7 +73,7 @@ impl Tail {
     /// A word in front.
     #[inline]
     pub fn word(&mut self, word: &[u8])
-        requires { length word.now + length self.old ≤ 160 }
+        requires { length word.now + length self.old ≤ 224 }
         ensures { self.new ≡ word.now ++ self.old }
     {
         let end = self.start;
@@ -79,9 +81,20 @@ impl Tail {
         self.bytes[self.start..end].copy_from_slice(word);
     }
 
+    /// A piece in front.
+    #[inline]
+    pub(crate) fn piece(&mut self, piece: &Piece)
+        requires { length piece.now + length self.old ≤ 224 }
+        ensures { self.new ≡ piece.now ++ self.old }
+    {
+        let end = self.start;
+        self.bytes[end - PIECE..end].copy_from_slice(piece.whole());
+        self.start = end - piece.len();
+    }
+
     /// A number in front, in decimal digits.
     pub fn number(&mut self, n: u64)
-        requires { length self.old + 20 ≤ 160 }
+        requires { length self.old + 20 ≤ 224 }
         ensures line { self.new ≡ decimal n ++ self.old }
         ensures few { length self.new ≤ length self.old + 20 }
     {
@@ -91,7 +104,7 @@ impl Tail {
     /// A space and a number in front.
     #[inline]
     pub fn spaced(&mut self, n: u64)
-        requires { length self.old + 21 ≤ 160 }
+        requires { length self.old + 21 ≤ 224 }
         ensures line { self.new ≡ spaced n ++ self.old }
         ensures few { length self.new ≤ length self.old + 21 }
     {
@@ -102,7 +115,7 @@ impl Tail {
     /// A word, a space and a number in front.
     #[inline]
     pub fn named(&mut self, word: &[u8], n: u64)
-        requires { length word.now + length self.old + 21 ≤ 160 }
+        requires { length word.now + length self.old + 21 ≤ 224 }
         ensures line { self.new ≡ word.now ++ spaced n ++ self.old }
         ensures few { length self.new ≤ length word.now + length self.old + 21 }
     {
@@ -113,7 +126,7 @@ impl Tail {
     /// A word, a client and a number in front.
     #[inline]
     pub fn numbered(&mut self, word: &[u8], client: u64, n: u64)
-        requires { length word.now + length self.old + 42 ≤ 160 }
+        requires { length word.now + length self.old + 42 ≤ 224 }
         ensures line { self.new ≡ of_number word.now client n ++ self.old }
         ensures few { length self.new ≤ length word.now + length self.old + 42 }
     {
