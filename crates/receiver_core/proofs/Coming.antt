@@ -1,5 +1,5 @@
 -- What becomes of a packet, by the tests of the code.
-use Rattle.std.proofs.Common.{◌≡◌, ℕ, ◌+◌, ◌<◌, ◌≤◌, true, false, cond, List, Option, Some, None, is_some, refl, ap, ◌∙◌, ltb, leb}
+use Rattle.std.proofs.Common.{◌≡◌, ℕ, ◌+◌, ◌<◌, ◌≤◌, true, false, cond, List, ap, ◌∙◌, ltb, leb}
 use Rattle.std.proofs.lemmas.Bool.{cond-true, cond-false, le-ltb, lt-leb}
 use Rattle.rams_model.specs.declared.reception.MediaCame.{MediaCame}
 use Rattle.rams_model.specs.declared.reception.MediaCame.TheVariants.{Took, Behind, Beyond, Twice}
@@ -23,7 +23,3 @@ kept_twice p n packet e = ap (λ (c : MediaCame). kept c (piece n packet) p) e
 
 pub kept_took : (p : Playing) (n : ℕ) (packet : List ℕ) → came p n ≡ Took → with_arrival n packet p ≡ record p { waits = with_piece (piece n packet) p.waits }
 kept_took p n packet e = ap (λ (c : MediaCame). kept c (piece n packet) p) e
-
-pub none_of : {A : Type 0} (o : Option A) → is_some o ≡ false → o ≡ None
-none_of None e = refl
-none_of (Some x) e = absurd cc

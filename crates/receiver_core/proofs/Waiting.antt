@@ -1,74 +1,165 @@
--- What an ordered map of packets is as pieces that wait.
-use Rattle.std.proofs.Common.{◌≡◌, ℕ, suc, ◌-◌, ◌<◌, Bool, true, false, ◌||◌, cond, List, [], ◌∷◌, length, Some, None, option_map, is_some, refl, ap, subst, arith, eqb, ltb, Less, Equal, Greater, nat_cmp, is_eq}
-use Rattle.std.specs.Ordering.{match_ordering}
-use Rattle.std.specs.BTreeMap.{insert_entry, is_at}
-use Rattle.std.specs.Map.{lookup, remove_entry}
-use Rattle.std.specs.List.{slice_get}
-use Rattle.std.proofs.lemmas.Bool.{eqb-true}
+-- What packets that wait by rising number are as pieces.
+use Rattle.std.proofs.Common.{◌≡◌, ℕ, zero, suc, ◌+◌, ◌-◌, ◌<◌, ◌≤◌, ◌≢◌, Bool, true, false, not, ◌||◌, cond, slice_index_or, List, [], ◌∷◌, length, Option, Some, None, Result, Ok, Err, MatchResult, refl, ap, sym, ◌∙◌, arith, eqb, ltb}
+use Rattle.std.specs.Prelude.{is_err}
+use Rattle.std.specs.List.{insert}
+use Rattle.std.specs.List.Sorted.{IsSearchInRange, IsBinarySearchResult, IsNonDecreasingBy}
+use Rattle.std.specs.Ordering.{nat_cmp, ordering_index}
+use Rattle.std.proofs.lemmas.Cmp.{ranked}
+use Rattle.std.proofs.lemmas.List.{get_or_default}
+use Rattle.std.proofs.lemmas.List.Sorted.{IsNonDecreasingBy-from_default}
+use Rattle.std.proofs.lemmas.Bool.{cond-true, cond-false, eq-eqb, ne_eqb, lt-ltb, le-ltb}
 use Rattle.std.proofs.lemmas.Bool.Decides.{nat_tests}
+use Rattle.rams_model.specs.declared.reception.Shown.{Shown}
 use Rattle.rams_model.specs.Receiver.{Piece, piece, has_piece, with_piece, piece_at, without_piece, last_number}
-use Rattle.receiver_core.specs.{pieces_of}
+use Rattle.receiver_core.specs.{pieces_of, Rise, number_at, IsPlace, IsGap}
 
--- a key is found by its number
-same_test : (n k : ℕ) → is_at (nat_cmp n) k ≡ eqb k n
-same_test n k = grind (arith, nat_tests)
+-- none, which clauses write as the default
+abbrev nothing : Shown
+nothing = record { n = 0; packet = [] }
 
-pub has_entry : (n : ℕ) (es : List (ℕ × List ℕ)) → has_piece n (pieces_of es) ≡ is_some (lookup (is_at (nat_cmp n)) es)
-has_entry n [] = refl
-has_entry n (e ∷ es) = step (is_at (nat_cmp n) e.0) (eqb e.0 n) (same_test n e.0) (has_entry n es)
+-- numbers that rise from one on rise from a lower one on
+pub rise_from : (m n : ℕ) (l : List Shown) → m ≤ n → Rise n l → Rise m l
+rise_from m n [] le rise = tt
+rise_from m n (s ∷ l) le rise = (omega (arith, le, rise.0), rise.1)
+
+later : (m : ℕ) (l : List Shown) (j : ℕ) → Rise m l → j < length l → m ≤ number_at l j
+later m [] j rise lt = absurd (omega arith)
+later m (s ∷ l) zero rise lt = rise.0
+later m (s ∷ l) (suc j) rise lt = omega (arith, rise.0, later (s.n + 1) l j rise.1 (omega arith))
+
+pub rise_at : (m : ℕ) (l : List Shown) (i j : ℕ) → Rise m l → i < j → j < length l → number_at l i < number_at l j
+rise_at m [] i j rise lt within = absurd (omega arith)
+rise_at m (s ∷ l) zero zero rise lt within = absurd (omega arith)
+rise_at m (s ∷ l) zero (suc j) rise lt within = omega (arith, later (s.n + 1) l j rise.1 (omega arith))
+rise_at m (s ∷ l) (suc i) zero rise lt within = absurd (omega arith)
+rise_at m (s ∷ l) (suc i) (suc j) rise lt within = rise_at (s.n + 1) l i j rise.1 (omega arith) (omega arith)
+
+-- the comparisons with a number rise along them, as a binary search asks
+comparisons_rise : (m : ℕ) (l : List Shown) (n : ℕ) → Rise m l → IsNonDecreasingBy (λ s. ordering_index (nat_cmp s.n n)) l
+comparisons_rise m l n rise = IsNonDecreasingBy-from_default (λ s. ordering_index (nat_cmp s.n n)) l nothing (λ i j le within.
+    let up : number_at l i ≤ number_at l j = grind (arith, rise_at m l i j rise, λ (same : i ≡ j). ap (number_at l) same) in
+    grind (arith, nat_tests))
+
+-- a binary search by number ends in its place, or where it would wait
+pub place_found : (l : List Shown) (n : ℕ) (r : Result ℕ ℕ) → Rise 0 l → IsSearchInRange r (length l) → IsBinarySearchResult (λ s. nat_cmp s.n n) l r
+    → MatchResult r (IsPlace n l) (IsGap n l)
+place_found l n (Ok i) rise within equal = record { within = within; there = ranked _ n _ (sym (equal nothing)) }
+place_found l n (Err i) rise within parted =
+    let parts = parted (comparisons_rise 0 l n rise) in
+    record {
+      within = within;
+      below = λ j front. ranked _ n _ (sym (parts.0 j nothing (omega (arith, within)) front));
+      above = λ j back lt. ranked _ n _ (sym (parts.1 j nothing back lt));
+    }
+
+-- a number above the last would wait behind it
+pub behind_last : (l : List Shown) (n : ℕ) → Rise 0 l → (0 < length l → number_at l (length l - 1) < n) → IsGap n l (length l)
+behind_last l n rise last = record {
+  within = omega arith;
+  below = λ j lt.
+      let few : 0 < length l = omega (arith, lt) in
+      let up : number_at l j ≤ number_at l (length l - 1) = grind (arith, lt, rise_at 0 l j (length l - 1) rise, λ (same : j ≡ length l - 1). ap (number_at l) same) in
+      omega (arith, up, last few);
+  above = λ j le lt. absurd (omega (arith, le, lt));
+}
+
+gap_later : (n : ℕ) (s : Shown) (l : List Shown) (i : ℕ) → IsGap n (s ∷ l) (suc i) → IsGap n l i
+gap_later n s l i gap = record {
+  within = omega (arith, gap.within);
+  below = λ j lt. gap.below (suc j) (omega arith);
+  above = λ j le lt. gap.above (suc j) (omega arith) (omega arith);
+}
+
+-- ---- a number that waits
+pub has_place : (n : ℕ) (l : List Shown) (i : ℕ) → IsPlace n l i → has_piece n (pieces_of l) ≡ true
+has_place n [] i place = absurd (omega (arith, place.within))
+has_place n (s ∷ l) zero place = step (eqb s.n n) (eq-eqb s.n n place.there)
   where
-    step : (a b : Bool) → a ≡ b → has_piece n (pieces_of es) ≡ is_some (lookup (is_at (nat_cmp n)) es)
-        → (b || has_piece n (pieces_of es)) ≡ is_some (cond a (Some e.1) (lookup (is_at (nat_cmp n)) es))
-    step true true same rest = refl
-    step true false same rest = absurd cc
-    step false true same rest = absurd cc
-    step false false same rest = rest
-
-pub entry_at : (n : ℕ) (es : List (ℕ × List ℕ)) → piece_at n (pieces_of es) ≡ option_map (piece n) (lookup (is_at (nat_cmp n)) es)
-entry_at n [] = refl
-entry_at n (e ∷ es) = step (is_at (nat_cmp n) e.0) (eqb e.0 n) (same_test n e.0) (eqb-true e.0 n) (entry_at n es)
+    step : (same : Bool) → same ≡ true → (same || has_piece n (pieces_of l)) ≡ true
+    step true e = refl
+    step false e = absurd cc
+has_place n (s ∷ l) (suc i) place = step (eqb s.n n) (has_place n l i (record { within = omega (arith, place.within); there = place.there }))
   where
-    step : (a b : Bool) → a ≡ b → (b ≡ true → e.0 ≡ n) → piece_at n (pieces_of es) ≡ option_map (piece n) (lookup (is_at (nat_cmp n)) es)
-        → cond b (Some (piece e.0 e.1)) (piece_at n (pieces_of es)) ≡ option_map (piece n) (cond a (Some e.1) (lookup (is_at (nat_cmp n)) es))
-    step true true same number rest = ap (λ (m : ℕ). Some (piece m e.1)) (number refl)
-    step true false same number rest = absurd cc
-    step false true same number rest = absurd cc
-    step false false same number rest = rest
+    step : (same : Bool) → has_piece n (pieces_of l) ≡ true → (same || has_piece n (pieces_of l)) ≡ true
+    step true e = refl
+    step false e = e
 
-pub without_entry : (n : ℕ) (es : List (ℕ × List ℕ)) → without_piece n (pieces_of es) ≡ pieces_of (remove_entry (is_at (nat_cmp n)) es)
-unfolding without_piece
-without_entry n [] = refl
-without_entry n (e ∷ es) = step (is_at (nat_cmp n) e.0) (eqb e.0 n) (same_test n e.0) (without_entry n es)
-  where
-    step : (a b : Bool) → a ≡ b → without_piece n (pieces_of es) ≡ pieces_of (remove_entry (is_at (nat_cmp n)) es)
-        → cond b (pieces_of es) (piece e.0 e.1 ∷ without_piece n (pieces_of es)) ≡ pieces_of (cond a es (e ∷ remove_entry (is_at (nat_cmp n)) es))
-    step true true same rest = refl
-    step true false same rest = absurd cc
-    step false true same rest = absurd cc
-    step false false same rest = ap (λ (qs : List Piece). piece e.0 e.1 ∷ qs) rest
+-- ---- a number that doesn't
+other : (n : ℕ) (s : Shown) (l : List Shown) (i : ℕ) → IsGap n (s ∷ l) i → eqb s.n n ≡ false
+other n s l zero gap = ne_eqb s.n n (λ same. omega (arith, gap.above 0 (omega arith) (omega arith), same))
+other n s l (suc i) gap = ne_eqb s.n n (λ same. omega (arith, gap.below 0 (omega arith), same))
 
-pub with_entry : (n : ℕ) (packet : List ℕ) (es : List (ℕ × List ℕ)) → lookup (is_at (nat_cmp n)) es ≡ None → with_piece (piece n packet) (pieces_of es) ≡ pieces_of (insert_entry nat_cmp es n packet)
+gap_first : (n : ℕ) (s : Shown) (l : List Shown) → IsGap n (s ∷ l) 0 → IsGap n l 0
+gap_first n s l gap = record {
+  within = omega arith;
+  below = λ j lt. absurd (omega (arith, lt));
+  above = λ j le lt. gap.above (suc j) (omega arith) (omega arith);
+}
+
+has_neither : (same rest : Bool) → same ≡ false → rest ≡ false → (same || rest) ≡ false
+has_neither true rest e none = absurd cc
+has_neither false rest e none = none
+
+pub has_gap : (n : ℕ) (l : List Shown) (i : ℕ) → IsGap n l i → has_piece n (pieces_of l) ≡ false
+has_gap n [] i gap = refl
+has_gap n (s ∷ l) zero gap = has_neither (eqb s.n n) (has_piece n (pieces_of l)) (other n s l 0 gap) (has_gap n l 0 (gap_first n s l gap))
+has_gap n (s ∷ l) (suc i) gap = has_neither (eqb s.n n) (has_piece n (pieces_of l)) (other n s l (suc i) gap) (has_gap n l i (gap_later n s l i gap))
+
+pub with_gap : (n : ℕ) (packet : List ℕ) (l : List Shown) (i : ℕ) → IsGap n l i → with_piece (piece n packet) (pieces_of l) ≡ pieces_of (insert l i (record { n = n; packet = packet }))
 unfolding with_piece
-with_entry n packet [] none = refl
-with_entry n packet (e ∷ es) none = step (ltb n e.0) (eqb n e.0) none (with_entry n packet es)
-  where
-    step : (below same : Bool) → cond (is_eq (cond below Less (cond same Equal Greater))) (Some e.1) (lookup (is_at (nat_cmp n)) es) ≡ None
-        → (lookup (is_at (nat_cmp n)) es ≡ None → with_piece (piece n packet) (pieces_of es) ≡ pieces_of (insert_entry nat_cmp es n packet))
-        → cond below (piece n packet ∷ piece e.0 e.1 ∷ pieces_of es) (piece e.0 e.1 ∷ with_piece (piece n packet) (pieces_of es))
-        ≡ pieces_of (match_ordering (cond below Less (cond same Equal Greater)) ((n, packet) ∷ e ∷ es) ((e.0, packet) ∷ es) (e ∷ insert_entry nat_cmp es n packet))
-    step true same none rest = refl
-    step false true none rest = absurd cc
-    step false false none rest = ap (λ (qs : List Piece). piece e.0 e.1 ∷ qs) (rest none)
+with_gap n packet [] zero gap = refl
+with_gap n packet [] (suc i) gap = absurd (omega (arith, gap.within))
+with_gap n packet (s ∷ l) zero gap =
+    cond-true (ltb n s.n) (piece n packet ∷ piece s.n s.packet ∷ pieces_of l) (piece s.n s.packet ∷ with_piece (piece n packet) (pieces_of l)) (lt-ltb n s.n (gap.above 0 (omega arith) (omega arith)))
+with_gap n packet (s ∷ l) (suc i) gap =
+    cond-false (ltb n s.n) (piece n packet ∷ piece s.n s.packet ∷ pieces_of l) (piece s.n s.packet ∷ with_piece (piece n packet) (pieces_of l)) (le-ltb n s.n (omega (arith, gap.below 0 (omega arith))))
+    ∙ ap (λ (qs : List Piece). piece s.n s.packet ∷ qs) (with_gap n packet l i (gap_later n s l i gap))
 
-pub last_entry : (n k : ℕ) (packet : List ℕ) (es : List (ℕ × List ℕ)) → slice_get es (length es - 1) ≡ Some (k, packet) → last_number n (pieces_of es) ≡ k
-unfolding last_number
-last_entry n k packet [] e = absurd cc
-last_entry n k packet (d ∷ []) e = let is : d ≡ (k, packet) = cc in ap (λ (x : ℕ × List ℕ). x.0) is
-last_entry n k packet (d ∷ f ∷ es) e =
-    let place : length (d ∷ f ∷ es) - 1 ≡ suc (length (f ∷ es) - 1) = omega arith in
-    last_entry d.0 k packet (f ∷ es) (subst (λ (i : ℕ). slice_get (d ∷ f ∷ es) i ≡ Some (k, packet)) place e)
+-- whether it waits is what a look-up tells
+pub is_free : (n : ℕ) (l : List Shown) (r : Result ℕ ℕ) → MatchResult r (IsPlace n l) (IsGap n l) → not (has_piece n (pieces_of l)) ≡ is_err r
+is_free n l (Ok i) place = ap not (has_place n l i place)
+is_free n l (Err i) gap = ap not (has_gap n l i gap)
 
-pub no_entry : (n : ℕ) (es : List (ℕ × List ℕ)) → (0 < length es → ⊥) → last_number n (pieces_of es) ≡ n
+-- it may come to wait there
+pub rise_with : (m n : ℕ) (packet : List ℕ) (l : List Shown) (i : ℕ) → Rise m l → m ≤ n → IsGap n l i → Rise m (insert l i (record { n = n; packet = packet }))
+rise_with m n packet [] zero rise le gap = (le, tt)
+rise_with m n packet [] (suc i) rise le gap = absurd (omega (arith, gap.within))
+rise_with m n packet (s ∷ l) zero rise le gap = (le, (omega (arith, gap.above 0 (omega arith) (omega arith)), rise.1))
+rise_with m n packet (s ∷ l) (suc i) rise le gap = (rise.0, rise_with (s.n + 1) n packet l i rise.1 (omega (arith, gap.below 0 (omega arith))) (gap_later n s l i gap))
+
+-- ---- what is in front
+pub read_at : (s : Shown) (l : List Shown) (i : ℕ) → s ≡ slice_index_or l i s → i < length l → s.n ≡ number_at l i
+read_at s l i e lt = ap (λ (t : Shown). t.n) (e ∙ get_or_default l i s nothing lt)
+
+pub none_below : (n m : ℕ) (l : List Shown) → n < m → Rise m l → piece_at n (pieces_of l) ≡ None
+none_below n m [] lt rise = refl
+none_below n m (s ∷ l) lt rise =
+    cond-false (eqb s.n n) (Some (piece s.n s.packet)) (piece_at n (pieces_of l)) (ne_eqb s.n n (λ same. omega (arith, lt, rise.0, same)))
+    ∙ none_below n (s.n + 1) l (omega (arith, lt, rise.0)) rise.1
+
+pub front_other : (n : ℕ) (l : List Shown) → Rise n l → 0 < length l → number_at l 0 ≢ n → piece_at n (pieces_of l) ≡ None
+front_other n [] rise some not_it = absurd (omega (arith, some))
+front_other n (s ∷ l) rise some not_it =
+    cond-false (eqb s.n n) (Some (piece s.n s.packet)) (piece_at n (pieces_of l)) (ne_eqb s.n n not_it)
+    ∙ none_below n (s.n + 1) l (omega (arith, rise.0)) rise.1
+
+pub front_at : (n : ℕ) (s : Shown) (l : List Shown) → s.n ≡ n → piece_at n (pieces_of (s ∷ l)) ≡ Some (piece s.n s.packet)
+front_at n s l same = cond-true (eqb s.n n) (Some (piece s.n s.packet)) (piece_at n (pieces_of l)) (eq-eqb s.n n same)
+
+pub without_front : (n : ℕ) (s : Shown) (l : List Shown) → s.n ≡ n → without_piece n (pieces_of (s ∷ l)) ≡ pieces_of l
+unfolding without_piece
+without_front n s l same = cond-true (eqb s.n n) (pieces_of l) (piece s.n s.packet ∷ without_piece n (pieces_of l)) (eq-eqb s.n n same)
+
+-- ---- the last
+pub last_of : (n : ℕ) (l : List Shown) → 0 < length l → last_number n (pieces_of l) ≡ number_at l (length l - 1)
 unfolding last_number
-no_entry n [] none = refl
-no_entry n (e ∷ es) none = absurd (none (omega arith))
+last_of n [] some = absurd (omega (arith, some))
+last_of n (s ∷ []) some = refl
+last_of n (s ∷ t ∷ l) some =
+    let place : length (s ∷ t ∷ l) - 1 ≡ suc (length (t ∷ l) - 1) = omega arith in
+    last_of s.n (t ∷ l) (omega arith) ∙ ap (number_at (s ∷ t ∷ l)) (sym place)
+
+pub no_last : (n : ℕ) (l : List Shown) → (0 < length l → ⊥) → last_number n (pieces_of l) ≡ n
+unfolding last_number
+no_last n [] none = refl
+no_last n (s ∷ l) none = absurd (none (omega arith))

@@ -1,35 +1,39 @@
 //! What a receiver plays.
-ghost use Rattle.std.specs.Prelude.{◌≡◌, ◌%◌, ◌^◌, ◌<◌, ◌≤◌, Some, map, take, option_map, vec_len, IfOk, OnOk, OnErr};
+ghost use Rattle.std.specs.Prelude.{◌≡◌, ◌%◌, ◌^◌, ◌<◌, ◌≤◌, Some, map, take, option_map, vec_len, IfOk, OnOk, OnErr, MatchResult};
 ghost use Rattle.rams_model.specs.Receiver.{Playing, playing_from, nearest, came, with_arrival, joining, join_kept, presented, after_presenting, last_number, missing, most_named};
-ghost use Rattle.receiver_core.specs.{as_shown};
+ghost use Rattle.receiver_core.specs.{as_shown, Rise, IsPlace, IsGap};
 
 use crate::numbers::{ROOM, SEQUENCE_NUMBERS, nearest};
 use ram_io::NoMemory;
 use rams_model::{MediaCame, Octets, Shown};
 use std::alloc::Global;
-use std::collections::BTreeMap;
+use std::collections::VecDeque;
 use std::marker::Model;
 
 // The most numbers that one NACK names.
 const MOST_NAMED: usize = 256;
 
-/// The packets that arrived and wait, by their numbers, from the one that is presented next on.
+/// What a receiver plays. Most packets come in order: one goes behind those that wait, and is presented
+/// from their front.
 #[derive(Drop)]
 pub(crate) struct Window {
     first: u64,
     next: u64,
-    waits: BTreeMap<u64, Octets>,
+    /// The packets that arrived and aren't presented, by rising number.
+    waits: VecDeque<Shown>,
     /// The number of the packet with which the receiver joined the multicast.
     joined: Option<u64>,
 }
 
 impl Model for Window {
     ghost use Rattle.rams_model.specs.Receiver.{Playing};
-    ghost use Rattle.receiver_core.specs.Pieces.{pieces_of};
+    ghost use Rattle.receiver_core.specs.Pieces.{pieces_of, Rise};
 
     ghost Value = { Playing };
 
-    ghost view = { λ w. record { first = w.first; next = w.next; waits = pieces_of w.waits.entries; joined = w.joined } };
+    ghost view = { λ w. record { first = w.first; next = w.next; waits = pieces_of w.waits.items; joined = w.joined } };
+
+    ghost invariant = { λ w. Rise w.next w.waits.items };
 }
 
 impl Window {
@@ -40,7 +44,7 @@ impl Window {
         Window {
             first,
             next: first,
-            waits: BTreeMap::new(alloc),
+            waits: VecDeque::new(alloc),
             joined: None,
         }
     }
@@ -89,11 +93,13 @@ impl Window {
         if n >= self.next + ROOM {
             return Ok(MediaCame::Beyond);
         }
-        if self.waits.contains_key(&n) {
-            return Ok(MediaCame::Twice);
+        match place_in(&self.waits, n) {
+            Ok(_) => Ok(MediaCame::Twice),
+            Err(place) => {
+                self.waits.insert(place, Shown { n, packet })?;
+                Ok(MediaCame::Took)
+            }
         }
-        self.waits.insert(n, packet)?;
-        Ok(MediaCame::Took)
     }
 
     /// The number with which the receiver joins, where a multicast packet with this number makes it
@@ -121,10 +127,12 @@ impl Window {
         ensures shown { result ≡ option_map as_shown (presented self.old) }
         ensures after { self.new ≡ after_presenting self.old }
     {
-        let packet = self.waits.remove(&self.next)?;
-        let n = self.next;
+        if self.waits.front()?.n != self.next {
+            return None;
+        }
+        let shown = self.waits.pop_front()?;
         self.next += 1;
-        Some(Shown { n, packet })
+        Some(shown)
     }
 
     /// The low 16 bits of the numbers that are missing below the greatest that arrived, in rising
@@ -138,7 +146,7 @@ impl Window {
             if numbers.len() == MOST_NAMED {
                 break;
             }
-            if !self.waits.contains_key(&n) {
+            if place_in(&self.waits, n).is_err() {
                 numbers.push((n % SEQUENCE_NUMBERS) as u16)?;
             }
         }
@@ -149,9 +157,20 @@ impl Window {
     fn last(&self) -> u64
         ensures { result ≡ last_number self.now.next self.now.waits }
     {
-        match self.waits.last_key_value() {
-            Some((last, _)) => *last,
+        match self.waits.back() {
+            Some(last) => last.n,
             None => self.next,
         }
+    }
+}
+
+// Where the packet with a number waits, or where it would.
+fn place_in(waits: &VecDeque<Shown>, n: u64) -> Result<usize, usize>
+    requires { Rise 0 waits.now.items }
+    ensures { MatchResult result (IsPlace n waits.now.items) (IsGap n waits.now.items) }
+{
+    match waits.back() {
+        Some(last) if n <= last.n => waits.binary_search_by_key(&n, |shown| shown.n),
+        _ => Err(waits.len()),
     }
 }

@@ -8,6 +8,6 @@ use Rattle.receiver_core.proofs.window.Window.missing.Given as goal
 abbrev pub invariant-loop-n : goal.invariant-loop-n
 invariant-loop-n l = record {
   found : l.numbers.items
-      ≡ map (λ (n : ℕ). n % 65536) (least_passing (λ (n : ℕ). not (has_piece n (pieces_of l.self-inside.waits.entries))) most_named l.self-inside.next (l.n-counter - l.self-inside.next));
-  within : l.n-counter - l.self-inside.next ≤ l.n-end - l.self-inside.next;
+      ≡ map (λ (n : ℕ). n % 65536) (least_passing (λ (n : ℕ). not (has_piece n (pieces_of l.self-inside.waits.items))) most_named l.self-inside.next (l.n - l.self-inside.next));
+  within : l.n - l.self-inside.next ≤ l.n-end - l.self-inside.next;
 }
