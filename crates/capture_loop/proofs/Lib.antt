@@ -5,7 +5,6 @@ pub mod Closing
 pub mod Filling
 pub mod Ticking
 pub mod Bringing
-pub mod Spelling
 pub mod Heading
 pub mod Stopping
 pub mod Whole

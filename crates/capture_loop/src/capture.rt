@@ -13,8 +13,8 @@ use crate::intake::Intake;
 use crate::last::{End, write_last};
 use crate::records::{Next, next_within, read_order};
 use crate::watch::CaptureWatch;
-use crate::writer::Writer;
 use head_loop::Opened;
+use line_io::Gather;
 use pcap_trace::{Due, Endian};
 use ram_io::{Sink, Source};
 use rams_model::Status;
@@ -30,25 +30,25 @@ fn write_records<S: Source, K: Sink, T: CaptureWatch>(
     endian: Endian,
     intake: &mut Intake,
     source: &mut S,
-    writer: &mut Writer,
+    gather: &mut Gather,
     sink: &mut K,
     watch: &T,
 ) -> Result<End, Stop>
     requires port { port ≤ 65000 }
     requires few { length opened.now.ids.items ≤ 64 }
     ensures text { IfOk result (λ end. (channels : List Served) → Numbered opened.now.ids.items channels → IfTold (prepend_known intake.old (S.left source.old))
-        (λ xs. ComesTo (K.held sink.old) (K.held sink.new) writer.old.gather writer.new.gather (records_outcome port channels opened.now.hub.tick endian xs) end)) }
+        (λ xs. ComesTo (K.held sink.old) (K.held sink.new) gather.old gather.new (records_outcome port channels opened.now.hub.tick endian xs) end)) }
     ensures journal { result ≡ Ok Whole → (channels : List Served) → Numbered opened.now.ids.items channels → IfTold (prepend_known intake.old (S.left source.old))
         (λ xs. AreWritten (records_events port channels opened.now.hub.tick endian xs) (records_outcome port channels opened.now.hub.tick endian xs)) }
     ensures ended { result ≡ Ok Whole → IsAtEnd (S.left source.new) }
     ensures front { IfErr result (λ stop. (channels : List Served) → Numbered opened.now.ids.items channels → IfTold (prepend_known intake.old (S.left source.old))
-        (λ xs. StopsIn (K.held sink.old) (K.held sink.new) (writer.old.gather ++ (records_outcome port channels opened.now.hub.tick endian xs).text) writer.new.gather stop)) }
+        (λ xs. StopsIn (K.held sink.old) (K.held sink.new) (gather.old ++ (records_outcome port channels opened.now.hub.tick endian xs).text) gather.new stop)) }
     ensures read { result ≡ Err Read → (channels : List Served) → Numbered opened.now.ids.items channels → IfBothTold (prepend_known intake.old (S.left source.old)) (S.left source.new)
-        (HasLinesOf (records_events port channels opened.now.hub.tick endian) (K.held sink.old) (K.held sink.new) writer.old.gather writer.new.gather) }
+        (HasLinesOf (records_events port channels opened.now.hub.tick endian) (K.held sink.old) (K.held sink.new) gather.old gather.new) }
     ensures cause { IsStopped (S.faults source.old) (S.faults source.new) (K.faults sink.old) (K.faults sink.new) result }
     ensures steady { S.is_steady source.old → (channels : List Served) → Numbered opened.now.ids.items channels → IfTold (prepend_known intake.old (S.left source.old))
-        (λ xs. (room : ℕ) → K.is_steady sink.old (length (writer.old.gather ++ (records_outcome port channels opened.now.hub.tick endian xs).text) + room)
-        → MatchResult result (λ end. K.is_steady sink.new (length writer.new.gather + length (last end).text + room)) (λ stop. stop ≡ Memory)) }
+        (λ xs. (room : ℕ) → K.is_steady sink.old (length (gather.old ++ (records_outcome port channels opened.now.hub.tick endian xs).text) + room)
+        → MatchResult result (λ end. K.is_steady sink.new (length gather.new + length (last end).text + room)) (λ stop. stop ≡ Memory)) }
 {
     let mut progress = Progress {
         due: Due::new(opened.hub.tick_ms()),
@@ -65,7 +65,7 @@ fn write_records<S: Source, K: Sink, T: CaptureWatch>(
                 return Ok(End::Refused { number, fault });
             }
             Ok(Next::Whole(header)) => {
-                if !write_record(opened, port, header, &mut progress, intake, writer, sink)? {
+                if !write_record(opened, port, header, &mut progress, intake, gather, sink)? {
                     return Ok(End::TooLong);
                 }
             }
@@ -80,30 +80,30 @@ fn write_events<S: Source, K: Sink, T: CaptureWatch>(
     port: u16,
     intake: &mut Intake,
     source: &mut S,
-    writer: &mut Writer,
+    gather: &mut Gather,
     sink: &mut K,
     watch: &T,
 ) -> Result<End, Stop>
     requires port { port ≤ 65000 }
     requires few { length opened.now.ids.items ≤ 64 }
     ensures text { IfOk result (λ end. (channels : List Served) → Numbered opened.now.ids.items channels → IfTold (prepend_known intake.old (S.left source.old))
-        (λ xs. ComesTo (K.held sink.old) (K.held sink.new) writer.old.gather writer.new.gather (file_text port channels (new_clock opened.now.hub.tick) xs) end)) }
+        (λ xs. ComesTo (K.held sink.old) (K.held sink.new) gather.old gather.new (file_text port channels (new_clock opened.now.hub.tick) xs) end)) }
     ensures journal { result ≡ Ok Whole → (channels : List Served) → Numbered opened.now.ids.items channels → IfTold (prepend_known intake.old (S.left source.old))
         (λ xs. AreWritten (file_events port channels (new_clock opened.now.hub.tick) xs) (file_text port channels (new_clock opened.now.hub.tick) xs)) }
     ensures ended { result ≡ Ok Whole → IsAtEnd (S.left source.new) }
     ensures front { IfErr result (λ stop. (channels : List Served) → Numbered opened.now.ids.items channels → IfTold (prepend_known intake.old (S.left source.old))
-        (λ xs. StopsIn (K.held sink.old) (K.held sink.new) (writer.old.gather ++ (file_text port channels (new_clock opened.now.hub.tick) xs).text) writer.new.gather stop)) }
+        (λ xs. StopsIn (K.held sink.old) (K.held sink.new) (gather.old ++ (file_text port channels (new_clock opened.now.hub.tick) xs).text) gather.new stop)) }
     ensures read { result ≡ Err Read → (channels : List Served) → Numbered opened.now.ids.items channels → IfBothTold (prepend_known intake.old (S.left source.old)) (S.left source.new)
-        (HasLinesOf (file_events port channels (new_clock opened.now.hub.tick)) (K.held sink.old) (K.held sink.new) writer.old.gather writer.new.gather) }
+        (HasLinesOf (file_events port channels (new_clock opened.now.hub.tick)) (K.held sink.old) (K.held sink.new) gather.old gather.new) }
     ensures cause { IsStopped (S.faults source.old) (S.faults source.new) (K.faults sink.old) (K.faults sink.new) result }
     ensures steady { S.is_steady source.old → (channels : List Served) → Numbered opened.now.ids.items channels → IfTold (prepend_known intake.old (S.left source.old))
-        (λ xs. (room : ℕ) → K.is_steady sink.old (length (writer.old.gather ++ (file_text port channels (new_clock opened.now.hub.tick) xs).text) + room)
-        → MatchResult result (λ end. K.is_steady sink.new (length writer.new.gather + length (last end).text + room)) (λ stop. stop ≡ Memory)) }
+        (λ xs. (room : ℕ) → K.is_steady sink.old (length (gather.old ++ (file_text port channels (new_clock opened.now.hub.tick) xs).text) + room)
+        → MatchResult result (λ end. K.is_steady sink.new (length gather.new + length (last end).text + room)) (λ stop. stop ≡ Memory)) }
 {
     match read_order(intake, source, watch) {
         Err(_) => Err(Stop::Read),
         Ok(Err(fault)) => Ok(End::Refused { number: 0, fault }),
-        Ok(Ok(endian)) => write_records(opened, port, endian, intake, source, writer, sink, watch),
+        Ok(Ok(endian)) => write_records(opened, port, endian, intake, source, gather, sink, watch),
     }
 }
 
@@ -113,7 +113,7 @@ pub(crate) fn write_file<S: Source, K: Sink, T: CaptureWatch>(
     port: u16,
     intake: &mut Intake,
     source: &mut S,
-    writer: &mut Writer,
+    gather: &mut Gather,
     sink: &mut K,
     watch: &T,
 ) -> Result<Status, Stop>
@@ -121,19 +121,19 @@ pub(crate) fn write_file<S: Source, K: Sink, T: CaptureWatch>(
     requires few { length opened.now.ids.items ≤ 64 }
     ensures status { IfOk result IsCaptureEnd }
     ensures text { IfOk result (λ status. (channels : List Served) → Numbered opened.now.ids.items channels → IfTold (prepend_known intake.old (S.left source.old))
-        (λ xs. Ends (K.held sink.old) (K.held sink.new) writer.old.gather writer.new.gather (file_text port channels (new_clock opened.now.hub.tick) xs) status)) }
+        (λ xs. Ends (K.held sink.old) (K.held sink.new) gather.old gather.new (file_text port channels (new_clock opened.now.hub.tick) xs) status)) }
     ensures journal { result ≡ Ok Done → (channels : List Served) → Numbered opened.now.ids.items channels → IfTold (prepend_known intake.old (S.left source.old))
         (λ xs. AreWritten (file_events port channels (new_clock opened.now.hub.tick) xs) (file_text port channels (new_clock opened.now.hub.tick) xs)) }
     ensures ended { result ≡ Ok Done → IsAtEnd (S.left source.new) }
     ensures front { IfErr result (λ stop. (channels : List Served) → Numbered opened.now.ids.items channels → IfTold (prepend_known intake.old (S.left source.old))
-        (λ xs. StopsIn (K.held sink.old) (K.held sink.new) (writer.old.gather ++ (file_text port channels (new_clock opened.now.hub.tick) xs).text) writer.new.gather stop)) }
+        (λ xs. StopsIn (K.held sink.old) (K.held sink.new) (gather.old ++ (file_text port channels (new_clock opened.now.hub.tick) xs).text) gather.new stop)) }
     ensures read { result ≡ Err Read → (channels : List Served) → Numbered opened.now.ids.items channels → IfBothTold (prepend_known intake.old (S.left source.old)) (S.left source.new)
-        (HasLinesOf (file_events port channels (new_clock opened.now.hub.tick)) (K.held sink.old) (K.held sink.new) writer.old.gather writer.new.gather) }
+        (HasLinesOf (file_events port channels (new_clock opened.now.hub.tick)) (K.held sink.old) (K.held sink.new) gather.old gather.new) }
     ensures cause { IsStopped (S.faults source.old) (S.faults source.new) (K.faults sink.old) (K.faults sink.new) result }
     ensures steady { S.is_steady source.old → (channels : List Served) → Numbered opened.now.ids.items channels → IfTold (prepend_known intake.old (S.left source.old))
-        (λ xs. (room : ℕ) → K.is_steady sink.old (length (writer.old.gather ++ (file_text port channels (new_clock opened.now.hub.tick) xs).text) + room)
-        → OnlyMemoryStops result (K.is_steady sink.new (length writer.new.gather + room))) }
+        (λ xs. (room : ℕ) → K.is_steady sink.old (length (gather.old ++ (file_text port channels (new_clock opened.now.hub.tick) xs).text) + room)
+        → OnlyMemoryStops result (K.is_steady sink.new (length gather.new + room))) }
 {
-    let end = write_events(opened, port, intake, source, writer, sink, watch)?;
-    write_last(writer, sink, end)
+    let end = write_events(opened, port, intake, source, gather, sink, watch)?;
+    write_last(gather, sink, end)
 }

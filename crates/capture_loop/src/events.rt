@@ -8,9 +8,10 @@ ghost use Rattle.journal_book.specs.{CanCome, HasLine, event_lines, heard_from};
 ghost use Rattle.capture_loop.specs.{Numbered, captured_in, clock_told, frame_heard, record_events, ticks_and};
 
 use crate::intake::Intake;
-use crate::writer::{Writer, put_event, put_ticks};
+use crate::writer::{put_event, put_ticks};
 use head_loop::{Opened, event_at};
 use journal_book::laws::turns_make_journals;
+use line_io::Gather;
 use pcap_trace::{Due, HEADER_SIZE, Record, datagram};
 use ram_io::{Arrival, Sink};
 use server_hub::Heard;
@@ -63,7 +64,7 @@ pub(crate) fn frame_heard<'a>(port: u16, ids: &[u16], frame: &'a [u8]) -> Option
 /// Adds the lines of so many ticks and then of this event, as far as there is room. Answers for how many
 /// more there is room, and nothing where one was too many.
 fn write_events<K: Sink>(
-    writer: &mut Writer,
+    gather: &mut Gather,
     sink: &mut K,
     room: u64,
     ticks: u64,
@@ -72,15 +73,15 @@ fn write_events<K: Sink>(
     ensures left { IfOk result (λ left. MatchOption left (room < length (ticks_and ticks (option_map (λ h. event_of h) heard.entry)))
         (λ n. n + length (ticks_and ticks (option_map (λ h. event_of h) heard.entry)) ≡ room)) }
     ensures all { OnOk result (Passes (K.held sink.old) (K.held sink.new)
-        (writer.old.gather ++ event_lines (take room (ticks_and ticks (option_map (λ h. event_of h) heard.entry)))) writer.new.gather) }
+        (gather.old ++ event_lines (take room (ticks_and ticks (option_map (λ h. event_of h) heard.entry)))) gather.new) }
     ensures front { IfErr result (StopsIn (K.held sink.old) (K.held sink.new)
-        (writer.old.gather ++ event_lines (take room (ticks_and ticks (option_map (λ h. event_of h) heard.entry)))) writer.new.gather) }
+        (gather.old ++ event_lines (take room (ticks_and ticks (option_map (λ h. event_of h) heard.entry)))) gather.new) }
     ensures cause { IsStoppedByWrite (K.faults sink.old) (K.faults sink.new) result }
-    ensures steady { (more : ℕ) → K.is_steady sink.old (length writer.old.gather + length (event_lines (take room (ticks_and ticks (option_map (λ h. event_of h) heard.entry)))) + more)
-        → OnlyMemoryStops result (K.is_steady sink.new (length writer.new.gather + more)) }
+    ensures steady { (more : ℕ) → K.is_steady sink.old (length gather.old + length (event_lines (take room (ticks_and ticks (option_map (λ h. event_of h) heard.entry)))) + more)
+        → OnlyMemoryStops result (K.is_steady sink.new (length gather.new + more)) }
 {
     let count = ticks.min(room);
-    put_ticks(&mut writer.gather, sink, count)?;
+    put_ticks(gather, sink, count)?;
     if count < ticks {
         return Ok(None);
     }
@@ -90,7 +91,7 @@ fn write_events<K: Sink>(
     if count == room {
         return Ok(None);
     }
-    put_event(writer, sink, heard)?;
+    put_event(gather, sink, heard)?;
     Ok(Some(room - count - 1))
 }
 
@@ -102,7 +103,7 @@ pub(crate) fn write_record<K: Sink>(
     header: Record,
     progress: &mut Progress,
     intake: &mut Intake,
-    writer: &mut Writer,
+    gather: &mut Gather,
     sink: &mut K,
 ) -> Result<bool, Stop>
     requires there { 16 + header.len ≤ length intake.old }
@@ -116,19 +117,19 @@ pub(crate) fn write_record<K: Sink>(
     ensures left { OnOk result (intake.new ≡ drop (16 + header.len) intake.old) }
     ensures spelled { (channels : List Served) → Numbered opened.now.ids.items channels → All HasLine (record_events port channels progress.old.due (captured_in intake.old header)) }
     ensures all { (channels : List Served) → Numbered opened.now.ids.items channels → OnOk result (Passes (K.held sink.old) (K.held sink.new)
-        (writer.old.gather ++ event_lines (take progress.old.room (record_events port channels progress.old.due (captured_in intake.old header)))) writer.new.gather) }
+        (gather.old ++ event_lines (take progress.old.room (record_events port channels progress.old.due (captured_in intake.old header)))) gather.new) }
     ensures front { (channels : List Served) → Numbered opened.now.ids.items channels → IfErr result (StopsIn (K.held sink.old) (K.held sink.new)
-        (writer.old.gather ++ event_lines (take progress.old.room (record_events port channels progress.old.due (captured_in intake.old header)))) writer.new.gather) }
+        (gather.old ++ event_lines (take progress.old.room (record_events port channels progress.old.due (captured_in intake.old header)))) gather.new) }
     ensures cause { IsStoppedByWrite (K.faults sink.old) (K.faults sink.new) result }
     ensures steady { (channels : List Served) (more : ℕ) → Numbered opened.now.ids.items channels
-        → K.is_steady sink.old (length writer.old.gather + length (event_lines (take progress.old.room (record_events port channels progress.old.due (captured_in intake.old header)))) + more)
-        → OnlyMemoryStops result (K.is_steady sink.new (length writer.new.gather + more)) }
+        → K.is_steady sink.old (length gather.old + length (event_lines (take progress.old.room (record_events port channels progress.old.due (captured_in intake.old header)))) + more)
+        → OnlyMemoryStops result (K.is_steady sink.new (length gather.new + more)) }
 {
     turns_make_journals();
     let end = HEADER_SIZE + header.len as usize;
     let ticks = progress.due.ticks_before(header.ms);
     let heard = frame_heard(port, &opened.ids, &intake.bytes()[HEADER_SIZE..end]);
-    let left = write_events(writer, sink, progress.room, ticks, heard)?;
+    let left = write_events(gather, sink, progress.room, ticks, heard)?;
     intake.skip(end);
     match left {
         Some(room) => {

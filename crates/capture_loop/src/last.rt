@@ -1,15 +1,15 @@
 //! How the text of a capture ends.
-ghost use Rattle.std.specs.Prelude.{◌≡◌, ℕ, ◌+◌, ◌++◌, ◌≤◌, IfErr, IfOk, OnOk, length};
+ghost use Rattle.std.specs.Prelude.{◌≡◌, ℕ, ◌+◌, ◌++◌, ◌≤◌, IfErr, IfOk, OnErr, OnOk, length};
 ghost use Rattle.line_io.specs.Passes.{Passes};
 ghost use Rattle.trace_loop.specs.{IsStoppedByWrite, OnlyMemoryStops, StopsIn};
 ghost use Rattle.capture_loop.specs.{fault_word, last, refused_record};
 
-use crate::writer::Writer;
 use book_text::Tail;
+use line_io::Gather;
 use pcap_trace::CaptureFault;
 use ram_io::{NoMemory, Sink};
 use rams_model::Status;
-use trace_loop::{Stop, put};
+use trace_loop::{Stop, settle};
 
 /// How a capture file ends the text of its records.
 #[derive(Clone, Copy, Debug, PartialEq, Eq)]
@@ -42,7 +42,8 @@ fn append_refused_record(
     number: u64,
     fault: CaptureFault,
 ) -> Result<(), NoMemory>
-    ensures { OnOk result (text.new.items ≡ text.old.items ++ refused_record number fault) }
+    ensures text { OnOk result (text.new.items ≡ text.old.items ++ refused_record number fault) }
+    ensures err { OnErr result (text.new.items ≡ text.old.items) }
 {
     let mut line = Tail::new();
     line.byte(b'\n');
@@ -52,9 +53,10 @@ fn append_refused_record(
     line.append_to(text)
 }
 
-/// Appends the line with which the text ends.
+/// Appends the line with which the text ends; nothing where memory runs out.
 fn append_last(text: &mut Vec<u8>, end: End) -> Result<(), NoMemory>
-    ensures { OnOk result (text.new.items ≡ text.old.items ++ (last end).text) }
+    ensures text { OnOk result (text.new.items ≡ text.old.items ++ (last end).text) }
+    ensures err { OnErr result (text.new.items ≡ text.old.items) }
 {
     match end {
         End::Whole => Ok(text.extend_from_slice(b"end\n")?),
@@ -75,19 +77,18 @@ fn status_of(end: End) -> Status
 
 /// Adds the line with which the text ends, and says with which status.
 pub(crate) fn write_last<K: Sink>(
-    writer: &mut Writer,
+    gather: &mut Gather,
     sink: &mut K,
     end: End,
 ) -> Result<Status, Stop>
     ensures status { IfOk result (λ status. status ≡ (last end).status) }
-    ensures all { OnOk result (Passes (K.held sink.old) (K.held sink.new) (writer.old.gather ++ (last end).text) writer.new.gather) }
-    ensures front { IfErr result (StopsIn (K.held sink.old) (K.held sink.new) (writer.old.gather ++ (last end).text) writer.new.gather) }
+    ensures all { OnOk result (Passes (K.held sink.old) (K.held sink.new) (gather.old ++ (last end).text) gather.new) }
+    ensures front { IfErr result (StopsIn (K.held sink.old) (K.held sink.new) (gather.old ++ (last end).text) gather.new) }
     ensures cause { IsStoppedByWrite (K.faults sink.old) (K.faults sink.new) result }
-    ensures steady { (room : ℕ) → K.is_steady sink.old (length writer.old.gather + length (last end).text + room)
-        → OnlyMemoryStops result (K.is_steady sink.new (length writer.new.gather + room)) }
+    ensures steady { (room : ℕ) → K.is_steady sink.old (length gather.old + length (last end).text + room)
+        → OnlyMemoryStops result (K.is_steady sink.new (length gather.new + room)) }
 {
-    writer.line.clear();
-    append_last(&mut writer.line, end)?;
-    put(&mut writer.gather, sink, &writer.line)?;
+    append_last(gather.text(), end)?;
+    settle(gather, sink)?;
     Ok(status_of(end))
 }

@@ -14,11 +14,10 @@ ghost use Rattle.capture_loop.specs.{AreWritten, HasLinesOf, HasReadCapture, IsC
 use crate::capture::write_file;
 use crate::intake::Intake;
 use crate::watch::CaptureWatch;
-use crate::writer::{Writer, new_writer};
 use book_text::append_refused;
 use head_loop::{Head, Opened, read_head};
 use journal_book::laws::{heads_open_new_channels, runs_of_journals};
-use line_io::LineReader;
+use line_io::{Gather, LineReader};
 use ram_io::{Sink, Source};
 use rams_model::{LineFault, Status};
 use std::alloc::Global;
@@ -32,10 +31,9 @@ fn refuse<K: Sink>(alloc: Global, sink: &mut K, line: u64, fault: LineFault) -> 
     ensures cause { IsStoppedByWrite (K.faults sink.old) (K.faults sink.new) result }
     ensures steady { K.is_steady sink.old (length (refused_line line fault)) → OnlyMemoryStops result (Unit {0}) }
 {
-    let mut writer = new_writer(alloc)?;
-    append_refused(&mut writer.line, line, fault)?;
-    put(&mut writer.gather, sink, &writer.line)?;
-    flush(&mut writer.gather, sink)?;
+    let mut gather = Gather::new(alloc)?;
+    append_refused(gather.text(), line, fault)?;
+    flush(&mut gather, sink)?;
     Ok(Status::BadTrace)
 }
 
@@ -45,7 +43,7 @@ fn write_all<S: Source, K: Sink, T: CaptureWatch>(
     port: u16,
     intake: &mut Intake,
     source: &mut S,
-    writer: &mut Writer,
+    gather: &mut Gather,
     sink: &mut K,
     watch: &T,
 ) -> Result<Status, Stop>
@@ -53,21 +51,21 @@ fn write_all<S: Source, K: Sink, T: CaptureWatch>(
     requires few { length opened.now.ids.items ≤ 64 }
     ensures status { IfOk result IsCaptureEnd }
     ensures text { IfOk result (λ status. (channels : List Served) → Numbered opened.now.ids.items channels → IfTold (prepend_known intake.old (S.left source.old))
-        (λ xs. Ends (K.held sink.old) (K.held sink.new) writer.old.gather writer.new.gather (after_text opened.now.text.items (file_text port channels (new_clock opened.now.hub.tick) xs)) status)) }
+        (λ xs. Ends (K.held sink.old) (K.held sink.new) gather.old gather.new (after_text opened.now.text.items (file_text port channels (new_clock opened.now.hub.tick) xs)) status)) }
     ensures journal { result ≡ Ok Done → (channels : List Served) → Numbered opened.now.ids.items channels → IfTold (prepend_known intake.old (S.left source.old))
         (λ xs. AreWritten (file_events port channels (new_clock opened.now.hub.tick) xs) (file_text port channels (new_clock opened.now.hub.tick) xs)) }
     ensures ended { result ≡ Ok Done → IsAtEnd (S.left source.new) }
     ensures front { IfErr result (λ stop. (channels : List Served) → Numbered opened.now.ids.items channels → IfTold (prepend_known intake.old (S.left source.old))
-        (λ xs. StopsIn (K.held sink.old) (K.held sink.new) (writer.old.gather ++ (after_text opened.now.text.items (file_text port channels (new_clock opened.now.hub.tick) xs)).text) writer.new.gather stop)) }
+        (λ xs. StopsIn (K.held sink.old) (K.held sink.new) (gather.old ++ (after_text opened.now.text.items (file_text port channels (new_clock opened.now.hub.tick) xs)).text) gather.new stop)) }
     ensures read { result ≡ Err Read → (channels : List Served) → Numbered opened.now.ids.items channels → IfBothTold (prepend_known intake.old (S.left source.old)) (S.left source.new)
-        (HasLinesOf (file_events port channels (new_clock opened.now.hub.tick)) (K.held sink.old) (K.held sink.new) (writer.old.gather ++ opened.now.text.items) writer.new.gather) }
+        (HasLinesOf (file_events port channels (new_clock opened.now.hub.tick)) (K.held sink.old) (K.held sink.new) (gather.old ++ opened.now.text.items) gather.new) }
     ensures cause { IsStopped (S.faults source.old) (S.faults source.new) (K.faults sink.old) (K.faults sink.new) result }
     ensures steady { S.is_steady source.old → (channels : List Served) → Numbered opened.now.ids.items channels → IfTold (prepend_known intake.old (S.left source.old))
-        (λ xs. (room : ℕ) → K.is_steady sink.old (length (writer.old.gather ++ (after_text opened.now.text.items (file_text port channels (new_clock opened.now.hub.tick) xs)).text) + room)
-        → OnlyMemoryStops result (K.is_steady sink.new (length writer.new.gather + room))) }
+        (λ xs. (room : ℕ) → K.is_steady sink.old (length (gather.old ++ (after_text opened.now.text.items (file_text port channels (new_clock opened.now.hub.tick) xs)).text) + room)
+        → OnlyMemoryStops result (K.is_steady sink.new (length gather.new + room))) }
 {
-    put(&mut writer.gather, sink, &opened.text)?;
-    write_file(opened, port, intake, source, writer, sink, watch)
+    put(gather, sink, &opened.text)?;
+    write_file(opened, port, intake, source, gather, sink, watch)
 }
 
 /// Writes the text of a head that was read whole, and of what stands behind it: these bytes, and what the
@@ -100,10 +98,10 @@ fn write_behind<S: Source, K: Sink, T: CaptureWatch>(
     ensures steady { S.is_steady source.old → (channels : List Served) → Numbered opened.now.ids.items channels → IfTold (prepend_known bytes.now (S.left source.old))
         (λ xs. K.is_steady sink.old (length (after_text opened.now.text.items (file_text port channels (new_clock opened.now.hub.tick) xs)).text) → OnlyMemoryStops result (Unit {0})) }
 {
-    let mut writer = new_writer(alloc)?;
+    let mut gather = Gather::new(alloc)?;
     let mut intake = Intake::new(alloc, bytes)?;
-    let ended = write_all(opened, port, &mut intake, source, &mut writer, sink, watch);
-    close(&mut writer.gather, sink, ended)
+    let ended = write_all(opened, port, &mut intake, source, &mut gather, sink, watch);
+    close(&mut gather, sink, ended)
 }
 
 /// Reads a head and a capture file behind it, and writes a trace: the head's lines; for each record in

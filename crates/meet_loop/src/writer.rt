@@ -5,7 +5,7 @@ ghost use Rattle.trace_loop.specs.{IsStoppedByWrite, OnlyMemoryStops, StopsIn};
 ghost use Rattle.world_text.specs.{notes_lines, world_line};
 
 use ram_io::Sink;
-use trace_loop::{Stop, Writer, put};
+use trace_loop::{Stop, Writer, settle};
 use world_net::WorldNote;
 use world_text::append_world_note;
 
@@ -41,7 +41,6 @@ fn write_note<K: Sink>(
     ensures steady { (room : ℕ) → K.is_steady sink.old (length writer.old.gather + length (world_line event note.now) + room)
         → OnlyMemoryStops result (K.is_steady sink.new (length writer.new.gather + room)) }
 {
-    writer.lines.clear();
-    append_world_note(&mut writer.lines, event, note)?;
-    put(&mut writer.gather, sink, &writer.lines)
+    append_world_note(writer.gather.text(), event, note)?;
+    settle(&mut writer.gather, sink)
 }

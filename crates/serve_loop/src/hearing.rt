@@ -6,9 +6,10 @@ ghost use Rattle.server_hub.specs.{answers_said, event_of, told};
 ghost use Rattle.journal_book.specs.{behind, datagrams_of, event_line};
 ghost use Rattle.serve_loop.specs.{Begun, Ready, Broken, GoesOn, HasRoom, IsStoppedOutside, OnlyMemoryStops, Room, StandsSomewhere};
 
-use crate::journal::{Journal, write_event};
+use crate::journal::write_event;
 use crate::send::send_all;
 use crate::watch::Watch;
+use line_io::Gather;
 use ram_io::{Sink, Wire};
 use server_hub::{At, Heard, Hub, HubAnswer};
 use std::alloc::Global;
@@ -23,17 +24,18 @@ pub struct Server {
     pub ids: Vec<u16>,
     /// The live port of the first channel.
     pub live: u16,
-    pub journal: Journal,
+    /// The lines that wait for the sink.
+    pub journal: Gather,
     /// Room for a datagram.
     datagram: Vec<u8>,
 }
 
 /// A server that has heard nothing.
-pub fn new_server(alloc: Global, hub: Hub, ids: Vec<u16>, live: u16, journal: Journal) -> Server
+pub fn new_server(alloc: Global, hub: Hub, ids: Vec<u16>, live: u16, journal: Gather) -> Server
     ensures hub { result.hub ≡ hub }
     ensures ids { result.ids.items ≡ ids.items }
     ensures live { result.live ≡ live }
-    ensures journal { result.journal.gather ≡ journal.gather }
+    ensures journal { result.journal ≡ journal }
 {
     Server {
         hub,
@@ -77,11 +79,11 @@ pub fn hear<K: Sink, W: Wire, T: Watch>(
     requires calls { server.old.hub.calls < 2 ^ 40 }
     requires ports { first + 128 < 2 ^ 16 }
     ensures goes_on { (b : Begun) (events : List HubEvent)
-        → Ready b events server.old.hub (K.held sink.old) server.old.journal.gather (W.sent wire.old) (event_of heard.entry) first
-        → OnOk result (GoesOn b (events ++ event_of heard.entry ∷ []) server.new.hub (K.held sink.new) server.new.journal.gather (W.sent wire.new)) }
+        → Ready b events server.old.hub (K.held sink.old) server.old.journal (W.sent wire.old) (event_of heard.entry) first
+        → OnOk result (GoesOn b (events ++ event_of heard.entry ∷ []) server.new.hub (K.held sink.new) server.new.journal (W.sent wire.new)) }
     ensures breaks { (b : Begun) (events : List HubEvent)
-        → Ready b events server.old.hub (K.held sink.old) server.old.journal.gather (W.sent wire.old) (event_of heard.entry) first
-        → IfErr result (Broken b (events ++ event_of heard.entry ∷ []) (K.held sink.new) server.new.journal.gather (W.sent wire.new)) }
+        → Ready b events server.old.hub (K.held sink.old) server.old.journal (W.sent wire.old) (event_of heard.entry) first
+        → IfErr result (Broken b (events ++ event_of heard.entry ∷ []) (K.held sink.new) server.new.journal (W.sent wire.new)) }
     ensures stands { OnOk result (StandsSomewhere server.new.hub) }
     ensures calls { server.new.hub.calls ≤ server.old.hub.calls + 1 }
     ensures tick { server.new.hub.tick ≡ server.old.hub.tick }
@@ -90,10 +92,10 @@ pub fn hear<K: Sink, W: Wire, T: Watch>(
     ensures untaken { W.arrivals wire.new ≡ W.arrivals wire.old }
     ensures cause { IsStoppedOutside (K.faults sink.old) (K.faults sink.new) (W.faults wire.old) (W.faults wire.new) result }
     ensures steady { (b : Begun) (events : List HubEvent) (more : Room)
-        → Ready b events server.old.hub (K.held sink.old) server.old.journal.gather (W.sent wire.old) (event_of heard.entry) first
-        → HasRoom (K.is_steady sink.old) (W.is_steady wire.old) (server.old.journal.gather ++ event_line (event_of heard.entry))
+        → Ready b events server.old.hub (K.held sink.old) server.old.journal (W.sent wire.old) (event_of heard.entry) first
+        → HasRoom (K.is_steady sink.old) (W.is_steady wire.old) (server.old.journal ++ event_line (event_of heard.entry))
         (datagrams_of (b.live + 1) (event_of heard.entry) (behind events b.channels)) more
-        → OnlyMemoryStops result (HasRoom (K.is_steady sink.new) (W.is_steady wire.new) server.new.journal.gather [] more) }
+        → OnlyMemoryStops result (HasRoom (K.is_steady sink.new) (W.is_steady wire.new) server.new.journal [] more) }
 {
     let answer = server.hub.hear(alloc, heard)?;
     watch.hears(heard, &answer);
@@ -102,6 +104,6 @@ pub fn hear<K: Sink, W: Wire, T: Watch>(
     if !has_orders(answers) {
         return Ok(());
     }
-    flush(&mut server.journal.gather, sink)?;
+    flush(&mut server.journal, sink)?;
     send_all(wire, &mut server.datagram, &server.hub, first, answers)
 }

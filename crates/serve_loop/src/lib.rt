@@ -13,7 +13,7 @@ mod watch;
 pub use head::read_head;
 pub use head_loop::{Head, HeadLine, Opened};
 pub use hearing::{Server, hear, new_server};
-pub use journal::{Journal, new_journal, write_event, write_refused};
+pub use journal::{write_event, write_refused};
 pub use send::send_all;
 pub use serving::serve;
 pub use trace_loop::Stop;

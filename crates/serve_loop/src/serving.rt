@@ -11,7 +11,7 @@ ghost use Rattle.serve_loop.specs.{Begun, Ending, EndsAs, Given, HasEnded, HasRo
 
 use crate::head::read_head;
 use crate::hearing::{Server, new_server};
-use crate::journal::{new_journal, write_refused};
+use crate::journal::write_refused;
 use crate::turns::take_turns;
 use crate::watch::{Watch, tell_ports};
 use head_loop::{Head, Opened};
@@ -32,9 +32,9 @@ fn refuse<K: Sink>(alloc: Global, sink: &mut K, line: u64, fault: LineFault) -> 
     ensures cause { IsStoppedByWrite (K.faults sink.old) (K.faults sink.new) result }
     ensures steady { (room : ℕ) → K.is_steady sink.old (length (refused_line line fault) + room) → OnlyMemoryStops result (K.is_steady sink.new room) }
 {
-    let mut journal = new_journal(alloc)?;
+    let mut journal = Gather::new(alloc)?;
     write_refused(&mut journal, sink, line, fault)?;
-    flush(&mut journal.gather, sink)?;
+    flush(&mut journal, sink)?;
     Ok(Status::BadTrace)
 }
 
@@ -77,24 +77,24 @@ fn take_all<K: Sink, W: Wire, C: Clock, T: Watch>(
     requires server { IsServer server.old.live server.old.ids.items server.old.hub }
     requires calls { server.old.hub.calls ≡ 0 }
     ensures ending { (b : Begun) (arrivals : List Incoming) (moments : List ℕ)
-        → IsBetween b [] server.old.live server.old.ids.items server.old.hub (K.held sink.old) server.old.journal.gather (W.sent wire.old)
+        → IsBetween b [] server.old.live server.old.ids.items server.old.hub (K.held sink.old) server.old.journal (W.sent wire.old)
         → W.arrivals wire.old ≡ Some arrivals → C.moments clock.old ≡ Some moments
-        → OnOk result (Ending b (events_of b.live server.old.hub.tick b.channels turns arrivals moments) (K.held sink.new) server.new.journal.gather (W.sent wire.new)
+        → OnOk result (Ending b (events_of b.live server.old.hub.tick b.channels turns arrivals moments) (K.held sink.new) server.new.journal (W.sent wire.new)
         × (W.arrivals wire.new ≡ Some (drop turns arrivals))) }
     ensures stopping { (b : Begun) (arrivals : List Incoming) (moments : List ℕ)
-        → IsBetween b [] server.old.live server.old.ids.items server.old.hub (K.held sink.old) server.old.journal.gather (W.sent wire.old)
+        → IsBetween b [] server.old.live server.old.ids.items server.old.hub (K.held sink.old) server.old.journal (W.sent wire.old)
         → W.arrivals wire.old ≡ Some arrivals → C.moments clock.old ≡ Some moments
-        → IfErr result (Stopping b (events_of b.live server.old.hub.tick b.channels turns arrivals moments) (K.held sink.new) server.new.journal.gather (W.sent wire.new)) }
+        → IfErr result (Stopping b (events_of b.live server.old.hub.tick b.channels turns arrivals moments) (K.held sink.new) server.new.journal (W.sent wire.new)) }
     ensures cause { IsStoppedOutside (K.faults sink.old) (K.faults sink.new) (W.faults wire.old) (W.faults wire.new) result }
     ensures steady { (b : Begun) (arrivals : List Incoming) (moments : List ℕ) (more : Room)
-        → IsBetween b [] server.old.live server.old.ids.items server.old.hub (K.held sink.old) server.old.journal.gather (W.sent wire.old)
+        → IsBetween b [] server.old.live server.old.ids.items server.old.hub (K.held sink.old) server.old.journal (W.sent wire.old)
         → W.arrivals wire.old ≡ Some arrivals → C.moments clock.old ≡ Some moments
-        → HasRoom (K.is_steady sink.old) (W.is_steady wire.old) (server.old.journal.gather ++ (event_lines (events_of b.live server.old.hub.tick b.channels turns arrivals moments) ++ codes "end\n"))
+        → HasRoom (K.is_steady sink.old) (W.is_steady wire.old) (server.old.journal ++ (event_lines (events_of b.live server.old.hub.tick b.channels turns arrivals moments) ++ codes "end\n"))
         (sent_for (b.live + 1) b.channels (events_of b.live server.old.hub.tick b.channels turns arrivals moments)) more
-        → OnlyMemoryStops result (HasRoom (K.is_steady sink.new) (W.is_steady wire.new) server.new.journal.gather [] more) }
+        → OnlyMemoryStops result (HasRoom (K.is_steady sink.new) (W.is_steady wire.new) server.new.journal [] more) }
 {
     take_turns(alloc, server, sink, wire, clock, turns, watch)?;
-    put(&mut server.journal.gather, sink, b"end\n")
+    put(&mut server.journal, sink, b"end\n")
 }
 
 /// Serves the turns behind a head: puts its text, and then the lines of the events as they come.
@@ -126,13 +126,13 @@ fn serve_turns<K: Sink, W: Wire, C: Clock, T: Watch>(
     turns_make_journals();
     journals_replay();
     runs_of_journals();
-    let mut journal = new_journal(alloc)?;
-    put(&mut journal.gather, sink, &opened.text)?;
-    flush(&mut journal.gather, sink)?;
+    let mut journal = Gather::new(alloc)?;
+    put(&mut journal, sink, &opened.text)?;
+    flush(&mut journal, sink)?;
     tell_ports(watch, &opened.ids, port);
     let mut server = new_server(alloc, opened.hub, opened.ids, port, journal);
     let ended = take_all(alloc, &mut server, sink, wire, clock, turns, watch);
-    close(&mut server.journal.gather, sink, ended)
+    close(&mut server.journal, sink, ended)
 }
 
 /// Serves so many turns to the channels that a head opens, which is read from the source up to `end`, and

@@ -26,16 +26,16 @@ fn take_piece<K: Sink>(
     requires read { HasReadSome reading.old.standby }
     ensures unended { result ≡ Ok true → reading.new.standby.ended ≡ false }
     ensures read { OnOk result (HasReadSome reading.new.standby) }
-    ensures piece { (bytes : List ℕ) (held : Option (List ℕ)) → IsReading held (K.held sink.old) reading.old.standby reading.old.journal.gather reading.old.line.items reading.old.begun bytes
+    ensures piece { (bytes : List ℕ) (held : Option (List ℕ)) → IsReading held (K.held sink.old) reading.old.standby reading.old.journal reading.old.line.items reading.old.begun bytes
         → IfOk result (λ goes_on. MatchBool goes_on
-        (IsReading held (K.held sink.new) reading.new.standby reading.new.journal.gather reading.new.line.items reading.new.begun (bytes ++ piece.now))
-        (IsOver held (K.held sink.new) reading.new.standby reading.new.journal.gather reading.new.begun (bytes ++ piece.now) × (end_of (bytes ++ piece.now) ≡ None → ⊥))) }
-    ensures stops { (bytes : List ℕ) (held : Option (List ℕ)) → IsReading held (K.held sink.old) reading.old.standby reading.old.journal.gather reading.old.line.items reading.old.begun bytes
-        → IfErr result (StopsIn held (K.held sink.new) (followed_text (bytes ++ piece.now)) reading.new.journal.gather) }
+        (IsReading held (K.held sink.new) reading.new.standby reading.new.journal reading.new.line.items reading.new.begun (bytes ++ piece.now))
+        (IsOver held (K.held sink.new) reading.new.standby reading.new.journal reading.new.begun (bytes ++ piece.now) × (end_of (bytes ++ piece.now) ≡ None → ⊥))) }
+    ensures stops { (bytes : List ℕ) (held : Option (List ℕ)) → IsReading held (K.held sink.old) reading.old.standby reading.old.journal reading.old.line.items reading.old.begun bytes
+        → IfErr result (StopsIn held (K.held sink.new) (followed_text (bytes ++ piece.now)) reading.new.journal) }
     ensures cause { IsStoppedByWrite (K.faults sink.old) (K.faults sink.new) result }
-    ensures steady { (bytes : List ℕ) (held : Option (List ℕ)) (room : ℕ) → IsReading held (K.held sink.old) reading.old.standby reading.old.journal.gather reading.old.line.items reading.old.begun bytes
-        → K.is_steady sink.old (length reading.old.journal.gather + left_text (bytes ++ piece.now) bytes + room)
-        → OnlyMemoryStops result (K.is_steady sink.new (length reading.new.journal.gather + room)) }
+    ensures steady { (bytes : List ℕ) (held : Option (List ℕ)) (room : ℕ) → IsReading held (K.held sink.old) reading.old.standby reading.old.journal reading.old.line.items reading.old.begun bytes
+        → K.is_steady sink.old (length reading.old.journal + left_text (bytes ++ piece.now) bytes + room)
+        → OnlyMemoryStops result (K.is_steady sink.new (length reading.new.journal + room)) }
 {
     let mut at = 0;
     'parts: while at < piece.len() {
@@ -81,21 +81,21 @@ fn next_piece<S: Source, K: Sink>(
     ensures read { OnOk result (HasReadSome reading.new.standby) }
     ensures room { length room.new ≡ length room.old }
     ensures goes_on { (left held : Option (List ℕ))
-        → IsFollowing left held (S.left source.old) (K.held sink.old) reading.old.standby reading.old.journal.gather reading.old.line.items reading.old.begun
+        → IsFollowing left held (S.left source.old) (K.held sink.old) reading.old.standby reading.old.journal reading.old.line.items reading.old.begun
         → IfOk result (λ goes_on. MatchBool goes_on
-        (IsFollowing left held (S.left source.new) (K.held sink.new) reading.new.standby reading.new.journal.gather reading.new.line.items reading.new.begun)
-        (HasFollowed left held (K.held sink.new) reading.new.standby reading.new.journal.gather reading.new.begun)) }
+        (IsFollowing left held (S.left source.new) (K.held sink.new) reading.new.standby reading.new.journal reading.new.line.items reading.new.begun)
+        (HasFollowed left held (K.held sink.new) reading.new.standby reading.new.journal reading.new.begun)) }
     ensures stops { (left held : Option (List ℕ))
-        → IsFollowing left held (S.left source.old) (K.held sink.old) reading.old.standby reading.old.journal.gather reading.old.line.items reading.old.begun
-        → IfErr result (λ stop. (all : List ℕ) → left ≡ Some all → StopsIn held (K.held sink.new) (followed_text all) reading.new.journal.gather stop) }
+        → IsFollowing left held (S.left source.old) (K.held sink.old) reading.old.standby reading.old.journal reading.old.line.items reading.old.begun
+        → IfErr result (λ stop. (all : List ℕ) → left ≡ Some all → StopsIn held (K.held sink.new) (followed_text all) reading.new.journal stop) }
     ensures cut { (left held : Option (List ℕ))
-        → IsFollowing left held (S.left source.old) (K.held sink.old) reading.old.standby reading.old.journal.gather reading.old.line.items reading.old.begun
-        → result ≡ Err Read → IfBothTold left (S.left source.new) (HoldsItsLines held (K.held sink.new)) × (reading.new.journal.gather ≡ []) }
+        → IsFollowing left held (S.left source.old) (K.held sink.old) reading.old.standby reading.old.journal reading.old.line.items reading.old.begun
+        → result ≡ Err Read → IfBothTold left (S.left source.new) (HoldsItsLines held (K.held sink.new)) × (reading.new.journal ≡ []) }
     ensures cause { IsStoppedFollowing (S.faults source.old) (S.faults source.new) (K.faults sink.old) (K.faults sink.new) result }
     ensures steady { (left held : Option (List ℕ)) (all : List ℕ) (more : ℕ)
-        → FollowsWithin left held all more (S.left source.old) (K.is_steady sink.old) (K.held sink.old) reading.old.standby reading.old.journal.gather reading.old.line.items reading.old.begun
+        → FollowsWithin left held all more (S.left source.old) (K.is_steady sink.old) (K.held sink.old) reading.old.standby reading.old.journal reading.old.line.items reading.old.begun
         → S.is_steady source.old → MatchResult result (λ goes_on. S.is_steady source.new × MatchBool goes_on
-        (FollowsWithin left held all more (S.left source.new) (K.is_steady sink.new) (K.held sink.new) reading.new.standby reading.new.journal.gather reading.new.line.items reading.new.begun)
+        (FollowsWithin left held all more (S.left source.new) (K.is_steady sink.new) (K.held sink.new) reading.new.standby reading.new.journal reading.new.line.items reading.new.begun)
         (K.is_steady sink.new more)) (λ stop. stop ≡ Memory) }
 {
     let count = take(source, room)?;
@@ -103,7 +103,7 @@ fn next_piece<S: Source, K: Sink>(
         return Ok(false);
     }
     let goes_on = take_piece(alloc, reading, sink, &room[..count])?;
-    flush(&mut reading.journal.gather, sink)?;
+    flush(&mut reading.journal, sink)?;
     Ok(goes_on)
 }
 
@@ -116,10 +116,10 @@ pub fn follow<S: Source, K: Sink>(
     source: &mut S,
     sink: &mut K,
 ) -> Result<(), Stop>
-    requires { IsFresh reading.old.standby reading.old.journal.gather reading.old.line.items reading.old.begun }
-    ensures followed { OnOk result (HasFollowed (S.left source.old) (K.held sink.old) (K.held sink.new) reading.new.standby reading.new.journal.gather reading.new.begun) }
-    ensures stops { IfErr result (λ stop. (all : List ℕ) → S.left source.old ≡ Some all → StopsIn (K.held sink.old) (K.held sink.new) (followed_text all) reading.new.journal.gather stop) }
-    ensures cut { result ≡ Err Read → IfBothTold (S.left source.old) (S.left source.new) (HoldsItsLines (K.held sink.old) (K.held sink.new)) × (reading.new.journal.gather ≡ []) }
+    requires { IsFresh reading.old.standby reading.old.journal reading.old.line.items reading.old.begun }
+    ensures followed { OnOk result (HasFollowed (S.left source.old) (K.held sink.old) (K.held sink.new) reading.new.standby reading.new.journal reading.new.begun) }
+    ensures stops { IfErr result (λ stop. (all : List ℕ) → S.left source.old ≡ Some all → StopsIn (K.held sink.old) (K.held sink.new) (followed_text all) reading.new.journal stop) }
+    ensures cut { result ≡ Err Read → IfBothTold (S.left source.old) (S.left source.new) (HoldsItsLines (K.held sink.old) (K.held sink.new)) × (reading.new.journal ≡ []) }
     ensures cause { IsStoppedFollowing (S.faults source.old) (S.faults source.new) (K.faults sink.old) (K.faults sink.new) result }
     ensures steady { (all : List ℕ) (more : ℕ) → S.left source.old ≡ Some all → S.is_steady source.old → K.is_steady sink.old (length (followed_text all) + more) → OnlyMemoryStops result (K.is_steady sink.new more) }
 {

@@ -7,8 +7,8 @@ ghost use Rattle.standby.specs.{HasRead, HasReadSome, end_of, first_part, whole_
 ghost use Rattle.standby_book.specs.{followed_text};
 ghost use Rattle.takeover_loop.specs.{IsFresh, IsOver, IsReading, KeepsLines, is_fed, left_text};
 
+use line_io::Gather;
 use ram_io::{NoMemory, Sink};
-use serve_loop::{Journal, new_journal};
 use standby::{FeedFault, Standby};
 use std::alloc::Global;
 use trace_loop::{Stop, put};
@@ -18,7 +18,7 @@ use trace_loop::{Stop, put};
 pub struct Reading {
     pub standby: Standby,
     /// The lines that wait for the sink.
-    pub journal: Journal,
+    pub journal: Gather,
     /// The bytes of a line that isn't whole yet.
     pub line: Vec<u8>,
     /// Whether some line was whole.
@@ -27,11 +27,11 @@ pub struct Reading {
 
 /// Nothing has been read.
 pub fn new_reading(alloc: Global) -> Result<Reading, NoMemory>
-    ensures { IfOk result (λ reading. IsFresh reading.standby reading.journal.gather reading.line.items reading.begun) }
+    ensures { IfOk result (λ reading. IsFresh reading.standby reading.journal reading.line.items reading.begun) }
 {
     Ok(Reading {
         standby: Standby::new(alloc)?,
-        journal: new_journal(alloc)?,
+        journal: Gather::new(alloc)?,
         line: Vec::new(alloc),
         begun: false,
     })
@@ -66,20 +66,20 @@ fn append(line: &mut Vec<u8>, part: &[u8]) -> Result<(), NoMemory>
 fn keep<K: Sink>(reading: &mut Reading, sink: &mut K, part: &[u8]) -> Result<(), Stop>
     requires some { 0 < length part.now }
     ensures standby { reading.new.standby ≡ reading.old.standby }
-    ensures kept { (piece bytes : List ℕ) (held : Option (List ℕ)) → part.now ≡ first_part piece → KeepsLines held (K.held sink.old) reading.old.journal.gather reading.old.line.items reading.old.begun bytes
-        → OnOk result (KeepsLines held (K.held sink.new) reading.new.journal.gather reading.new.line.items reading.new.begun (bytes ++ part.now)) }
-    ensures stops { (piece bytes : List ℕ) (held : Option (List ℕ)) → part.now ≡ first_part piece → KeepsLines held (K.held sink.old) reading.old.journal.gather reading.old.line.items reading.old.begun bytes
-        → IfErr result (StopsIn held (K.held sink.new) (whole_text (bytes ++ part.now)) reading.new.journal.gather) }
+    ensures kept { (piece bytes : List ℕ) (held : Option (List ℕ)) → part.now ≡ first_part piece → KeepsLines held (K.held sink.old) reading.old.journal reading.old.line.items reading.old.begun bytes
+        → OnOk result (KeepsLines held (K.held sink.new) reading.new.journal reading.new.line.items reading.new.begun (bytes ++ part.now)) }
+    ensures stops { (piece bytes : List ℕ) (held : Option (List ℕ)) → part.now ≡ first_part piece → KeepsLines held (K.held sink.old) reading.old.journal reading.old.line.items reading.old.begun bytes
+        → IfErr result (StopsIn held (K.held sink.new) (whole_text (bytes ++ part.now)) reading.new.journal) }
     ensures cause { IsStoppedByWrite (K.faults sink.old) (K.faults sink.new) result }
-    ensures steady { (piece bytes : List ℕ) (held : Option (List ℕ)) (room : ℕ) → part.now ≡ first_part piece → KeepsLines held (K.held sink.old) reading.old.journal.gather reading.old.line.items reading.old.begun bytes
-        → K.is_steady sink.old (length reading.old.journal.gather + (length (whole_text (bytes ++ part.now)) - length (whole_text bytes)) + room)
-        → OnlyMemoryStops result (K.is_steady sink.new (length reading.new.journal.gather + room)) }
+    ensures steady { (piece bytes : List ℕ) (held : Option (List ℕ)) (room : ℕ) → part.now ≡ first_part piece → KeepsLines held (K.held sink.old) reading.old.journal reading.old.line.items reading.old.begun bytes
+        → K.is_steady sink.old (length reading.old.journal + (length (whole_text (bytes ++ part.now)) - length (whole_text bytes)) + room)
+        → OnlyMemoryStops result (K.is_steady sink.new (length reading.new.journal + room)) }
 {
     append(&mut reading.line, part)?;
     if !is_fed(part) {
         return Ok(());
     }
-    put(&mut reading.journal.gather, sink, &reading.line)?;
+    put(&mut reading.journal, sink, &reading.line)?;
     reading.line.clear();
     reading.begun = true;
     Ok(())
@@ -125,16 +125,16 @@ pub fn take_part<K: Sink>(
     requires read { HasReadSome reading.old.standby }
     ensures count { IfOk result (λ o. IfSome o (λ count. (count ≡ length (first_part piece.now)) × (reading.new.standby.ended ≡ false))) }
     ensures read { OnOk result (HasReadSome reading.new.standby) }
-    ensures part { (bytes : List ℕ) (held : Option (List ℕ)) → IsReading held (K.held sink.old) reading.old.standby reading.old.journal.gather reading.old.line.items reading.old.begun bytes
+    ensures part { (bytes : List ℕ) (held : Option (List ℕ)) → IsReading held (K.held sink.old) reading.old.standby reading.old.journal reading.old.line.items reading.old.begun bytes
         → IfOk result (λ o. MatchOption o
-        (IsOver held (K.held sink.new) reading.new.standby reading.new.journal.gather reading.new.begun (bytes ++ first_part piece.now) × (end_of (bytes ++ first_part piece.now) ≡ None → ⊥))
-        (λ count. IsReading held (K.held sink.new) reading.new.standby reading.new.journal.gather reading.new.line.items reading.new.begun (bytes ++ first_part piece.now))) }
-    ensures stops { (bytes : List ℕ) (held : Option (List ℕ)) → IsReading held (K.held sink.old) reading.old.standby reading.old.journal.gather reading.old.line.items reading.old.begun bytes
-        → IfErr result (StopsIn held (K.held sink.new) (followed_text (bytes ++ first_part piece.now)) reading.new.journal.gather) }
+        (IsOver held (K.held sink.new) reading.new.standby reading.new.journal reading.new.begun (bytes ++ first_part piece.now) × (end_of (bytes ++ first_part piece.now) ≡ None → ⊥))
+        (λ count. IsReading held (K.held sink.new) reading.new.standby reading.new.journal reading.new.line.items reading.new.begun (bytes ++ first_part piece.now))) }
+    ensures stops { (bytes : List ℕ) (held : Option (List ℕ)) → IsReading held (K.held sink.old) reading.old.standby reading.old.journal reading.old.line.items reading.old.begun bytes
+        → IfErr result (StopsIn held (K.held sink.new) (followed_text (bytes ++ first_part piece.now)) reading.new.journal) }
     ensures cause { IsStoppedByWrite (K.faults sink.old) (K.faults sink.new) result }
-    ensures steady { (bytes : List ℕ) (held : Option (List ℕ)) (room : ℕ) → IsReading held (K.held sink.old) reading.old.standby reading.old.journal.gather reading.old.line.items reading.old.begun bytes
-        → K.is_steady sink.old (length reading.old.journal.gather + left_text (bytes ++ first_part piece.now) bytes + room)
-        → OnlyMemoryStops result (K.is_steady sink.new (length reading.new.journal.gather + room)) }
+    ensures steady { (bytes : List ℕ) (held : Option (List ℕ)) (room : ℕ) → IsReading held (K.held sink.old) reading.old.standby reading.old.journal reading.old.line.items reading.old.begun bytes
+        → K.is_steady sink.old (length reading.old.journal + left_text (bytes ++ first_part piece.now) bytes + room)
+        → OnlyMemoryStops result (K.is_steady sink.new (length reading.new.journal + room)) }
 {
     let Some(count) = read_part(alloc, &mut reading.standby, piece)? else {
         return Ok(None);

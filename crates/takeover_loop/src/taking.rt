@@ -19,7 +19,7 @@ use journal_book::laws::heads_open_new_channels;
 use line_io::Gather;
 use ram_io::{Clock, NoMemory, Sink, Source, Wire};
 use rams_model::{LineFault, Status};
-use serve_loop::{Journal, Server, Watch, new_server, tell_ports, write_refused};
+use serve_loop::{Server, Watch, new_server, tell_ports, write_refused};
 use standby::{FeedFault, Hub, Standby};
 use standby_book::laws::journals_are_taken_over;
 use std::alloc::Global;
@@ -84,12 +84,12 @@ fn tell_fault<T: Watch>(watch: &T, fault: FeedFault) {
 
 /// Writes why nothing is taken over.
 fn refuse<K: Sink, T: Watch>(
-    mut journal: Journal,
+    mut journal: Gather,
     sink: &mut K,
     fault: FeedFault,
     watch: &T,
 ) -> Result<Status, Stop>
-    requires { journal.gather ≡ [] }
+    requires { journal ≡ [] }
     ensures status { IfOk result (λ status. status ≡ (outcome_of fault).status) }
     ensures text { OnOk result (Appends (K.held sink.old) (K.held sink.new) (outcome_of fault).text) }
     ensures front { (rest : List ℕ) × Passes (K.held sink.old) (K.held sink.new) (outcome_of fault).text rest }
@@ -98,18 +98,18 @@ fn refuse<K: Sink, T: Watch>(
 {
     tell_fault(watch, fault);
     let status = put_fault(&mut journal, sink, fault)?;
-    flush(&mut journal.gather, sink)?;
+    flush(&mut journal, sink)?;
     Ok(status)
 }
 
 /// Adds the line that says so.
-fn put_fault<K: Sink>(journal: &mut Journal, sink: &mut K, fault: FeedFault) -> Result<Status, Stop>
+fn put_fault<K: Sink>(journal: &mut Gather, sink: &mut K, fault: FeedFault) -> Result<Status, Stop>
     ensures status { IfOk result (λ status. status ≡ (outcome_of fault).status) }
-    ensures all { OnOk result (Passes (K.held sink.old) (K.held sink.new) (journal.old.gather ++ (outcome_of fault).text) journal.new.gather) }
-    ensures front { IfErr result (StopsIn (K.held sink.old) (K.held sink.new) (journal.old.gather ++ (outcome_of fault).text) journal.new.gather) }
+    ensures all { OnOk result (Passes (K.held sink.old) (K.held sink.new) (journal.old ++ (outcome_of fault).text) journal.new) }
+    ensures front { IfErr result (StopsIn (K.held sink.old) (K.held sink.new) (journal.old ++ (outcome_of fault).text) journal.new) }
     ensures cause { IsStoppedByWrite (K.faults sink.old) (K.faults sink.new) result }
-    ensures steady { (room : ℕ) → K.is_steady sink.old (length journal.old.gather + length (outcome_of fault).text + room)
-        → OnlyMemoryStops result (K.is_steady sink.new (length journal.new.gather + room)) }
+    ensures steady { (room : ℕ) → K.is_steady sink.old (length journal.old + length (outcome_of fault).text + room)
+        → OnlyMemoryStops result (K.is_steady sink.new (length journal.new + room)) }
 {
     match fault {
         FeedFault::Line { line, fault } => {
@@ -117,7 +117,7 @@ fn put_fault<K: Sink>(journal: &mut Journal, sink: &mut K, fault: FeedFault) -> 
             Ok(Status::BadTrace)
         }
         FeedFault::TooLong => {
-            put(&mut journal.gather, sink, b"too-long\n")?;
+            put(journal, sink, b"too-long\n")?;
             Ok(Status::TooLong)
         }
         FeedFault::NoMemory => Err(Stop::Memory),
@@ -155,35 +155,35 @@ fn take_all<K: Sink, W: Wire, C: Clock, T: Watch>(
     requires server { IsServer server.old.live server.old.ids.items server.old.hub }
     requires calls { server.old.hub.calls + left ≤ 1000000 }
     ensures ends { (b : Begun) (arrivals : List Incoming) (moments : List ℕ)
-        → IsBetween b [] server.old.live server.old.ids.items server.old.hub (K.held sink.old) server.old.journal.gather (W.sent wire.old)
+        → IsBetween b [] server.old.live server.old.ids.items server.old.hub (K.held sink.old) server.old.journal (W.sent wire.old)
         → W.arrivals wire.old ≡ Some arrivals → C.moments clock.old ≡ Some moments
         → IfOk result (λ status. status ≡ (last_line (nat_lt left (length (events_of b.live server.old.hub.tick b.channels turns arrivals moments)))).status) }
     ensures ending { (b : Begun) (arrivals : List Incoming) (moments : List ℕ)
-        → IsBetween b [] server.old.live server.old.ids.items server.old.hub (K.held sink.old) server.old.journal.gather (W.sent wire.old)
+        → IsBetween b [] server.old.live server.old.ids.items server.old.hub (K.held sink.old) server.old.journal (W.sent wire.old)
         → W.arrivals wire.old ≡ Some arrivals → C.moments clock.old ≡ Some moments
         → OnOk result (Ending b (take left (events_of b.live server.old.hub.tick b.channels turns arrivals moments))
-        (last_line (nat_lt left (length (events_of b.live server.old.hub.tick b.channels turns arrivals moments)))).text (K.held sink.new) server.new.journal.gather (W.sent wire.new)) }
+        (last_line (nat_lt left (length (events_of b.live server.old.hub.tick b.channels turns arrivals moments)))).text (K.held sink.new) server.new.journal (W.sent wire.new)) }
     ensures stopping { (b : Begun) (arrivals : List Incoming) (moments : List ℕ)
-        → IsBetween b [] server.old.live server.old.ids.items server.old.hub (K.held sink.old) server.old.journal.gather (W.sent wire.old)
+        → IsBetween b [] server.old.live server.old.ids.items server.old.hub (K.held sink.old) server.old.journal (W.sent wire.old)
         → W.arrivals wire.old ≡ Some arrivals → C.moments clock.old ≡ Some moments
         → IfErr result (Stopping b (take left (events_of b.live server.old.hub.tick b.channels turns arrivals moments))
-        (last_line (nat_lt left (length (events_of b.live server.old.hub.tick b.channels turns arrivals moments)))).text (K.held sink.new) server.new.journal.gather (W.sent wire.new)) }
+        (last_line (nat_lt left (length (events_of b.live server.old.hub.tick b.channels turns arrivals moments)))).text (K.held sink.new) server.new.journal (W.sent wire.new)) }
     ensures left { (b : Begun) (arrivals : List Incoming) (moments : List ℕ)
-        → IsBetween b [] server.old.live server.old.ids.items server.old.hub (K.held sink.old) server.old.journal.gather (W.sent wire.old)
+        → IsBetween b [] server.old.live server.old.ids.items server.old.hub (K.held sink.old) server.old.journal (W.sent wire.old)
         → W.arrivals wire.old ≡ Some arrivals → C.moments clock.old ≡ Some moments
         → result ≡ Ok Done → W.arrivals wire.new ≡ Some (drop turns arrivals) }
     ensures status { IfOk result IsServedEnd }
     ensures cause { IsStoppedOutside (K.faults sink.old) (K.faults sink.new) (W.faults wire.old) (W.faults wire.new) result }
     ensures steady { (b : Begun) (arrivals : List Incoming) (moments : List ℕ) (more : Room)
-        → IsBetween b [] server.old.live server.old.ids.items server.old.hub (K.held sink.old) server.old.journal.gather (W.sent wire.old)
+        → IsBetween b [] server.old.live server.old.ids.items server.old.hub (K.held sink.old) server.old.journal (W.sent wire.old)
         → W.arrivals wire.old ≡ Some arrivals → C.moments clock.old ≡ Some moments
-        → HasRoom (K.is_steady sink.old) (W.is_steady wire.old) (server.old.journal.gather ++ (event_lines (take left (events_of b.live server.old.hub.tick b.channels turns arrivals moments))
+        → HasRoom (K.is_steady sink.old) (W.is_steady wire.old) (server.old.journal ++ (event_lines (take left (events_of b.live server.old.hub.tick b.channels turns arrivals moments))
         ++ (last_line (nat_lt left (length (events_of b.live server.old.hub.tick b.channels turns arrivals moments)))).text))
         (sent_for (b.live + 1) b.channels (take left (events_of b.live server.old.hub.tick b.channels turns arrivals moments))) more
-        → OnlyMemoryStops result (HasRoom (K.is_steady sink.new) (W.is_steady wire.new) server.new.journal.gather [] more) }
+        → OnlyMemoryStops result (HasRoom (K.is_steady sink.new) (W.is_steady wire.new) server.new.journal [] more) }
 {
     let within = take_turns(alloc, server, sink, wire, clock, turns, left, watch)?;
-    put_last(&mut server.journal.gather, sink, within)
+    put_last(&mut server.journal, sink, within)
 }
 
 /// Serves the turns behind a journal whose lines the sink has: puts the lines of the events as they come,
@@ -191,7 +191,7 @@ fn take_all<K: Sink, W: Wire, C: Clock, T: Watch>(
 fn serve_on<K: Sink, W: Wire, C: Clock, T: Watch>(
     alloc: Global,
     taken: Taken,
-    journal: Journal,
+    journal: Gather,
     sink: &mut K,
     wire: &mut W,
     clock: &mut C,
@@ -203,7 +203,7 @@ fn serve_on<K: Sink, W: Wire, C: Clock, T: Watch>(
     requires few { length taken.ids.items ≤ 64 }
     requires calls { taken.hub.calls + taken.left ≤ 1000000 }
     requires port { port ≤ 65000 }
-    requires waits { journal.gather ≡ [] }
+    requires waits { journal ≡ [] }
     ensures ended { (g : Given) (held : Option (List ℕ)) → IsGiven g port turns (Some g.source) (W.arrivals wire.old) (C.moments clock.old) → IsTaken g.source taken.hub taken.ids.items taken.left
         → Appends held (K.held sink.old) (followed_text g.source)
         → IfOk result (HasEnded g held (K.held sink.new) (W.sent wire.old) (W.sent wire.new) (W.arrivals wire.new)) }
@@ -223,7 +223,7 @@ fn serve_on<K: Sink, W: Wire, C: Clock, T: Watch>(
     let left = taken.left;
     let mut server = new_server(alloc, taken.hub, taken.ids, port, journal);
     let ended = take_all(alloc, &mut server, sink, wire, clock, turns, left, watch);
-    close(&mut server.journal.gather, sink, ended)
+    close(&mut server.journal, sink, ended)
 }
 
 /// Serves on behind a journal that was read as far as it goes, or says why nothing is taken over.
@@ -239,15 +239,15 @@ fn go_on<K: Sink, W: Wire, C: Clock, T: Watch>(
 ) -> Result<Status, Stop>
     requires port { port ≤ 65000 }
     requires read { HasReadSome reading.standby }
-    requires waits { reading.journal.gather ≡ [] }
-    ensures ended { (g : Given) (held : Option (List ℕ)) → IsGiven g port turns (Some g.source) (W.arrivals wire.old) (C.moments clock.old) → IsOver held (K.held sink.old) reading.standby reading.journal.gather reading.begun g.source
+    requires waits { reading.journal ≡ [] }
+    ensures ended { (g : Given) (held : Option (List ℕ)) → IsGiven g port turns (Some g.source) (W.arrivals wire.old) (C.moments clock.old) → IsOver held (K.held sink.old) reading.standby reading.journal reading.begun g.source
         → IfOk result (HasEnded g held (K.held sink.new) (W.sent wire.old) (W.sent wire.new) (W.arrivals wire.new)) }
-    ensures stopped { (g : Given) (held : Option (List ℕ)) → IsGiven g port turns (Some g.source) (W.arrivals wire.old) (C.moments clock.old) → IsOver held (K.held sink.old) reading.standby reading.journal.gather reading.begun g.source
+    ensures stopped { (g : Given) (held : Option (List ℕ)) → IsGiven g port turns (Some g.source) (W.arrivals wire.old) (C.moments clock.old) → IsOver held (K.held sink.old) reading.standby reading.journal reading.begun g.source
         → IfErr result (λ _. HasStopped g held (K.held sink.new) (W.sent wire.old) (W.sent wire.new)) }
     ensures status { IfOk result IsTakeoverEnd }
     ensures unserved { result ≡ Ok BadTrace → (wire.new ≡ wire.old) × (clock.new ≡ clock.old) }
     ensures cause { IsStoppedOutside (K.faults sink.old) (K.faults sink.new) (W.faults wire.old) (W.faults wire.new) result }
-    ensures steady { (g : Given) (held : Option (List ℕ)) (more : Room) → IsGiven g port turns (Some g.source) (W.arrivals wire.old) (C.moments clock.old) → IsOver held (K.held sink.old) reading.standby reading.journal.gather reading.begun g.source
+    ensures steady { (g : Given) (held : Option (List ℕ)) (more : Room) → IsGiven g port turns (Some g.source) (W.arrivals wire.old) (C.moments clock.old) → IsOver held (K.held sink.old) reading.standby reading.journal reading.begun g.source
         → HasRoom (K.is_steady sink.old) (W.is_steady wire.old) (behind_journal g).text (taken_datagrams g) more
         → OnlyMemoryStops result (HasRoom (K.is_steady sink.new) (W.is_steady wire.new) [] [] more) }
 {
@@ -300,6 +300,6 @@ pub fn take_over<S: Source, K: Sink, W: Wire, C: Clock, T: Watch>(
     let mut reading = new_reading(alloc)?;
     match follow(alloc, &mut reading, source, sink) {
         Ok(()) => go_on(alloc, reading, sink, wire, clock, port, turns, watch),
-        Err(stop) => close(&mut reading.journal.gather, sink, Err(stop)),
+        Err(stop) => close(&mut reading.journal, sink, Err(stop)),
     }
 }

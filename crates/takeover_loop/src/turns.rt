@@ -42,24 +42,24 @@ fn hear_within<K: Sink, W: Wire, T: Watch>(
     requires ports { first + 128 < 2 ^ 16 }
     ensures within { IfOk result (DoesWithin (event_of heard.entry ∷ []) left) }
     ensures goes_on { (b : Begun) (events : List HubEvent)
-        → IsBetween b events server.old.live server.old.ids.items server.old.hub (K.held sink.old) server.old.journal.gather (W.sent wire.old)
+        → IsBetween b events server.old.live server.old.ids.items server.old.hub (K.held sink.old) server.old.journal (W.sent wire.old)
         → AnswersFrom server.old.live server.old.ids.items (event_of heard.entry) first
-        → OnOk result (IsBetween b (events ++ take left (event_of heard.entry ∷ [])) server.new.live server.new.ids.items server.new.hub (K.held sink.new) server.new.journal.gather (W.sent wire.new)) }
+        → OnOk result (IsBetween b (events ++ take left (event_of heard.entry ∷ [])) server.new.live server.new.ids.items server.new.hub (K.held sink.new) server.new.journal (W.sent wire.new)) }
     ensures breaks { (b : Begun) (events : List HubEvent)
-        → IsBetween b events server.old.live server.old.ids.items server.old.hub (K.held sink.old) server.old.journal.gather (W.sent wire.old)
+        → IsBetween b events server.old.live server.old.ids.items server.old.hub (K.held sink.old) server.old.journal (W.sent wire.old)
         → AnswersFrom server.old.live server.old.ids.items (event_of heard.entry) first
-        → IfErr result (Broken b (events ++ take left (event_of heard.entry ∷ [])) (K.held sink.new) server.new.journal.gather (W.sent wire.new)) }
+        → IfErr result (Broken b (events ++ take left (event_of heard.entry ∷ [])) (K.held sink.new) server.new.journal (W.sent wire.new)) }
     ensures server { OnOk result (IsServer server.new.live server.new.ids.items server.new.hub) }
     ensures calls { IfOk result (λ o. IfSome o (λ after. server.new.hub.calls + after ≤ 1000000)) }
     ensures tick { server.new.hub.tick ≡ server.old.hub.tick }
     ensures untaken { W.arrivals wire.new ≡ W.arrivals wire.old }
     ensures cause { IsStoppedOutside (K.faults sink.old) (K.faults sink.new) (W.faults wire.old) (W.faults wire.new) result }
     ensures steady { (b : Begun) (events : List HubEvent) (more : Room)
-        → IsBetween b events server.old.live server.old.ids.items server.old.hub (K.held sink.old) server.old.journal.gather (W.sent wire.old)
+        → IsBetween b events server.old.live server.old.ids.items server.old.hub (K.held sink.old) server.old.journal (W.sent wire.old)
         → AnswersFrom server.old.live server.old.ids.items (event_of heard.entry) first
-        → HasRoom (K.is_steady sink.old) (W.is_steady wire.old) (server.old.journal.gather ++ event_lines (take left (event_of heard.entry ∷ [])))
+        → HasRoom (K.is_steady sink.old) (W.is_steady wire.old) (server.old.journal ++ event_lines (take left (event_of heard.entry ∷ [])))
         (sent_for (b.live + 1) (behind events b.channels) (take left (event_of heard.entry ∷ []))) more
-        → OnlyMemoryStops result (HasRoom (K.is_steady sink.new) (W.is_steady wire.new) server.new.journal.gather [] more) }
+        → OnlyMemoryStops result (HasRoom (K.is_steady sink.new) (W.is_steady wire.new) server.new.journal [] more) }
 {
     if left == 0 {
         return Ok(None);
@@ -83,32 +83,32 @@ fn take_arrival<K: Sink, W: Wire, T: Watch>(
     requires calls { server.old.hub.calls + left ≤ 1000000 }
     requires room { length room.old ≡ 2000 }
     ensures within { (b : Begun) (events : List HubEvent) (arrivals : List Incoming)
-        → IsBetween b events server.old.live server.old.ids.items server.old.hub (K.held sink.old) server.old.journal.gather (W.sent wire.old)
+        → IsBetween b events server.old.live server.old.ids.items server.old.hub (K.held sink.old) server.old.journal (W.sent wire.old)
         → W.arrivals wire.old ≡ Some arrivals → IfOk result (DoesWithin (next_events b arrivals) left) }
     ensures goes_on { (b : Begun) (events : List HubEvent) (arrivals : List Incoming)
-        → IsBetween b events server.old.live server.old.ids.items server.old.hub (K.held sink.old) server.old.journal.gather (W.sent wire.old)
+        → IsBetween b events server.old.live server.old.ids.items server.old.hub (K.held sink.old) server.old.journal (W.sent wire.old)
         → W.arrivals wire.old ≡ Some arrivals
-        → OnOk result (IsBetween b (events ++ take left (next_events b arrivals)) server.new.live server.new.ids.items server.new.hub (K.held sink.new) server.new.journal.gather (W.sent wire.new)) }
+        → OnOk result (IsBetween b (events ++ take left (next_events b arrivals)) server.new.live server.new.ids.items server.new.hub (K.held sink.new) server.new.journal (W.sent wire.new)) }
     ensures breaks { (b : Begun) (events : List HubEvent) (arrivals : List Incoming)
-        → IsBetween b events server.old.live server.old.ids.items server.old.hub (K.held sink.old) server.old.journal.gather (W.sent wire.old)
+        → IsBetween b events server.old.live server.old.ids.items server.old.hub (K.held sink.old) server.old.journal (W.sent wire.old)
         → W.arrivals wire.old ≡ Some arrivals
-        → IfErr result (Broken b (events ++ take left (next_events b arrivals)) (K.held sink.new) server.new.journal.gather (W.sent wire.new)) }
+        → IfErr result (Broken b (events ++ take left (next_events b arrivals)) (K.held sink.new) server.new.journal (W.sent wire.new)) }
     ensures left { (arrivals : List Incoming) → W.arrivals wire.old ≡ Some arrivals → OnOk result (W.arrivals wire.new ≡ Some (drop 1 arrivals)) }
     ensures server { OnOk result (IsServer server.new.live server.new.ids.items server.new.hub) }
     ensures calls { IfOk result (λ o. IfSome o (λ after. server.new.hub.calls + after ≤ 1000000)) }
     ensures tick { server.new.hub.tick ≡ server.old.hub.tick }
     ensures cause { IsStoppedOutside (K.faults sink.old) (K.faults sink.new) (W.faults wire.old) (W.faults wire.new) result }
     ensures steady { (b : Begun) (events : List HubEvent) (arrivals : List Incoming) (more : Room)
-        → IsBetween b events server.old.live server.old.ids.items server.old.hub (K.held sink.old) server.old.journal.gather (W.sent wire.old)
+        → IsBetween b events server.old.live server.old.ids.items server.old.hub (K.held sink.old) server.old.journal (W.sent wire.old)
         → W.arrivals wire.old ≡ Some arrivals
-        → HasRoom (K.is_steady sink.old) (W.is_steady wire.old) (server.old.journal.gather ++ event_lines (take left (next_events b arrivals)))
+        → HasRoom (K.is_steady sink.old) (W.is_steady wire.old) (server.old.journal ++ event_lines (take left (next_events b arrivals)))
         (sent_for (b.live + 1) (behind events b.channels) (take left (next_events b arrivals))) more
-        → OnlyMemoryStops result (HasRoom (K.is_steady sink.new) (W.is_steady wire.new) server.new.journal.gather [] more) }
+        → OnlyMemoryStops result (HasRoom (K.is_steady sink.new) (W.is_steady wire.new) server.new.journal [] more) }
 {
     match wire.receive(room) {
         Err(_) => Err(Stop::Wire),
         Ok(None) => {
-            flush(&mut server.journal.gather, sink)?;
+            flush(&mut server.journal, sink)?;
             Ok(Some(left))
         }
         Ok(Some(arrival)) => {
@@ -139,21 +139,21 @@ fn hear_tick<K: Sink, W: Wire, T: Watch>(
     ensures within { IfOk result (λ o. DoesWithin (tick_at pace.due moment) pace.left (option_map (λ p. p.left) o)) }
     ensures due { IfOk result (λ o. IfSome o (λ next. next.due ≡ due_after server.old.hub.tick pace.due moment)) }
     ensures goes_on { (b : Begun) (events : List HubEvent)
-        → IsBetween b events server.old.live server.old.ids.items server.old.hub (K.held sink.old) server.old.journal.gather (W.sent wire.old)
-        → OnOk result (IsBetween b (events ++ take pace.left (tick_at pace.due moment)) server.new.live server.new.ids.items server.new.hub (K.held sink.new) server.new.journal.gather (W.sent wire.new)) }
+        → IsBetween b events server.old.live server.old.ids.items server.old.hub (K.held sink.old) server.old.journal (W.sent wire.old)
+        → OnOk result (IsBetween b (events ++ take pace.left (tick_at pace.due moment)) server.new.live server.new.ids.items server.new.hub (K.held sink.new) server.new.journal (W.sent wire.new)) }
     ensures breaks { (b : Begun) (events : List HubEvent)
-        → IsBetween b events server.old.live server.old.ids.items server.old.hub (K.held sink.old) server.old.journal.gather (W.sent wire.old)
-        → IfErr result (Broken b (events ++ take pace.left (tick_at pace.due moment)) (K.held sink.new) server.new.journal.gather (W.sent wire.new)) }
+        → IsBetween b events server.old.live server.old.ids.items server.old.hub (K.held sink.old) server.old.journal (W.sent wire.old)
+        → IfErr result (Broken b (events ++ take pace.left (tick_at pace.due moment)) (K.held sink.new) server.new.journal (W.sent wire.new)) }
     ensures server { OnOk result (IsServer server.new.live server.new.ids.items server.new.hub) }
     ensures calls { IfOk result (λ o. IfSome o (λ next. server.new.hub.calls + next.left ≤ 1000000)) }
     ensures tick { server.new.hub.tick ≡ server.old.hub.tick }
     ensures untaken { W.arrivals wire.new ≡ W.arrivals wire.old }
     ensures cause { IsStoppedOutside (K.faults sink.old) (K.faults sink.new) (W.faults wire.old) (W.faults wire.new) result }
     ensures steady { (b : Begun) (events : List HubEvent) (more : Room)
-        → IsBetween b events server.old.live server.old.ids.items server.old.hub (K.held sink.old) server.old.journal.gather (W.sent wire.old)
-        → HasRoom (K.is_steady sink.old) (W.is_steady wire.old) (server.old.journal.gather ++ event_lines (take pace.left (tick_at pace.due moment)))
+        → IsBetween b events server.old.live server.old.ids.items server.old.hub (K.held sink.old) server.old.journal (W.sent wire.old)
+        → HasRoom (K.is_steady sink.old) (W.is_steady wire.old) (server.old.journal ++ event_lines (take pace.left (tick_at pace.due moment)))
         (sent_for (b.live + 1) (behind events b.channels) (take pace.left (tick_at pace.due moment))) more
-        → OnlyMemoryStops result (HasRoom (K.is_steady sink.new) (W.is_steady wire.new) server.new.journal.gather [] more) }
+        → OnlyMemoryStops result (HasRoom (K.is_steady sink.new) (W.is_steady wire.new) server.new.journal [] more) }
 {
     if moment < pace.due {
         return Ok(Some(pace));
@@ -201,18 +201,18 @@ fn take_turn<K: Sink, W: Wire, C: Clock, T: Watch>(
     requires calls { server.old.hub.calls + pace.left ≤ 1000000 }
     requires room { length room.old ≡ 2000 }
     ensures within { (b : Begun) (events : List HubEvent) (arrivals : List Incoming) (moments : List ℕ)
-        → IsBetween b events server.old.live server.old.ids.items server.old.hub (K.held sink.old) server.old.journal.gather (W.sent wire.old)
+        → IsBetween b events server.old.live server.old.ids.items server.old.hub (K.held sink.old) server.old.journal (W.sent wire.old)
         → W.arrivals wire.old ≡ Some arrivals → C.moments clock.old ≡ Some moments
         → IfOk result (λ o. DoesWithin (next_events b arrivals ++ tick_at pace.due (next_moment moments)) pace.left (option_map (λ p. p.left) o)) }
     ensures due { (moments : List ℕ) → C.moments clock.old ≡ Some moments → IfOk result (λ o. IfSome o (λ next. next.due ≡ due_after server.old.hub.tick pace.due (next_moment moments))) }
     ensures goes_on { (b : Begun) (events : List HubEvent) (arrivals : List Incoming) (moments : List ℕ)
-        → IsBetween b events server.old.live server.old.ids.items server.old.hub (K.held sink.old) server.old.journal.gather (W.sent wire.old)
+        → IsBetween b events server.old.live server.old.ids.items server.old.hub (K.held sink.old) server.old.journal (W.sent wire.old)
         → W.arrivals wire.old ≡ Some arrivals → C.moments clock.old ≡ Some moments
-        → OnOk result (IsBetween b (events ++ take pace.left (next_events b arrivals ++ tick_at pace.due (next_moment moments))) server.new.live server.new.ids.items server.new.hub (K.held sink.new) server.new.journal.gather (W.sent wire.new)) }
+        → OnOk result (IsBetween b (events ++ take pace.left (next_events b arrivals ++ tick_at pace.due (next_moment moments))) server.new.live server.new.ids.items server.new.hub (K.held sink.new) server.new.journal (W.sent wire.new)) }
     ensures breaks { (b : Begun) (events : List HubEvent) (arrivals : List Incoming) (moments : List ℕ)
-        → IsBetween b events server.old.live server.old.ids.items server.old.hub (K.held sink.old) server.old.journal.gather (W.sent wire.old)
+        → IsBetween b events server.old.live server.old.ids.items server.old.hub (K.held sink.old) server.old.journal (W.sent wire.old)
         → W.arrivals wire.old ≡ Some arrivals → C.moments clock.old ≡ Some moments
-        → IfErr result (Broken b (events ++ take pace.left (next_events b arrivals ++ tick_at pace.due (next_moment moments))) (K.held sink.new) server.new.journal.gather (W.sent wire.new)) }
+        → IfErr result (Broken b (events ++ take pace.left (next_events b arrivals ++ tick_at pace.due (next_moment moments))) (K.held sink.new) server.new.journal (W.sent wire.new)) }
     ensures left { (arrivals : List Incoming) → W.arrivals wire.old ≡ Some arrivals → OnOk result (W.arrivals wire.new ≡ Some (drop 1 arrivals)) }
     ensures later { (moments : List ℕ) → C.moments clock.old ≡ Some moments → IfOk result (λ o. IfSome o (λ next. C.moments clock.new ≡ Some (later moments))) }
     ensures server { OnOk result (IsServer server.new.live server.new.ids.items server.new.hub) }
@@ -220,11 +220,11 @@ fn take_turn<K: Sink, W: Wire, C: Clock, T: Watch>(
     ensures tick { server.new.hub.tick ≡ server.old.hub.tick }
     ensures cause { IsStoppedOutside (K.faults sink.old) (K.faults sink.new) (W.faults wire.old) (W.faults wire.new) result }
     ensures steady { (b : Begun) (events : List HubEvent) (arrivals : List Incoming) (moments : List ℕ) (more : Room)
-        → IsBetween b events server.old.live server.old.ids.items server.old.hub (K.held sink.old) server.old.journal.gather (W.sent wire.old)
+        → IsBetween b events server.old.live server.old.ids.items server.old.hub (K.held sink.old) server.old.journal (W.sent wire.old)
         → W.arrivals wire.old ≡ Some arrivals → C.moments clock.old ≡ Some moments
-        → HasRoom (K.is_steady sink.old) (W.is_steady wire.old) (server.old.journal.gather ++ event_lines (take pace.left (next_events b arrivals ++ tick_at pace.due (next_moment moments))))
+        → HasRoom (K.is_steady sink.old) (W.is_steady wire.old) (server.old.journal ++ event_lines (take pace.left (next_events b arrivals ++ tick_at pace.due (next_moment moments))))
         (sent_for (b.live + 1) (behind events b.channels) (take pace.left (next_events b arrivals ++ tick_at pace.due (next_moment moments)))) more
-        → OnlyMemoryStops result (HasRoom (K.is_steady sink.new) (W.is_steady wire.new) server.new.journal.gather [] more) }
+        → OnlyMemoryStops result (HasRoom (K.is_steady sink.new) (W.is_steady wire.new) server.new.journal [] more) }
 {
     let Some(left) = take_arrival(alloc, server, sink, wire, room, pace.left, watch)? else {
         return Ok(None);
@@ -252,28 +252,28 @@ pub fn take_turns<K: Sink, W: Wire, C: Clock, T: Watch>(
     requires server { IsServer server.old.live server.old.ids.items server.old.hub }
     requires calls { server.old.hub.calls + left ≤ 1000000 }
     ensures within { (b : Begun) (arrivals : List Incoming) (moments : List ℕ)
-        → IsBetween b [] server.old.live server.old.ids.items server.old.hub (K.held sink.old) server.old.journal.gather (W.sent wire.old)
+        → IsBetween b [] server.old.live server.old.ids.items server.old.hub (K.held sink.old) server.old.journal (W.sent wire.old)
         → W.arrivals wire.old ≡ Some arrivals → C.moments clock.old ≡ Some moments
         → IfOk result (IsWithin (events_of b.live server.old.hub.tick b.channels turns arrivals moments) left) }
     ensures goes_on { (b : Begun) (arrivals : List Incoming) (moments : List ℕ)
-        → IsBetween b [] server.old.live server.old.ids.items server.old.hub (K.held sink.old) server.old.journal.gather (W.sent wire.old)
+        → IsBetween b [] server.old.live server.old.ids.items server.old.hub (K.held sink.old) server.old.journal (W.sent wire.old)
         → W.arrivals wire.old ≡ Some arrivals → C.moments clock.old ≡ Some moments
-        → OnOk result (Serving b (take left (events_of b.live server.old.hub.tick b.channels turns arrivals moments)) (K.held sink.new) server.new.journal.gather (W.sent wire.new)) }
+        → OnOk result (Serving b (take left (events_of b.live server.old.hub.tick b.channels turns arrivals moments)) (K.held sink.new) server.new.journal (W.sent wire.new)) }
     ensures breaks { (b : Begun) (arrivals : List Incoming) (moments : List ℕ)
-        → IsBetween b [] server.old.live server.old.ids.items server.old.hub (K.held sink.old) server.old.journal.gather (W.sent wire.old)
+        → IsBetween b [] server.old.live server.old.ids.items server.old.hub (K.held sink.old) server.old.journal (W.sent wire.old)
         → W.arrivals wire.old ≡ Some arrivals → C.moments clock.old ≡ Some moments
-        → IfErr result (Broken b (take left (events_of b.live server.old.hub.tick b.channels turns arrivals moments)) (K.held sink.new) server.new.journal.gather (W.sent wire.new)) }
+        → IfErr result (Broken b (take left (events_of b.live server.old.hub.tick b.channels turns arrivals moments)) (K.held sink.new) server.new.journal (W.sent wire.new)) }
     ensures left { (b : Begun) (arrivals : List Incoming) (moments : List ℕ)
-        → IsBetween b [] server.old.live server.old.ids.items server.old.hub (K.held sink.old) server.old.journal.gather (W.sent wire.old)
+        → IsBetween b [] server.old.live server.old.ids.items server.old.hub (K.held sink.old) server.old.journal (W.sent wire.old)
         → W.arrivals wire.old ≡ Some arrivals → C.moments clock.old ≡ Some moments
         → result ≡ Ok true → W.arrivals wire.new ≡ Some (drop turns arrivals) }
     ensures cause { IsStoppedOutside (K.faults sink.old) (K.faults sink.new) (W.faults wire.old) (W.faults wire.new) result }
     ensures steady { (b : Begun) (arrivals : List Incoming) (moments : List ℕ) (more : Room)
-        → IsBetween b [] server.old.live server.old.ids.items server.old.hub (K.held sink.old) server.old.journal.gather (W.sent wire.old)
+        → IsBetween b [] server.old.live server.old.ids.items server.old.hub (K.held sink.old) server.old.journal (W.sent wire.old)
         → W.arrivals wire.old ≡ Some arrivals → C.moments clock.old ≡ Some moments
-        → HasRoom (K.is_steady sink.old) (W.is_steady wire.old) (server.old.journal.gather ++ event_lines (take left (events_of b.live server.old.hub.tick b.channels turns arrivals moments)))
+        → HasRoom (K.is_steady sink.old) (W.is_steady wire.old) (server.old.journal ++ event_lines (take left (events_of b.live server.old.hub.tick b.channels turns arrivals moments)))
         (sent_for (b.live + 1) b.channels (take left (events_of b.live server.old.hub.tick b.channels turns arrivals moments))) more
-        → OnlyMemoryStops result (HasRoom (K.is_steady sink.new) (W.is_steady wire.new) server.new.journal.gather [] more) }
+        → OnlyMemoryStops result (HasRoom (K.is_steady sink.new) (W.is_steady wire.new) server.new.journal [] more) }
 {
     let mut room = [0; MOST];
     let due = clock.now_ms() + u64::from(server.hub.tick_ms());

@@ -1,7 +1,6 @@
 //! The lines of a world, each appended to a given text.
 //!
-//! A call appends its whole line; where memory runs out, a part of the line may stand behind the
-//! text.
+//! A call appends its whole line, or nothing where memory runs out.
 #![tactic(auto)]
 
 mod line;

@@ -1,10 +1,10 @@
 //! The lines of what is said in a world.
-ghost use Rattle.std.specs.Prelude.{◌≡◌, ◌∷◌, ◌++◌, ◌+◌, ◌≤◌, OnOk, codes, length};
+ghost use Rattle.std.specs.Prelude.{◌≡◌, ◌∷◌, ◌++◌, ◌+◌, ◌≤◌, OnErr, OnOk, codes, length};
 ghost use Rattle.rams_model.specs.Texts.{spaced, of_word, hex_word, book_line};
 ghost use Rattle.world_text.specs.{info_words, media_word, bytes_line, named_line, item_line, world_line};
 ghost use Rattle.world_laws.specs.declared.world.WorldItem.TheVariants as item;
 
-use book_text::{Tail, append_hex, append_no_channel, append_note, append_send, begin};
+use book_text::{Tail, append_no_channel, append_note, append_send, append_with_hex, begin};
 use ram_io::NoMemory;
 use rams_model::{InfoCame, MediaCame};
 use world_laws::{WorldItem, WorldNote};
@@ -13,7 +13,8 @@ use world_laws::{WorldItem, WorldNote};
 /// of a datagram that isn't there.
 #[tactic(auto, unfolding(crate::specs::WorldLines::world_line))]
 pub fn append_world_note(text: &mut Vec<u8>, event: u64, note: &WorldNote) -> Result<(), NoMemory>
-    ensures { OnOk result (text.new.items ≡ text.old.items ++ world_line event note.now) }
+    ensures text { OnOk result (text.new.items ≡ text.old.items ++ world_line event note.now) }
+    ensures err { OnErr result (text.new.items ≡ text.old.items) }
 {
     let id = note.id;
     match &note.item {
@@ -42,7 +43,8 @@ fn append_post(
     client: u64,
     bytes: &[u8],
 ) -> Result<(), NoMemory>
-    ensures { OnOk result (text.new.items ≡ text.old.items ++ bytes_line event id (codes "post" ++ spaced client) bytes.now) }
+    ensures text { OnOk result (text.new.items ≡ text.old.items ++ bytes_line event id (codes "post" ++ spaced client) bytes.now) }
+    ensures err { OnErr result (text.new.items ≡ text.old.items) }
 {
     let mut line = Tail::new();
     line.byte(b' ');
@@ -59,7 +61,8 @@ fn append_show(
     n: u64,
     packet: &[u8],
 ) -> Result<(), NoMemory>
-    ensures { OnOk result (text.new.items ≡ text.old.items ++ bytes_line event id (codes "show" ++ spaced client ++ spaced n) packet.now) }
+    ensures text { OnOk result (text.new.items ≡ text.old.items ++ bytes_line event id (codes "show" ++ spaced client ++ spaced n) packet.now) }
+    ensures err { OnErr result (text.new.items ≡ text.old.items) }
 {
     let mut line = Tail::new();
     line.byte(b' ');
@@ -76,13 +79,11 @@ fn append_with_bytes(
     bytes: &[u8],
 ) -> Result<(), NoMemory>
     requires { length line + 42 ≤ 160 }
-    ensures { OnOk result (text.new.items ≡ text.old.items ++ book_line event id (line ++ hex_word bytes.now)) }
+    ensures text { OnOk result (text.new.items ≡ text.old.items ++ book_line event id (line ++ hex_word bytes.now)) }
+    ensures err { OnErr result (text.new.items ≡ text.old.items) }
 {
     begin(&mut line, event, id);
-    line.append_to(text)?;
-    append_hex(text, bytes)?;
-    text.push(b'\n')?;
-    Ok(())
+    append_with_hex(text, &line, bytes)
 }
 
 // What became of a RAMS-I: `EVENT ID info CLIENT` and its words.
@@ -93,7 +94,8 @@ fn append_info(
     client: u64,
     came: InfoCame,
 ) -> Result<(), NoMemory>
-    ensures { OnOk result (text.new.items ≡ text.old.items ++ book_line event id (of_word (codes "info") client (info_words came))) }
+    ensures text { OnOk result (text.new.items ≡ text.old.items ++ book_line event id (of_word (codes "info") client (info_words came))) }
+    ensures err { OnErr result (text.new.items ≡ text.old.items) }
 {
     let mut line = Tail::new();
     line.byte(b'\n');
@@ -128,7 +130,8 @@ fn append_media(
     client: u64,
     came: MediaCame,
 ) -> Result<(), NoMemory>
-    ensures { OnOk result (text.new.items ≡ text.old.items ++ book_line event id (of_word (codes "came") client (media_word came))) }
+    ensures text { OnOk result (text.new.items ≡ text.old.items ++ book_line event id (of_word (codes "came") client (media_word came))) }
+    ensures err { OnErr result (text.new.items ≡ text.old.items) }
 {
     let mut line = Tail::new();
     line.byte(b'\n');
@@ -163,7 +166,8 @@ fn append_named(
     n: u64,
 ) -> Result<(), NoMemory>
     requires { length word.now ≤ 12 }
-    ensures { OnOk result (text.new.items ≡ text.old.items ++ named_line event id word.now n) }
+    ensures text { OnOk result (text.new.items ≡ text.old.items ++ named_line event id word.now n) }
+    ensures err { OnErr result (text.new.items ≡ text.old.items) }
 {
     let mut line = Tail::new();
     line.byte(b'\n');
@@ -174,7 +178,8 @@ fn append_named(
 
 // A datagram that isn't there: `EVENT no-datagram NUMBER`.
 fn append_no_datagram(text: &mut Vec<u8>, event: u64, number: u64) -> Result<(), NoMemory>
-    ensures { OnOk result (text.new.items ≡ text.old.items ++ item_line event 0 (item.NoDatagram number)) }
+    ensures text { OnOk result (text.new.items ≡ text.old.items ++ item_line event 0 (item.NoDatagram number)) }
+    ensures err { OnErr result (text.new.items ≡ text.old.items) }
 {
     let mut line = Tail::new();
     line.byte(b'\n');

@@ -15,11 +15,11 @@ returns-in-Err-clause-ended g c = λ e. absurd (never_ok _ _ e)
 
 pub returns-in-Err-clause-front : goal.returns-in-Err-clause-front
 returns-in-Err-clause-front g c = λ channels numbered.
-    told_all (prepend_known c.args.intake.now (g.S.Source.left c.args.source.now)) _ (λ xs. nothing_waits (g.K.Sink.held c.args.sink.now) c.args.writer.now.gather (file_text c.args.port channels (new_clock c.args.opened.now.hub.tick) xs).text Read)
+    told_all (prepend_known c.args.intake.now (g.S.Source.left c.args.source.now)) _ (λ xs. nothing_waits (g.K.Sink.held c.args.sink.now) c.args.gather.now (file_text c.args.port channels (new_clock c.args.opened.now.hub.tick) xs).text Read)
 
 pub returns-in-Err-clause-read : goal.returns-in-Err-clause-read
 returns-in-Err-clause-read g c = λ e channels numbered.
-    order_reads c.args.port channels (new_clock c.args.opened.now.hub.tick) (g.K.Sink.held c.args.sink.now) c.args.writer.now.gather (prepend_known c.args.intake.now (g.S.Source.left c.args.source.now)) c.read_order.new.intake (g.S.Source.left c.read_order.new.source) c.in-Err.ensures.same c.in-Err.ensures.unread
+    order_reads c.args.port channels (new_clock c.args.opened.now.hub.tick) (g.K.Sink.held c.args.sink.now) c.args.gather.now (prepend_known c.args.intake.now (g.S.Source.left c.args.source.now)) c.read_order.new.intake (g.S.Source.left c.read_order.new.source) c.in-Err.ensures.same c.in-Err.ensures.unread
 
 pub returns-in-Err-clause-steady : goal.returns-in-Err-clause-steady
 returns-in-Err-clause-steady g c = λ s channels numbered.
@@ -28,12 +28,12 @@ returns-in-Err-clause-steady g c = λ s channels numbered.
 pub returns-in-Ok-Err-clause-text : goal.returns-in-Ok-Err-clause-text
 returns-in-Ok-Err-clause-text g c = λ channels numbered.
     let order = subst (HasOrder (prepend_known c.args.intake.now (g.S.Source.left c.args.source.now)) (prepend_known c.read_order.new.intake (g.S.Source.left c.read_order.new.source))) c.in-Ok-Err.field-0-is c.in-Ok-Err.ensures.order in
-    order_refuses c.args.port channels (new_clock c.args.opened.now.hub.tick) (g.K.Sink.held c.args.sink.now) c.args.writer.now.gather c.in-Ok-Err.fault (prepend_known c.args.intake.now (g.S.Source.left c.args.source.now)) (prepend_known c.read_order.new.intake (g.S.Source.left c.read_order.new.source)) order
+    order_refuses c.args.port channels (new_clock c.args.opened.now.hub.tick) (g.K.Sink.held c.args.sink.now) c.args.gather.now c.in-Ok-Err.fault (prepend_known c.args.intake.now (g.S.Source.left c.args.source.now)) (prepend_known c.read_order.new.intake (g.S.Source.left c.read_order.new.source)) order
 
 pub returns-in-Ok-Err-clause-steady : goal.returns-in-Ok-Err-clause-steady
 returns-in-Ok-Err-clause-steady g c = λ s channels numbered.
     let order = subst (HasOrder (prepend_known c.args.intake.now (g.S.Source.left c.args.source.now)) (prepend_known c.read_order.new.intake (g.S.Source.left c.read_order.new.source))) c.in-Ok-Err.field-0-is c.in-Ok-Err.ensures.order in
-    order_refuses_steadily c.args.port channels (new_clock c.args.opened.now.hub.tick) (g.K.Sink.is_steady c.args.sink.now) c.args.writer.now.gather c.in-Ok-Err.fault (prepend_known c.args.intake.now (g.S.Source.left c.args.source.now)) (prepend_known c.read_order.new.intake (g.S.Source.left c.read_order.new.source)) order
+    order_refuses_steadily c.args.port channels (new_clock c.args.opened.now.hub.tick) (g.K.Sink.is_steady c.args.sink.now) c.args.gather.now c.in-Ok-Err.fault (prepend_known c.args.intake.now (g.S.Source.left c.args.source.now)) (prepend_known c.read_order.new.intake (g.S.Source.left c.read_order.new.source)) order
 
 pub returns-in-Ok-Err-clause-journal : goal.returns-in-Ok-Err-clause-journal
 returns-in-Ok-Err-clause-journal g c = λ e. absurd (other_end _ (not_refused _ _) e)
@@ -47,7 +47,7 @@ returns-in-Ok-Err-clause-read g c = λ e. absurd (never_err _ _ e)
 pub returns-in-Ok-Ok-clause-text : goal.returns-in-Ok-Ok-clause-text
 returns-in-Ok-Ok-clause-text g c =
     let order = subst (HasOrder (prepend_known c.args.intake.now (g.S.Source.left c.args.source.now)) (prepend_known c.read_order.new.intake (g.S.Source.left c.read_order.new.source))) c.in-Ok-Ok.field-0-is c.in-Ok-Ok.ensures.order in
-    all_ends c.write_records.result _ _ (λ end h channels numbered. order_ends c.args.port channels c.args.opened.now.hub.tick c.in-Ok-Ok.endian (g.K.Sink.held c.args.sink.now) (g.K.Sink.held c.write_records.new.sink) c.args.writer.now.gather c.write_records.new.writer.gather end (prepend_known c.args.intake.now (g.S.Source.left c.args.source.now)) (prepend_known c.read_order.new.intake (g.S.Source.left c.read_order.new.source)) order (h channels numbered)) c.write_records.ensures.text
+    all_ends c.write_records.result _ _ (λ end h channels numbered. order_ends c.args.port channels c.args.opened.now.hub.tick c.in-Ok-Ok.endian (g.K.Sink.held c.args.sink.now) (g.K.Sink.held c.write_records.new.sink) c.args.gather.now c.write_records.new.gather end (prepend_known c.args.intake.now (g.S.Source.left c.args.source.now)) (prepend_known c.read_order.new.intake (g.S.Source.left c.read_order.new.source)) order (h channels numbered)) c.write_records.ensures.text
 
 pub returns-in-Ok-Ok-clause-journal : goal.returns-in-Ok-Ok-clause-journal
 returns-in-Ok-Ok-clause-journal g c = λ e channels numbered.
@@ -57,12 +57,12 @@ returns-in-Ok-Ok-clause-journal g c = λ e channels numbered.
 pub returns-in-Ok-Ok-clause-front : goal.returns-in-Ok-Ok-clause-front
 returns-in-Ok-Ok-clause-front g c =
     let order = subst (HasOrder (prepend_known c.args.intake.now (g.S.Source.left c.args.source.now)) (prepend_known c.read_order.new.intake (g.S.Source.left c.read_order.new.source))) c.in-Ok-Ok.field-0-is c.in-Ok-Ok.ensures.order in
-    all_stops c.write_records.result _ _ (λ stop h channels numbered. order_stops c.args.port channels c.args.opened.now.hub.tick c.in-Ok-Ok.endian (g.K.Sink.held c.args.sink.now) (g.K.Sink.held c.write_records.new.sink) c.args.writer.now.gather c.write_records.new.writer.gather stop (prepend_known c.args.intake.now (g.S.Source.left c.args.source.now)) (prepend_known c.read_order.new.intake (g.S.Source.left c.read_order.new.source)) order (h channels numbered)) c.write_records.ensures.front
+    all_stops c.write_records.result _ _ (λ stop h channels numbered. order_stops c.args.port channels c.args.opened.now.hub.tick c.in-Ok-Ok.endian (g.K.Sink.held c.args.sink.now) (g.K.Sink.held c.write_records.new.sink) c.args.gather.now c.write_records.new.gather stop (prepend_known c.args.intake.now (g.S.Source.left c.args.source.now)) (prepend_known c.read_order.new.intake (g.S.Source.left c.read_order.new.source)) order (h channels numbered)) c.write_records.ensures.front
 
 pub returns-in-Ok-Ok-clause-read : goal.returns-in-Ok-Ok-clause-read
 returns-in-Ok-Ok-clause-read g c = λ e channels numbered.
     let order = subst (HasOrder (prepend_known c.args.intake.now (g.S.Source.left c.args.source.now)) (prepend_known c.read_order.new.intake (g.S.Source.left c.read_order.new.source))) c.in-Ok-Ok.field-0-is c.in-Ok-Ok.ensures.order in
-    order_taken c.args.port channels c.args.opened.now.hub.tick c.in-Ok-Ok.endian (g.K.Sink.held c.args.sink.now) (g.K.Sink.held c.write_records.new.sink) c.args.writer.now.gather c.write_records.new.writer.gather (prepend_known c.args.intake.now (g.S.Source.left c.args.source.now)) (prepend_known c.read_order.new.intake (g.S.Source.left c.read_order.new.source)) (g.S.Source.left c.write_records.new.source) order (c.write_records.ensures.read e channels numbered)
+    order_taken c.args.port channels c.args.opened.now.hub.tick c.in-Ok-Ok.endian (g.K.Sink.held c.args.sink.now) (g.K.Sink.held c.write_records.new.sink) c.args.gather.now c.write_records.new.gather (prepend_known c.args.intake.now (g.S.Source.left c.args.source.now)) (prepend_known c.read_order.new.intake (g.S.Source.left c.read_order.new.source)) (g.S.Source.left c.write_records.new.source) order (c.write_records.ensures.read e channels numbered)
 
 pub returns-in-Ok-Ok-clause-cause : goal.returns-in-Ok-Ok-clause-cause
 returns-in-Ok-Ok-clause-cause g c =
@@ -71,4 +71,4 @@ returns-in-Ok-Ok-clause-cause g c =
 pub returns-in-Ok-Ok-clause-steady : goal.returns-in-Ok-Ok-clause-steady
 returns-in-Ok-Ok-clause-steady g c = λ s channels numbered.
     let order = subst (HasOrder (prepend_known c.args.intake.now (g.S.Source.left c.args.source.now)) (prepend_known c.read_order.new.intake (g.S.Source.left c.read_order.new.source))) c.in-Ok-Ok.field-0-is c.in-Ok-Ok.ensures.order in
-    order_steady c.args.port channels c.args.opened.now.hub.tick c.in-Ok-Ok.endian (g.K.Sink.is_steady c.args.sink.now) (g.K.Sink.is_steady c.write_records.new.sink) c.args.writer.now.gather c.write_records.new.writer.gather c.write_records.result (prepend_known c.args.intake.now (g.S.Source.left c.args.source.now)) (prepend_known c.read_order.new.intake (g.S.Source.left c.read_order.new.source)) order (c.write_records.ensures.steady (c.in-Ok-Ok.ensures.steady s) channels numbered)
+    order_steady c.args.port channels c.args.opened.now.hub.tick c.in-Ok-Ok.endian (g.K.Sink.is_steady c.args.sink.now) (g.K.Sink.is_steady c.write_records.new.sink) c.args.gather.now c.write_records.new.gather c.write_records.result (prepend_known c.args.intake.now (g.S.Source.left c.args.source.now)) (prepend_known c.read_order.new.intake (g.S.Source.left c.read_order.new.source)) order (c.write_records.ensures.steady (c.in-Ok-Ok.ensures.steady s) channels numbered)

@@ -47,7 +47,7 @@ returns-clause-status g c =
 pub returns-clause-text : goal.returns-clause-text
 returns-clause-text g c =
     both_ok c.write_last.result _ _ _
-    (λ status is p channels numbered. told_gives (prepend_known c.args.intake.now (g.S.Source.left c.args.source.now)) _ _ (λ xs come. last_goes (g.K.Sink.held c.args.sink.now) (g.K.Sink.held c.write_events.new.sink) (g.K.Sink.held c.write_last.new.sink) c.args.writer.now.gather c.write_events.new.writer.gather c.write_last.new.writer.gather (file_text c.args.port channels (new_clock c.args.opened.now.hub.tick) xs) c.in_ok-end.end status come p is) (c.in_ok-end.ensures.text channels numbered))
+    (λ status is p channels numbered. told_gives (prepend_known c.args.intake.now (g.S.Source.left c.args.source.now)) _ _ (λ xs come. last_goes (g.K.Sink.held c.args.sink.now) (g.K.Sink.held c.write_events.new.sink) (g.K.Sink.held c.write_last.new.sink) c.args.gather.now c.write_events.new.gather c.write_last.new.gather (file_text c.args.port channels (new_clock c.args.opened.now.hub.tick) xs) c.in_ok-end.end status come p is) (c.in_ok-end.ensures.text channels numbered))
     c.write_last.ensures.status c.write_last.ensures.all
 
 pub returns-clause-journal : goal.returns-clause-journal
@@ -61,7 +61,7 @@ returns-clause-ended g c = λ e.
 pub returns-clause-front : goal.returns-clause-front
 returns-clause-front g c =
     all_stops c.write_last.result _ _
-    (λ stop h channels numbered. told_gives (prepend_known c.args.intake.now (g.S.Source.left c.args.source.now)) _ _ (λ xs come. last_stops (g.K.Sink.held c.args.sink.now) (g.K.Sink.held c.write_events.new.sink) (g.K.Sink.held c.write_last.new.sink) c.args.writer.now.gather c.write_events.new.writer.gather c.write_last.new.writer.gather (file_text c.args.port channels (new_clock c.args.opened.now.hub.tick) xs) c.in_ok-end.end stop come h) (c.in_ok-end.ensures.text channels numbered))
+    (λ stop h channels numbered. told_gives (prepend_known c.args.intake.now (g.S.Source.left c.args.source.now)) _ _ (λ xs come. last_stops (g.K.Sink.held c.args.sink.now) (g.K.Sink.held c.write_events.new.sink) (g.K.Sink.held c.write_last.new.sink) c.args.gather.now c.write_events.new.gather c.write_last.new.gather (file_text c.args.port channels (new_clock c.args.opened.now.hub.tick) xs) c.in_ok-end.end stop come h) (c.in_ok-end.ensures.text channels numbered))
     c.write_last.ensures.front
 
 pub returns-clause-read : goal.returns-clause-read

@@ -17,7 +17,7 @@ pub loop-count-init : goal.loop-count-init
 loop-count-init g c =
     record {
       running = λ channels numbered.
-          running_begins c.args.port channels (new_clock c.args.opened.now.hub.tick) c.args.endian (g.K.Sink.held c.args.sink.now) (g.K.Sink.faults c.args.sink.now) (g.K.Sink.is_steady c.args.sink.now) c.args.writer.now.gather (prepend_known c.args.intake.now (g.S.Source.left c.args.source.now)) c.new.result 1000000 (c.new.ensures ∙ ap new_clock c.tick_ms.ensures.value) refl;
+          running_begins c.args.port channels (new_clock c.args.opened.now.hub.tick) c.args.endian (g.K.Sink.held c.args.sink.now) (g.K.Sink.faults c.args.sink.now) (g.K.Sink.is_steady c.args.sink.now) c.args.gather.now (prepend_known c.args.intake.now (g.S.Source.left c.args.source.now)) c.new.result 1000000 (c.new.ensures ∙ ap new_clock c.tick_ms.ensures.value) refl;
       read_later = omega arith;
       write_later = omega arith;
       calm = λ s. s;
@@ -36,7 +36,7 @@ returns-in-Err-clause-front g c = λ channels numbered.
     let left = prepend_known c.args.intake.now (g.S.Source.left c.args.source.now) in
     let leaves = prepend_known l.intake (g.S.Source.left l.source) in
     let later = g.S.Source.left n.source in
-    running_breaks c.args.port channels (new_clock c.args.opened.now.hub.tick) c.args.endian (g.K.Sink.held c.args.sink.now) (g.K.Sink.faults c.args.sink.now) (g.K.Sink.is_steady c.args.sink.now) c.args.writer.now.gather (g.K.Sink.held l.sink) (g.K.Sink.faults l.sink) (g.K.Sink.is_steady l.sink) l.writer.gather l.progress.due l.progress.room l.count left leaves Read (l.invariant.running channels numbered)
+    running_breaks c.args.port channels (new_clock c.args.opened.now.hub.tick) c.args.endian (g.K.Sink.held c.args.sink.now) (g.K.Sink.faults c.args.sink.now) (g.K.Sink.is_steady c.args.sink.now) c.args.gather.now (g.K.Sink.held l.sink) (g.K.Sink.faults l.sink) (g.K.Sink.is_steady l.sink) l.gather l.progress.due l.progress.room l.count left leaves Read (l.invariant.running channels numbered)
 
 pub returns-in-Err-clause-read : goal.returns-in-Err-clause-read
 returns-in-Err-clause-read g c = λ e channels numbered.
@@ -45,7 +45,7 @@ returns-in-Err-clause-read g c = λ e channels numbered.
     let left = prepend_known c.args.intake.now (g.S.Source.left c.args.source.now) in
     let leaves = prepend_known l.intake (g.S.Source.left l.source) in
     let later = g.S.Source.left n.source in
-    running_reads c.args.port channels (new_clock c.args.opened.now.hub.tick) c.args.endian (g.K.Sink.held c.args.sink.now) (g.K.Sink.faults c.args.sink.now) (g.K.Sink.is_steady c.args.sink.now) c.args.writer.now.gather (g.K.Sink.held l.sink) (g.K.Sink.faults l.sink) (g.K.Sink.is_steady l.sink) l.writer.gather l.progress.due l.progress.room l.count left leaves later n.intake (l.invariant.running channels numbered) c.next_within.ensures.same c.in-Err.ensures.unread
+    running_reads c.args.port channels (new_clock c.args.opened.now.hub.tick) c.args.endian (g.K.Sink.held c.args.sink.now) (g.K.Sink.faults c.args.sink.now) (g.K.Sink.is_steady c.args.sink.now) c.args.gather.now (g.K.Sink.held l.sink) (g.K.Sink.faults l.sink) (g.K.Sink.is_steady l.sink) l.gather l.progress.due l.progress.room l.count left leaves later n.intake (l.invariant.running channels numbered) c.next_within.ensures.same c.in-Err.ensures.unread
 
 pub returns-in-Err-clause-cause : goal.returns-in-Err-clause-cause
 returns-in-Err-clause-cause g c =
@@ -72,7 +72,7 @@ returns-in-Ok-Ended-clause-text g c = λ channels numbered.
     let leaves = prepend_known l.intake (g.S.Source.left l.source) in
     let later = g.S.Source.left n.source in
     let at = subst (λ (x : Next). IsNextWithin c.args.endian l.count n.intake later x) c.in-Ok-Ended.field-0-is c.in-Ok-Ended.ensures.next in
-    told_gives left _ _ (λ xs q. q.0) (running_ended c.args.port channels (new_clock c.args.opened.now.hub.tick) c.args.endian (g.K.Sink.held c.args.sink.now) (g.K.Sink.faults c.args.sink.now) (g.K.Sink.is_steady c.args.sink.now) c.args.writer.now.gather (g.K.Sink.held l.sink) (g.K.Sink.faults l.sink) (g.K.Sink.is_steady l.sink) l.writer.gather l.progress.due l.progress.room l.count left leaves later n.intake (l.invariant.running channels numbered) c.next_within.ensures.same at.0 at.1)
+    told_gives left _ _ (λ xs q. q.0) (running_ended c.args.port channels (new_clock c.args.opened.now.hub.tick) c.args.endian (g.K.Sink.held c.args.sink.now) (g.K.Sink.faults c.args.sink.now) (g.K.Sink.is_steady c.args.sink.now) c.args.gather.now (g.K.Sink.held l.sink) (g.K.Sink.faults l.sink) (g.K.Sink.is_steady l.sink) l.gather l.progress.due l.progress.room l.count left leaves later n.intake (l.invariant.running channels numbered) c.next_within.ensures.same at.0 at.1)
 
 pub returns-in-Ok-Ended-clause-journal : goal.returns-in-Ok-Ended-clause-journal
 returns-in-Ok-Ended-clause-journal g c = λ e channels numbered.
@@ -82,7 +82,7 @@ returns-in-Ok-Ended-clause-journal g c = λ e channels numbered.
     let leaves = prepend_known l.intake (g.S.Source.left l.source) in
     let later = g.S.Source.left n.source in
     let at = subst (λ (x : Next). IsNextWithin c.args.endian l.count n.intake later x) c.in-Ok-Ended.field-0-is c.in-Ok-Ended.ensures.next in
-    told_gives left _ _ (λ xs q. q.1) (running_ended c.args.port channels (new_clock c.args.opened.now.hub.tick) c.args.endian (g.K.Sink.held c.args.sink.now) (g.K.Sink.faults c.args.sink.now) (g.K.Sink.is_steady c.args.sink.now) c.args.writer.now.gather (g.K.Sink.held l.sink) (g.K.Sink.faults l.sink) (g.K.Sink.is_steady l.sink) l.writer.gather l.progress.due l.progress.room l.count left leaves later n.intake (l.invariant.running channels numbered) c.next_within.ensures.same at.0 at.1)
+    told_gives left _ _ (λ xs q. q.1) (running_ended c.args.port channels (new_clock c.args.opened.now.hub.tick) c.args.endian (g.K.Sink.held c.args.sink.now) (g.K.Sink.faults c.args.sink.now) (g.K.Sink.is_steady c.args.sink.now) c.args.gather.now (g.K.Sink.held l.sink) (g.K.Sink.faults l.sink) (g.K.Sink.is_steady l.sink) l.gather l.progress.due l.progress.room l.count left leaves later n.intake (l.invariant.running channels numbered) c.next_within.ensures.same at.0 at.1)
 
 pub returns-in-Ok-Ended-clause-ended : goal.returns-in-Ok-Ended-clause-ended
 returns-in-Ok-Ended-clause-ended g c = λ e.
@@ -100,7 +100,7 @@ returns-in-Ok-Ended-clause-steady g c = λ s channels numbered.
     let leaves = prepend_known l.intake (g.S.Source.left l.source) in
     let later = g.S.Source.left n.source in
     let at = subst (λ (x : Next). IsNextWithin c.args.endian l.count n.intake later x) c.in-Ok-Ended.field-0-is c.in-Ok-Ended.ensures.next in
-    told_gives left _ _ (λ xs q. q.2) (running_ended c.args.port channels (new_clock c.args.opened.now.hub.tick) c.args.endian (g.K.Sink.held c.args.sink.now) (g.K.Sink.faults c.args.sink.now) (g.K.Sink.is_steady c.args.sink.now) c.args.writer.now.gather (g.K.Sink.held l.sink) (g.K.Sink.faults l.sink) (g.K.Sink.is_steady l.sink) l.writer.gather l.progress.due l.progress.room l.count left leaves later n.intake (l.invariant.running channels numbered) c.next_within.ensures.same at.0 at.1)
+    told_gives left _ _ (λ xs q. q.2) (running_ended c.args.port channels (new_clock c.args.opened.now.hub.tick) c.args.endian (g.K.Sink.held c.args.sink.now) (g.K.Sink.faults c.args.sink.now) (g.K.Sink.is_steady c.args.sink.now) c.args.gather.now (g.K.Sink.held l.sink) (g.K.Sink.faults l.sink) (g.K.Sink.is_steady l.sink) l.gather l.progress.due l.progress.room l.count left leaves later n.intake (l.invariant.running channels numbered) c.next_within.ensures.same at.0 at.1)
 
 pub returns-in-Ok-TooMany-clause-text : goal.returns-in-Ok-TooMany-clause-text
 returns-in-Ok-TooMany-clause-text g c = λ channels numbered.
@@ -110,7 +110,7 @@ returns-in-Ok-TooMany-clause-text g c = λ channels numbered.
     let leaves = prepend_known l.intake (g.S.Source.left l.source) in
     let later = g.S.Source.left n.source in
     let at = subst (λ (x : Next). IsNextWithin c.args.endian l.count n.intake later x) c.in-Ok-TooMany.field-0-is c.in-Ok-TooMany.ensures.next in
-    told_gives left _ _ (λ xs q. q.0) (running_crowded c.args.port channels (new_clock c.args.opened.now.hub.tick) c.args.endian (g.K.Sink.held c.args.sink.now) (g.K.Sink.faults c.args.sink.now) (g.K.Sink.is_steady c.args.sink.now) c.args.writer.now.gather (g.K.Sink.held l.sink) (g.K.Sink.faults l.sink) (g.K.Sink.is_steady l.sink) l.writer.gather l.progress.due l.progress.room l.count left leaves later n.intake (l.invariant.running channels numbered) c.next_within.ensures.same at.0 at.1)
+    told_gives left _ _ (λ xs q. q.0) (running_crowded c.args.port channels (new_clock c.args.opened.now.hub.tick) c.args.endian (g.K.Sink.held c.args.sink.now) (g.K.Sink.faults c.args.sink.now) (g.K.Sink.is_steady c.args.sink.now) c.args.gather.now (g.K.Sink.held l.sink) (g.K.Sink.faults l.sink) (g.K.Sink.is_steady l.sink) l.gather l.progress.due l.progress.room l.count left leaves later n.intake (l.invariant.running channels numbered) c.next_within.ensures.same at.0 at.1)
 
 pub returns-in-Ok-TooMany-clause-steady : goal.returns-in-Ok-TooMany-clause-steady
 returns-in-Ok-TooMany-clause-steady g c = λ s channels numbered.
@@ -120,7 +120,7 @@ returns-in-Ok-TooMany-clause-steady g c = λ s channels numbered.
     let leaves = prepend_known l.intake (g.S.Source.left l.source) in
     let later = g.S.Source.left n.source in
     let at = subst (λ (x : Next). IsNextWithin c.args.endian l.count n.intake later x) c.in-Ok-TooMany.field-0-is c.in-Ok-TooMany.ensures.next in
-    told_gives left _ _ (λ xs q. q.1) (running_crowded c.args.port channels (new_clock c.args.opened.now.hub.tick) c.args.endian (g.K.Sink.held c.args.sink.now) (g.K.Sink.faults c.args.sink.now) (g.K.Sink.is_steady c.args.sink.now) c.args.writer.now.gather (g.K.Sink.held l.sink) (g.K.Sink.faults l.sink) (g.K.Sink.is_steady l.sink) l.writer.gather l.progress.due l.progress.room l.count left leaves later n.intake (l.invariant.running channels numbered) c.next_within.ensures.same at.0 at.1)
+    told_gives left _ _ (λ xs q. q.1) (running_crowded c.args.port channels (new_clock c.args.opened.now.hub.tick) c.args.endian (g.K.Sink.held c.args.sink.now) (g.K.Sink.faults c.args.sink.now) (g.K.Sink.is_steady c.args.sink.now) c.args.gather.now (g.K.Sink.held l.sink) (g.K.Sink.faults l.sink) (g.K.Sink.is_steady l.sink) l.gather l.progress.due l.progress.room l.count left leaves later n.intake (l.invariant.running channels numbered) c.next_within.ensures.same at.0 at.1)
 
 pub returns-in-Ok-TooMany-clause-journal : goal.returns-in-Ok-TooMany-clause-journal
 returns-in-Ok-TooMany-clause-journal g c = λ e. absurd (other_end _ not_too_long e)
@@ -136,7 +136,7 @@ returns-in-Ok-Broken-clause-text g c = λ channels numbered.
     let leaves = prepend_known l.intake (g.S.Source.left l.source) in
     let later = g.S.Source.left n.source in
     let at = subst (λ (x : Next). IsNextWithin c.args.endian l.count n.intake later x) c.in-Ok-Broken.field-0-is c.in-Ok-Broken.ensures.next in
-    told_gives left _ _ (λ xs q. q.0) (running_broken c.args.port channels (new_clock c.args.opened.now.hub.tick) c.args.endian (g.K.Sink.held c.args.sink.now) (g.K.Sink.faults c.args.sink.now) (g.K.Sink.is_steady c.args.sink.now) c.args.writer.now.gather (g.K.Sink.held l.sink) (g.K.Sink.faults l.sink) (g.K.Sink.is_steady l.sink) l.writer.gather l.progress.due l.progress.room l.count left leaves later n.intake c.in-Ok-Broken.fault (l.invariant.running channels numbered) c.next_within.ensures.same at.0 at.1.0 at.1.1)
+    told_gives left _ _ (λ xs q. q.0) (running_broken c.args.port channels (new_clock c.args.opened.now.hub.tick) c.args.endian (g.K.Sink.held c.args.sink.now) (g.K.Sink.faults c.args.sink.now) (g.K.Sink.is_steady c.args.sink.now) c.args.gather.now (g.K.Sink.held l.sink) (g.K.Sink.faults l.sink) (g.K.Sink.is_steady l.sink) l.gather l.progress.due l.progress.room l.count left leaves later n.intake c.in-Ok-Broken.fault (l.invariant.running channels numbered) c.next_within.ensures.same at.0 at.1.0 at.1.1)
 
 pub returns-in-Ok-Broken-clause-steady : goal.returns-in-Ok-Broken-clause-steady
 returns-in-Ok-Broken-clause-steady g c = λ s channels numbered.
@@ -146,7 +146,7 @@ returns-in-Ok-Broken-clause-steady g c = λ s channels numbered.
     let leaves = prepend_known l.intake (g.S.Source.left l.source) in
     let later = g.S.Source.left n.source in
     let at = subst (λ (x : Next). IsNextWithin c.args.endian l.count n.intake later x) c.in-Ok-Broken.field-0-is c.in-Ok-Broken.ensures.next in
-    told_gives left _ _ (λ xs q. q.1) (running_broken c.args.port channels (new_clock c.args.opened.now.hub.tick) c.args.endian (g.K.Sink.held c.args.sink.now) (g.K.Sink.faults c.args.sink.now) (g.K.Sink.is_steady c.args.sink.now) c.args.writer.now.gather (g.K.Sink.held l.sink) (g.K.Sink.faults l.sink) (g.K.Sink.is_steady l.sink) l.writer.gather l.progress.due l.progress.room l.count left leaves later n.intake c.in-Ok-Broken.fault (l.invariant.running channels numbered) c.next_within.ensures.same at.0 at.1.0 at.1.1)
+    told_gives left _ _ (λ xs q. q.1) (running_broken c.args.port channels (new_clock c.args.opened.now.hub.tick) c.args.endian (g.K.Sink.held c.args.sink.now) (g.K.Sink.faults c.args.sink.now) (g.K.Sink.is_steady c.args.sink.now) c.args.gather.now (g.K.Sink.held l.sink) (g.K.Sink.faults l.sink) (g.K.Sink.is_steady l.sink) l.gather l.progress.due l.progress.room l.count left leaves later n.intake c.in-Ok-Broken.fault (l.invariant.running channels numbered) c.next_within.ensures.same at.0 at.1.0 at.1.1)
 
 pub returns-in-Ok-Broken-clause-journal : goal.returns-in-Ok-Broken-clause-journal
 returns-in-Ok-Broken-clause-journal g c = λ e. absurd (other_end _ (not_refused _ _) e)
@@ -210,7 +210,7 @@ returns-in_err-write_record-in-Ok-Whole-clause-front g c =
     let at = subst (λ (x : Next). IsNextWithin c.args.endian l.count n.intake later x) c.in-Ok-Whole.field-0-is c.in-Ok-Whole.ensures.next in
     let p = err_from_is_err_and c.from_residual.result c.from_residual.ensures.1 in
     err_so c.from_residual.result p.0 c.in_err-write_record-in-Ok-Whole.field-0.0 _ p.1 p.2
-    (λ channels numbered. running_stops c.args.port channels (new_clock c.args.opened.now.hub.tick) c.args.endian (g.K.Sink.held c.args.sink.now) (g.K.Sink.faults c.args.sink.now) (g.K.Sink.is_steady c.args.sink.now) c.args.writer.now.gather (g.K.Sink.held l.sink) (g.K.Sink.faults l.sink) (g.K.Sink.is_steady l.sink) l.writer.gather l.progress.due l.progress.room l.count n.intake c.in-Ok-Whole.header at.1.0 at.1.1 at.0 left leaves later (g.K.Sink.held c.write_record.new.sink) c.write_record.new.writer.gather c.in_err-write_record-in-Ok-Whole.field-0.0 (l.invariant.running channels numbered) c.next_within.ensures.same
+    (λ channels numbered. running_stops c.args.port channels (new_clock c.args.opened.now.hub.tick) c.args.endian (g.K.Sink.held c.args.sink.now) (g.K.Sink.faults c.args.sink.now) (g.K.Sink.is_steady c.args.sink.now) c.args.gather.now (g.K.Sink.held l.sink) (g.K.Sink.faults l.sink) (g.K.Sink.is_steady l.sink) l.gather l.progress.due l.progress.room l.count n.intake c.in-Ok-Whole.header at.1.0 at.1.1 at.0 left leaves later (g.K.Sink.held c.write_record.new.sink) c.write_record.new.gather c.in_err-write_record-in-Ok-Whole.field-0.0 (l.invariant.running channels numbered) c.next_within.ensures.same
     (c.in_err-write_record-in-Ok-Whole.ensures.front channels numbered))
 
 pub returns-in_err-write_record-in-Ok-Whole-clause-read : goal.returns-in_err-write_record-in-Ok-Whole-clause-read
@@ -241,7 +241,7 @@ returns-in_err-write_record-in-Ok-Whole-clause-steady g c = λ s channels number
     let later = g.S.Source.left n.source in
     let at = subst (λ (x : Next). IsNextWithin c.args.endian l.count n.intake later x) c.in-Ok-Whole.field-0-is c.in-Ok-Whole.ensures.next in
     let p = err_from_is_err_and c.from_residual.result c.from_residual.ensures.1 in
-    let room = running_has_room c.args.port channels (new_clock c.args.opened.now.hub.tick) c.args.endian (g.K.Sink.held c.args.sink.now) (g.K.Sink.faults c.args.sink.now) (g.K.Sink.is_steady c.args.sink.now) c.args.writer.now.gather (g.K.Sink.held l.sink) (g.K.Sink.faults l.sink) (g.K.Sink.is_steady l.sink) l.writer.gather l.progress.due l.progress.room l.count n.intake c.in-Ok-Whole.header at.1.0 at.1.1 at.0 left leaves later (l.invariant.running channels numbered) c.next_within.ensures.same in
+    let room = running_has_room c.args.port channels (new_clock c.args.opened.now.hub.tick) c.args.endian (g.K.Sink.held c.args.sink.now) (g.K.Sink.faults c.args.sink.now) (g.K.Sink.is_steady c.args.sink.now) c.args.gather.now (g.K.Sink.held l.sink) (g.K.Sink.faults l.sink) (g.K.Sink.is_steady l.sink) l.gather l.progress.due l.progress.room l.count n.intake c.in-Ok-Whole.header at.1.0 at.1.1 at.0 left leaves later (l.invariant.running channels numbered) c.next_within.ensures.same in
     told_gives left _ _
     (λ xs has. λ more h.
     let fits = has more h in
@@ -256,7 +256,7 @@ returns-then-not-branch-clause-text g c = λ channels numbered.
     let leaves = prepend_known l.intake (g.S.Source.left l.source) in
     let later = g.S.Source.left n.source in
     let at = subst (λ (x : Next). IsNextWithin c.args.endian l.count n.intake later x) c.in-Ok-Whole.field-0-is c.in-Ok-Whole.ensures.next in
-    told_gives left _ _ (λ xs q. q.0) (running_full c.args.port channels (new_clock c.args.opened.now.hub.tick) c.args.endian (g.K.Sink.held c.args.sink.now) (g.K.Sink.faults c.args.sink.now) (g.K.Sink.is_steady c.args.sink.now) c.args.writer.now.gather (g.K.Sink.held l.sink) (g.K.Sink.faults l.sink) (g.K.Sink.is_steady l.sink) l.writer.gather l.progress.due l.progress.room l.count n.intake c.in-Ok-Whole.header at.1.0 at.1.1 at.0 (g.K.Sink.held c.write_record.new.sink) (g.K.Sink.faults c.write_record.new.sink) (g.K.Sink.is_steady c.write_record.new.sink) c.write_record.new.writer.gather (c.in_ok-write_record-in-Ok-Whole.ensures.all channels numbered) (λ more h. c.in_ok-write_record-in-Ok-Whole.ensures.steady channels more numbered h) left leaves later (l.invariant.running channels numbered) c.next_within.ensures.same (when_not c.in_ok-write_record-in-Ok-Whole.field-0 _ _ (c.in_ok-write_record-in-Ok-Whole.ensures.fits channels numbered) c.if-not-branch.true))
+    told_gives left _ _ (λ xs q. q.0) (running_full c.args.port channels (new_clock c.args.opened.now.hub.tick) c.args.endian (g.K.Sink.held c.args.sink.now) (g.K.Sink.faults c.args.sink.now) (g.K.Sink.is_steady c.args.sink.now) c.args.gather.now (g.K.Sink.held l.sink) (g.K.Sink.faults l.sink) (g.K.Sink.is_steady l.sink) l.gather l.progress.due l.progress.room l.count n.intake c.in-Ok-Whole.header at.1.0 at.1.1 at.0 (g.K.Sink.held c.write_record.new.sink) (g.K.Sink.faults c.write_record.new.sink) (g.K.Sink.is_steady c.write_record.new.sink) c.write_record.new.gather (c.in_ok-write_record-in-Ok-Whole.ensures.all channels numbered) (λ more h. c.in_ok-write_record-in-Ok-Whole.ensures.steady channels more numbered h) left leaves later (l.invariant.running channels numbered) c.next_within.ensures.same (when_not c.in_ok-write_record-in-Ok-Whole.field-0 _ _ (c.in_ok-write_record-in-Ok-Whole.ensures.fits channels numbered) c.if-not-branch.true))
 
 pub returns-then-not-branch-clause-steady : goal.returns-then-not-branch-clause-steady
 returns-then-not-branch-clause-steady g c = λ s channels numbered.
@@ -266,7 +266,7 @@ returns-then-not-branch-clause-steady g c = λ s channels numbered.
     let leaves = prepend_known l.intake (g.S.Source.left l.source) in
     let later = g.S.Source.left n.source in
     let at = subst (λ (x : Next). IsNextWithin c.args.endian l.count n.intake later x) c.in-Ok-Whole.field-0-is c.in-Ok-Whole.ensures.next in
-    told_gives left _ _ (λ xs q. q.1) (running_full c.args.port channels (new_clock c.args.opened.now.hub.tick) c.args.endian (g.K.Sink.held c.args.sink.now) (g.K.Sink.faults c.args.sink.now) (g.K.Sink.is_steady c.args.sink.now) c.args.writer.now.gather (g.K.Sink.held l.sink) (g.K.Sink.faults l.sink) (g.K.Sink.is_steady l.sink) l.writer.gather l.progress.due l.progress.room l.count n.intake c.in-Ok-Whole.header at.1.0 at.1.1 at.0 (g.K.Sink.held c.write_record.new.sink) (g.K.Sink.faults c.write_record.new.sink) (g.K.Sink.is_steady c.write_record.new.sink) c.write_record.new.writer.gather (c.in_ok-write_record-in-Ok-Whole.ensures.all channels numbered) (λ more h. c.in_ok-write_record-in-Ok-Whole.ensures.steady channels more numbered h) left leaves later (l.invariant.running channels numbered) c.next_within.ensures.same (when_not c.in_ok-write_record-in-Ok-Whole.field-0 _ _ (c.in_ok-write_record-in-Ok-Whole.ensures.fits channels numbered) c.if-not-branch.true))
+    told_gives left _ _ (λ xs q. q.1) (running_full c.args.port channels (new_clock c.args.opened.now.hub.tick) c.args.endian (g.K.Sink.held c.args.sink.now) (g.K.Sink.faults c.args.sink.now) (g.K.Sink.is_steady c.args.sink.now) c.args.gather.now (g.K.Sink.held l.sink) (g.K.Sink.faults l.sink) (g.K.Sink.is_steady l.sink) l.gather l.progress.due l.progress.room l.count n.intake c.in-Ok-Whole.header at.1.0 at.1.1 at.0 (g.K.Sink.held c.write_record.new.sink) (g.K.Sink.faults c.write_record.new.sink) (g.K.Sink.is_steady c.write_record.new.sink) c.write_record.new.gather (c.in_ok-write_record-in-Ok-Whole.ensures.all channels numbered) (λ more h. c.in_ok-write_record-in-Ok-Whole.ensures.steady channels more numbered h) left leaves later (l.invariant.running channels numbered) c.next_within.ensures.same (when_not c.in_ok-write_record-in-Ok-Whole.field-0 _ _ (c.in_ok-write_record-in-Ok-Whole.ensures.fits channels numbered) c.if-not-branch.true))
 
 pub returns-then-not-branch-clause-journal : goal.returns-then-not-branch-clause-journal
 returns-then-not-branch-clause-journal g c = λ e. absurd (other_end _ not_too_long e)
@@ -291,7 +291,7 @@ loop-count-preserved g c =
     let writes = c.write_record.ensures.cause.later in
     record {
       running = λ channels numbered.
-          running_goes_on c.args.port channels (new_clock c.args.opened.now.hub.tick) c.args.endian (g.K.Sink.held c.args.sink.now) (g.K.Sink.faults c.args.sink.now) (g.K.Sink.is_steady c.args.sink.now) c.args.writer.now.gather (g.K.Sink.held l.sink) (g.K.Sink.faults l.sink) (g.K.Sink.is_steady l.sink) l.writer.gather l.progress.due l.progress.room l.count n.intake c.in-Ok-Whole.header at.1.0 at.1.1 at.0 (g.K.Sink.held c.write_record.new.sink) (g.K.Sink.faults c.write_record.new.sink) (g.K.Sink.is_steady c.write_record.new.sink) c.write_record.new.writer.gather (c.in_ok-write_record-in-Ok-Whole.ensures.all channels numbered) (λ more h. c.in_ok-write_record-in-Ok-Whole.ensures.steady channels more numbered h) left leaves later c.write_record.new.progress.due c.write_record.new.progress.room c.write_record.new.intake (l.invariant.running channels numbered) c.next_within.ensures.same
+          running_goes_on c.args.port channels (new_clock c.args.opened.now.hub.tick) c.args.endian (g.K.Sink.held c.args.sink.now) (g.K.Sink.faults c.args.sink.now) (g.K.Sink.is_steady c.args.sink.now) c.args.gather.now (g.K.Sink.held l.sink) (g.K.Sink.faults l.sink) (g.K.Sink.is_steady l.sink) l.gather l.progress.due l.progress.room l.count n.intake c.in-Ok-Whole.header at.1.0 at.1.1 at.0 (g.K.Sink.held c.write_record.new.sink) (g.K.Sink.faults c.write_record.new.sink) (g.K.Sink.is_steady c.write_record.new.sink) c.write_record.new.gather (c.in_ok-write_record-in-Ok-Whole.ensures.all channels numbered) (λ more h. c.in_ok-write_record-in-Ok-Whole.ensures.steady channels more numbered h) left leaves later c.write_record.new.progress.due c.write_record.new.progress.room c.write_record.new.intake (l.invariant.running channels numbered) c.next_within.ensures.same
           c.in_ok-write_record-in-Ok-Whole.ensures.left c.write_record.ensures.clock (when_full c.in_ok-write_record-in-Ok-Whole.field-0 _ _ (c.in_ok-write_record-in-Ok-Whole.ensures.fits channels numbered) c.if-not-branch.false) (c.write_record.ensures.spelled channels numbered) writes;
       read_later = omega (arith, read, reads);
       write_later = omega (arith, written, writes);
@@ -310,7 +310,7 @@ returns-clause-read g c = λ e. absurd (memory_not_read e)
 pub returns-clause-front : goal.returns-clause-front
 returns-clause-front g c = λ channels numbered.
     let l = c.loop-count in
-    running_breaks c.args.port channels (new_clock c.args.opened.now.hub.tick) c.args.endian (g.K.Sink.held c.args.sink.now) (g.K.Sink.faults c.args.sink.now) (g.K.Sink.is_steady c.args.sink.now) c.args.writer.now.gather (g.K.Sink.held l.sink) (g.K.Sink.faults l.sink) (g.K.Sink.is_steady l.sink) l.writer.gather l.progress.due l.progress.room l.count (prepend_known c.args.intake.now (g.S.Source.left c.args.source.now)) (prepend_known l.intake (g.S.Source.left l.source)) Memory (l.invariant.running channels numbered)
+    running_breaks c.args.port channels (new_clock c.args.opened.now.hub.tick) c.args.endian (g.K.Sink.held c.args.sink.now) (g.K.Sink.faults c.args.sink.now) (g.K.Sink.is_steady c.args.sink.now) c.args.gather.now (g.K.Sink.held l.sink) (g.K.Sink.faults l.sink) (g.K.Sink.is_steady l.sink) l.gather l.progress.due l.progress.room l.count (prepend_known c.args.intake.now (g.S.Source.left c.args.source.now)) (prepend_known l.intake (g.S.Source.left l.source)) Memory (l.invariant.running channels numbered)
 
 pub returns-clause-cause : goal.returns-clause-cause
 returns-clause-cause g c =

@@ -10,8 +10,8 @@ abbrev pub invariant-loop-count : goal.invariant-loop-count
 invariant-loop-count g l = record {
   running : (channels : List Served) → Numbered l.opened.ids.items channels
       → IfBothTold (prepend_known l.fn.intake (g.S.Source.left l.fn.source)) (prepend_known l.intake (g.S.Source.left l.source))
-      (IsRunning l.port channels (new_clock l.opened.hub.tick) l.endian (g.K.Sink.held l.fn.sink) (g.K.Sink.faults l.fn.sink) (g.K.Sink.is_steady l.fn.sink) l.fn.writer.gather
-      (g.K.Sink.held l.sink) (g.K.Sink.faults l.sink) (g.K.Sink.is_steady l.sink) l.writer.gather l.progress.due l.progress.room l.count);
+      (IsRunning l.port channels (new_clock l.opened.hub.tick) l.endian (g.K.Sink.held l.fn.sink) (g.K.Sink.faults l.fn.sink) (g.K.Sink.is_steady l.fn.sink) l.fn.gather
+      (g.K.Sink.held l.sink) (g.K.Sink.faults l.sink) (g.K.Sink.is_steady l.sink) l.gather l.progress.due l.progress.room l.count);
   read_later : g.S.Source.faults l.fn.source ≤ g.S.Source.faults l.source;
   write_later : g.K.Sink.faults l.fn.sink ≤ g.K.Sink.faults l.sink;
   calm : g.S.Source.is_steady l.fn.source → g.S.Source.is_steady l.source;

@@ -35,7 +35,7 @@ first_room steady waits all first more room is h =
 pub returns-in_err-put_ticks-clause-front : goal.returns-in_err-put_ticks-clause-front
 returns-in_err-put_ticks-clause-front g c =
     let p = err_from_is_err_and c.from_residual.result c.from_residual.ensures.1 in
-    let waits = c.args.writer.now.gather in
+    let waits = c.args.gather.now in
     let front = ticks_front c.args.room c.args.ticks c.min-count.result (event c.args.heard) c.min-count.ensures in
     let lines = event_lines (replicate c.min-count.result Tick) in
     let stops = stops_before_more (g.K.Sink.held c.args.sink.now) (g.K.Sink.held c.put_ticks.new.sink) (waits ++ lines) c.put_ticks.new.gather front.0 c.in_err-put_ticks.field-0.0 c.in_err-put_ticks.ensures.front in
@@ -49,7 +49,7 @@ returns-in_err-put_ticks-clause-steady g c = λ more h.
     let front = ticks_front c.args.room c.args.ticks c.min-count.result (event c.args.heard) c.min-count.ensures in
     let lines = event_lines (replicate c.min-count.result Tick) in
     only_err c.from_residual.result p.0 c.in_err-put_ticks.field-0.0 _ p.1 p.2
-    (c.in_err-put_ticks.ensures.steady _ (first_room (g.K.Sink.is_steady c.args.sink.now) c.args.writer.now.gather _ lines front.0 more front.1 h))
+    (c.in_err-put_ticks.ensures.steady _ (first_room (g.K.Sink.is_steady c.args.sink.now) c.args.gather.now _ lines front.0 more front.1 h))
 
 -- there is no room for all ticks
 pub returns-then-count-ticks-clause-left : goal.returns-then-count-ticks-clause-left
@@ -62,14 +62,14 @@ pub returns-then-count-ticks-clause-all : goal.returns-then-count-ticks-clause-a
 returns-then-count-ticks-clause-all g c =
     let less = c.if-count-ticks.true in
     let is = c.min-count.ensures in
-    subst (λ (t : List ℕ). Passes (g.K.Sink.held c.args.sink.now) (g.K.Sink.held c.put_ticks.new.sink) (c.args.writer.now.gather ++ t) c.put_ticks.new.gather)
+    subst (λ (t : List ℕ). Passes (g.K.Sink.held c.args.sink.now) (g.K.Sink.held c.put_ticks.new.sink) (c.args.gather.now ++ t) c.put_ticks.new.gather)
     (sym (only_ticks c.args.room c.args.ticks c.min-count.result (event c.args.heard) (omega (arith, less)) (omega (arith, less, is)))) c.in_ok-put_ticks.ensures.all
 
 pub returns-then-count-ticks-clause-steady : goal.returns-then-count-ticks-clause-steady
 returns-then-count-ticks-clause-steady g c = λ more h.
     let less = c.if-count-ticks.true in
     let is = c.min-count.ensures in
-    c.in_ok-put_ticks.ensures.steady more (subst (λ (t : List ℕ). g.K.Sink.is_steady c.args.sink.now (length c.args.writer.now.gather + length t + more))
+    c.in_ok-put_ticks.ensures.steady more (subst (λ (t : List ℕ). g.K.Sink.is_steady c.args.sink.now (length c.args.gather.now + length t + more))
     (only_ticks c.args.room c.args.ticks c.min-count.result (event c.args.heard) (omega (arith, less)) (omega (arith, less, is))) h)
 
 -- there is no event
@@ -87,7 +87,7 @@ returns-in_default-clause-all g c =
     let is = c.min-count.ensures in
     let count : c.args.ticks ≡ c.min-count.result = omega (arith, all, is) in
     let text = ap (λ (o : Option HubEvent). event_lines (take c.args.room (ticks_and c.args.ticks o))) (none_is c.args.heard c.in_default.is) ∙ (ticks_and_none c.args.room c.args.ticks (omega (arith, all, is)) ∙ ap (λ n. event_lines (replicate n Tick)) count) in
-    subst (λ (t : List ℕ). Passes (g.K.Sink.held c.args.sink.now) (g.K.Sink.held c.put_ticks.new.sink) (c.args.writer.now.gather ++ t) c.put_ticks.new.gather) (sym text) c.in_ok-put_ticks.ensures.all
+    subst (λ (t : List ℕ). Passes (g.K.Sink.held c.args.sink.now) (g.K.Sink.held c.put_ticks.new.sink) (c.args.gather.now ++ t) c.put_ticks.new.gather) (sym text) c.in_ok-put_ticks.ensures.all
 
 pub returns-in_default-clause-steady : goal.returns-in_default-clause-steady
 returns-in_default-clause-steady g c = λ more h.
@@ -95,7 +95,7 @@ returns-in_default-clause-steady g c = λ more h.
     let is = c.min-count.ensures in
     let count : c.args.ticks ≡ c.min-count.result = omega (arith, all, is) in
     let text = ap (λ (o : Option HubEvent). event_lines (take c.args.room (ticks_and c.args.ticks o))) (none_is c.args.heard c.in_default.is) ∙ (ticks_and_none c.args.room c.args.ticks (omega (arith, all, is)) ∙ ap (λ n. event_lines (replicate n Tick)) count) in
-    c.in_ok-put_ticks.ensures.steady more (subst (λ (t : List ℕ). g.K.Sink.is_steady c.args.sink.now (length c.args.writer.now.gather + length t + more)) text h)
+    c.in_ok-put_ticks.ensures.steady more (subst (λ (t : List ℕ). g.K.Sink.is_steady c.args.sink.now (length c.args.gather.now + length t + more)) text h)
 
 -- there is no room for it
 pub returns-then-count-room-clause-left : goal.returns-then-count-room-clause-left
@@ -112,14 +112,14 @@ returns-then-count-room-clause-all g c =
     let all = c.if-count-ticks.false in
     let is = c.min-count.ensures in
     let full = c.if-count-room.true in
-    subst (λ (t : List ℕ). Passes (g.K.Sink.held c.args.sink.now) (g.K.Sink.held c.put_ticks.new.sink) (c.args.writer.now.gather ++ t) c.put_ticks.new.gather)
+    subst (λ (t : List ℕ). Passes (g.K.Sink.held c.args.sink.now) (g.K.Sink.held c.put_ticks.new.sink) (c.args.gather.now ++ t) c.put_ticks.new.gather)
     (sym (only_ticks c.args.room c.args.ticks c.min-count.result (event c.args.heard) (omega (arith, is)) full)) c.in_ok-put_ticks.ensures.all
 
 pub returns-then-count-room-clause-steady : goal.returns-then-count-room-clause-steady
 returns-then-count-room-clause-steady g c = λ more h.
     let is = c.min-count.ensures in
     let full = c.if-count-room.true in
-    c.in_ok-put_ticks.ensures.steady more (subst (λ (t : List ℕ). g.K.Sink.is_steady c.args.sink.now (length c.args.writer.now.gather + length t + more))
+    c.in_ok-put_ticks.ensures.steady more (subst (λ (t : List ℕ). g.K.Sink.is_steady c.args.sink.now (length c.args.gather.now + length t + more))
     (only_ticks c.args.room c.args.ticks c.min-count.result (event c.args.heard) (omega (arith, is)) full) h)
 
 -- its line goes behind those of the ticks
@@ -155,10 +155,10 @@ returns-in_err-put_event-clause-front g c =
     let other = c.if-count-room.false in
     let a = g.K.Sink.held c.args.sink.now in
     let d = g.K.Sink.held c.put_event.new.sink in
-    let stops = stops_behind a (g.K.Sink.held c.put_ticks.new.sink) d (before_line c.args.writer.now.gather c.min-count.result) c.put_ticks.new.gather _ c.put_event.new.writer.gather c.in_err-put_event.field-0.0 c.in_ok-put_ticks.ensures.all c.in_err-put_event.ensures.front in
+    let stops = stops_behind a (g.K.Sink.held c.put_ticks.new.sink) d (before_line c.args.gather.now c.min-count.result) c.put_ticks.new.gather _ c.put_event.new.gather c.in_err-put_event.field-0.0 c.in_ok-put_ticks.ensures.all c.in_err-put_event.ensures.front in
     err_so c.from_residual-in_err-put_event.result p.0 c.in_err-put_event.field-0.0 _ p.1 p.2
-    (subst (λ (t : List ℕ). StopsIn a d t c.put_event.new.writer.gather c.in_err-put_event.field-0.0)
-    (one_text c.args.room c.args.ticks c.min-count.result c.args.heard c.in-Some.heard c.args.writer.now.gather (omega (arith, all, is)) (omega (arith, is, other)) c.in-Some.is) stops)
+    (subst (λ (t : List ℕ). StopsIn a d t c.put_event.new.gather c.in_err-put_event.field-0.0)
+    (one_text c.args.room c.args.ticks c.min-count.result c.args.heard c.in-Some.heard c.args.gather.now (omega (arith, all, is)) (omega (arith, is, other)) c.in-Some.is) stops)
 
 pub returns-in_err-put_event-clause-cause : goal.returns-in_err-put_event-clause-cause
 returns-in_err-put_event-clause-cause g c =
@@ -172,7 +172,7 @@ returns-in_err-put_event-clause-steady g c = λ more h.
     let is = c.min-count.ensures in
     let other = c.if-count-room.false in
     let line = event_line (event_of c.in-Some.heard) in
-    let first = c.in_ok-put_ticks.ensures.steady _ (one_room (g.K.Sink.is_steady c.args.sink.now) c.args.room c.args.ticks c.min-count.result c.args.heard c.in-Some.heard c.args.writer.now.gather more (omega (arith, all, is)) (omega (arith, is, other)) c.in-Some.is h) in
+    let first = c.in_ok-put_ticks.ensures.steady _ (one_room (g.K.Sink.is_steady c.args.sink.now) c.args.room c.args.ticks c.min-count.result c.args.heard c.in-Some.heard c.args.gather.now more (omega (arith, all, is)) (omega (arith, is, other)) c.in-Some.is h) in
     only_err c.from_residual-in_err-put_event.result p.0 c.in_err-put_event.field-0.0 _ p.1 p.2
     (c.in_err-put_event.ensures.steady more (later_room (g.K.Sink.is_steady c.put_ticks.new.sink) c.put_ticks.new.gather line more first))
 
@@ -192,9 +192,9 @@ returns-clause-all g c =
     let other = c.if-count-room.false in
     let a = g.K.Sink.held c.args.sink.now in
     let d = g.K.Sink.held c.put_event.new.sink in
-    subst (λ (t : List ℕ). Passes a d t c.put_event.new.writer.gather)
-    (one_text c.args.room c.args.ticks c.min-count.result c.args.heard c.in-Some.heard c.args.writer.now.gather (omega (arith, all, is)) (omega (arith, is, other)) c.in-Some.is)
-    (Passes-put a (g.K.Sink.held c.put_ticks.new.sink) d (before_line c.args.writer.now.gather c.min-count.result) c.put_ticks.new.gather _ c.put_event.new.writer.gather c.in_ok-put_ticks.ensures.all c.in_ok-put_event.ensures.all)
+    subst (λ (t : List ℕ). Passes a d t c.put_event.new.gather)
+    (one_text c.args.room c.args.ticks c.min-count.result c.args.heard c.in-Some.heard c.args.gather.now (omega (arith, all, is)) (omega (arith, is, other)) c.in-Some.is)
+    (Passes-put a (g.K.Sink.held c.put_ticks.new.sink) d (before_line c.args.gather.now c.min-count.result) c.put_ticks.new.gather _ c.put_event.new.gather c.in_ok-put_ticks.ensures.all c.in_ok-put_event.ensures.all)
 
 pub returns-clause-steady : goal.returns-clause-steady
 returns-clause-steady g c = λ more h.
@@ -202,5 +202,5 @@ returns-clause-steady g c = λ more h.
     let is = c.min-count.ensures in
     let other = c.if-count-room.false in
     let line = event_line (event_of c.in-Some.heard) in
-    let first = c.in_ok-put_ticks.ensures.steady _ (one_room (g.K.Sink.is_steady c.args.sink.now) c.args.room c.args.ticks c.min-count.result c.args.heard c.in-Some.heard c.args.writer.now.gather more (omega (arith, all, is)) (omega (arith, is, other)) c.in-Some.is h) in
+    let first = c.in_ok-put_ticks.ensures.steady _ (one_room (g.K.Sink.is_steady c.args.sink.now) c.args.room c.args.ticks c.min-count.result c.args.heard c.in-Some.heard c.args.gather.now more (omega (arith, all, is)) (omega (arith, is, other)) c.in-Some.is h) in
     c.in_ok-put_event.ensures.steady more (later_room (g.K.Sink.is_steady c.put_ticks.new.sink) c.put_ticks.new.gather line more first)

@@ -43,7 +43,7 @@ returns-in_err-left-clause-front g c = λ channels numbered.
     let are = events_are c.args.port channels c.args.progress.now.due c.args.header c.args.intake.now _ c.ticks_before-ticks.result (event c.frame_heard-heard.result) c.ticks_before-ticks.ensures.ticks (c.frame_heard-heard.ensures.heard channels (subst (λ (l : List ℕ). Numbered l channels) (sym c.deref.ensures.value) numbered))
     (frame_is c.bytes.result.now c.args.intake.now c.args.header.len c.bytes.ensures) in
     err_so c.from_residual.result p.0 c.in_err-left.field-0.0 _ p.1 p.2
-    (subst (λ (es : List HubEvent). StopsIn (g.K.Sink.held c.args.sink.now) (g.K.Sink.held c.write_events.new.sink) (c.args.writer.now.gather ++ event_lines (take c.args.progress.now.room es)) c.write_events.new.writer.gather c.in_err-left.field-0.0) are c.in_err-left.ensures.front)
+    (subst (λ (es : List HubEvent). StopsIn (g.K.Sink.held c.args.sink.now) (g.K.Sink.held c.write_events.new.sink) (c.args.gather.now ++ event_lines (take c.args.progress.now.room es)) c.write_events.new.gather c.in_err-left.field-0.0) are c.in_err-left.ensures.front)
 
 pub returns-in_err-left-clause-steady : goal.returns-in_err-left-clause-steady
 returns-in_err-left-clause-steady g c = λ channels more numbered h.
@@ -51,7 +51,7 @@ returns-in_err-left-clause-steady g c = λ channels more numbered h.
     let are = events_are c.args.port channels c.args.progress.now.due c.args.header c.args.intake.now _ c.ticks_before-ticks.result (event c.frame_heard-heard.result) c.ticks_before-ticks.ensures.ticks (c.frame_heard-heard.ensures.heard channels (subst (λ (l : List ℕ). Numbered l channels) (sym c.deref.ensures.value) numbered))
     (frame_is c.bytes.result.now c.args.intake.now c.args.header.len c.bytes.ensures) in
     only_err c.from_residual.result p.0 c.in_err-left.field-0.0 _ p.1 p.2
-    (c.in_err-left.ensures.steady more (subst (λ (es : List HubEvent). g.K.Sink.is_steady c.args.sink.now (length c.args.writer.now.gather + length (event_lines (take c.args.progress.now.room es)) + more)) (sym are) h))
+    (c.in_err-left.ensures.steady more (subst (λ (es : List HubEvent). g.K.Sink.is_steady c.args.sink.now (length c.args.gather.now + length (event_lines (take c.args.progress.now.room es)) + more)) (sym are) h))
 
 pub returns-in-Some-clause-fits : goal.returns-in-Some-clause-fits
 returns-in-Some-clause-fits g c = λ channels numbered.
@@ -64,13 +64,13 @@ pub returns-in-Some-clause-all : goal.returns-in-Some-clause-all
 returns-in-Some-clause-all g c = λ channels numbered.
     let are = events_are c.args.port channels c.args.progress.now.due c.args.header c.args.intake.now _ c.ticks_before-ticks.result (event c.frame_heard-heard.result) c.ticks_before-ticks.ensures.ticks (c.frame_heard-heard.ensures.heard channels (subst (λ (l : List ℕ). Numbered l channels) (sym c.deref.ensures.value) numbered))
     (frame_is c.bytes.result.now c.args.intake.now c.args.header.len c.bytes.ensures) in
-    subst (λ (es : List HubEvent). Passes (g.K.Sink.held c.args.sink.now) (g.K.Sink.held c.write_events.new.sink) (c.args.writer.now.gather ++ event_lines (take c.args.progress.now.room es)) c.write_events.new.writer.gather) are c.in_ok-left.ensures.all
+    subst (λ (es : List HubEvent). Passes (g.K.Sink.held c.args.sink.now) (g.K.Sink.held c.write_events.new.sink) (c.args.gather.now ++ event_lines (take c.args.progress.now.room es)) c.write_events.new.gather) are c.in_ok-left.ensures.all
 
 pub returns-in-Some-clause-steady : goal.returns-in-Some-clause-steady
 returns-in-Some-clause-steady g c = λ channels more numbered h.
     let are = events_are c.args.port channels c.args.progress.now.due c.args.header c.args.intake.now _ c.ticks_before-ticks.result (event c.frame_heard-heard.result) c.ticks_before-ticks.ensures.ticks (c.frame_heard-heard.ensures.heard channels (subst (λ (l : List ℕ). Numbered l channels) (sym c.deref.ensures.value) numbered))
     (frame_is c.bytes.result.now c.args.intake.now c.args.header.len c.bytes.ensures) in
-    c.in_ok-left.ensures.steady more (subst (λ (es : List HubEvent). g.K.Sink.is_steady c.args.sink.now (length c.args.writer.now.gather + length (event_lines (take c.args.progress.now.room es)) + more)) (sym are) h)
+    c.in_ok-left.ensures.steady more (subst (λ (es : List HubEvent). g.K.Sink.is_steady c.args.sink.now (length c.args.gather.now + length (event_lines (take c.args.progress.now.room es)) + more)) (sym are) h)
 
 pub returns-in-None-clause-fits : goal.returns-in-None-clause-fits
 returns-in-None-clause-fits g c = λ channels numbered.
@@ -83,10 +83,10 @@ pub returns-in-None-clause-all : goal.returns-in-None-clause-all
 returns-in-None-clause-all g c = λ channels numbered.
     let are = events_are c.args.port channels c.args.progress.now.due c.args.header c.args.intake.now _ c.ticks_before-ticks.result (event c.frame_heard-heard.result) c.ticks_before-ticks.ensures.ticks (c.frame_heard-heard.ensures.heard channels (subst (λ (l : List ℕ). Numbered l channels) (sym c.deref.ensures.value) numbered))
     (frame_is c.bytes.result.now c.args.intake.now c.args.header.len c.bytes.ensures) in
-    subst (λ (es : List HubEvent). Passes (g.K.Sink.held c.args.sink.now) (g.K.Sink.held c.write_events.new.sink) (c.args.writer.now.gather ++ event_lines (take c.args.progress.now.room es)) c.write_events.new.writer.gather) are c.in_ok-left.ensures.all
+    subst (λ (es : List HubEvent). Passes (g.K.Sink.held c.args.sink.now) (g.K.Sink.held c.write_events.new.sink) (c.args.gather.now ++ event_lines (take c.args.progress.now.room es)) c.write_events.new.gather) are c.in_ok-left.ensures.all
 
 pub returns-in-None-clause-steady : goal.returns-in-None-clause-steady
 returns-in-None-clause-steady g c = λ channels more numbered h.
     let are = events_are c.args.port channels c.args.progress.now.due c.args.header c.args.intake.now _ c.ticks_before-ticks.result (event c.frame_heard-heard.result) c.ticks_before-ticks.ensures.ticks (c.frame_heard-heard.ensures.heard channels (subst (λ (l : List ℕ). Numbered l channels) (sym c.deref.ensures.value) numbered))
     (frame_is c.bytes.result.now c.args.intake.now c.args.header.len c.bytes.ensures) in
-    c.in_ok-left.ensures.steady more (subst (λ (es : List HubEvent). g.K.Sink.is_steady c.args.sink.now (length c.args.writer.now.gather + length (event_lines (take c.args.progress.now.room es)) + more)) (sym are) h)
+    c.in_ok-left.ensures.steady more (subst (λ (es : List HubEvent). g.K.Sink.is_steady c.args.sink.now (length c.args.gather.now + length (event_lines (take c.args.progress.now.room es)) + more)) (sym are) h)

@@ -1,7 +1,7 @@
-use Rattle.std.proofs.Common.{◌≡◌, ℕ, ◌+◌, List, ◌++◌, replicate, length, codes, refl, sym, subst, arith, length-append}
+use Rattle.std.proofs.Common.{◌≡◌, ℕ, ◌+◌, List, ◌++◌, replicate, length, refl, sym, subst, arith, length-append}
 use Rattle.std.proofs.lemmas.Result.{err_from_is_err_and}
 use Rattle.server_hub.specs.declared.event.HubEvent.TheVariants.{Tick}
-use Rattle.journal_book.specs.{event_lines}
+use Rattle.journal_book.specs.{event_line, event_lines}
 use Rattle.trace_loop.proofs.Writing.{IsWriting, writing_begins, writing_has_room, writing_goes_on, writing_stops, writing_ends, writing_ends_steadily}
 use Rattle.trace_loop.proofs.Stopping.{err_so, only_err}
 use Rattle.capture_loop.proofs.Closing.{err_since}
@@ -21,30 +21,30 @@ loop-done-init g c =
     let lines = event_lines (replicate c.args.count Tick) in
     subst (IsWriting a a n n s s (c.args.gather.now ++ lines) c.args.gather.now) (sym (ticks_all c.args.count)) (writing_begins a a n n s s c.args.gather.now lines refl refl (λ k h. h))
 
-pub returns-in_err-put-clause-front : goal.returns-in_err-put-clause-front
-returns-in_err-put-clause-front g c =
+pub returns-in_err-put_event-clause-front : goal.returns-in_err-put_event-clause-front
+returns-in_err-put_event-clause-front g c =
     let p = err_from_is_err_and c.from_residual.result c.from_residual.ensures.1 in
     let l = c.loop-done in
-    err_so c.from_residual.result p.0 c.in_err-put.field-0.0 _ p.1 p.2
-    (writing_stops _ _ _ _ _ _ _ _ _ _ (codes "tick\n") _ c.put.new.gather c.in_err-put.field-0.0 l.invariant (ticks_next c.args.count l.done (omega arith)) c.in_err-put.ensures.front)
+    err_so c.from_residual.result p.0 c.in_err-put_event.field-0.0 _ p.1 p.2
+    (writing_stops _ _ _ _ _ _ _ _ _ _ (event_line Tick) _ c.put_event.new.gather c.in_err-put_event.field-0.0 l.invariant (ticks_next c.args.count l.done (omega arith)) c.in_err-put_event.ensures.front)
 
-pub returns-in_err-put-clause-cause : goal.returns-in_err-put-clause-cause
-returns-in_err-put-clause-cause g c =
+pub returns-in_err-put_event-clause-cause : goal.returns-in_err-put_event-clause-cause
+returns-in_err-put_event-clause-cause g c =
     let p = err_from_is_err_and c.from_residual.result c.from_residual.ensures.1 in
-    err_since _ _ _ c.from_residual.result p.0 c.in_err-put.field-0.0 p.1 p.2 c.loop-done.invariant.faults c.put.ensures.cause.later c.in_err-put.ensures.cause.cause
+    err_since _ _ _ c.from_residual.result p.0 c.in_err-put_event.field-0.0 p.1 p.2 c.loop-done.invariant.faults c.put_event.ensures.cause.later c.in_err-put_event.ensures.cause.cause
 
-pub returns-in_err-put-clause-steady : goal.returns-in_err-put-clause-steady
-returns-in_err-put-clause-steady g c = λ room h.
+pub returns-in_err-put_event-clause-steady : goal.returns-in_err-put_event-clause-steady
+returns-in_err-put_event-clause-steady g c = λ room h.
     let p = err_from_is_err_and c.from_residual.result c.from_residual.ensures.1 in
     let l = c.loop-done in
     let lines = event_lines (replicate c.args.count Tick) in
-    let fits = writing_has_room _ _ _ _ _ _ _ _ _ (codes "tick\n") _ l.invariant (ticks_next c.args.count l.done (omega arith)) room (together (g.K.Sink.is_steady c.args.sink.now) c.args.gather.now lines room h) in
-    only_err c.from_residual.result p.0 c.in_err-put.field-0.0 _ p.1 p.2 (c.in_err-put.ensures.steady _ fits)
+    let fits = writing_has_room _ _ _ _ _ _ _ _ _ (event_line Tick) _ l.invariant (ticks_next c.args.count l.done (omega arith)) room (together (g.K.Sink.is_steady c.args.sink.now) c.args.gather.now lines room h) in
+    only_err c.from_residual.result p.0 c.in_err-put_event.field-0.0 _ p.1 p.2 (c.in_err-put_event.ensures.steady _ fits)
 
 pub loop-done-preserved : goal.loop-done-preserved
 loop-done-preserved g c =
     let l = c.loop-done in
-    writing_goes_on _ _ _ _ _ _ _ _ _ _ _ _ (codes "tick\n") _ c.put.new.gather l.invariant (ticks_next c.args.count l.done (omega arith)) c.in_ok-put.ensures.all c.put.ensures.cause.later c.in_ok-put.ensures.steady
+    writing_goes_on _ _ _ _ _ _ _ _ _ _ _ _ (event_line Tick) _ c.put_event.new.gather l.invariant (ticks_next c.args.count l.done (omega arith)) c.in_ok-put_event.ensures.all c.put_event.ensures.cause.later c.in_ok-put_event.ensures.steady
 
 pub returns-clause-all : goal.returns-clause-all
 returns-clause-all g c = writing_ends _ _ _ _ _ _ _ _ _ c.loop-done.invariant (ticks_none c.args.count c.loop-done.done (omega arith))

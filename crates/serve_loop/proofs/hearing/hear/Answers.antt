@@ -32,14 +32,14 @@ pub returns-in_err-answer-clause-breaks : goal.returns-in_err-answer-clause-brea
 returns-in_err-answer-clause-breaks g c = λ b events r.
     let h = event_of c.args.heard in
     let p = err_from_is_err_and c.from_residual.result c.from_residual.ensures.1 in
-    subst (λ (x : Result (Unit {0}) Stop). IfErr x (Broken b (events ++ h ∷ []) (g.K.Sink.held c.args.sink.now) c.args.server.now.journal.gather (g.W.Wire.sent c.args.wire.now))) (sym p.1)
-    (line_breaks b events h _ _ _ r.serving _ _ p.0 (unwritten (g.K.Sink.held c.args.sink.now) c.args.server.now.journal.gather (event_line h) p.0))
+    subst (λ (x : Result (Unit {0}) Stop). IfErr x (Broken b (events ++ h ∷ []) (g.K.Sink.held c.args.sink.now) c.args.server.now.journal (g.W.Wire.sent c.args.wire.now))) (sym p.1)
+    (line_breaks b events h _ _ _ r.serving _ _ p.0 (unwritten (g.K.Sink.held c.args.sink.now) c.args.server.now.journal (event_line h) p.0))
 
 pub returns-in_err-write_event-clause-breaks : goal.returns-in_err-write_event-clause-breaks
 returns-in_err-write_event-clause-breaks g c = λ b events r.
     let h = event_of c.args.heard in
     let p = err_from_is_err_and c.from_residual-in_err-write_event.result c.from_residual-in_err-write_event.ensures.1 in
-    let now = Broken b (events ++ h ∷ []) (g.K.Sink.held c.write_event.new.sink) c.write_event.new.journal.gather (g.W.Wire.sent c.args.wire.now) in
+    let now = Broken b (events ++ h ∷ []) (g.K.Sink.held c.write_event.new.sink) c.write_event.new.journal (g.W.Wire.sent c.args.wire.now) in
     subst (λ (x : Result (Unit {0}) Stop). IfErr x now) (sym p.1)
     (subst now (sym p.2) (line_breaks b events h _ _ _ r.serving _ _ c.in_err-write_event.field-0.0 c.in_err-write_event.ensures.front))
 
@@ -104,8 +104,8 @@ returns-then-not-has_orders-clause-steady g c = λ b events more r h.
     let sends = heard_sends b events e c.args.server.now.hub c.hear.new.self c.in_ok-answer.answer c.args.first _ _ _ r say.0 c.hear.ensures.settings.settings in
     let none = none_ordered c.args.first (settings_of c.hear.new.self) (answers_said (told c.in_ok-answer.answer))
     (subst (λ (l : List At). list_any (λ (at : At). not (length at.answer.orders == 0)) l ≡ false) c.answers_of-answers.ensures (sym c.has_orders.ensures ∙ c.if-not-has_orders.true)) in
-    quiet_room (g.K.Sink.is_steady c.write_event.new.sink) (g.W.Wire.is_steady c.args.wire.now) c.write_event.new.journal.gather more
-    (c.in_ok-write_event.ensures.steady more.text (text_parts (g.K.Sink.is_steady c.args.sink.now) c.args.server.now.journal.gather (event_line e) more.text h.text_fits))
+    quiet_room (g.K.Sink.is_steady c.write_event.new.sink) (g.W.Wire.is_steady c.args.wire.now) c.write_event.new.journal more
+    (c.in_ok-write_event.ensures.steady more.text (text_parts (g.K.Sink.is_steady c.args.sink.now) c.args.server.now.journal (event_line e) more.text h.text_fits))
     (wire_quiet (g.W.Wire.is_steady c.args.wire.now) (datagrams_of (b.live + 1) e (behind events b.channels)) more (sym sends ∙ none) h.datagrams_fit)
 
 pub returns-clause-steady : goal.returns-clause-steady
@@ -114,7 +114,7 @@ returns-clause-steady g c = λ b events more r h.
     let say = c.in_ok-answer.ensures.stands (behind events b.channels) r.stands in
     let sends = ap (said_datagrams c.args.first (settings_of c.hear.new.self)) c.answers_of-answers.ensures
     ∙ heard_sends b events e c.args.server.now.hub c.hear.new.self c.in_ok-answer.answer c.args.first _ _ _ r say.0 c.hear.ensures.settings.settings in
-    let written = c.in_ok-write_event.ensures.steady more.text (text_parts (g.K.Sink.is_steady c.args.sink.now) c.args.server.now.journal.gather (event_line e) more.text h.text_fits) in
+    let written = c.in_ok-write_event.ensures.steady more.text (text_parts (g.K.Sink.is_steady c.args.sink.now) c.args.server.now.journal (event_line e) more.text h.text_fits) in
     let gone = c.in_ok-flush.ensures.steady more.text written in
     let fits = subst (λ (l : List Outgoing). g.W.Wire.is_steady c.args.wire.now (bytes_of l + more.bytes) (length l + more.datagrams)) (sym sends) h.datagrams_fit in
     only_weaker c.send_all.result (g.W.Wire.is_steady c.send_all.new.wire more.bytes more.datagrams) _

@@ -23,20 +23,20 @@ returns-in_err-journal-clause-front g c = (refused_line c.args.line c.args.fault
 
 pub returns-in_err-write_refused-clause-steady : goal.returns-in_err-write_refused-clause-steady
 returns-in_err-write_refused-clause-steady g c = λ room h.
-    let stop = c.in_err-write_refused.ensures.steady room (none_waits (g.K.Sink.is_steady c.args.sink.now) c.in_ok-journal.journal.gather (refused_line c.args.line c.args.fault) room c.in_ok-journal.ensures h) in
+    let stop = c.in_err-write_refused.ensures.steady room (none_waits (g.K.Sink.is_steady c.args.sink.now) c.in_ok-journal.journal (refused_line c.args.line c.args.fault) room c.in_ok-journal.ensures h) in
     let p = err_from_is_err_and c.from_residual-in_err-write_refused.result c.from_residual-in_err-write_refused.ensures.1 in
     subst (λ (r : Result Status Stop). OnlyMemoryStops r (g.K.Sink.is_steady c.write_refused.new.sink room)) (sym p.1) (p.2 ∙ stop)
 
 pub returns-in_err-flush-clause-front : goal.returns-in_err-flush-clause-front
 returns-in_err-flush-clause-front g c =
     let line = refused_line c.args.line c.args.fault in
-    let put = alone (g.K.Sink.held c.args.sink.now) (g.K.Sink.held c.write_refused.new.sink) c.in_ok-journal.journal.gather line c.write_refused.new.journal.gather c.in_ok-journal.ensures c.in_ok-write_refused.ensures.all in
+    let put = alone (g.K.Sink.held c.args.sink.now) (g.K.Sink.held c.write_refused.new.sink) c.in_ok-journal.journal line c.write_refused.new.journal c.in_ok-journal.ensures c.in_ok-write_refused.ensures.all in
     let front = c.flush.ensures.prefix in
-    (front.0, Passes-then (g.K.Sink.held c.args.sink.now) (g.K.Sink.held c.write_refused.new.sink) (g.K.Sink.held c.flush.new.sink) line c.write_refused.new.journal.gather front.0 put front.1)
+    (front.0, Passes-then (g.K.Sink.held c.args.sink.now) (g.K.Sink.held c.write_refused.new.sink) (g.K.Sink.held c.flush.new.sink) line c.write_refused.new.journal front.0 put front.1)
 
 pub returns-clause-front : goal.returns-clause-front
 returns-clause-front g c =
     let line = refused_line c.args.line c.args.fault in
-    let put = alone (g.K.Sink.held c.args.sink.now) (g.K.Sink.held c.write_refused.new.sink) c.in_ok-journal.journal.gather line c.write_refused.new.journal.gather c.in_ok-journal.ensures c.in_ok-write_refused.ensures.all in
+    let put = alone (g.K.Sink.held c.args.sink.now) (g.K.Sink.held c.write_refused.new.sink) c.in_ok-journal.journal line c.write_refused.new.journal c.in_ok-journal.ensures c.in_ok-write_refused.ensures.all in
     let front = c.flush.ensures.prefix in
-    (front.0, Passes-then (g.K.Sink.held c.args.sink.now) (g.K.Sink.held c.write_refused.new.sink) (g.K.Sink.held c.flush.new.sink) line c.write_refused.new.journal.gather front.0 put front.1)
+    (front.0, Passes-then (g.K.Sink.held c.args.sink.now) (g.K.Sink.held c.write_refused.new.sink) (g.K.Sink.held c.flush.new.sink) line c.write_refused.new.journal front.0 put front.1)

@@ -12,7 +12,7 @@ use Rattle.serve_loop.proofs.turns.take_arrival.Goals as goal
 pub returns-in-Err-clause-breaks : goal.returns-in-Err-clause-breaks
 returns-in-Err-clause-breaks g c = λ b events arrivals i told.
     let holds = g.K.Sink.held c.args.sink.now in
-    let waits = c.args.server.now.journal.gather in
+    let waits = c.args.server.now.journal in
     let was = g.W.Wire.sent c.args.wire.now in
     subst (λ (s : Option (List Outgoing)). Broken b (events ++ next_events b arrivals) holds waits s Wire) (sym c.receive.ensures.unsent)
     (broken_more b events (next_events b arrivals) holds waits was Wire (serving_breaks b events holds waits was i.serving Wire))
@@ -20,7 +20,7 @@ returns-in-Err-clause-breaks g c = λ b events arrivals i told.
 pub returns-in-Ok-None-clause-breaks : goal.returns-in-Ok-None-clause-breaks
 returns-in-Ok-None-clause-breaks g c = λ b events arrivals i told.
     let holds = g.K.Sink.held c.args.sink.now in
-    let waits = c.args.server.now.journal.gather in
+    let waits = c.args.server.now.journal in
     let was = g.W.Wire.sent c.args.wire.now in
     let now = g.K.Sink.held c.flush.new.sink in
     err_weaker c.flush.result _ _
@@ -32,7 +32,7 @@ pub returns-in-Ok-None-clause-steady : goal.returns-in-Ok-None-clause-steady
 returns-in-Ok-None-clause-steady g c = λ b events arrivals more i told h.
     let next = told_next _ _ c.receive.result None c.receive.new.buf arrivals (search rules) told c.receive.ensures.next in
     let none = nothing_next b arrivals c.receive.new.buf next.0 in
-    let room = room_none (g.K.Sink.is_steady c.args.sink.now) (g.W.Wire.is_steady c.args.wire.now) c.args.server.now.journal.gather (b.live + 1) (behind events b.channels) (next_events b arrivals) more none h in
+    let room = room_none (g.K.Sink.is_steady c.args.sink.now) (g.W.Wire.is_steady c.args.wire.now) c.args.server.now.journal (b.live + 1) (behind events b.channels) (next_events b arrivals) more none h in
     let quiet = c.in-Ok-None.ensures.steady more.bytes more.datagrams (wire_none (g.W.Wire.is_steady c.args.wire.now) [] more.bytes more.datagrams refl room.datagrams_fit) in
     only_weaker c.flush.result _ _
     (λ p. subst (λ (l : List ℕ). HasRoom (g.K.Sink.is_steady c.flush.new.sink) (g.W.Wire.is_steady c.receive.new.self) l [] more) (sym p.0)
@@ -45,16 +45,16 @@ returns-in-Some-clause-steady g c = λ b events arrivals more i told h.
     let next = told_next _ _ c.receive.result (Some c.in-Ok-Some.arrival) c.receive.new.buf arrivals (search rules) told c.receive.ensures.next in
     let heard = c.event_at.ensures.heard b.channels (c.deref.ensures.value ∙ i.ids_are) in
     let one : next_events b arrivals ≡ e ∷ [] = datagram_next b arrivals c.in-Ok-Some.arrival c.receive.new.buf _ c.args.server.now.live _ next.0 i.live_is refl heard ∙ search rules in
-    let room = room_one (g.K.Sink.is_steady c.args.sink.now) (g.W.Wire.is_steady c.args.wire.now) c.args.server.now.journal.gather (b.live + 1) (behind events b.channels) (next_events b arrivals) e more one h in
+    let room = room_one (g.K.Sink.is_steady c.args.sink.now) (g.W.Wire.is_steady c.args.wire.now) c.args.server.now.journal (b.live + 1) (behind events b.channels) (next_events b arrivals) e more one h in
     c.hear.ensures.steady b events more (search rules)
-    (room_at (g.K.Sink.is_steady c.args.sink.now) (g.W.Wire.is_steady c.args.wire.now) c.args.server.now.journal.gather (b.live + 1) (behind events b.channels) (g.W.Wire.is_steady c.receive.new.self)
-    (c.args.server.now.journal.gather ++ event_line e) (datagrams_of (b.live + 1) e (behind events b.channels)) more c.in-Ok-Some.ensures.steady room)
+    (room_at (g.K.Sink.is_steady c.args.sink.now) (g.W.Wire.is_steady c.args.wire.now) c.args.server.now.journal (b.live + 1) (behind events b.channels) (g.W.Wire.is_steady c.receive.new.self)
+    (c.args.server.now.journal ++ event_line e) (datagrams_of (b.live + 1) e (behind events b.channels)) more c.in-Ok-Some.ensures.steady room)
 
 pub returns-in-None-clause-steady : goal.returns-in-None-clause-steady
 returns-in-None-clause-steady g c = λ b events arrivals more i told h.
     let next = told_next _ _ c.receive.result (Some c.in-Ok-Some.arrival) c.receive.new.buf arrivals (search rules) told c.receive.ensures.next in
     let heard = c.event_at.ensures.heard b.channels (c.deref.ensures.value ∙ i.ids_are) in
     let none : next_events b arrivals ≡ [] = datagram_next b arrivals c.in-Ok-Some.arrival c.receive.new.buf _ c.args.server.now.live _ next.0 i.live_is refl heard ∙ search rules in
-    let room = room_none (g.K.Sink.is_steady c.args.sink.now) (g.W.Wire.is_steady c.args.wire.now) c.args.server.now.journal.gather (b.live + 1) (behind events b.channels) (next_events b arrivals) more none h in
-    room_at (g.K.Sink.is_steady c.args.sink.now) (g.W.Wire.is_steady c.args.wire.now) c.args.server.now.journal.gather (b.live + 1) (behind events b.channels) (g.W.Wire.is_steady c.receive.new.self)
-    c.args.server.now.journal.gather [] more c.in-Ok-Some.ensures.steady room
+    let room = room_none (g.K.Sink.is_steady c.args.sink.now) (g.W.Wire.is_steady c.args.wire.now) c.args.server.now.journal (b.live + 1) (behind events b.channels) (next_events b arrivals) more none h in
+    room_at (g.K.Sink.is_steady c.args.sink.now) (g.W.Wire.is_steady c.args.wire.now) c.args.server.now.journal (b.live + 1) (behind events b.channels) (g.W.Wire.is_steady c.receive.new.self)
+    c.args.server.now.journal [] more c.in-Ok-Some.ensures.steady room

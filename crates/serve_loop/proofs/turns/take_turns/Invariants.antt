@@ -8,11 +8,11 @@ use Rattle.serve_loop.proofs.turns.take_turns.Given as goal
 abbrev pub invariant-loop : goal.invariant-loop
 invariant-loop g l = record {
   serving : (b : Begun) (arrivals : List Incoming) (moments : List ℕ)
-      → IsBetween b [] l.fn.server.live l.fn.server.ids.items l.fn.server.hub (g.K.Sink.held l.fn.sink) l.fn.server.journal.gather (g.W.Wire.sent l.fn.wire)
+      → IsBetween b [] l.fn.server.live l.fn.server.ids.items l.fn.server.hub (g.K.Sink.held l.fn.sink) l.fn.server.journal (g.W.Wire.sent l.fn.wire)
       → g.W.Wire.arrivals l.fn.wire ≡ Some arrivals → g.C.Clock.moments l.fn.clock ≡ Some moments
-      → IsServing b (g.K.Sink.is_steady l.fn.sink) (g.W.Wire.is_steady l.fn.wire) (g.K.Sink.is_steady l.sink) (g.W.Wire.is_steady l.wire) l.fn.server.journal.gather
+      → IsServing b (g.K.Sink.is_steady l.fn.sink) (g.W.Wire.is_steady l.fn.wire) (g.K.Sink.is_steady l.sink) (g.W.Wire.is_steady l.wire) l.fn.server.journal
       (events_of b.live l.fn.server.hub.tick b.channels l.turns arrivals moments) l.fn.server.hub.tick l.due (l.turns - l.counter) (drop l.turns arrivals)
-      l.server.live l.server.ids.items l.server.hub (g.K.Sink.held l.sink) l.server.journal.gather (g.W.Wire.sent l.wire) (g.W.Wire.arrivals l.wire) (g.C.Clock.moments l.clock);
+      l.server.live l.server.ids.items l.server.hub (g.K.Sink.held l.sink) l.server.journal (g.W.Wire.sent l.wire) (g.W.Wire.arrivals l.wire) (g.C.Clock.moments l.clock);
   server : IsServer l.server.live l.server.ids.items l.server.hub;
   calls : l.server.hub.calls ≤ 2 * l.counter;
   tick : l.server.hub.tick ≡ l.fn.server.hub.tick;

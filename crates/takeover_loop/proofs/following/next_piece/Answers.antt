@@ -30,8 +30,8 @@ returns-in_err-goes_on-clause-stops g c = λ left held f.
     let t = c.take_piece.new.reading in
     let piece = take c.in_ok-count.count c.take.new.room in
     let taken = c.in_ok-count.ensures.bytes in
-    let now = λ (stop : Stop). (all : List ℕ) → left ≡ Some all → StopsIn held (g.K.Sink.held c.take_piece.new.sink) (followed_text all) t.journal.gather stop in
-    let stops = piece_stops _ _ _ _ _ _ _ _ f (g.S.Source.left c.take.new.source) piece taken (g.K.Sink.held c.take_piece.new.sink) t.standby t.journal.gather t.line.items t.begun _ (c.in_err-goes_on.ensures.stops f.bytes held f.reading) in
+    let now = λ (stop : Stop). (all : List ℕ) → left ≡ Some all → StopsIn held (g.K.Sink.held c.take_piece.new.sink) (followed_text all) t.journal stop in
+    let stops = piece_stops _ _ _ _ _ _ _ _ f (g.S.Source.left c.take.new.source) piece taken (g.K.Sink.held c.take_piece.new.sink) t.standby t.journal t.line.items t.begun _ (c.in_err-goes_on.ensures.stops f.bytes held f.reading) in
     subst (λ (r : Result Bool Stop). IfErr r now) (sym p.1) (subst now (sym p.2) stops)
 
 pub returns-in_err-goes_on-clause-steady : goal.returns-in_err-goes_on-clause-steady
@@ -40,7 +40,7 @@ returns-in_err-goes_on-clause-steady g c = λ left held all more f s.
     let b = f.following in
     let piece = take c.in_ok-count.count c.take.new.room in
     let taken = c.in_ok-count.ensures.bytes in
-    let room = none_waits (g.K.Sink.is_steady c.args.sink.now) c.args.reading.now.journal.gather _ _ b.gone (room_parts _ _ _ _ _ _ _ _ b (g.S.Source.left c.take.new.source) piece taken (g.K.Sink.is_steady c.args.sink.now) all more f.told f.room) in
+    let room = none_waits (g.K.Sink.is_steady c.args.sink.now) c.args.reading.now.journal _ _ b.gone (room_parts _ _ _ _ _ _ _ _ b (g.S.Source.left c.take.new.source) piece taken (g.K.Sink.is_steady c.args.sink.now) all more f.told f.room) in
     let stop = c.in_err-goes_on.ensures.steady b.bytes held _ b.reading room in
     err_memory _ _ p.0 p.1 (p.2 ∙ stop)
 
@@ -50,7 +50,7 @@ returns-in_err-flush-clause-stops g c = λ left held f.
     let t = c.take_piece.new.reading in
     let piece = take c.in_ok-count.count c.take.new.room in
     let taken = c.in_ok-count.ensures.bytes in
-    let text = piece_text _ _ _ _ _ _ _ _ f (g.S.Source.left c.take.new.source) piece taken c.in_ok-goes_on.goes_on (g.K.Sink.held c.take_piece.new.sink) t.standby t.journal.gather t.line.items t.begun (c.in_ok-goes_on.ensures.piece f.bytes held f.reading) in
+    let text = piece_text _ _ _ _ _ _ _ _ f (g.S.Source.left c.take.new.source) piece taken c.in_ok-goes_on.goes_on (g.K.Sink.held c.take_piece.new.sink) t.standby t.journal t.line.items t.begun (c.in_ok-goes_on.ensures.piece f.bytes held f.reading) in
     let now = λ (stop : Stop). (all : List ℕ) → left ≡ Some all → StopsIn held (g.K.Sink.held c.flush.new.sink) (followed_text all) c.flush.new.gather stop in
     let front = StopsIn-then _ _ _ _ _ _ c.in_err-flush.field-0.0 text c.in_err-flush.ensures.front in
     let stops = piece_stops _ _ _ _ _ _ _ _ f (g.S.Source.left c.take.new.source) piece taken (g.K.Sink.held c.flush.new.sink) t.standby c.flush.new.gather t.line.items t.begun c.in_err-flush.field-0.0 front in
@@ -62,7 +62,7 @@ returns-in_err-flush-clause-steady g c = λ left held all more f s.
     let b = f.following in
     let piece = take c.in_ok-count.count c.take.new.room in
     let taken = c.in_ok-count.ensures.bytes in
-    let room = none_waits (g.K.Sink.is_steady c.args.sink.now) c.args.reading.now.journal.gather _ _ b.gone (room_parts _ _ _ _ _ _ _ _ b (g.S.Source.left c.take.new.source) piece taken (g.K.Sink.is_steady c.args.sink.now) all more f.told f.room) in
+    let room = none_waits (g.K.Sink.is_steady c.args.sink.now) c.args.reading.now.journal _ _ b.gone (room_parts _ _ _ _ _ _ _ _ b (g.S.Source.left c.take.new.source) piece taken (g.K.Sink.is_steady c.args.sink.now) all more f.told f.room) in
     let after = c.in_ok-goes_on.ensures.steady b.bytes held _ b.reading room in
     let stop = c.in_err-flush.ensures.steady _ after in
     err_memory _ _ p.0 p.1 (p.2 ∙ stop)
@@ -72,8 +72,8 @@ returns-clause-goes_on g c = λ left held f.
     let t = c.take_piece.new.reading in
     let piece = take c.in_ok-count.count c.take.new.room in
     let taken = c.in_ok-count.ensures.bytes in
-    let passes = subst (Passes (g.K.Sink.held c.take_piece.new.sink) (g.K.Sink.held c.flush.new.sink) t.journal.gather) (sym c.in_ok-flush.ensures.empty) c.in_ok-flush.ensures.all in
-    next_goes _ _ _ _ _ _ _ _ f (g.S.Source.left c.take.new.source) piece taken c.in_ok-goes_on.goes_on (g.K.Sink.held c.take_piece.new.sink) (g.K.Sink.held c.flush.new.sink) t.standby t.journal.gather c.flush.new.gather t.line.items t.begun
+    let passes = subst (Passes (g.K.Sink.held c.take_piece.new.sink) (g.K.Sink.held c.flush.new.sink) t.journal) (sym c.in_ok-flush.ensures.empty) c.in_ok-flush.ensures.all in
+    next_goes _ _ _ _ _ _ _ _ f (g.S.Source.left c.take.new.source) piece taken c.in_ok-goes_on.goes_on (g.K.Sink.held c.take_piece.new.sink) (g.K.Sink.held c.flush.new.sink) t.standby t.journal c.flush.new.gather t.line.items t.begun
     (c.in_ok-goes_on.ensures.piece f.bytes held f.reading) passes c.in_ok-flush.ensures.empty c.in_ok-goes_on.ensures.read
 
 pub returns-clause-steady : goal.returns-clause-steady
@@ -82,11 +82,11 @@ returns-clause-steady g c = λ left held all more f s.
     let t = c.take_piece.new.reading in
     let piece = take c.in_ok-count.count c.take.new.room in
     let taken = c.in_ok-count.ensures.bytes in
-    let room = none_waits (g.K.Sink.is_steady c.args.sink.now) c.args.reading.now.journal.gather _ _ b.gone (room_parts _ _ _ _ _ _ _ _ b (g.S.Source.left c.take.new.source) piece taken (g.K.Sink.is_steady c.args.sink.now) all more f.told f.room) in
+    let room = none_waits (g.K.Sink.is_steady c.args.sink.now) c.args.reading.now.journal _ _ b.gone (room_parts _ _ _ _ _ _ _ _ b (g.S.Source.left c.take.new.source) piece taken (g.K.Sink.is_steady c.args.sink.now) all more f.told f.room) in
     let after = c.in_ok-goes_on.ensures.steady b.bytes held _ b.reading room in
     let fits = c.in_ok-flush.ensures.steady _ after in
-    let passes = subst (Passes (g.K.Sink.held c.take_piece.new.sink) (g.K.Sink.held c.flush.new.sink) t.journal.gather) (sym c.in_ok-flush.ensures.empty) c.in_ok-flush.ensures.all in (
+    let passes = subst (Passes (g.K.Sink.held c.take_piece.new.sink) (g.K.Sink.held c.flush.new.sink) t.journal) (sym c.in_ok-flush.ensures.empty) c.in_ok-flush.ensures.all in (
       c.in_ok-count.ensures.steady s,
-      next_room _ _ _ _ _ _ _ _ b (g.S.Source.left c.take.new.source) piece taken c.in_ok-goes_on.goes_on (g.K.Sink.held c.take_piece.new.sink) (g.K.Sink.held c.flush.new.sink) (g.K.Sink.is_steady c.flush.new.sink) all more t.standby t.journal.gather c.flush.new.gather t.line.items t.begun
+      next_room _ _ _ _ _ _ _ _ b (g.S.Source.left c.take.new.source) piece taken c.in_ok-goes_on.goes_on (g.K.Sink.held c.take_piece.new.sink) (g.K.Sink.held c.flush.new.sink) (g.K.Sink.is_steady c.flush.new.sink) all more t.standby t.journal c.flush.new.gather t.line.items t.begun
           (c.in_ok-goes_on.ensures.piece b.bytes held b.reading) passes c.in_ok-flush.ensures.empty f.told fits,
     )

@@ -18,8 +18,8 @@ parts-init g c =
       unended = c.requires.unended;
       read = c.requires.read;
       later = omega arith;
-      reading = λ bytes held i. subst (IsReading held (g.K.Sink.held c.args.sink.now) r.standby r.journal.gather r.line.items r.begun) (sym (none_taken bytes c.args.piece.now)) i;
-      steady = λ bytes held room i h. room_begins (g.K.Sink.is_steady c.args.sink.now) r.journal.gather bytes c.args.piece.now room h;
+      reading = λ bytes held i. subst (IsReading held (g.K.Sink.held c.args.sink.now) r.standby r.journal r.line.items r.begun) (sym (none_taken bytes c.args.piece.now)) i;
+      steady = λ bytes held room i h. room_begins (g.K.Sink.is_steady c.args.sink.now) r.journal bytes c.args.piece.now room h;
     }
 
 pub returns-in_err-count-clause-stops : goal.returns-in_err-count-clause-stops
@@ -27,7 +27,7 @@ returns-in_err-count-clause-stops g c = λ bytes held i.
     let p = err_from_is_err_and c.from_residual.result c.from_residual.ensures.1 in
     let rest = c.split_at.result.1.now in
     let r = c.parts.invariant.reading bytes held i in
-    let now = StopsIn held (g.K.Sink.held c.take_part.new.sink) (followed_text (bytes ++ c.args.piece.now)) c.take_part.new.reading.journal.gather in
+    let now = StopsIn held (g.K.Sink.held c.take_part.new.sink) (followed_text (bytes ++ c.args.piece.now)) c.take_part.new.reading.journal in
     let stops = part_stops bytes c.args.piece.now rest c.parts.at (length (first_part rest)) c.parts.invariant.within c.split_at.ensures.back refl held _ _ _ (c.in_err-count.ensures.stops (bytes ++ take c.parts.at c.args.piece.now) held r) in
     subst (λ (x : Result Bool Stop). IfErr x now) (sym p.1) (subst now (sym p.2) stops)
 
@@ -36,9 +36,9 @@ returns-in_err-count-clause-steady g c = λ bytes held room i h.
     let p = err_from_is_err_and c.from_residual.result c.from_residual.ensures.1 in
     let rest = c.split_at.result.1.now in
     let r = c.parts.invariant.reading bytes held i in
-    let fits = part_needs bytes c.args.piece.now rest c.parts.at (length (first_part rest)) c.parts.invariant.within c.split_at.ensures.back refl (g.K.Sink.is_steady c.parts.sink) c.parts.reading.journal.gather room (c.parts.invariant.steady bytes held room i h) in
+    let fits = part_needs bytes c.args.piece.now rest c.parts.at (length (first_part rest)) c.parts.invariant.within c.split_at.ensures.back refl (g.K.Sink.is_steady c.parts.sink) c.parts.reading.journal room (c.parts.invariant.steady bytes held room i h) in
     let stop = c.in_err-count.ensures.steady (bytes ++ take c.parts.at c.args.piece.now) held _ r fits in
-    subst (λ (x : Result Bool Stop). OnlyMemoryStops x (g.K.Sink.is_steady c.take_part.new.sink (length c.take_part.new.reading.journal.gather + room))) (sym p.1) (p.2 ∙ stop)
+    subst (λ (x : Result Bool Stop). OnlyMemoryStops x (g.K.Sink.is_steady c.take_part.new.sink (length c.take_part.new.reading.journal + room))) (sym p.1) (p.2 ∙ stop)
 
 -- what an answer is
 pub overflow_add-at : goal.overflow_add-at
@@ -61,16 +61,16 @@ returns-in-None-clause-piece g c = λ bytes held i.
     let n = c.take_part.new.reading in
     let r = c.parts.invariant.reading bytes held i in
     let over = none_of _ _ _ c.in-None.is (c.in_ok-count.ensures.part (bytes ++ take c.parts.at c.args.piece.now) held r) in
-    part_ends bytes c.args.piece.now rest c.parts.at (length (first_part rest)) c.parts.invariant.within c.split_at.ensures.back refl held (g.K.Sink.held c.take_part.new.sink) n.standby n.journal.gather n.begun over
+    part_ends bytes c.args.piece.now rest c.parts.at (length (first_part rest)) c.parts.invariant.within c.split_at.ensures.back refl held (g.K.Sink.held c.take_part.new.sink) n.standby n.journal n.begun over
 
 pub returns-in-None-clause-steady : goal.returns-in-None-clause-steady
 returns-in-None-clause-steady g c = λ bytes held room i h.
     let rest = c.split_at.result.1.now in
     let r = c.parts.invariant.reading bytes held i in
     let over = none_of _ _ _ c.in-None.is (c.in_ok-count.ensures.part (bytes ++ take c.parts.at c.args.piece.now) held r) in
-    let fits = part_needs bytes c.args.piece.now rest c.parts.at (length (first_part rest)) c.parts.invariant.within c.split_at.ensures.back refl (g.K.Sink.is_steady c.parts.sink) c.parts.reading.journal.gather room (c.parts.invariant.steady bytes held room i h) in
+    let fits = part_needs bytes c.args.piece.now rest c.parts.at (length (first_part rest)) c.parts.invariant.within c.split_at.ensures.back refl (g.K.Sink.is_steady c.parts.sink) c.parts.reading.journal room (c.parts.invariant.steady bytes held room i h) in
     let after = c.in_ok-count.ensures.steady (bytes ++ take c.parts.at c.args.piece.now) held _ r fits in
-    part_over_room bytes c.args.piece.now rest c.parts.at (length (first_part rest)) c.parts.invariant.within c.split_at.ensures.back refl (g.K.Sink.is_steady c.take_part.new.sink) c.take_part.new.reading.journal.gather room over.1 after
+    part_over_room bytes c.args.piece.now rest c.parts.at (length (first_part rest)) c.parts.invariant.within c.split_at.ensures.back refl (g.K.Sink.is_steady c.take_part.new.sink) c.take_part.new.reading.journal room over.1 after
 
 pub parts-preserved : goal.parts-preserved
 parts-preserved g c =
@@ -87,19 +87,19 @@ parts-preserved g c =
       later = omega (arith, before, now);
       reading = λ bytes held i.
           let r = c.parts.invariant.reading bytes held i in
-          subst (IsReading held (g.K.Sink.held c.take_part.new.sink) n.standby n.journal.gather n.line.items n.begun) (part_next bytes piece rest c.parts.at c.in-Some.count c.parts.invariant.within c.split_at.ensures.back known.0)
+          subst (IsReading held (g.K.Sink.held c.take_part.new.sink) n.standby n.journal n.line.items n.begun) (part_next bytes piece rest c.parts.at c.in-Some.count c.parts.invariant.within c.split_at.ensures.back known.0)
           (some_of _ c.in-Some.count _ _ c.in-Some.is (c.in_ok-count.ensures.part (bytes ++ take c.parts.at piece) held r));
       steady = λ bytes held room i h.
           let r = c.parts.invariant.reading bytes held i in
-          let fits = part_needs bytes piece rest c.parts.at c.in-Some.count c.parts.invariant.within c.split_at.ensures.back known.0 (g.K.Sink.is_steady c.parts.sink) c.parts.reading.journal.gather room (c.parts.invariant.steady bytes held room i h) in
-          part_leaves bytes piece rest c.parts.at c.in-Some.count c.parts.invariant.within c.split_at.ensures.back known.0 (g.K.Sink.is_steady c.take_part.new.sink) n.journal.gather room (c.in_ok-count.ensures.steady (bytes ++ take c.parts.at piece) held _ r fits);
+          let fits = part_needs bytes piece rest c.parts.at c.in-Some.count c.parts.invariant.within c.split_at.ensures.back known.0 (g.K.Sink.is_steady c.parts.sink) c.parts.reading.journal room (c.parts.invariant.steady bytes held room i h) in
+          part_leaves bytes piece rest c.parts.at c.in-Some.count c.parts.invariant.within c.split_at.ensures.back known.0 (g.K.Sink.is_steady c.take_part.new.sink) n.journal room (c.in_ok-count.ensures.steady (bytes ++ take c.parts.at piece) held _ r fits);
     }
 
 pub returns-clause-piece : goal.returns-clause-piece
 returns-clause-piece g c = λ bytes held i.
     let r = c.parts.reading in
-    subst (IsReading held (g.K.Sink.held c.parts.sink) r.standby r.journal.gather r.line.items r.begun) (all_taken bytes c.args.piece.now c.parts.at c.parts-test.false) (c.parts.invariant.reading bytes held i)
+    subst (IsReading held (g.K.Sink.held c.parts.sink) r.standby r.journal r.line.items r.begun) (all_taken bytes c.args.piece.now c.parts.at c.parts-test.false) (c.parts.invariant.reading bytes held i)
 
 pub returns-clause-steady : goal.returns-clause-steady
 returns-clause-steady g c = λ bytes held room i h.
-    room_ends (g.K.Sink.is_steady c.parts.sink) c.parts.reading.journal.gather bytes c.args.piece.now c.parts.at room c.parts-test.false (c.parts.invariant.steady bytes held room i h)
+    room_ends (g.K.Sink.is_steady c.parts.sink) c.parts.reading.journal bytes c.args.piece.now c.parts.at room c.parts-test.false (c.parts.invariant.steady bytes held room i h)

@@ -14,11 +14,11 @@ returns-in_err-write_refused-in-Line-clause-front g c =
     let p = err_from_is_err_and c.from_residual.result c.from_residual.ensures.1 in
     let held = g.K.Sink.held c.args.sink.now in
     let later = g.K.Sink.held c.write_refused.new.sink in
-    let waits = c.args.journal.now.gather in
-    let left = c.write_refused.new.journal.gather in
+    let waits = c.args.journal.now in
+    let left = c.write_refused.new.journal in
     let now = StopsIn held later (waits ++ (outcome_of c.args.fault).text) left in
     subst (λ (r : Result Status Stop). IfErr r now) (sym p.1)
     (subst now (sym p.2) (subst (λ (f : FeedFault). StopsIn held later (waits ++ (outcome_of f).text) left c.in_err-write_refused-in-Line.field-0.0) (sym c.in-Line.is) c.in_err-write_refused-in-Line.ensures.front))
 
 pub returns-in-NoMemory-clause-front : goal.returns-in-NoMemory-clause-front
-returns-in-NoMemory-clause-front g c = unwritten (g.K.Sink.held c.args.sink.now) c.args.journal.now.gather (outcome_of c.args.fault).text Memory
+returns-in-NoMemory-clause-front g c = unwritten (g.K.Sink.held c.args.sink.now) c.args.journal.now (outcome_of c.args.fault).text Memory

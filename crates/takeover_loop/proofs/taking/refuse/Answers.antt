@@ -11,13 +11,13 @@ alone a b waits text rest none p = subst (λ (l : List ℕ). Passes a b (l ++ te
 pub returns-in_err-flush-clause-front : goal.returns-in_err-flush-clause-front
 returns-in_err-flush-clause-front g c =
     let text = (outcome_of c.args.fault).text in
-    let put = alone (g.K.Sink.held c.args.sink.now) (g.K.Sink.held c.put_fault.new.sink) c.args.journal.gather text c.put_fault.new.journal.gather c.requires c.in_ok-status.ensures.all in
+    let put = alone (g.K.Sink.held c.args.sink.now) (g.K.Sink.held c.put_fault.new.sink) c.args.journal text c.put_fault.new.journal c.requires c.in_ok-status.ensures.all in
     let front = c.flush.ensures.prefix in
-    (front.0, Passes-then (g.K.Sink.held c.args.sink.now) (g.K.Sink.held c.put_fault.new.sink) (g.K.Sink.held c.flush.new.sink) text c.put_fault.new.journal.gather front.0 put front.1)
+    (front.0, Passes-then (g.K.Sink.held c.args.sink.now) (g.K.Sink.held c.put_fault.new.sink) (g.K.Sink.held c.flush.new.sink) text c.put_fault.new.journal front.0 put front.1)
 
 pub returns-clause-front : goal.returns-clause-front
 returns-clause-front g c =
     let text = (outcome_of c.args.fault).text in
-    let put = alone (g.K.Sink.held c.args.sink.now) (g.K.Sink.held c.put_fault.new.sink) c.args.journal.gather text c.put_fault.new.journal.gather c.requires c.in_ok-status.ensures.all in
+    let put = alone (g.K.Sink.held c.args.sink.now) (g.K.Sink.held c.put_fault.new.sink) c.args.journal text c.put_fault.new.journal c.requires c.in_ok-status.ensures.all in
     let front = c.flush.ensures.prefix in
-    (front.0, Passes-then (g.K.Sink.held c.args.sink.now) (g.K.Sink.held c.put_fault.new.sink) (g.K.Sink.held c.flush.new.sink) text c.put_fault.new.journal.gather front.0 put front.1)
+    (front.0, Passes-then (g.K.Sink.held c.args.sink.now) (g.K.Sink.held c.put_fault.new.sink) (g.K.Sink.held c.flush.new.sink) text c.put_fault.new.journal front.0 put front.1)

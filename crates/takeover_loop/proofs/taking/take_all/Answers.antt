@@ -17,15 +17,15 @@ returns-in_err-within-clause-stopping g c = λ b arrivals moments i told shows.
     let all = events_of b.live c.args.server.now.hub.tick b.channels c.args.turns arrivals moments in
     let last = (last_line (nat_lt c.args.left (length all))).text in
     let p = err_from_is_err_and c.from_residual.result c.from_residual.ensures.1 in
-    let now = Stopping b (take c.args.left all) last (g.K.Sink.held c.take_turns.new.sink) c.take_turns.new.server.journal.gather (g.W.Wire.sent c.take_turns.new.wire) in
+    let now = Stopping b (take c.args.left all) last (g.K.Sink.held c.take_turns.new.sink) c.take_turns.new.server.journal (g.W.Wire.sent c.take_turns.new.wire) in
     subst (λ (r : Result Status Stop). IfErr r now) (sym p.1) (subst now (sym p.2) (turns_stop b (take c.args.left all) last _ _ _ _ (c.in_err-within.ensures.breaks b arrivals moments i told shows)))
 
 pub returns-in_err-within-clause-steady : goal.returns-in_err-within-clause-steady
 returns-in_err-within-clause-steady g c = λ b arrivals moments more i told shows h.
-    let room = last_room (g.K.Sink.is_steady c.args.sink.now) (g.W.Wire.is_steady c.args.wire.now) c.args.server.now.journal.gather _ _ _ more h in
+    let room = last_room (g.K.Sink.is_steady c.args.sink.now) (g.W.Wire.is_steady c.args.wire.now) c.args.server.now.journal _ _ _ more h in
     let stop = c.in_err-within.ensures.steady b arrivals moments _ i told shows room in
     let p = err_from_is_err_and c.from_residual.result c.from_residual.ensures.1 in
-    subst (λ (r : Result Status Stop). OnlyMemoryStops r (HasRoom (g.K.Sink.is_steady c.take_turns.new.sink) (g.W.Wire.is_steady c.take_turns.new.wire) c.take_turns.new.server.journal.gather [] more)) (sym p.1) (p.2 ∙ stop)
+    subst (λ (r : Result Status Stop). OnlyMemoryStops r (HasRoom (g.K.Sink.is_steady c.take_turns.new.sink) (g.W.Wire.is_steady c.take_turns.new.wire) c.take_turns.new.server.journal [] more)) (sym p.1) (p.2 ∙ stop)
 
 pub returns-clause-ends : goal.returns-clause-ends
 returns-clause-ends g c = λ b arrivals moments i told shows.
@@ -58,9 +58,9 @@ returns-clause-steady g c = λ b arrivals moments more i told shows h.
     let all = events_of b.live c.args.server.now.hub.tick b.channels c.args.turns arrivals moments in
     let over = within_is all c.args.left c.in_ok-within.within (c.in_ok-within.ensures.within b arrivals moments i told shows) in
     let last = (last_line (nat_lt c.args.left (length all))).text in
-    let room = last_room (g.K.Sink.is_steady c.args.sink.now) (g.W.Wire.is_steady c.args.wire.now) c.args.server.now.journal.gather _ _ _ more h in
+    let room = last_room (g.K.Sink.is_steady c.args.sink.now) (g.W.Wire.is_steady c.args.wire.now) c.args.server.now.journal _ _ _ more h in
     let after = c.in_ok-within.ensures.steady b arrivals moments _ i told shows room in
-    let waits = c.take_turns.new.server.journal.gather in
+    let waits = c.take_turns.new.server.journal in
     let fits = put_last_room (g.K.Sink.is_steady c.take_turns.new.sink) waits last more.text after.text_fits in
     let there = subst (λ (t : Bool). g.K.Sink.is_steady c.take_turns.new.sink (length waits + length (last_line t).text + more.text)) (sym over) fits in
     only_weaker c.put_last.result _ _

@@ -32,7 +32,7 @@ pub returns-in-Err-clause-stopped : goal.returns-in-Err-clause-stopped
 returns-in-Err-clause-stopped g c = λ given is.
     let front = c.close.ensures.prefix in
     each_error c.close.result _
-    (λ stop. follow_stopped given (g.K.Sink.held c.args.sink.now) (g.K.Sink.held c.follow.new.sink) (g.K.Sink.held c.close.new.sink) (g.W.Wire.sent c.args.wire.now) c.follow.new.reading.journal.gather front.0 c.in-Err.stop
+    (λ stop. follow_stopped given (g.K.Sink.held c.args.sink.now) (g.K.Sink.held c.follow.new.sink) (g.K.Sink.held c.close.new.sink) (g.W.Wire.sent c.args.wire.now) c.follow.new.reading.journal front.0 c.in-Err.stop
     (c.in-Err.ensures.stops given.source is.source_is) (λ q. ap g.K.Sink.held (c.close.ensures.untouched (ap Err q))) front.1)
 
 pub returns-in-Err-clause-status : goal.returns-in-Err-clause-status

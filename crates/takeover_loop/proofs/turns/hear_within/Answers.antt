@@ -14,13 +14,13 @@ pub returns-then-left-eq0-clause-goes_on : goal.returns-then-left-eq0-clause-goe
 returns-then-left-eq0-clause-goes_on g c = λ b events i from.
     let s = c.args.server.now in
     let none = none_left c.args.left (event_of c.args.heard ∷ []) c.if-left-eq0.true in
-    subst (λ (es : List HubEvent). IsBetween b es s.live s.ids.items s.hub (g.K.Sink.held c.args.sink.now) s.journal.gather (g.W.Wire.sent c.args.wire.now))
+    subst (λ (es : List HubEvent). IsBetween b es s.live s.ids.items s.hub (g.K.Sink.held c.args.sink.now) s.journal (g.W.Wire.sent c.args.wire.now))
     (sym (ap (λ (l : List HubEvent). events ++ l) none ∙ append-nil events)) i
 
 pub returns-then-left-eq0-clause-steady : goal.returns-then-left-eq0-clause-steady
 returns-then-left-eq0-clause-steady g c = λ b events more i from h.
     let e = event_of c.args.heard in
-    room_none (g.K.Sink.is_steady c.args.sink.now) (g.W.Wire.is_steady c.args.wire.now) c.args.server.now.journal.gather (b.live + 1) (behind events b.channels) (take c.args.left (e ∷ [])) more
+    room_none (g.K.Sink.is_steady c.args.sink.now) (g.W.Wire.is_steady c.args.wire.now) c.args.server.now.journal (b.live + 1) (behind events b.channels) (take c.args.left (e ∷ [])) more
     (none_left c.args.left (e ∷ []) c.if-left-eq0.true) h
 
 pub returns-in_err-hear-clause-breaks : goal.returns-in_err-hear-clause-breaks
@@ -31,7 +31,7 @@ returns-in_err-hear-clause-breaks g c = λ b events i from.
     let broken = c.in_err-hear.ensures.breaks b events ready in
     let p = err_from_is_err_and c.from_residual.result c.from_residual.ensures.1 in
     let holds = g.K.Sink.held c.hear.new.sink in
-    let waits = c.hear.new.server.journal.gather in
+    let waits = c.hear.new.server.journal in
     let sent = g.W.Wire.sent c.hear.new.wire in
     subst (λ (r : Result (Option ℕ) Stop). IfErr r (Broken b (events ++ take c.args.left (e ∷ [])) holds waits sent)) (sym p.1)
     (subst (Broken b (events ++ take c.args.left (e ∷ [])) holds waits sent) (sym p.2)
@@ -42,10 +42,10 @@ returns-in_err-hear-clause-steady g c = λ b events more i from h.
     let e = event_of c.args.heard in
     let one = one_within c.args.left e c.if-left-eq0.false in
     let ready = between_ready b events _ _ _ _ _ _ e c.args.first i from in
-    let room = room_one (g.K.Sink.is_steady c.args.sink.now) (g.W.Wire.is_steady c.args.wire.now) c.args.server.now.journal.gather (b.live + 1) (behind events b.channels) (take c.args.left (e ∷ [])) e more one h in
+    let room = room_one (g.K.Sink.is_steady c.args.sink.now) (g.W.Wire.is_steady c.args.wire.now) c.args.server.now.journal (b.live + 1) (behind events b.channels) (take c.args.left (e ∷ [])) e more one h in
     let stop = c.in_err-hear.ensures.steady b events more ready room in
     let p = err_from_is_err_and c.from_residual.result c.from_residual.ensures.1 in
-    subst (λ (r : Result (Option ℕ) Stop). OnlyMemoryStops r (HasRoom (g.K.Sink.is_steady c.hear.new.sink) (g.W.Wire.is_steady c.hear.new.wire) c.hear.new.server.journal.gather [] more)) (sym p.1) (p.2 ∙ stop)
+    subst (λ (r : Result (Option ℕ) Stop). OnlyMemoryStops r (HasRoom (g.K.Sink.is_steady c.hear.new.sink) (g.W.Wire.is_steady c.hear.new.wire) c.hear.new.server.journal [] more)) (sym p.1) (p.2 ∙ stop)
 
 pub returns-clause-goes_on : goal.returns-clause-goes_on
 returns-clause-goes_on g c = λ b events i from.
@@ -55,12 +55,12 @@ returns-clause-goes_on g c = λ b events i from.
     let on = c.in_ok-hear.ensures.goes_on b events ready in
     let n = c.hear.new.server in
     let after = between_after b events (events ++ e ∷ []) c.args.server.now.live n.live c.args.server.now.ids.items n.ids.items c.args.server.now.hub n.hub _ _ _ _ _ _ i c.hear.ensures.live (search rules) on in
-    subst (λ (l : List HubEvent). IsBetween b (events ++ l) n.live n.ids.items n.hub (g.K.Sink.held c.hear.new.sink) n.journal.gather (g.W.Wire.sent c.hear.new.wire)) (sym one) after
+    subst (λ (l : List HubEvent). IsBetween b (events ++ l) n.live n.ids.items n.hub (g.K.Sink.held c.hear.new.sink) n.journal (g.W.Wire.sent c.hear.new.wire)) (sym one) after
 
 pub returns-clause-steady : goal.returns-clause-steady
 returns-clause-steady g c = λ b events more i from h.
     let e = event_of c.args.heard in
     let one = one_within c.args.left e c.if-left-eq0.false in
     let ready = between_ready b events _ _ _ _ _ _ e c.args.first i from in
-    let room = room_one (g.K.Sink.is_steady c.args.sink.now) (g.W.Wire.is_steady c.args.wire.now) c.args.server.now.journal.gather (b.live + 1) (behind events b.channels) (take c.args.left (e ∷ [])) e more one h in
+    let room = room_one (g.K.Sink.is_steady c.args.sink.now) (g.W.Wire.is_steady c.args.wire.now) c.args.server.now.journal (b.live + 1) (behind events b.channels) (take c.args.left (e ∷ [])) e more one h in
     c.in_ok-hear.ensures.steady b events more ready room

@@ -18,7 +18,7 @@ none_of left events none = ap (take left) none ∙ all_within left [] (omega ari
 pub returns-in-Err-clause-breaks : goal.returns-in-Err-clause-breaks
 returns-in-Err-clause-breaks g c = λ b events arrivals i told.
     let holds = g.K.Sink.held c.args.sink.now in
-    let waits = c.args.server.now.journal.gather in
+    let waits = c.args.server.now.journal in
     let was = g.W.Wire.sent c.args.wire.now in
     let new = take c.args.left (next_events b arrivals) in
     subst (λ (s : Option (List Outgoing)). Broken b (events ++ new) holds waits s Wire) (sym c.receive.ensures.unsent)
@@ -27,7 +27,7 @@ returns-in-Err-clause-breaks g c = λ b events arrivals i told.
 pub returns-in_err-flush-in-Ok-None-clause-breaks : goal.returns-in_err-flush-in-Ok-None-clause-breaks
 returns-in_err-flush-in-Ok-None-clause-breaks g c = λ b events arrivals i told.
     let holds = g.K.Sink.held c.args.sink.now in
-    let waits = c.args.server.now.journal.gather in
+    let waits = c.args.server.now.journal in
     let was = g.W.Wire.sent c.args.wire.now in
     let new = take c.args.left (next_events b arrivals) in
     let p = err_from_is_err_and c.from_residual.result c.from_residual.ensures.1 in
@@ -43,7 +43,7 @@ pub returns-in_ok-flush-in-Ok-None-clause-steady : goal.returns-in_ok-flush-in-O
 returns-in_ok-flush-in-Ok-None-clause-steady g c = λ b events arrivals more i told h.
     let next = told_next _ _ c.receive.result None c.receive.new.buf arrivals (search rules) told c.receive.ensures.next in
     let none = none_of c.args.left (next_events b arrivals) (nothing_next b arrivals c.receive.new.buf next.0) in
-    let room = room_none (g.K.Sink.is_steady c.args.sink.now) (g.W.Wire.is_steady c.args.wire.now) c.args.server.now.journal.gather (b.live + 1) (behind events b.channels) (take c.args.left (next_events b arrivals)) more none h in
+    let room = room_none (g.K.Sink.is_steady c.args.sink.now) (g.W.Wire.is_steady c.args.wire.now) c.args.server.now.journal (b.live + 1) (behind events b.channels) (take c.args.left (next_events b arrivals)) more none h in
     let quiet = c.in-Ok-None.ensures.steady more.bytes more.datagrams (wire_none (g.W.Wire.is_steady c.args.wire.now) [] more.bytes more.datagrams refl room.datagrams_fit) in
     let fits = c.in_ok-flush-in-Ok-None.ensures.steady more.text room.text_fits in
     subst (λ (l : List ℕ). HasRoom (g.K.Sink.is_steady c.flush.new.sink) (g.W.Wire.is_steady c.receive.new.self) l [] more) (sym c.in_ok-flush-in-Ok-None.ensures.empty)
@@ -54,6 +54,6 @@ returns-in-None-clause-steady g c = λ b events arrivals more i told h.
     let next = told_next _ _ c.receive.result (Some c.in-Ok-Some.arrival) c.receive.new.buf arrivals (search rules) told c.receive.ensures.next in
     let heard = c.event_at.ensures.heard b.channels (c.deref.ensures.value ∙ i.ids_are) in
     let none = none_of c.args.left (next_events b arrivals) (datagram_next b arrivals c.in-Ok-Some.arrival c.receive.new.buf _ c.args.server.now.live _ next.0 i.live_is refl heard ∙ search rules) in
-    let room = room_none (g.K.Sink.is_steady c.args.sink.now) (g.W.Wire.is_steady c.args.wire.now) c.args.server.now.journal.gather (b.live + 1) (behind events b.channels) (take c.args.left (next_events b arrivals)) more none h in
-    room_at (g.K.Sink.is_steady c.args.sink.now) (g.W.Wire.is_steady c.args.wire.now) c.args.server.now.journal.gather (b.live + 1) (behind events b.channels) (g.W.Wire.is_steady c.receive.new.self)
-    c.args.server.now.journal.gather [] more c.in-Ok-Some.ensures.steady room
+    let room = room_none (g.K.Sink.is_steady c.args.sink.now) (g.W.Wire.is_steady c.args.wire.now) c.args.server.now.journal (b.live + 1) (behind events b.channels) (take c.args.left (next_events b arrivals)) more none h in
+    room_at (g.K.Sink.is_steady c.args.sink.now) (g.W.Wire.is_steady c.args.wire.now) c.args.server.now.journal (b.live + 1) (behind events b.channels) (g.W.Wire.is_steady c.receive.new.self)
+    c.args.server.now.journal [] more c.in-Ok-Some.ensures.steady room

@@ -16,7 +16,7 @@ use Rattle.takeover_loop.proofs.turns.take_turn.Goals as goal
 pub returns-in_err-left-clause-breaks : goal.returns-in_err-left-clause-breaks
 returns-in_err-left-clause-breaks g c = λ b events arrivals moments i told shows.
     let holds = g.K.Sink.held c.take_arrival.new.sink in
-    let waits = c.take_arrival.new.server.journal.gather in
+    let waits = c.take_arrival.new.server.journal in
     let sent = g.W.Wire.sent c.take_arrival.new.wire in
     let p = err_from_is_err_and c.from_residual.result c.from_residual.ensures.1 in
     let tick = tick_at c.args.pace.due (next_moment moments) in
@@ -27,10 +27,10 @@ returns-in_err-left-clause-breaks g c = λ b events arrivals moments i told show
 pub returns-in_err-left-clause-steady : goal.returns-in_err-left-clause-steady
 returns-in_err-left-clause-steady g c = λ b events arrivals moments more i told shows h.
     let tick = tick_at c.args.pace.due (next_moment moments) in
-    let first = room_first (g.K.Sink.is_steady c.args.sink.now) (g.W.Wire.is_steady c.args.wire.now) c.args.server.now.journal.gather (b.live + 1) (behind events b.channels) (next_events b arrivals) tick c.args.pace.left more h in
+    let first = room_first (g.K.Sink.is_steady c.args.sink.now) (g.W.Wire.is_steady c.args.wire.now) c.args.server.now.journal (b.live + 1) (behind events b.channels) (next_events b arrivals) tick c.args.pace.left more h in
     let stop = c.in_err-left.ensures.steady b events arrivals _ i told first in
     let p = err_from_is_err_and c.from_residual.result c.from_residual.ensures.1 in
-    subst (λ (r : Result (Option Pace) Stop). OnlyMemoryStops r (HasRoom (g.K.Sink.is_steady c.take_arrival.new.sink) (g.W.Wire.is_steady c.take_arrival.new.wire) c.take_arrival.new.server.journal.gather [] more)) (sym p.1) (p.2 ∙ stop)
+    subst (λ (r : Result (Option Pace) Stop). OnlyMemoryStops r (HasRoom (g.K.Sink.is_steady c.take_arrival.new.sink) (g.W.Wire.is_steady c.take_arrival.new.wire) c.take_arrival.new.server.journal [] more)) (sym p.1) (p.2 ∙ stop)
 
 pub returns-in_default-clause-goes_on : goal.returns-in_default-clause-goes_on
 returns-in_default-clause-goes_on g c = λ b events arrivals moments i told shows.
@@ -38,13 +38,13 @@ returns-in_default-clause-goes_on g c = λ b events arrivals moments i told show
     let less = none_done _ (next_events b arrivals) c.args.pace.left c.in_default.is (c.in_ok-left.ensures.within b events arrivals i told) in
     let between = c.in_ok-left.ensures.goes_on b events arrivals i told in
     let n = c.take_arrival.new.server in
-    subst (λ (l : List HubEvent). IsBetween b (events ++ l) n.live n.ids.items n.hub (g.K.Sink.held c.take_arrival.new.sink) n.journal.gather (g.W.Wire.sent c.take_arrival.new.wire)) (sym (done_first (next_events b arrivals) tick c.args.pace.left less)) between
+    subst (λ (l : List HubEvent). IsBetween b (events ++ l) n.live n.ids.items n.hub (g.K.Sink.held c.take_arrival.new.sink) n.journal (g.W.Wire.sent c.take_arrival.new.wire)) (sym (done_first (next_events b arrivals) tick c.args.pace.left less)) between
 
 pub returns-in_default-clause-steady : goal.returns-in_default-clause-steady
 returns-in_default-clause-steady g c = λ b events arrivals moments more i told shows h.
     let tick = tick_at c.args.pace.due (next_moment moments) in
     let less = none_done _ (next_events b arrivals) c.args.pace.left c.in_default.is (c.in_ok-left.ensures.within b events arrivals i told) in
-    let room = room_done (g.K.Sink.is_steady c.args.sink.now) (g.W.Wire.is_steady c.args.wire.now) c.args.server.now.journal.gather (b.live + 1) (behind events b.channels) _ _ more (done_first (next_events b arrivals) tick c.args.pace.left less) h in
+    let room = room_done (g.K.Sink.is_steady c.args.sink.now) (g.W.Wire.is_steady c.args.wire.now) c.args.server.now.journal (b.live + 1) (behind events b.channels) _ _ more (done_first (next_events b arrivals) tick c.args.pace.left less) h in
     c.in_ok-left.ensures.steady b events arrivals more i told room
 
 pub returns-clause-within : goal.returns-clause-within
@@ -63,8 +63,8 @@ returns-clause-goes_on g c = λ b events arrivals moments i told shows.
     let between = c.in_ok-left.ensures.goes_on b events arrivals i told in
     let n = c.hear_tick.new.server in
     let on = c.hear_tick.ensures.goes_on b (events ++ take c.args.pace.left (next_events b arrivals)) between in
-    let at = subst (λ m. OnOk c.hear_tick.result (IsBetween b ((events ++ take c.args.pace.left (next_events b arrivals)) ++ take c.in-Some.left (tick_at c.args.pace.due m)) n.live n.ids.items n.hub (g.K.Sink.held c.hear_tick.new.sink) n.journal.gather (g.W.Wire.sent c.hear_tick.new.wire))) moment on in
-    subst (λ (es : List HubEvent). OnOk c.hear_tick.result (IsBetween b es n.live n.ids.items n.hub (g.K.Sink.held c.hear_tick.new.sink) n.journal.gather (g.W.Wire.sent c.hear_tick.new.wire)))
+    let at = subst (λ m. OnOk c.hear_tick.result (IsBetween b ((events ++ take c.args.pace.left (next_events b arrivals)) ++ take c.in-Some.left (tick_at c.args.pace.due m)) n.live n.ids.items n.hub (g.K.Sink.held c.hear_tick.new.sink) n.journal (g.W.Wire.sent c.hear_tick.new.wire))) moment on in
+    subst (λ (es : List HubEvent). OnOk c.hear_tick.result (IsBetween b es n.live n.ids.items n.hub (g.K.Sink.held c.hear_tick.new.sink) n.journal (g.W.Wire.sent c.hear_tick.new.wire)))
     (regroup events (next_events b arrivals) (tick_at c.args.pace.due (next_moment moments)) c.args.pace.left c.in-Some.left first) at
 
 pub returns-clause-breaks : goal.returns-clause-breaks
@@ -74,8 +74,8 @@ returns-clause-breaks g c = λ b events arrivals moments i told shows.
     let between = c.in_ok-left.ensures.goes_on b events arrivals i told in
     let n = c.hear_tick.new.server in
     let breaks = c.hear_tick.ensures.breaks b (events ++ take c.args.pace.left (next_events b arrivals)) between in
-    let at = subst (λ m. IfErr c.hear_tick.result (Broken b ((events ++ take c.args.pace.left (next_events b arrivals)) ++ take c.in-Some.left (tick_at c.args.pace.due m)) (g.K.Sink.held c.hear_tick.new.sink) n.journal.gather (g.W.Wire.sent c.hear_tick.new.wire))) moment breaks in
-    subst (λ (es : List HubEvent). IfErr c.hear_tick.result (Broken b es (g.K.Sink.held c.hear_tick.new.sink) n.journal.gather (g.W.Wire.sent c.hear_tick.new.wire)))
+    let at = subst (λ m. IfErr c.hear_tick.result (Broken b ((events ++ take c.args.pace.left (next_events b arrivals)) ++ take c.in-Some.left (tick_at c.args.pace.due m)) (g.K.Sink.held c.hear_tick.new.sink) n.journal (g.W.Wire.sent c.hear_tick.new.wire))) moment breaks in
+    subst (λ (es : List HubEvent). IfErr c.hear_tick.result (Broken b es (g.K.Sink.held c.hear_tick.new.sink) n.journal (g.W.Wire.sent c.hear_tick.new.wire)))
     (regroup events (next_events b arrivals) (tick_at c.args.pace.due (next_moment moments)) c.args.pace.left c.in-Some.left first) at
 
 pub returns-clause-steady : goal.returns-clause-steady
@@ -86,12 +86,12 @@ returns-clause-steady g c = λ b events arrivals moments more i told shows h.
     let tick = tick_at c.args.pace.due (next_moment moments) in
     let channels = behind events b.channels in
     let done = some_done _ c.in-Some.left next all c.in-Some.is (c.in_ok-left.ensures.within b events arrivals i told) in
-    let first = room_first (g.K.Sink.is_steady c.args.sink.now) (g.W.Wire.is_steady c.args.wire.now) c.args.server.now.journal.gather (b.live + 1) channels next tick all more h in
+    let first = room_first (g.K.Sink.is_steady c.args.sink.now) (g.W.Wire.is_steady c.args.wire.now) c.args.server.now.journal (b.live + 1) channels next tick all more h in
     let after = c.in_ok-left.ensures.steady b events arrivals _ i told first in
     let between = c.in_ok-left.ensures.goes_on b events arrivals i told in
     let sink = g.K.Sink.is_steady c.take_arrival.new.sink in
     let wire = g.W.Wire.is_steady c.take_arrival.new.wire in
-    let waits = c.take_arrival.new.server.journal.gather in
+    let waits = c.take_arrival.new.server.journal in
     let joined = room_join sink wire waits (b.live + 1) (behind (take all next) channels) (take (all - length next) tick) more after in
     let placed = subst (λ (cs : List Served). HasRoom sink wire (waits ++ event_lines (take (all - length next) tick)) (sent_for (b.live + 1) cs (take (all - length next) tick)) more) (sym (behind_append b.channels events (take all next))) joined in
     let left_is : all - length next ≡ c.in-Some.left = omega (arith, done) in

@@ -24,10 +24,10 @@ loop-init g c =
           let moment = told_moment (g.C.Clock.moments c.args.clock.now) (g.C.Clock.moments c.now_ms.new.self) c.now_ms.result moments shows c.now_ms.ensures.next in
           let all : c.args.turns ≡ c.args.turns - 0 = omega arith in
           let due : c.now_ms.result + c.from.result ≡ next_moment moments + s.hub.tick = ap (λ n. n + c.from.result) moment.0 ∙ ap (λ n. next_moment moments + n) (search rules) in
-          subst (λ n. IsPacing b (g.K.Sink.is_steady c.args.sink.now) (g.W.Wire.is_steady c.args.wire.now) (g.K.Sink.is_steady c.args.sink.now) (g.W.Wire.is_steady c.args.wire.now) s.journal.gather
+          subst (λ n. IsPacing b (g.K.Sink.is_steady c.args.sink.now) (g.W.Wire.is_steady c.args.wire.now) (g.K.Sink.is_steady c.args.sink.now) (g.W.Wire.is_steady c.args.wire.now) s.journal
           (events_of b.live s.hub.tick b.channels c.args.turns arrivals moments) c.args.left s.hub.tick (c.now_ms.result + c.from.result) c.args.left n (drop c.args.turns arrivals)
-          s.live s.ids.items s.hub (g.K.Sink.held c.args.sink.now) s.journal.gather (g.W.Wire.sent c.args.wire.now) (g.W.Wire.arrivals c.args.wire.now) (g.C.Clock.moments c.now_ms.new.self)) all
-          (pacing_begins b (g.K.Sink.is_steady c.args.sink.now) (g.W.Wire.is_steady c.args.wire.now) s.journal.gather c.args.left s.hub.tick (c.now_ms.result + c.from.result) c.args.turns s.live s.ids.items s.hub
+          s.live s.ids.items s.hub (g.K.Sink.held c.args.sink.now) s.journal (g.W.Wire.sent c.args.wire.now) (g.W.Wire.arrivals c.args.wire.now) (g.C.Clock.moments c.now_ms.new.self)) all
+          (pacing_begins b (g.K.Sink.is_steady c.args.sink.now) (g.W.Wire.is_steady c.args.wire.now) s.journal c.args.left s.hub.tick (c.now_ms.result + c.from.result) c.args.turns s.live s.ids.items s.hub
           (g.K.Sink.held c.args.sink.now) (g.W.Wire.sent c.args.wire.now) (g.W.Wire.arrivals c.args.wire.now) arrivals moments (g.C.Clock.moments c.now_ms.new.self) i told moment.1 due);
       server = c.requires.server;
       calls = c.requires.calls;
@@ -43,7 +43,7 @@ returns-in_err-next-clause-breaks g c = λ b arrivals moments i told shows.
     let p = err_from_is_err_and c.from_residual.result c.from_residual.ensures.1 in
     let all = take c.args.left (events_of b.live c.args.server.now.hub.tick b.channels c.args.turns arrivals moments) in
     let holds = g.K.Sink.held c.take_turn.new.sink in
-    let waits = c.take_turn.new.server.journal.gather in
+    let waits = c.take_turn.new.server.journal in
     let sent = g.W.Wire.sent c.take_turn.new.wire in
     let is = pacing_breaks _ _ _ _ _ _ _ _ _ _ _ _ _ _ _ _ _ _ _ _ _ r (c.args.turns - (c.loop.counter + 1)) (one_left c.args.turns c.loop.counter c.loop-test.true) holds waits sent _ broken in
     subst (λ (x : Result _ Stop). IfErr x (Broken b all holds waits sent)) (sym p.1) (subst (Broken b all holds waits sent) (sym p.2) is)
@@ -54,7 +54,7 @@ returns-in_err-next-clause-steady g c = λ b arrivals moments more i told shows 
     let room = pacing_room _ _ _ _ _ _ _ _ _ _ _ _ _ _ _ _ _ _ _ _ _ r (c.args.turns - (c.loop.counter + 1)) (one_left c.args.turns c.loop.counter c.loop-test.true) more h in
     let stop = c.in_err-next.ensures.steady b r.events r.brings r.shows _ r.between r.wire_is r.clock_is room in
     let p = err_from_is_err_and c.from_residual.result c.from_residual.ensures.1 in
-    subst (λ (x : Result _ Stop). OnlyMemoryStops x (HasRoom (g.K.Sink.is_steady c.take_turn.new.sink) (g.W.Wire.is_steady c.take_turn.new.wire) c.take_turn.new.server.journal.gather [] more)) (sym p.1) (p.2 ∙ stop)
+    subst (λ (x : Result _ Stop). OnlyMemoryStops x (HasRoom (g.K.Sink.is_steady c.take_turn.new.sink) (g.W.Wire.is_steady c.take_turn.new.wire) c.take_turn.new.server.journal [] more)) (sym p.1) (p.2 ∙ stop)
 
 pub loop-preserved : goal.loop-preserved
 loop-preserved g c =
@@ -66,7 +66,7 @@ loop-preserved g c =
       pacing = λ b arrivals moments i told shows.
           let r = c.loop.invariant.pacing b arrivals moments i told shows in
           pacing_goes_on _ _ _ _ _ _ _ _ _ _ _ _ _ _ _ _ _ _ _ _ _ r (c.args.turns - (c.loop.counter + 1)) (one_left c.args.turns c.loop.counter c.loop-test.true) (g.K.Sink.is_steady c.take_turn.new.sink) (g.W.Wire.is_steady c.take_turn.new.wire)
-          _ _ c.take_turn.new.server.live c.take_turn.new.server.ids.items c.take_turn.new.server.hub (g.K.Sink.held c.take_turn.new.sink) c.take_turn.new.server.journal.gather (g.W.Wire.sent c.take_turn.new.wire)
+          _ _ c.take_turn.new.server.live c.take_turn.new.server.ids.items c.take_turn.new.server.hub (g.K.Sink.held c.take_turn.new.sink) c.take_turn.new.server.journal (g.W.Wire.sent c.take_turn.new.wire)
           (g.W.Wire.arrivals c.take_turn.new.wire) (g.C.Clock.moments c.take_turn.new.clock)
           (some_is _ c.in-Some.next _ c.in-Some.is (c.in_ok-next.ensures.due r.shows r.clock_is) ∙ ap (λ t. due_after t c.loop.pace.due (next_moment r.shows)) c.loop.invariant.tick)
           (some_done _ c.in-Some.next.left _ _ (ap (option_map (λ (p : Pace). p.left)) c.in-Some.is) (c.in_ok-next.ensures.within b r.events r.brings r.shows r.between r.wire_is r.clock_is))
