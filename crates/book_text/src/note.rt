@@ -38,9 +38,9 @@ pub fn append_told(
     ensures full { OnErr result (vec_capacity text.old < length text.old.items + length (note_line event id note.now ++ send_line event id client bytes.now)) }
     ensures room { vec_capacity text.old ≤ vec_capacity text.new }
 {
+    let mut lines = Tail::new();
     let front = Piece::front(event, id);
     let to = Piece::spaced(client);
-    let mut lines = Tail::new();
     lines.byte(b' ');
     lines.piece(&to);
     lines.word(b"send");

@@ -71,11 +71,24 @@ pub fn append_rtp_behind(
 {
     text.reserve(12 + f.csrc.len() + f.extension.len() + front.len() + f.payload.len())?;
     put(text, &fixed_header(f));
-    put(text, f.csrc);
-    put(text, f.extension);
+    put_if_any(text, f.csrc);
+    put_if_any(text, f.extension);
     put(text, front);
     put(text, f.payload);
     Ok(())
+}
+
+// Puts a piece that is seldom there.
+#[inline]
+fn put_if_any(text: &mut Vec<u8>, piece: &[u8])
+    requires { vec_len text.old + length piece.now ≤ vec_capacity text.old }
+    ensures items { text.new.items ≡ text.old.items ++ piece.now }
+    ensures len { vec_len text.new ≡ vec_len text.old + length piece.now }
+    ensures capacity { vec_capacity text.old ≤ vec_capacity text.new }
+{
+    if !piece.is_empty() {
+        put(text, piece);
+    }
 }
 
 // The twelve bytes with which a packet without padding begins.

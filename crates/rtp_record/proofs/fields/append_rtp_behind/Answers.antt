@@ -16,10 +16,10 @@ returns-clause-text c =
     let f = c.args.f.now in
     let all = put_together (behind c.args.front.now (packet_of f)) c.args.text.now.items c.fixed_header.result c.args.front.now f.payload.now refl
     (c.fixed_header.ensures.value ∙ header_behind c.args.front.now (packet_of f)) refl in
-    c.put-5.ensures.items
-    ∙ ap (λ (text : List ℕ). text ++ f.payload.now) (c.put-4.ensures.items
-    ∙ ap (λ (text : List ℕ). text ++ c.args.front.now) (c.put-3.ensures.items
-    ∙ ap (λ (text : List ℕ). text ++ f.extension.now) (c.put-2.ensures.items
+    c.put-3.ensures.items
+    ∙ ap (λ (text : List ℕ). text ++ f.payload.now) (c.put-2.ensures.items
+    ∙ ap (λ (text : List ℕ). text ++ c.args.front.now) (c.put_if_any-2.ensures.items
+    ∙ ap (λ (text : List ℕ). text ++ f.extension.now) (c.put_if_any.ensures.items
     ∙ ap (λ (text : List ℕ). text ++ f.csrc.now) (c.put.ensures.items
     ∙ ap (λ (text : List ℕ). text ++ c.fixed_header.result) c.in_ok-reserve.ensures.items))))
     ∙ all
