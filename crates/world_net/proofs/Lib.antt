@@ -1,4 +1,5 @@
 pub mod Loops
+pub mod Cutting
 pub mod AllShown
 pub mod Turned
 pub mod Listeners

@@ -4,7 +4,8 @@ ghost use Rattle.std.specs.Option.{option_to_list};
 ghost use Rattle.rams_model.specs.Receiver.{hears, delivers, told_by, told_answer, brought_again, brought_by_multicast, media_answer, join_answer, join_datagram, reception};
 ghost use Rattle.world_laws.specs.World.{Listener};
 ghost use Rattle.world_laws.specs.declared.world.WorldItem.TheVariants as item;
-ghost use Rattle.world_net.specs.{Follows, IsAt, Took, HasFew};
+ghost use Rattle.receiver_core.specs.{distance_of};
+ghost use Rattle.world_net.specs.{Follows, IsAt, Took, HasFew, first_with};
 
 use crate::parcel::Parcel;
 use crate::posting::post_joined;
@@ -12,6 +13,7 @@ use crate::presenting::present_all;
 use crate::seat::{Seat, first_with};
 use crate::telling::say;
 use ram_io::NoMemory;
+use receiver_core::Receiver;
 use std::alloc::Global;
 use world_laws::{WorldItem, WorldNote};
 
@@ -57,11 +59,22 @@ pub(crate) fn hear_again(
     let Some(receiver) = &mut seat.receiver else {
         unreachable!()
     };
-    let distance = receiver.distance(bytes);
+    let first = first_after(seat.first, receiver, x, bytes);
     let came = receiver.rtx(alloc, bytes)?;
-    seat.first = first_with(seat.first, x, distance);
+    seat.first = first;
     say(notes, id, WorldItem::Media { client, came })?;
     present_all(receiver, id, client, notes)
+}
+
+// The source's number of the first packet once a retransmission of its packet `x` comes, which may fix
+// it.
+fn first_after(first: Option<u64>, receiver: &Receiver, x: u64, bytes: &[u8]) -> Option<u64>
+    ensures { result ≡ first_with first x (distance_of (brought_again receiver.now.tuned bytes.now) receiver.now.got) }
+{
+    match first {
+        Some(_) => first,
+        None => first_with(None, x, receiver.distance(bytes)),
+    }
 }
 
 /// The source's packet `x` is delivered to it by multicast. It may join with it, and posts a RAMS-T

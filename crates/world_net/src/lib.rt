@@ -12,6 +12,7 @@ mod parts;
 mod posting;
 mod presenting;
 mod seat;
+mod sending;
 mod serving;
 mod telling;
 mod tuning;

@@ -1,15 +1,14 @@
 //! The datagrams of a world.
 ghost use Rattle.std.specs.Prelude.{◌≡◌, IfOk};
-ghost use Rattle.rams_model.specs.Service.{client_of, datagram};
+ghost use Rattle.rams_model.specs.Service.{client_of};
 ghost use Rattle.world_laws.specs.{posts, way_of};
 ghost use Rattle.world_laws.specs.declared.world.WorldItem.TheVariants as item;
-ghost use Rattle.world_net.specs.{as_way, sent_of};
+ghost use Rattle.world_net.specs.{as_way};
 
 use bytes::Bytes;
-use order_datagrams::{Config, render_order, renders};
+use order_datagrams::Config;
 use ram_io::NoMemory;
 use rams_model::Order;
-use std::alloc::Global;
 use std::marker::Model;
 use world_laws::WorldItem;
 
@@ -55,16 +54,16 @@ impl Parcel {
         }
     }
 
-    /// The datagram of an order of a channel with these settings.
-    pub(crate) fn ordered(alloc: Global, config: &Config, order: &Order) -> Result<Parcel, NoMemory>
-        ensures { IfOk result (λ p. p ≡ sent_of config.now order.now) }
+    /// The datagram of an order of a channel with these settings, which is these bytes.
+    pub(crate) fn ordered(config: &Config, order: &Order, bytes: Bytes) -> Parcel
+        ensures { result ≡ record { id = config.now.channel.id; client = client_of order.now; way = way_of order.now; bytes = bytes } }
     {
-        Ok(Parcel {
+        Parcel {
             id: config.channel().id,
             client: client_of(order),
             way: way_of(order),
-            bytes: datagram_of(alloc, config, order)?,
-        })
+            bytes,
+        }
     }
 
     /// The number of its channel.
@@ -129,16 +128,4 @@ fn way_of(order: &Order) -> Way
         Order::Rtx { n, .. } => Way::Repeats(*n),
         Order::Info { .. } => Way::Tells,
     }
-}
-
-// The bytes that an order sends; none where its packet doesn't read, as each does that a channel
-// holds.
-#[tactic(auto, unfolding(rams_model::specs::Service::Orders::datagram))]
-fn datagram_of(alloc: Global, config: &Config, order: &Order) -> Result<Bytes, NoMemory>
-    ensures { IfOk result (λ bytes. bytes ≡ datagram config.now order.now) }
-{
-    if !renders(order) {
-        return Ok(Bytes::new());
-    }
-    Ok(Bytes::from_vec(render_order(alloc, config, order)?)?)
 }

@@ -8,9 +8,10 @@ ghost use Rattle.world_laws.specs.declared.world.WorldItem.TheVariants as item;
 ghost use Rattle.world_net.specs.{sent_of, sent_note, note_with_sent, notes_with_sent, said_in, at_notes, at_sent, told_notes, told_sent};
 
 use crate::parcel::Parcel;
+use crate::sending::send_orders;
 use order_datagrams::Config;
 use ram_io::NoMemory;
-use rams_model::{Answer, Cause, Note, Order};
+use rams_model::{Answer, Cause, Note};
 use server_hub::{At, Hub, HubAnswer};
 use std::alloc::Global;
 use world_laws::{WorldItem, WorldNote};
@@ -89,21 +90,6 @@ fn tell_answer(
     let start = parcels.len();
     send_orders(alloc, config, &answer.orders, parcels)?;
     say_notes(config.channel().id, &answer.notes, &parcels[start..], notes)
-}
-
-// Adds the datagrams of orders.
-fn send_orders(
-    alloc: Global,
-    config: &Config,
-    orders: &[Order],
-    parcels: &mut Vec<Parcel>,
-) -> Result<(), NoMemory>
-    ensures { OnOk result (parcels.new.items ≡ parcels.old.items ++ map (sent_of config.now) orders.now) }
-{
-    for order in orders.iter() {
-        parcels.push(Parcel::ordered(alloc, config, order)?)?;
-    }
-    Ok(())
 }
 
 // Adds the notes of a channel, each with its datagram behind it.
