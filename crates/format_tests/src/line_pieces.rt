@@ -252,6 +252,51 @@ fn texts_pass(rt: HostRuntime) -> Result<(), Fail> {
     Ok(())
 }
 
+/// How many bytes a sink has after "ab" and so many bytes more were appended to what waits, and that
+/// settled; and its bytes in the end.
+fn settled(alloc: Global, most: usize, more: &[u8]) -> Result<(usize, Vec<u8>), Fail> {
+    let mut sink = sink_for(alloc, most, 0);
+    let mut gather = Gather::new(alloc)?;
+    gather.put(&mut sink, b"a")?;
+    gather.text().push(b'b')?;
+    gather.text().extend_from_slice(more)?;
+    gather.settle(&mut sink)?;
+    let held = sink.bytes.len();
+    gather.put(&mut sink, b"end")?;
+    gather.flush(&mut sink)?;
+    Ok((held, sink.bytes))
+}
+
+/// How many bytes are appended, and how many of them and of "ab" pass when they settle.
+const SETTLED: &[(usize, usize)] = &[(0, 0), (262141, 0), (262142, 262144), (300000, 300002)];
+
+#[test]
+fn long_text_settles(rt: HostRuntime) -> Result<(), Fail> {
+    for (count, want) in SETTLED {
+        let more = run(rt.alloc(), b't', *count, b"")?;
+        let mut whole = b"ab".to_vec(rt.alloc())?;
+        whole.extend_from_slice(&more)?;
+        whole.extend_from_slice(b"end")?;
+        let (held, bytes) = settled(rt.alloc(), 1000, &more)?;
+        same(&rt, &held, want, count);
+        holds(&rt, bytes == whole, count);
+    }
+    Ok(())
+}
+
+#[test]
+fn text_that_fails_to_settle_waits(rt: HostRuntime) -> Result<(), Fail> {
+    let mut sink = sink_for(rt.alloc(), 300000, 1);
+    let mut gather = Gather::new(rt.alloc())?;
+    let text = run(rt.alloc(), b't', 262144, b"")?;
+    gather.text().extend_from_slice(&text)?;
+    holds(&rt, gather.settle(&mut sink).is_err(), &"settle");
+    holds(&rt, gather.text().as_slice() == text.as_slice(), &"waits");
+    gather.settle(&mut sink)?;
+    holds(&rt, sink.bytes == text, &"passes");
+    Ok(())
+}
+
 /// The call of a sink that fails, whether all was put, and what the sink has.
 const WRITE_FAULTS: &[(u64, bool, &str)] = &[
     (1, false, ""),
