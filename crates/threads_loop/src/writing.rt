@@ -7,25 +7,27 @@ ghost use Rattle.live_writer.specs.{datagrams_of};
 ghost use Rattle.session_worker.specs.{answered_with};
 ghost use Rattle.trace_serving.specs.{done};
 ghost use Rattle.trace_loop.specs.{IsStoppedByWrite, OnlyMemoryStops, StopsIn};
-ghost use Rattle.threads_loop.specs.{part_text, piece_text, written_text};
+ghost use Rattle.threads_loop.specs.{hub_event, part_text, piece_text, written_text};
+ghost use Rattle.journal_book.specs.{event_line};
+ghost use Rattle.rams_model.specs.Texts.{answer_text};
 
-use crate::event::append_event;
+use crate::event::heard_at;
 use answer_text::append_answer_with;
 use book_text::append_count;
 use channel_book::Entry;
 use channel_config::Config;
+use event_text::append_event;
 use line_io::Gather;
 use ram_io::{NoMemory, Octets, Sink};
-use rams_model::Status;
+use rams_model::{Answer, Event, Status};
 use std::alloc::Global;
-use trace_loop::{Stop, flush, put};
+use trace_loop::{Stop, flush, put, settle};
 
-/// The text that waits for the sink, and room for lines and for digits.
+/// The text that waits for the sink, and room for the lines of an answer.
 #[derive(Drop)]
 struct Pen {
     gather: Gather,
     lines: Vec<u8>,
-    digits: Vec<u8>,
 }
 
 /// What is written for each entry.
@@ -44,8 +46,40 @@ fn new_pen(alloc: Global) -> Result<Pen, NoMemory>
     Ok(Pen {
         gather: Gather::new(alloc)?,
         lines: Vec::new(alloc),
-        digits: Vec::new(alloc),
     })
+}
+
+/// Adds the line of an event of the channel.
+fn write_event<K: Sink>(pen: &mut Pen, sink: &mut K, id: u16, event: &Event) -> Result<(), Stop>
+    ensures all { OnOk result (Passes (K.held sink.old) (K.held sink.new) (pen.old.gather ++ event_line (hub_event id event.now)) pen.new.gather) }
+    ensures front { IfErr result (StopsIn (K.held sink.old) (K.held sink.new) (pen.old.gather ++ event_line (hub_event id event.now)) pen.new.gather) }
+    ensures cause { IsStoppedByWrite (K.faults sink.old) (K.faults sink.new) result }
+    ensures steady { (room : ℕ) → K.is_steady sink.old (length pen.old.gather + length (event_line (hub_event id event.now)) + room)
+        → OnlyMemoryStops result (K.is_steady sink.new (length pen.new.gather + room)) }
+{
+    append_event(pen.gather.text(), heard_at(id, event))?;
+    settle(&mut pen.gather, sink)
+}
+
+/// Adds the lines of an answer, whose datagrams these are.
+fn write_answer<K: Sink>(
+    pen: &mut Pen,
+    sink: &mut K,
+    config: &Config,
+    event: u64,
+    answer: &Answer,
+    datagrams: &[Octets],
+) -> Result<(), Stop>
+    requires { datagrams.now ≡ datagrams_of config.now answer.now }
+    ensures all { OnOk result (Passes (K.held sink.old) (K.held sink.new) (pen.old.gather ++ answer_text config.now event answer.now) pen.new.gather) }
+    ensures front { IfErr result (StopsIn (K.held sink.old) (K.held sink.new) (pen.old.gather ++ answer_text config.now event answer.now) pen.new.gather) }
+    ensures cause { IsStoppedByWrite (K.faults sink.old) (K.faults sink.new) result }
+    ensures steady { (room : ℕ) → K.is_steady sink.old (length pen.old.gather + length (answer_text config.now event answer.now) + room)
+        → OnlyMemoryStops result (K.is_steady sink.new (length pen.new.gather + room)) }
+{
+    pen.lines.clear();
+    append_answer_with(&mut pen.lines, config, event, answer, datagrams)?;
+    put(&mut pen.gather, sink, &pen.lines)
 }
 
 /// Adds what is written for an entry.
@@ -65,34 +99,9 @@ fn write_piece<K: Sink>(
     ensures steady { (room : ℕ) → K.is_steady sink.old (length pen.old.gather + length (piece_text config.now part event entry.now) + room)
         → OnlyMemoryStops result (K.is_steady sink.new (length pen.new.gather + room)) }
 {
-    pen.lines.clear();
-    append_piece(
-        &mut pen.lines,
-        &mut pen.digits,
-        config,
-        part,
-        event,
-        entry,
-        datagrams,
-    )?;
-    put(&mut pen.gather, sink, &pen.lines)
-}
-
-fn append_piece(
-    text: &mut Vec<u8>,
-    room: &mut Vec<u8>,
-    config: &Config,
-    part: Part,
-    event: u64,
-    entry: &Entry,
-    datagrams: &[Octets],
-) -> Result<(), NoMemory>
-    requires { datagrams.now ≡ datagrams_of config.now entry.now.answer }
-    ensures { OnOk result (text.new.items ≡ text.old.items ++ piece_text config.now part event entry.now) }
-{
     match part {
-        Part::Trace => append_event(text, room, config.channel().id, &entry.event),
-        Part::Book => append_answer_with(text, config, event, &entry.answer, datagrams),
+        Part::Trace => write_event(pen, sink, config.channel().id, &entry.event),
+        Part::Book => write_answer(pen, sink, config, event, &entry.answer, datagrams),
     }
 }
 
@@ -128,9 +137,8 @@ fn write_done<K: Sink>(pen: &mut Pen, sink: &mut K, events: u64) -> Result<(), S
     ensures steady { (room : ℕ) → K.is_steady sink.old (length pen.old.gather + length (done events).text + room)
         → OnlyMemoryStops result (K.is_steady sink.new (length pen.new.gather + room)) }
 {
-    pen.lines.clear();
-    append_count(&mut pen.lines, b"done", events)?;
-    put(&mut pen.gather, sink, &pen.lines)
+    append_count(pen.gather.text(), b"done", events)?;
+    settle(&mut pen.gather, sink)
 }
 
 /// Adds a trace, and then its book.
