@@ -15,7 +15,7 @@ use book_text::append_no_channel;
 use ram_io::Sink;
 use rams_model::{Answer, Note, Order};
 use server_hub::{At, Config, Hub, HubAnswer};
-use trace_loop::{Stop, Writer, put};
+use trace_loop::{Stop, Writer, settle};
 
 /// Adds the lines of an answer: each note, followed at once by the datagram that it asks for.
 fn write_answer<K: Sink>(
@@ -56,16 +56,15 @@ fn write_entry<K: Sink>(
     ensures steady { (room : ℕ) → K.is_steady sink.old (length writer.old.gather + length (entry_text config.now event note.now orders.now) + room)
         → OnlyMemoryStops result (K.is_steady sink.new (length writer.new.gather + room)) }
 {
-    writer.lines.clear();
     append_entry(
-        &mut writer.lines,
+        writer.gather.text(),
         &mut writer.datagram,
         config,
         event,
         note,
         orders,
     )?;
-    put(&mut writer.gather, sink, &writer.lines)
+    settle(&mut writer.gather, sink)
 }
 
 /// Adds the lines of what one channel answers.
@@ -124,9 +123,8 @@ fn write_no_channel<K: Sink>(
     ensures steady { (room : ℕ) → K.is_steady sink.old (length writer.old.gather + length (no_channel_line event id) + room)
         → OnlyMemoryStops result (K.is_steady sink.new (length writer.new.gather + room)) }
 {
-    writer.lines.clear();
-    append_no_channel(&mut writer.lines, event, id)?;
-    put(&mut writer.gather, sink, &writer.lines)
+    append_no_channel(writer.gather.text(), event, id)?;
+    settle(&mut writer.gather, sink)
 }
 
 /// Adds the lines of what the channels say to an event.
