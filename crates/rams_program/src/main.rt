@@ -4,7 +4,7 @@
 
 mod report;
 
-ghost use Rattle.std.specs.Prelude.{◌≡◌, ◌<◌, ◌≤◌, IfOk, None, drop, is_none, map, true};
+ghost use Rattle.std.specs.Prelude.{◌≡◌, ◌<◌, ◌≤◌, IfErr, IfOk, None, drop, is_none, map, true};
 ghost use Rattle.std.specs.Process.{exit_status};
 ghost use Rattle.std.specs.String.{string_bytes};
 ghost use Rattle.rams_model.specs.declared.status.Status.TheVariants.{Words};
@@ -39,7 +39,9 @@ fn ended<R: Threads + Wait + Net + rt::Clock + Sync + Input + Print + Eprint>(
     alloc: Global,
     words: Result<Vec<Octets>, Status>,
 ) -> Status
-    ensures { is_words result ≡ true → IfOk words (λ w. is_none (command_of w.items) ≡ true) }
+    ensures refuses { is_words result ≡ true → IfOk words (λ w. is_none (command_of w.items) ≡ true) }
+    ensures refused { IfOk words (λ w. command_of w.items ≡ None → IsOrLacksMemory Words result) }
+    ensures unread { IfErr words (λ status. result ≡ status) }
 {
     match words {
         Ok(words) => match port_of(&words) {
