@@ -5,7 +5,7 @@ ghost use Rattle.rams_model.specs.declared.event.Event.TheVariants.{Live, Feedba
 ghost use Rattle.session_core.specs.{StandsFor};
 ghost use Rattle.channel_book.specs.{IsTwice};
 
-use crate::copies::{Room, copy_answer};
+use crate::copies::{Room, copy_answer, copy_one};
 use ram_io::NoMemory;
 use rams_model::{Answer, Event};
 use session_core::Core;
@@ -47,10 +47,9 @@ fn live_twice(alloc: Global, core: &mut Core, bytes: &[u8]) -> Result<Twice, NoM
     ensures calls { OnOk result (core.new.calls ≡ core.old.calls + 1) }
     ensures same { OnErr result (core.new ≡ core.old) }
 {
-    let room = Room::new(alloc, 1, 0)?;
     let given = core.live(alloc, bytes)?;
     Ok(Twice {
-        kept: room.copy(&given),
+        kept: copy_one(alloc, &given),
         given,
     })
 }

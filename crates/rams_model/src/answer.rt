@@ -1,10 +1,12 @@
 //! What a channel answers to an event.
-ghost use Rattle.std.specs.Prelude.{◌≡◌};
+ghost use Rattle.std.specs.Prelude.{◌≡◌, [], ◌∷◌};
 ghost use Rattle.rams_model.specs.Service.{answered};
 
 use crate::message::Info;
 use crate::note::Note;
+use crate::notes::Notes;
 use bytes::Bytes;
+use std::alloc::Global;
 use std::marker::Model;
 
 /// A datagram that an answer asks to send.
@@ -27,7 +29,7 @@ pub enum Order {
 /// The notes of an event, in order, and the datagrams that they ask for, in the notes' order.
 #[derive(Debug, Drop)]
 pub struct Answer {
-    pub notes: Vec<Note>,
+    pub notes: Notes,
     pub orders: Vec<Order>,
 }
 
@@ -36,7 +38,7 @@ impl Model for Answer {
 
     ghost Value = { Answered };
 
-    ghost view = { λ a. record { notes = a.notes.items; orders = a.orders.items } };
+    ghost view = { λ a. record { notes = a.notes; orders = a.orders.items } };
 }
 
 impl Answer {
@@ -44,6 +46,19 @@ impl Answer {
     pub fn new(notes: Vec<Note>, orders: Vec<Order>) -> Answer
         ensures { result ≡ answered notes.items orders.items }
     {
-        Answer { notes, orders }
+        Answer {
+            notes: Notes::from_vec(notes),
+            orders,
+        }
+    }
+
+    /// The answer of one note that sends nothing. Takes no memory.
+    pub fn one(alloc: Global, note: Note) -> Answer
+        ensures { result ≡ answered (note ∷ []) [] }
+    {
+        Answer {
+            notes: Notes::one(note),
+            orders: Vec::new(alloc),
+        }
     }
 }

@@ -14,6 +14,7 @@ mod laws;
 mod message;
 mod mode;
 mod note;
+mod notes;
 mod octets;
 mod rams;
 mod reception;
@@ -41,6 +42,7 @@ pub use laws::{
 pub use message::{Info, Stop};
 pub use mode::{LineKind, Mode};
 pub use note::{Cause, LiveNote, Note};
+pub use notes::Notes;
 pub use octets::Octets;
 pub use rams::{
     SFMT_RAMS_I, SFMT_RAMS_R, SFMT_RAMS_T, TLV_BURST_DURATION, TLV_FIRST_MULTICAST,

@@ -10,8 +10,7 @@ use ram_io::NoMemory;
 use rams_model::{Answer, Note};
 use std::alloc::Global;
 
-/// Takes a live packet, as it came: its note is the whole answer. Memory is taken first, so that after
-/// want of it all is as before.
+/// Takes a live packet, as it came: its note is the whole answer. After want of memory all is as before.
 pub(crate) fn answer_live(
     alloc: Global,
     parts: &mut Parts,
@@ -25,8 +24,6 @@ pub(crate) fn answer_live(
     ensures settings { parts.new.config ≡ parts.old.config }
     ensures same { OnErr result (parts.new ≡ parts.old) }
 {
-    let mut notes = Vec::with_capacity(alloc, 1)?;
     let note = parts.cache.live(alloc, bytes)?;
-    notes.push(Note::Live(note)).unwrap();
-    Ok(Answer::new(notes, Vec::new(alloc)))
+    Ok(Answer::one(alloc, Note::Live(note)))
 }

@@ -15,10 +15,7 @@ returns-clause-stands c = λ events st few.
     let took = c.in_ok-note.ensures in
     let are = All-from_get_or (λ b. b < 256) bytes 0 (λ i within. let fits = c.type_inv.bytes i in omega arith) in
     let all = live_stands c.args.parts.now bytes note c.live.new.self are took.stands took.settings events st few in
-    let before = c.in_ok-notes.notes.items in
-    let pushed = c.push.ensures.items ∙ ap (λ r. if is_ok r then before ++ LiveNoted note ∷ [] else before) c.unwrap.ensures in
-    let notes = pushed ∙ ap (λ (l : List Note). l ++ LiveNoted note ∷ []) c.in_ok-notes.ensures.items in
-    (c.new-2.ensures ∙ ap (λ (l : List Note). answered l c.new.result.items) notes ∙ ap (answered (LiveNoted note ∷ [])) c.new.ensures.items ∙ all.0, all.1)
+    (c.one.ensures ∙ all.0, all.1)
 
 pub live-requires : goal.live-requires
 live-requires c =
