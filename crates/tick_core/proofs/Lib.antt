@@ -18,3 +18,4 @@ pub mod Closing
 pub mod Carrying
 pub mod Spent
 pub mod Kept
+pub mod Sending

@@ -4,12 +4,13 @@ ghost use Rattle.rams_model.specs.declared.event.Event.{Event};
 ghost use Rattle.rams_model.specs.declared.event.Event.TheVariants.{Tick};
 ghost use Rattle.rams_model.specs.Service.{size_of};
 ghost use Rattle.channel_parts.specs.{StandsFor};
-ghost use Rattle.tick_core.specs.{IsPlanFor, committing, amount_of, amount_for, IsNextSmallIfKnown, with_sending, with_closed, with_committed, with_all_committed, MayEnd, MayCommit, MayCommitAll};
+ghost use Rattle.tick_core.specs.{IsPlanFor, committing, amount_of, amount_for, with_sendings, MaySend, with_sent, MaySendIfAny, sending_of, with_other, with_closed, with_committed, with_all_committed, MayEnd, MayCommit, MayCommitAll};
 ghost use Rattle.client_table.specs.{entry_of, without};
 ghost use Rattle.packet_ring.specs.{packet_of};
 
 use crate::entries::{begin_entries, close_entry, end_entries, send_to, wake};
 use crate::plan::TickPlan;
+use crate::sendings::Sendings;
 use channel_config::Config;
 use channel_parts::{Cache, Parts, Table};
 use client_table::Burst;
@@ -35,21 +36,46 @@ fn spend(budget: &mut Budget, size: u64)
     let _ = budget.spend(size, size);
 }
 
-/// A packet was sent to a client, and so many of its burst.
-fn commit_sending(
-    cache: &Cache,
+/// Packets that were sent to a client are written down.
+fn commit_sendings(table: &mut Table, budget: &mut Budget, sent: &Sendings)
+    requires { MaySend sent.now (committing table.old budget.old) }
+    ensures { committing table.new budget.new ≡ with_sendings sent.now (committing table.old budget.old) }
+{
+    send_to(table, sent);
+    spend(budget, sent.bytes);
+}
+
+/// The packets that were sent last are written down, where there are any.
+fn commit_sent(table: &mut Table, budget: &mut Budget, sent: Option<Sendings>)
+    requires { MaySendIfAny sent (committing table.old budget.old) }
+    ensures { committing table.new budget.new ≡ with_sent sent (committing table.old budget.old) }
+{
+    if let Some(sent) = sent {
+        commit_sendings(table, budget, &sent);
+    }
+}
+
+/// Packets were sent after those that were sent last. It answers what is still to be written down: all of
+/// them where they are to one client, or else the newer ones.
+fn join_sendings(
     table: &mut Table,
     budget: &mut Budget,
-    client: u64,
-    n: u64,
-    count: u64,
-)
-    requires { IsNextSmallIfKnown count (entry_of table.old client) }
-    ensures { committing table.new budget.new ≡ with_sending client count (size_of (packet_of n cache.now.held)) (committing table.old budget.old) }
+    sent: Option<Sendings>,
+    next: Sendings,
+) -> Sendings
+    requires sent { MaySendIfAny sent (committing table.old budget.old) }
+    requires next { MaySend next (with_sent sent (committing table.old budget.old)) }
+    ensures may { MaySend result (committing table.new budget.new) }
+    ensures value { with_sendings result (committing table.new budget.new) ≡ with_sendings next (with_sent sent (committing table.old budget.old)) }
 {
-    let size = size_of(cache, n);
-    send_to(table, client, count, size);
-    spend(budget, size);
+    let Some(sent) = sent else {
+        return next;
+    };
+    if let Some(both) = sent.and(&next) {
+        return both;
+    }
+    commit_sendings(table, budget, &sent);
+    next
 }
 
 /// What a burst has reserved: its rate, and what it may keep.
@@ -83,14 +109,47 @@ fn commit_end(depth: u64, table: &mut Table, budget: &mut Budget, client: u64)
     close_entry(table, client);
 }
 
-/// What a note of a tick says is done.
-fn commit_note(config: &Config, cache: &Cache, table: &mut Table, budget: &mut Budget, note: &Note)
+/// What a note of a tick says is done, after the packets that were sent last. It answers which packets are
+/// still to be written down then.
+fn commit_note(
+    config: &Config,
+    cache: &Cache,
+    table: &mut Table,
+    budget: &mut Budget,
+    sent: Option<Sendings>,
+    note: &Note,
+) -> Option<Sendings>
+    requires sent { MaySendIfAny sent (committing table.old budget.old) }
+    requires note { MayCommit config.now note.now (with_sent sent (committing table.old budget.old)) }
+    ensures may { MaySendIfAny result (committing table.new budget.new) }
+    ensures value { with_sent result (committing table.new budget.new) ≡ with_committed config.now cache.now.held note.now (with_sent sent (committing table.old budget.old)) }
+{
+    if let Some(next) = sending_of(cache, note) {
+        return Some(join_sendings(table, budget, sent, next));
+    }
+    commit_sent(table, budget, sent);
+    commit_other(config, table, budget, note);
+    None
+}
+
+/// The packet that a note sends.
+fn sending_of(cache: &Cache, note: &Note) -> Option<Sendings>
+    ensures { result ≡ sending_of cache.now.held note.now }
+{
+    let (client, n, of_burst) = match *note {
+        Note::Burst { client, n, .. } => (client, n, 1),
+        Note::Repair { client, n, .. } => (client, n, 0),
+        _ => return None,
+    };
+    Some(Sendings::one(client, of_burst, size_of(cache, n)))
+}
+
+/// What a note says that sends no packet.
+fn commit_other(config: &Config, table: &mut Table, budget: &mut Budget, note: &Note)
     requires { MayCommit config.now note.now (committing table.old budget.old) }
-    ensures { committing table.new budget.new ≡ with_committed config.now cache.now.held note.now (committing table.old budget.old) }
+    ensures { committing table.new budget.new ≡ with_other config.now note.now (committing table.old budget.old) }
 {
     match *note {
-        Note::Burst { client, n, .. } => commit_sending(cache, table, budget, client, n, 1),
-        Note::Repair { client, n, .. } => commit_sending(cache, table, budget, client, n, 0),
         Note::End { client, .. } => commit_end(config.channel().depth, table, budget, client),
         Note::Gone { client, .. } => wake(table, client),
         Note::Forgot { client } => forget(table, client),
@@ -116,9 +175,11 @@ fn commit_notes(
     requires { MayCommitAll config.now cache.now.held notes.now (committing table.old budget.old) }
     ensures { committing table.new budget.new ≡ with_all_committed config.now cache.now.held notes.now (committing table.old budget.old) }
 {
+    let mut sent = None;
     for note in notes {
-        commit_note(config, cache, table, budget, note);
+        sent = commit_note(config, cache, table, budget, sent, note);
     }
+    commit_sent(table, budget, sent);
 }
 
 /// Does what a tick's plan says. It takes no memory.

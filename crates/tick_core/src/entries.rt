@@ -1,8 +1,9 @@
 //! What is kept of the clients, as a tick begins, goes on and ends.
 ghost use Rattle.std.specs.Prelude.{◌≡◌, option_map};
 ghost use Rattle.client_table.specs.{entry_of};
-ghost use Rattle.tick_core.specs.{opened_for_tick, entry_begun, IsSmallBurst, burst_ended, entry_ended, burst_sent, entry_sent, entry_closed, entry_awake, IsNextSmall, IsNextSmallIfKnown, changed, AreSmall, AreAllChanged};
+ghost use Rattle.tick_core.specs.{opened_for_tick, entry_begun, IsSmallBurst, burst_ended, entry_ended, burst_sent, entry_after, entry_closed, entry_awake, IsNextSmall, IsNextSmallIfKnown, changed, AreSmall, AreAllChanged};
 
+use crate::sendings::Sendings;
 use client_table::{Burst, Entry, Table};
 
 /// An open burst as a tick begins. Until the tick ends, `kept` is all that it may still be sent.
@@ -27,7 +28,7 @@ fn ended_burst(depth: u64, burst: Burst) -> Burst
     }
 }
 
-/// An open burst after a packet of this size, and so many of its own.
+/// An open burst after so many of its packets, and so many bytes.
 fn sent_burst(count: u64, size: u64, burst: Option<Burst>) -> Option<Burst>
     requires { IsNextSmall count burst }
     ensures { result ≡ option_map (burst_sent count size) burst }
@@ -40,25 +41,25 @@ fn sent_burst(count: u64, size: u64, burst: Option<Burst>) -> Option<Burst>
     })
 }
 
-/// What is kept of a client that was sent a packet of this size, and so many of its burst.
-fn sent_entry(count: u64, size: u64, entry: &Entry) -> Entry
-    requires { IsNextSmall count entry.now.burst }
-    ensures { result ≡ entry_sent count size entry.now }
+/// What is kept of a client that was sent these packets.
+fn sent_entry(sent: &Sendings, entry: &Entry) -> Entry
+    requires { IsNextSmall sent.now.of_burst entry.now.burst }
+    ensures { result ≡ entry_after sent.now entry.now }
 {
     Entry {
-        seq: entry.seq.wrapping_add(1),
+        seq: entry.seq.wrapping_add(sent.packets),
         idle: 0,
-        burst: sent_burst(count, size, entry.burst),
+        burst: sent_burst(u64::from(sent.of_burst), sent.bytes, entry.burst),
         ..*entry
     }
 }
 
 /// The same, where the client is known.
-pub fn send_to(table: &mut Table, client: u64, count: u64, size: u64)
-    requires { IsNextSmallIfKnown count (entry_of table.old client) }
-    ensures { table.new ≡ changed (entry_sent count size) table.old client }
+pub fn send_to(table: &mut Table, sent: &Sendings)
+    requires { IsNextSmallIfKnown sent.now.of_burst (entry_of table.old sent.now.client) }
+    ensures { table.new ≡ changed (entry_after sent.now) table.old sent.now.client }
 {
-    table.change(client, |entry| sent_entry(count, size, &entry));
+    table.change(sent.client, |entry| sent_entry(sent, &entry));
 }
 
 /// A client's burst ends.

@@ -9,6 +9,7 @@ mod forgetting;
 mod plan;
 mod repairs;
 mod runs;
+mod sendings;
 
 pub use channel_parts::Parts;
 pub use commit::commit_tick;

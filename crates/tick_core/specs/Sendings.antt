@@ -1,0 +1,52 @@
+-- Packets that were sent to one client, and are written down together.
+use Rattle.std.specs.Prelude.{ℕ, ◌+◌, ◌-◌, ◌%◌, List, Option, Some, None, option_map}
+use Rattle.rams_model.specs.declared.held.Held.{Held}
+use Rattle.rams_model.specs.declared.note.Note.{Note}
+use Rattle.rams_model.specs.declared.note.Note.TheVariants.{Burst as BurstNote, Repair, Gone, End, Forgot}
+use Rattle.rams_model.specs.Service.{Settings, size_of}
+use Rattle.client_table.specs.declared.entry.Entry.{Entry}
+use Rattle.client_table.specs.{entry_of, without}
+use Rattle.tick_core.specs.declared.sendings.Sendings.{Sendings}
+use Rattle.packet_ring.specs.{packet_of}
+use Rattle.tick_core.specs.Committed.{Committed, burst_sent, changed, entry_awake, with_closed, IsNextSmallIfKnown}
+
+-- one packet
+abbrev pub one_sending : ℕ → ℕ → ℕ → Sendings
+one_sending client of_burst bytes = record { client = client; packets = 1; of_burst = of_burst; bytes = bytes }
+
+-- some, and others to the same client
+abbrev pub both_sendings : Sendings → Sendings → Sendings
+both_sendings x y = record { client = x.client; packets = x.packets + y.packets; of_burst = x.of_burst + y.of_burst; bytes = x.bytes + y.bytes }
+
+-- an entry after them. The client isn't idle
+abbrev pub entry_after : Sendings → Entry → Entry
+entry_after x e = record e { seq = (e.seq + x.packets) % 65536; idle = 0; burst = option_map (burst_sent x.of_burst x.bytes) e.burst }
+
+abbrev pub with_sendings : Sendings → Committed → Committed
+with_sendings x c = record { table = changed (entry_after x) c.table x.client; budget = record c.budget { left = c.budget.left - x.bytes } }
+
+-- the number of the next packet stays small
+abbrev pub MaySend : Sendings → Committed → Type 0
+MaySend x c = IsNextSmallIfKnown x.of_burst (entry_of c.table x.client)
+
+-- what is sent, where something is
+abbrev pub with_sent : Option Sendings → Committed → Committed
+with_sent None c = c
+with_sent (Some x) c = with_sendings x c
+
+abbrev pub MaySendIfAny : Option Sendings → Committed → Type 0
+MaySendIfAny None c = Unit {0}
+MaySendIfAny (Some x) c = MaySend x c
+
+-- the packet that a note sends
+abbrev pub sending_of : List Held → Note → Option Sendings
+sending_of held (BurstNote client n seq) = Some (one_sending client 1 (size_of (packet_of n held)))
+sending_of held (Repair client n seq) = Some (one_sending client 0 (size_of (packet_of n held)))
+sending_of held _ = None
+
+-- after a note that sends none
+abbrev pub with_other : Settings → Note → Committed → Committed
+with_other s (End client cause) c = with_closed s.channel.depth client c
+with_other s (Gone client n) c = record c { table = changed entry_awake c.table client }
+with_other s (Forgot client) c = record c { table = without c.table client }
+with_other s _ c = c
