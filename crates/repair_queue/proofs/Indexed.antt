@@ -1,17 +1,13 @@
 -- What one more pair and one less do to the index.
-use Rattle.std.proofs.Common.{Result, Ok, Err, OnOk, is_ok, ◌≡◌, ℕ, ◌+◌, ◌-◌, ◌<◌, ◌≤◌, Bool, true, false, cond, not, ◌||◌, ◌&&◌, nat_eq, List, [], ◌∷◌, ◌++◌, length, take, drop, get_or, refl, ap, sym, ◌∙◌, subst, arith, append_assoc, append-nil}
+use Rattle.std.proofs.Common.{◌≡◌, ℕ, ◌+◌, ◌-◌, ◌<◌, ◌≤◌, Bool, true, false, cond, not, ◌||◌, ◌&&◌, nat_eq, List, [], ◌∷◌, ◌++◌, length, take, drop, get_or, refl, ap, sym, ◌∙◌, subst, arith, append_assoc, append-nil}
 use Rattle.std.proofs.lemmas.List.{drop_more, take_more, take-append-drop}
 use Rattle.std.proofs.lemmas.List.Elements.{filter-append}
 use Rattle.std.specs.List.{list_any, filter}
 use Rattle.std.proofs.lemmas.Bool.Decides.{nat_tests}
 use Rattle.rams_model.specs.Service.{Wanted, wanted, is_wanted}
 use Rattle.repair_queue.specs.declared.index.Index.{Index}
-use Rattle.repair_queue.specs.{is_of, count_of, without, Indexes, HasPlace, AreOnce}
-use Rattle.repair_queue.proofs.Pending.{length-filter-le}
-
--- an index of fewer than 4,096 has a place
-pub place_of : (index : Index) (ws : List Wanted) (client : ℕ) → Indexes index ws → length ws < 4096 → HasPlace index client
-place_of index ws client is short = λ whole. omega (arith, is.counts whole client, length-filter-le (is_of client) ws)
+use Rattle.repair_queue.specs.{is_of, count_of, without, Indexes, AreOnce}
+use Rattle.repair_queue.proofs.Pending.{filter_push, same_repair, none_there}
 
 module _ (p : Wanted → Bool) where
   -- one in the middle
@@ -76,17 +72,27 @@ without_more client i ws w lt at of =
     ap (filter p) (take_more ws i w lt ∙ ap (λ (x : Wanted). take i ws ++ x ∷ []) (sym at))
     ∙ (filter-append p (take i ws) (w ∷ []) ∙ (ap (λ (b : Bool). filter p (take i ws) ++ cond b (w ∷ []) []) isnt ∙ append-nil (filter p (take i ws))))
 
--- what an insert that didn't fail does
-pub done_if_ok : {T E P : Type 0} (r : Result T E) → is_ok r ≡ true → OnOk r P → P
-done_if_ok (Ok x) ok done = done
-done_if_ok (Err e) ok done = cc
+pair_put : (b was : Bool) → cond b true was ≡ (b || was)
+pair_put true was = refl
+pair_put false was = refl
 
--- one more pair, and one less
-pub pair_put : (b old : Bool) → cond b true old ≡ (old || b)
-pair_put true true = refl
-pair_put true false = refl
-pair_put false true = refl
-pair_put false false = refl
+-- one more pair
+pub pair_more : (client n k m : ℕ) (ws : List Wanted) (b was is : Bool) → is_wanted k m (wanted client n) ≡ b → was ≡ list_any (is_wanted k m) ws → is ≡ cond b true was → is ≡ list_any (is_wanted k m) (ws ++ wanted client n ∷ [])
+pair_more client n k m ws b was is same indexed put =
+    let p = is_wanted k m in
+    put ∙ (pair_put b was ∙ (ap (λ (a : Bool). b || a) (indexed ∙ ap (list_any p) (sym (append-nil ws))) ∙ (ap (λ (a : Bool). a || list_any p (ws ++ [])) (sym same) ∙ sym (any_middle p ws [] (wanted client n)))))
+
+-- a pair that was put in and taken out again, which wasn't there
+pub pair_back : (client n k m : ℕ) (ws : List Wanted) (b was is then : Bool) → is_wanted k m (wanted client n) ≡ b → list_any (is_wanted client n) ws ≡ false
+    → was ≡ list_any (is_wanted k m) ws → is ≡ cond b true was → then ≡ (not b && is) → then ≡ list_any (is_wanted k m) ws
+pair_back client n k m ws true was is then same new indexed put taken =
+    let both = same_repair client n k m same in
+    taken ∙ sym (none_there client n k m ws both.0 both.1 new)
+pair_back client n k m ws false was is then same new indexed put taken = taken ∙ (put ∙ indexed)
+
+-- one more of the client
+pub count_more : (client n k : ℕ) (ws : List Wanted) → count_of k ws + cond (nat_eq client k) 1 0 ≡ count_of k (ws ++ wanted client n ∷ [])
+count_more client n k ws = sym (filter_push (is_of k) ws (wanted client n))
 
 pub pair_taken : (b old : Bool) → cond b false old ≡ (not b && old)
 pair_taken true old = refl

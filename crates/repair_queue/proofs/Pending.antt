@@ -4,7 +4,8 @@ use Rattle.std.specs.List.{list_any, filter, AllByRecursion as Each}
 use Rattle.std.proofs.lemmas.Bool.{cond_both}
 use Rattle.std.proofs.lemmas.Bool.Decides.{nat_tests}
 use Rattle.rams_model.specs.Service.{Wanted, wanted, is_wanted}
-use Rattle.repair_queue.specs.{is_of, count_of, unmarked, without, IsWithinLimits}
+use Rattle.repair_queue.specs.declared.wanted.Asked.TheVariants.{Queued}
+use Rattle.repair_queue.specs.{is_of, count_of, asked_of, unmarked, without, IsWithinLimits}
 
 module _ (p : Wanted → Bool) where
   pub length-filter-le : (ws : List Wanted) → length (filter p ws) ≤ length ws
@@ -53,10 +54,10 @@ limits_without client ws limits =
     limits_less ws (without client ws) limits (λ p. filter-filter-le p (λ w. not (is_of client w)) ws) (length-filter-le (λ w. not (is_of client w)) ws)
 
 -- a test for a pair that the repair passes is the test for the repair
-same_repair : (client n k m : ℕ) → is_wanted k m (wanted client n) ≡ true → (client ≡ k) × (n ≡ m)
+pub same_repair : (client n k m : ℕ) → is_wanted k m (wanted client n) ≡ true → (client ≡ k) × (n ≡ m)
 same_repair client n k m h = (grind (arith, nat_tests), grind (arith, nat_tests))
 
-none_there : (client n k m : ℕ) (ws : List Wanted) → client ≡ k → n ≡ m → list_any (is_wanted client n) ws ≡ false → list_any (is_wanted k m) ws ≡ false
+pub none_there : (client n k m : ℕ) (ws : List Wanted) → client ≡ k → n ≡ m → list_any (is_wanted client n) ws ≡ false → list_any (is_wanted k m) ws ≡ false
 none_there client n k m ws same_client same_n new = subst (λ (j : ℕ). list_any (is_wanted j m) ws ≡ false) same_client (subst (λ (j : ℕ). list_any (is_wanted client j) ws ≡ false) same_n new)
 
 once_step : (b : Bool) (client n k m : ℕ) (ws : List Wanted) → is_wanted k m (wanted client n) ≡ b → list_any (is_wanted client n) ws ≡ false → length (filter (is_wanted k m) ws) ≤ 1 → length (filter (is_wanted k m) ws) + cond b 1 0 ≤ 1
@@ -77,6 +78,19 @@ limits_push client n ws new few short limits = record {
   once = λ k m. rw (filter_push (is_wanted k m) ws (wanted client n)) (once_step (is_wanted k m (wanted client n)) client n k m ws refl new (limits.once k m));
   of_client = λ k. rw (filter_push (is_of k) ws (wanted client n)) (few_step (is_of k (wanted client n)) client n k ws refl few (limits.of_client k));
   in_all = omega (arith, length-append ws (wanted client n ∷ []));
+}
+
+-- what is true where the answer to an ask is `Queued`
+pub record IsQueued (ws : List Wanted) (client n : ℕ) : Type 0 where
+  pub new : list_any (is_wanted client n) ws ≡ false
+  pub few : count_of client ws < 256
+  pub short : length ws < 4096
+
+pub queued : (ws : List Wanted) (client n : ℕ) → asked_of ws client n ≡ Queued → IsQueued ws client n
+queued ws client n is = record {
+  new = grind (arith, nat_tests);
+  few = grind (arith, nat_tests);
+  short = grind (arith, nat_tests);
 }
 
 -- where none is marked all stay

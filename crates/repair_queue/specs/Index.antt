@@ -1,5 +1,5 @@
 -- What the index beside the list says of it.
-use Rattle.std.specs.Prelude.{◌≡◌, ℕ, ◌<◌, ◌≤◌, Bool, true, ◌&&◌, nat_eq, List, length, filter, unwrap_or}
+use Rattle.std.specs.Prelude.{◌≡◌, ℕ, ◌≤◌, Bool, true, ◌&&◌, nat_eq, List, length, filter, unwrap_or}
 use Rattle.std.specs.List.{list_any}
 use Rattle.std.specs.HashSet.{contains}
 use Rattle.std.specs.HashMap.{HashMap, get}
@@ -19,10 +19,6 @@ counted counts client = unwrap_or (get nat_eq counts client) 0
 pub record Indexes (index : Index) (ws : List Wanted) : Type 0 where
   pub pairs : index.whole ≡ true → (client n : ℕ) → contains same_pair index.pairs (client, n) ≡ list_any (is_wanted client n) ws
   pub counts : index.whole ≡ true → (client : ℕ) → counted index.counts client ≡ count_of client ws
-
--- the count of the client is small
-abbrev pub HasPlace : Index → ℕ → Type 0
-HasPlace index client = index.whole ≡ true → counted index.counts client < 4096
 
 -- no pair is pending twice
 abbrev pub AreOnce : List Wanted → Type 0

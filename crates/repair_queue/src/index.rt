@@ -1,11 +1,11 @@
 //! What makes an ask quick: which pairs are pending, and how many of each client.
-ghost use Rattle.std.specs.Prelude.{◌≡◌, ℕ, ◌+◌, ◌-◌, ◌<◌, ◌≤◌, ◌==◌, ◌&&◌, ◌||◌, not, true, if◌then◌else◌, List, [], ◌∷◌, ◌++◌, length, IfOk};
+ghost use Rattle.std.specs.Prelude.{◌≡◌, ℕ, ◌+◌, ◌-◌, ◌<◌, ◌≤◌, nat_lt, ◌==◌, ◌&&◌, ◌||◌, not, true, if◌then◌else◌, List, [], ◌∷◌, ◌++◌, length, IfOk};
 ghost use Rattle.std.specs.List.{list_any};
 ghost use Rattle.rams_model.specs.Service.{Wanted as Repair, wanted, is_wanted};
-ghost use Rattle.repair_queue.specs.{count_of, unmarked, without, AreOnce, Indexes, HasPlace, counted, same_pair};
+ghost use Rattle.repair_queue.specs.{count_of, asked_of, answered, unmarked, without, AreOnce, Indexes, counted, same_pair};
 ghost use Rattle.std.specs.HashSet.{contains};
 
-use crate::wanted::Wanted;
+use crate::wanted::{Asked, MOST_OF_CLIENT, MOST_PENDING, Wanted};
 use ram_io::NoMemory;
 use std::alloc::Global;
 use std::collections::{HashMap, HashSet};
@@ -31,8 +31,8 @@ impl Index {
         })
     }
 
-    /// Whether this number is pending for this client.
-    pub(crate) fn has(&self, pending: &[Wanted], client: u64, n: u64) -> bool
+    // Whether this number is pending for this client.
+    fn has(&self, pending: &[Wanted], client: u64, n: u64) -> bool
         requires { Indexes self.now pending.now }
         ensures { result ≡ list_any (is_wanted client n) pending.now }
     {
@@ -56,15 +56,67 @@ impl Index {
         }
     }
 
-    /// One more pair.
-    pub(crate) fn add(&mut self, client: u64, n: u64)
-        requires { HasPlace self.old client }
-        ensures { (ws : List Repair) → Indexes self.old ws → Indexes self.new (ws ++ wanted client n ∷ []) }
+    /// The answer to an ask. Where it is `Queued`, the pair is among the others from here on. Where the
+    /// index can't take the pair in, the answer comes from what is pending.
+    pub(crate) fn claim(&mut self, pending: &[Wanted], client: u64, n: u64) -> Asked
+        requires few { length pending.now ≤ 4096 }
+        requires indexed { Indexes self.old pending.now }
+        ensures answer { result ≡ asked_of pending.now client n }
+        ensures indexed { Indexes self.new (answered result pending.now client n) }
+    {
+        if self.whole && pending.len() < MOST_PENDING {
+            match self.put(client, n) {
+                Ok(asked) => return asked,
+                Err(_) => self.whole = false,
+            }
+        }
+        self.answer(pending, client, n)
+    }
+
+    // The answer to an ask, with no pair put in.
+    fn answer(&self, pending: &[Wanted], client: u64, n: u64) -> Asked
+        requires few { length pending.now ≤ 4096 }
+        requires indexed { Indexes self.now pending.now }
+        ensures { result ≡ asked_of pending.now client n }
+    {
+        if self.has(pending, client, n) {
+            return Asked::Already;
+        }
+        if self.count(pending, client) >= MOST_OF_CLIENT {
+            return Asked::ClientFull;
+        }
+        if pending.len() >= MOST_PENDING {
+            return Asked::QueueFull;
+        }
+        Asked::Queued
+    }
+
+    // Puts the pair among those of fewer than 4,096 repairs, where it is new and its client isn't full.
+    // After an `Err` the index isn't whole.
+    fn put(&mut self, client: u64, n: u64) -> Result<Asked, NoMemory>
+        ensures answer { IfOk result (λ asked. (ws : List Repair) → self.old.whole ≡ true → Indexes self.old ws → length ws < 4096 → asked ≡ asked_of ws client n) }
+        ensures indexed { IfOk result (λ asked. (ws : List Repair) → self.old.whole ≡ true → Indexes self.old ws → Indexes self.new (answered asked ws client n)) }
+    {
+        if !self.pairs.insert((client, n))? {
+            return Ok(Asked::Already);
+        }
+        if !count_one(&mut self.counts, client)? {
+            take_pair(&mut self.pairs, client, n);
+            return Ok(Asked::ClientFull);
+        }
+        Ok(Asked::Queued)
+    }
+
+    // One more pair. Where it can't be put in, the index isn't whole.
+    fn add(&mut self, client: u64, n: u64)
+        ensures { (ws : List Repair) → length ws < 4096 → Indexes self.old ws → Indexes self.new (ws ++ wanted client n ∷ []) }
     {
         if self.whole {
-            let added = add_pair(&mut self.pairs, client, n);
-            self.whole = add_one(&mut self.counts, client) && added;
+            if let Ok(Asked::Queued) = self.put(client, n) {
+                return;
+            }
         }
+        self.whole = false;
     }
 
     // One pair less, which is there.
@@ -151,23 +203,20 @@ fn count_pending(pending: &[Wanted], client: u64) -> u32
     count
 }
 
-// Puts a pair among the others. Whether there was memory for it.
-fn add_pair(pairs: &mut HashSet<(u64, u64)>, client: u64, n: u64) -> bool
-    ensures { result ≡ true → (k m : ℕ) → contains same_pair pairs.new (k, m) ≡ (contains same_pair pairs.old (k, m) || (client == k && n == m)) }
-{
-    pairs.insert((client, n)).is_ok()
-}
-
-// Counts one more of the client. Whether there was memory for it.
-fn add_one(counts: &mut HashMap<u64, u32>, client: u64) -> bool
-    requires small { counted counts.old client < 4096 }
-    ensures { result ≡ true → (other : ℕ) → counted counts.new other ≡ counted counts.old other + (if client == other then 1 else 0) }
+// Counts one more of the client, where fewer than 256 are counted. Whether there were fewer.
+fn count_one(counts: &mut HashMap<u64, u32>, client: u64) -> Result<bool, NoMemory>
+    ensures fewer { IfOk result (λ fewer. fewer ≡ nat_lt (counted counts.old client) 256) }
+    ensures counts { IfOk result (λ fewer. (other : ℕ) → counted counts.new other ≡ counted counts.old other + (if fewer && client == other then 1 else 0)) }
 {
     if let Some(count) = counts.get_mut(&client) {
+        if *count >= MOST_OF_CLIENT {
+            return Ok(false);
+        }
         *count += 1;
-        return true;
+        return Ok(true);
     }
-    counts.insert(client, 1).is_ok()
+    counts.insert(client, 1)?;
+    Ok(true)
 }
 
 // Takes a pair out, where it is there.

@@ -1,16 +1,10 @@
 //! The queue of pending repairs.
 use crate::index::Index;
 use crate::span::Span;
-use crate::wanted::{Asked, Wanted};
+use crate::wanted::{Asked, MOST_PENDING, Wanted};
 use ram_io::NoMemory;
 use std::alloc::Global;
 use std::marker::Model;
-
-// Most repairs of a channel that are pending at once.
-const MOST_PENDING: usize = 4096;
-
-// Most repairs of one client that are pending at once.
-const MOST_OF_CLIENT: u32 = 256;
 
 /// The pending repairs, the oldest first. An index beside them answers an ask without going through
 /// them.
@@ -62,19 +56,15 @@ impl Queue {
         ensures answer { result ≡ asked_of self.old client n }
         ensures pending { self.new ≡ answered result self.old client n }
     {
-        if self.index.has(&self.pending, client, n) {
-            return Asked::Already;
+        let span = self.span_before();
+        match self.index.claim(&self.pending, client, n) {
+            Asked::Queued => {
+                self.span = span.with(n);
+                self.pending.push_reserved(Wanted { client, n });
+                Asked::Queued
+            }
+            refused => refused,
         }
-        if self.index.count(&self.pending, client) >= MOST_OF_CLIENT {
-            return Asked::ClientFull;
-        }
-        if self.pending.len() >= MOST_PENDING {
-            return Asked::QueueFull;
-        }
-        self.span = self.span_before().with(n);
-        self.pending.push_reserved(Wanted { client, n });
-        self.index.add(client, n);
-        Asked::Queued
     }
 
     // The span of what is pending: of none, it is anew.

@@ -1,6 +1,12 @@
 //! A repair that a client waits for, and the answers to an ask.
 use std::marker::Model;
 
+/// Most repairs of a channel that are pending at once.
+pub(crate) const MOST_PENDING: usize = 4096;
+
+/// Most repairs of one client that are pending at once.
+pub(crate) const MOST_OF_CLIENT: u32 = 256;
+
 /// A repair that a client waits for.
 #[derive(Clone, Copy, Debug, PartialEq, Eq)]
 pub struct Wanted {

@@ -1,18 +1,17 @@
-use Rattle.std.proofs.Common.{◌≡◌, ◌<◌, false, subst, arith, sym, ap, ◌∙◌}
-use Rattle.std.specs.List.{list_any}
-use Rattle.rams_model.specs.Service.{is_wanted}
-use Rattle.repair_queue.specs.{count_of, Spans}
-use Rattle.repair_queue.proofs.Pending.{limits_push}
+use Rattle.std.proofs.Common.{subst, arith, sym, ap, ◌∙◌, ◌≡◌}
+use Rattle.repair_queue.specs.declared.wanted.Asked.TheVariants.{Queued}
+use Rattle.repair_queue.specs.{Spans, asked_of, Indexes, answered}
+use Rattle.repair_queue.proofs.Pending.{queued, limits_push}
 use Rattle.repair_queue.proofs.queue.Queue.ask.Goals as goal
 
 pub invariant_of-self : goal.invariant_of-self
 invariant_of-self c =
     let ws = c.self.inside.pending.items in
-    let new : list_any (is_wanted c.args.client c.args.n) ws ≡ false = ap (list_any (is_wanted c.args.client c.args.n)) (sym c.deref.ensures.value) ∙ (sym c.has.ensures ∙ c.if-has.false) in
-    let few : count_of c.args.client ws < 256 = omega (arith, ap (count_of c.args.client) c.deref-2.ensures.value) in
+    let is : asked_of ws c.args.client c.args.n ≡ Queued = sym (c.in-Queued.ensures.answer ∙ ap (λ l. asked_of l c.args.client c.args.n) c.deref.ensures.value) in
+    let facts = queued ws c.args.client c.args.n is in
     rw c.push_reserved.ensures.items (record {
-      limits = limits_push c.args.client c.args.n ws new few (omega (arith, c.len.ensures)) c.self.invariant.limits;
-      indexed = c.add.ensures ws c.self.invariant.indexed;
-      spanned = c.with-self-inside.ensures ws c.args.client (subst (Spans c.span_before.result) (sym c.self.view_is) c.span_before.ensures);
+      limits = limits_push c.args.client c.args.n ws facts.new facts.few facts.short c.self.invariant.limits;
+      indexed = subst (λ l. Indexes c.claim.new.self (answered Queued l c.args.client c.args.n)) c.deref.ensures.value c.in-Queued.ensures.indexed;
+      spanned = c.with-self-inside.ensures ws c.args.client (subst (Spans c.span_before-span.result) (sym c.self.view_is) c.span_before-span.ensures);
       room = omega (arith, c.self.invariant.room, c.push_reserved.ensures.capacity);
     })
