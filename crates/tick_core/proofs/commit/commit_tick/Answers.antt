@@ -10,7 +10,7 @@ begin_entries-requires c = small_parts c.args.parts.now c.requires.plan.0 c.requ
 
 pub commit_notes-requires : goal.commit_notes-requires
 commit_notes-requires c =
-    let notes_are = c.deref.ensures.value ∙ ap (λ (p : TickPlan). p.answer.notes) c.plan.view_is in
+    let notes_are = c.deref.ensures ∙ ap (λ (p : TickPlan). p.answer.notes) c.plan.view_is in
     may_carry_out c.args.parts.now c.requires.plan.0 c.args.plan.now c.deref.result.now c.begin_entries.new.table c.open_tick.new.self c.requires.plan.1 c.requires.plan.2 notes_are c.begin_entries.ensures c.open_tick.ensures
 
 pub settle-requires : goal.settle-requires
@@ -21,7 +21,7 @@ settle-requires c =
 pub returns : goal.returns
 returns c = record {
   stands = λ events stands is.
-      let notes_are = c.deref.ensures.value ∙ ap (λ (p : TickPlan). p.answer.notes) c.plan.view_is in
+      let notes_are = c.deref.ensures ∙ ap (λ (p : TickPlan). p.answer.notes) c.plan.view_is in
       let done_are = c.deref-2.ensures.value ∙ ap (λ (p : TickPlan). p.done.items) c.plan.view_is in
       made_parts c.args.parts.now events c.args.plan.now c.deref.result.now c.deref-2.result.now c.begin_entries.new.table c.commit_notes.new.table c.end_entries.new.table c.open_tick.new.self c.commit_notes.new.budget
       c.settle.new.self _ stands is notes_are done_are (ap (λ (x : Channel). x.depth) c.channel-channel.ensures.value) c.begin_entries.ensures c.open_tick.ensures c.commit_notes.ensures c.end_entries.ensures c.settle.ensures;
