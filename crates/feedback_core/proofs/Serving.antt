@@ -4,7 +4,7 @@ use Rattle.std.specs.Prelude.{◌*◌, IfOk, is_some, IsSome, option_map, option
 use Rattle.std.proofs.lemmas.Bool.{or_left}
 use Rattle.rams_model.specs.declared.event.Event.{Event}
 use Rattle.rams_model.specs.declared.event.Event.TheVariants.{Feedback}
-use Rattle.rams_model.specs.Service.{Answered, answered, Settings, Message, History, arrivals, hold, info_order, after_messages, history_of, answer, Wanted}
+use Rattle.rams_model.specs.Service.{Answered, answered, Settings, Message, History, arrivals, hold, info_order, newest_notes, newest_orders, newest_answer, after_messages, history_of, answer, Wanted}
 use Rattle.rams_model.specs.Formats.{Framed, framed}
 use Rattle.link_budget.specs.Amounts.{Amounts}
 use Rattle.client_table.specs.declared.entry.Entry.{Entry}
@@ -16,10 +16,10 @@ use Rattle.channel_parts.proofs.Facts.{known_clients_are_few}
 use Rattle.channel_parts.proofs.Given.{moment, held_is}
 use Rattle.feedback_core.specs.declared.page.Page.{Page}
 use Rattle.feedback_core.specs.declared.visitor.Visitor.{Visitor}
-use Rattle.feedback_core.specs.{woken, answered_of, IsTurned, Turns, sitting, is_full_table, has_place, with_place, with_kept, IsReady, IsSafe, AreOfOne}
+use Rattle.feedback_core.specs.{woken, answered_of, IsVisit, IsTurned, Turns, sitting, is_full_table, has_place, with_place, with_kept, with_changed, IsReady, IsSafe, AreOfOne}
 use Rattle.feedback_core.proofs.Beginning.{at_datagram, visit_begun, page_begun, ready_is, safe_begun}
 use Rattle.feedback_core.proofs.Places.{place_counts}
-use Rattle.feedback_core.proofs.Closing.{stands_after, answer_after}
+use Rattle.feedback_core.proofs.Closing.{history_framed, stands_after, stands_unasked, answer_after}
 
 -- the client as it was received
 abbrev pub received : Parts → ℕ → Visitor
@@ -88,6 +88,24 @@ served p q new events k bytes ps v w queue page written given st fe e ve ne ie d
     let new' = newe ∙ ap (λ (x : Parts). record x { budget = w.budget; queue = queue; table = with_kept x.table k w.entry }) e in (
       ge ∙ answer_after p.config events k bytes ps queue w written (option_to_list (option_map (info_order k) written.info)) fe ke t refl,
       stands_after p new events k p.config.channel.seq0 bytes ps queue w written st fe ke pe placed t new',
+    )
+
+-- a datagram without a message
+pub unasked : (p new : Parts) (events : List Event) (k : ℕ) (bytes : List ℕ) (ps : List Framed) (given : Answered) → StandsFor p events → framed bytes ≡ Ok ps → answered_of true ps ≡ []
+    → new ≡ record p { table = with_changed p.table k (woken (entry_of p.table k)) } → given ≡ answered [] []
+    → (given ≡ answer p.config events (Feedback k bytes)) × StandsFor new (Feedback k bytes ∷ events)
+unfolding after_messages newest_notes newest_orders
+unasked p new events k bytes ps given st fe none ne ge =
+    let s = p.config in
+    let history = history_of s events in
+    let ms = answered_of true ps in
+    let base = at_datagram k ms history in
+    let v = received p k in
+    let is : history_of s (Feedback k bytes ∷ events) ≡ base = history_framed s events k bytes ps fe ∙ ap (λ (l : List Message). after_messages s k l base) none in
+    let counts = place_counts s k history p.table st.table (known_clients_are_few s history (moment s events)) in
+    let w = subst (λ (h : History). IsVisit s base h v p.queue) (sym is) (visit_begun p events k ms v st refl refl counts refl) in (
+      ge ∙ ap (newest_answer s) (sym is),
+      stands_unasked p new events k bytes ms v st refl refl refl w ne,
     )
 
 -- no more notes, and what is answered where there is memory

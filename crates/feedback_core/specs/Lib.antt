@@ -18,5 +18,5 @@ unfoldable pub use Rattle.feedback_core.specs.Counting.{most_of_nack, most_of, m
 unfoldable pub use Rattle.feedback_core.specs.Framing.{shown_message, answered_of, turn_of, due_after}
 unfoldable pub use Rattle.feedback_core.specs.Pages.{or_info, last_of, info_for, IsFresh, sitting, Turns}
 pub use Rattle.feedback_core.specs.Pages.{IsPage, IsTurned, Sitting}
-unfoldable pub use Rattle.feedback_core.specs.Places.{is_full_table, has_place, with_place, with_kept}
+unfoldable pub use Rattle.feedback_core.specs.Places.{is_full_table, has_place, with_place, with_kept, with_changed}
 unfoldable pub use Rattle.feedback_core.specs.Telling.{IsInfo, TellsAlone}
