@@ -16,7 +16,7 @@ use Rattle.channel_parts.proofs.Facts.{known_clients_are_few}
 use Rattle.channel_parts.proofs.Given.{moment, held_is}
 use Rattle.feedback_core.specs.declared.page.Page.{Page}
 use Rattle.feedback_core.specs.declared.visitor.Visitor.{Visitor}
-use Rattle.feedback_core.specs.{woken, answered_of, IsVisit, IsTurned, Turns, sitting, is_full_table, has_place, with_place, with_kept, with_changed, IsReady, IsSafe, AreOfOne}
+use Rattle.feedback_core.specs.{woken, answered_of, IsVisit, IsPage, IsTurned, Holds, Serves, is_full_table, has_place, with_place, with_kept, with_changed, IsReady, IsSafe, AreOfOne}
 use Rattle.feedback_core.proofs.Beginning.{at_datagram, visit_begun, page_begun, ready_is, safe_begun}
 use Rattle.feedback_core.proofs.Places.{place_counts}
 use Rattle.feedback_core.proofs.Closing.{history_framed, stands_after, stands_unasked, answer_after}
@@ -61,23 +61,27 @@ begun_hold : (s : Settings) (k : ℕ) (ms : List Message) (history : History) �
 unfolding arrivals
 begun_hold s k ms history = refl
 
+-- the messages of these packets are answered
+abbrev IsServed : Parts → Visitor → Visitor → List Wanted → Page → Page → List Framed → Type 0
+IsServed p v w queue page new ps = Serves p.config (Holds p.config p.cache.held) v p.queue (λ before history. IsPage p.config v.client history page
+    → IsTurned p.config before (after_messages p.config v.client (answered_of page.is_due ps) history) queue w new)
+
 -- what was answered to the messages
 pub all_turned : (p q : Parts) (events : List Event) (k : ℕ) (ps : List Framed) (due : Bool) (v w : Visitor) (queue : List Wanted) (page new : Page) → StandsFor p events → q ≡ placed_parts p k
     → v ≡ received p k → page.notes.items ≡ [] → page.info ≡ None → page.is_due ≡ true
-    → Turns q.config q.cache.held (sitting v q.queue page) (sitting w queue new) (λ history. after_messages q.config v.client (answered_of page.is_due ps) history)
+    → IsServed q v w queue page new ps
     → (let ms = answered_of true ps in let base = at_datagram k ms (history_of p.config events) in IsTurned p.config base (after_messages p.config k ms base) queue w new)
 all_turned p q events k ps due v w queue page new st e ve ne ie de turns =
     let ms = answered_of true ps in
     let base = at_datagram k ms (history_of p.config events) in
-    let turns' : Turns p.config p.cache.held (sitting v p.queue page) (sitting w queue new) (λ history. after_messages p.config v.client (answered_of page.is_due ps) history) =
-    subst (λ (x : Parts). Turns x.config x.cache.held (sitting v x.queue page) (sitting w queue new) (λ history. after_messages x.config v.client (answered_of page.is_due ps) history)) e turns in
-    let t = turns' base base (begun_hold p.config k ms (history_of p.config events) ∙ sym (held_is p events st)) (turned_begun p events k ms v page st ve ne ie) in
+    let begun = turned_begun p events k ms v page st ve ne ie in
+    let t = subst (λ (x : Parts). IsServed x v w queue page new ps) e turns base base (begun_hold p.config k ms (history_of p.config events) ∙ sym (held_is p events st)) begun.visit begun.written in
     subst (λ (j : ℕ). IsTurned p.config base (after_messages p.config j ms base) queue w new) (ap (λ (x : Visitor). x.client) ve)
     (subst (λ (d : Bool). IsTurned p.config base (after_messages p.config v.client (answered_of d ps) base) queue w new) de t)
 
 pub served : (p q new : Parts) (events : List Event) (k : ℕ) (bytes : List ℕ) (ps : List Framed) (v w : Visitor) (queue : List Wanted) (page written : Page) (given : Answered) → StandsFor p events
     → framed bytes ≡ Ok ps → q ≡ placed_parts p k → v ≡ received p k → page.notes.items ≡ [] → page.info ≡ None → page.is_due ≡ true
-    → Turns q.config q.cache.held (sitting v q.queue page) (sitting w queue written) (λ history. after_messages q.config v.client (answered_of page.is_due ps) history)
+    → IsServed q v w queue page written ps
     → AreOfOne v w → (IsSome w.entry → w.has_place ≡ true) → new ≡ record q { budget = w.budget; queue = queue; table = with_kept q.table k w.entry }
     → given ≡ answered written.notes.items (option_to_list (option_map (info_order k) written.info))
     → (given ≡ answer p.config events (Feedback k bytes)) × StandsFor new (Feedback k bytes ∷ events)
