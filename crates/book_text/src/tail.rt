@@ -41,6 +41,14 @@ impl Tail {
         }
     }
 
+    /// Takes all its bytes away; the room stays as it is.
+    #[inline]
+    pub(crate) fn clear(&mut self)
+        ensures { self.new ≡ [] }
+    {
+        self.start = ROOM;
+    }
+
     /// How many bytes it has.
     #[inline]
     pub fn len(&self) -> usize

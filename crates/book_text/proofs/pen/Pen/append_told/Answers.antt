@@ -3,19 +3,19 @@ use Rattle.std.proofs.Common.{◌≡◌, ◌+◌, ◌<◌, List, ℕ, [], ◌∷
 use Rattle.std.specs.Prelude.{codes}
 use Rattle.rams_model.specs.Texts.{note_words, hex_word, note_line, send_line}
 use Rattle.book_text.proofs.Lines.{told}
-use Rattle.book_text.proofs.note.append_told.Goals as goal
+use Rattle.book_text.proofs.pen.Pen.append_told.Goals as goal
 
 joins : (c : goal.After-append_with_hex) → c.piece-3.new.self ++ hex_word c.args.bytes.now ++ (10 ∷ [])
     ≡ note_line c.args.event c.args.id c.args.note.now ++ send_line c.args.event c.args.id c.args.client c.args.bytes.now
 joins c =
-    let front = c.front-front.result in
-    let to = c.spaced-to.result in
+    let front = c.turn_to.new.self.piece in
+    let to = c.turn_to-2.new.self.piece in
     let words = note_words c.args.note.now in
-    let send = c.word.ensures ∙ ap (λ (l : List ℕ). codes "send" ++ l) (c.piece.ensures ∙ ap (λ (l : List ℕ). to ++ l) (c.byte.ensures ∙ ap (λ (l : List ℕ). 32 ∷ l) c.new-lines.ensures)) in
+    let send = c.word.ensures ∙ ap (λ (l : List ℕ). codes "send" ++ l) (c.piece.ensures ∙ ap (λ (l : List ℕ). to ++ l) (c.byte.ensures ∙ ap (λ (l : List ℕ). 32 ∷ l) c.clear.ensures)) in
     let behind = c.byte-2.ensures ∙ ap (λ (l : List ℕ). 10 ∷ l) (c.piece-2.ensures ∙ ap (λ (l : List ℕ). front ++ l) send) in
     let lines = c.piece-3.ensures ∙ ap (λ (l : List ℕ). front ++ l) (c.words_to.ensures.line ∙ ap (λ (l : List ℕ). words ++ l) behind) in
     ap (λ (l : List ℕ). l ++ hex_word c.args.bytes.now ++ (10 ∷ [])) lines
-    ∙ told c.args.event c.args.id c.args.client c.args.note.now c.args.bytes.now front to c.front-front.ensures.front c.spaced-to.ensures.spaced
+    ∙ told c.args.event c.args.id c.args.client c.args.note.now c.args.bytes.now front to c.turn_to.ensures.front c.turn_to-2.ensures.to
 
 pub returns-clause-text : goal.returns-clause-text
 returns-clause-text c =
