@@ -55,16 +55,12 @@ fn live_twice(alloc: Global, core: &mut Core, bytes: &[u8]) -> Result<Twice, NoM
 }
 
 /// The same answer, without the room that it doesn't need.
-fn fitted(answer: Answer) -> Answer
+fn fitted(mut answer: Answer) -> Answer
     ensures { result ≡ answer }
 {
-    let Answer {
-        mut notes,
-        mut orders,
-    } = answer;
-    notes.shrink_to_fit();
-    orders.shrink_to_fit();
-    Answer::new(notes, orders)
+    answer.notes.shrink_to_fit();
+    answer.orders.shrink_to_fit();
+    answer
 }
 
 /// A datagram has at most five notes for each byte and four more, and no order but a RAMS-I.

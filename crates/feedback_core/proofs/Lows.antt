@@ -206,16 +206,16 @@ answer_refused s held before history queue later v low from to n answer same a f
     (answer_idle s before history queue v (asked_note v.client n same) (number_answer room s held v.client history low) (refusal_of v.client n same) (refusal_idle v.client n same r)
     (asked_line s held before history queue v low from to n answer a f g e w ∙ ap (asked_note v.client n) is) w)
 
-pub answer_queued : (s : Settings) (held : List Held) (sender : ℕ) (before history : History) (queue later : List Wanted) (v : Visitor) (low from to n : ℕ) (answer : Asked) (channel : Channel)
-    (entry : Entry) → IsNumber held low from to n → is_sent_later (open_of v.entry) n ≡ false → (not (is_some v.entry) && not v.has_place) ≡ false
+pub answer_queued : (s : Settings) (held : List Held) (sender : ℕ) (before history : History) (queue later : List Wanted) (v new : Visitor) (low from to n : ℕ) (answer : Asked) (channel : Channel)
+    → IsNumber held low from to n → is_sent_later (open_of v.entry) n ≡ false → (not (is_some v.entry) && not v.has_place) ≡ false
     → answer ≡ asked_of queue v.client n → later ≡ queues.answered answer queue v.client n → answer ≡ asks.Queued → channel ≡ s.channel → s.channel.seq0 ≤ 65535
-    → entry ≡ entry_under v.entry sender channel.seq0 → newest_sender history ≡ Some sender → IsVisit s before history v queue
-    → IsAnswered s before history later (record v { entry = Some entry }) (notes.Queued v.client n) (number_answer room s held v.client history low)
-answer_queued s held sender before history queue later v low from to n answer channel entry a f g e kept is ce le ee from' w =
+    → new ≡ record v { entry = Some (entry_under v.entry sender channel.seq0) } → newest_sender history ≡ Some sender → IsVisit s before history v queue
+    → IsAnswered s before history later new (notes.Queued v.client n) (number_answer room s held v.client history low)
+answer_queued s held sender before history queue later v new low from to n answer channel a f g e kept is ce le known from' w =
     let more : later ≡ queue ++ wanted v.client n ∷ [] = kept ∙ ap (λ (x : Asked). queues.answered x queue v.client n) is in
-    let entry' : entry ≡ entry_under v.entry sender s.channel.seq0 = ee ∙ ap (λ (c : Channel). entry_under v.entry sender c.seq0) ce in
-    answered_by s before history later (record v { entry = Some entry }) (notes.Queued v.client n) (number_answer room s held v.client history low) (notes.Queued v.client n) refl
+    let known' : new ≡ record v { entry = Some (entry_under v.entry sender s.channel.seq0) } = known ∙ ap (λ (c : Channel). record v { entry = Some (entry_under v.entry sender c.seq0) }) ce in
+    answered_by s before history later new (notes.Queued v.client n) (number_answer room s held v.client history low) (notes.Queued v.client n) refl
     (asked_line s held before history queue v low from to n answer a f g e w ∙ ap (asked_note v.client n) is)
-    (subst (λ (ws : List Wanted). IsVisit s before (noted (notes.Queued v.client n) None ∷ history) (record v { entry = Some entry }) ws) (sym more)
-    (subst (λ (x : Entry). IsVisit s before (noted (notes.Queued v.client n) None ∷ history) (record v { entry = Some x }) (queue ++ wanted v.client n ∷ [])) (sym entry')
+    (subst (λ (ws : List Wanted). IsVisit s before (noted (notes.Queued v.client n) None ∷ history) new ws) (sym more)
+    (subst (λ (x : Visitor). IsVisit s before (noted (notes.Queued v.client n) None ∷ history) x (queue ++ wanted v.client n ∷ [])) (sym known')
     (queued s n sender before history v queue le from' w)))

@@ -1,5 +1,5 @@
 -- A page sends a RAMS-I or nothing.
-use Rattle.std.proofs.Common.{◌≡◌, ℕ, [], ◌∷◌, Option, Some, None, sym, subst}
+use Rattle.std.proofs.Common.{◌≡◌, ℕ, [], Option, Some, None, sym, subst}
 use Rattle.std.specs.Prelude.{List, option_map, option_to_list}
 use Rattle.std.proofs.lemmas.List.Elements.{All-nil, All-cons}
 use Rattle.rams_model.specs.declared.message.Info.{Info}

@@ -105,7 +105,7 @@ fn answer_number(
         Asked::ClientFull => Note::ClientFull { client, n },
         Asked::QueueFull => Note::QueueFull { client, n },
         Asked::Queued => {
-            visitor.entry = Some(visitor.entry_under(sender, config.channel().seq0));
+            visitor.know(sender, config.channel().seq0);
             Note::Queued { client, n }
         }
     }

@@ -59,6 +59,15 @@ impl Visitor {
         }
     }
 
+    /// It is known from here on, under this SSRC where it wasn't.
+    pub fn know(&mut self, ssrc: u32, seq0: u16)
+        ensures { self.new ≡ record self.old { entry = Some (entry_under self.old.entry ssrc seq0) } }
+    {
+        if self.entry.is_none() {
+            self.entry = Some(Entry::new(ssrc, seq0));
+        }
+    }
+
     /// Whether it isn't known and can't be.
     pub fn is_full(&self) -> bool
         ensures { result ≡ (not (is_some self.now.entry) && not self.now.has_place) }
@@ -70,9 +79,12 @@ impl Visitor {
     pub fn is_early(&self, n: u64) -> bool
         ensures { result ≡ is_sent_later (open_of self.now.entry) n }
     {
-        let Some(open) = self.open() else {
+        let Some(entry) = &self.entry else {
             return false;
         };
-        open.burst.next <= n && is_before_stop(open.burst.stop, n)
+        let Some(burst) = &entry.burst else {
+            return false;
+        };
+        burst.next <= n && is_before_stop(burst.stop, n)
     }
 }

@@ -5,8 +5,7 @@ use Rattle.std.proofs.lemmas.List.Elements.{filter-append}
 use Rattle.std.specs.List.{list_any, filter}
 use Rattle.std.proofs.lemmas.Bool.Decides.{nat_tests}
 use Rattle.rams_model.specs.Service.{Wanted, wanted, is_wanted}
-use Rattle.repair_queue.specs.declared.index.Index.{Index}
-use Rattle.repair_queue.specs.{is_of, count_of, without, Indexes, AreOnce}
+use Rattle.repair_queue.specs.{is_of, count_of, without, AreOnce}
 use Rattle.repair_queue.proofs.Pending.{filter_push, same_repair, none_there}
 
 module _ (p : Wanted → Bool) where
@@ -39,8 +38,17 @@ pair_less client n k m front back true was same once is =
 pair_less client n k m front back false was same once is =
     is ∙ (any_middle (is_wanted k m) front back (wanted client n) ∙ ap (λ (b : Bool). b || list_any (is_wanted k m) (front ++ back)) same)
 
-pub count_less : (client n k : ℕ) (front back : List Wanted) → count_of k (front ++ wanted client n ∷ back) - cond (nat_eq client k) 1 0 ≡ count_of k (front ++ back)
-count_less client n k front back = omega (arith, filter_middle (is_of k) front back (wanted client n))
+count_less_by : (b : Bool) (was all rest one len : ℕ) → one ≡ cond b 1 0 → all ≡ rest + one → was ≡ all + cond b len 0 → was ≡ rest + cond b (len + 1) 0
+count_less_by true was all rest one len same more is = omega arith
+count_less_by false was all rest one len same more is = omega arith
+
+-- the run has one more of its client, or is at an end
+pub count_less : (client n k run len : ℕ) (front back : List Wanted) (was : ℕ) → client ≡ run → was ≡ count_of k (front ++ wanted client n ∷ back) + cond (nat_eq run k) len 0 → was ≡ count_of k (front ++ back) + cond (nat_eq run k) (len + 1) 0
+count_less client n k run len front back was same is =
+    count_less_by (nat_eq run k) _ _ _ _ len (ap (λ (c : ℕ). cond (nat_eq c k) 1 0) same) (filter_middle (is_of k) front back (wanted client n)) is
+
+pub count_ended : (client n k run len : ℕ) (front back : List Wanted) (was is : ℕ) → was ≡ count_of k (front ++ wanted client n ∷ back) + cond (nat_eq run k) len 0 → is ≡ was - cond (nat_eq run k) len 0 → is ≡ count_of k (front ++ back) + cond (nat_eq client k) 1 0
+count_ended client n k run len front back was is owes ended = omega (arith, filter_middle (is_of k) front back (wanted client n))
 
 -- no pair is twice among some of the first and all others
 pub once_front : (ws front : List Wanted) (i : ℕ) → ((p : Wanted → Bool) → length (filter p front) ≤ length (filter p (take i ws))) → AreOnce ws → AreOnce (front ++ drop i ws)
@@ -52,17 +60,17 @@ once_front ws front i less once = λ k m.
 pub rest_is : (ws : List Wanted) (i : ℕ) (w : Wanted) → i < length ws → get_or ws i w ≡ w → drop i ws ≡ w ∷ drop (i + 1) ws
 rest_is ws i w lt at = drop_more ws i w lt ∙ ap (λ (x : Wanted). x ∷ drop (i + 1) ws) at
 
-pub turn_same : (index : Index) (ws front next : List Wanted) (i : ℕ) (w : Wanted) → i < length ws → get_or ws i w ≡ w → next ≡ front ++ w ∷ [] → Indexes index (front ++ drop i ws) → Indexes index (next ++ drop (i + 1) ws)
-turn_same index ws front next i w lt at is indexed =
-    subst (λ (l : List Wanted). Indexes index l) (ap (λ (l : List Wanted). front ++ l) (rest_is ws i w lt at) ∙ (sym (append_assoc front (w ∷ []) (drop (i + 1) ws)) ∙ ap (λ (l : List Wanted). l ++ drop (i + 1) ws) (sym is))) indexed
+pub turn_same : (P : List Wanted → Type 0) (ws front next : List Wanted) (i : ℕ) (w : Wanted) → i < length ws → get_or ws i w ≡ w → next ≡ front ++ w ∷ [] → P (front ++ drop i ws) → P (next ++ drop (i + 1) ws)
+turn_same P ws front next i w lt at is so_far =
+    subst P (ap (λ (l : List Wanted). front ++ l) (rest_is ws i w lt at) ∙ (sym (append_assoc front (w ∷ []) (drop (i + 1) ws)) ∙ ap (λ (l : List Wanted). l ++ drop (i + 1) ws) (sym is))) so_far
 
 -- one more of the first is gone
-pub turn_less : (old new : Index) (ws front next : List Wanted) (i : ℕ) (w : Wanted) → ((f back : List Wanted) → AreOnce (f ++ w ∷ back) → Indexes old (f ++ w ∷ back) → Indexes new (f ++ back))
-    → i < length ws → w ≡ get_or ws i w → next ≡ front → AreOnce (front ++ drop i ws) → Indexes old (front ++ drop i ws) → Indexes new (next ++ drop (i + 1) ws)
-turn_less old new ws front next i w removes lt at is once indexed =
+pub turn_less : (P Q : List Wanted → Type 0) (ws front next : List Wanted) (i : ℕ) (w : Wanted) → ((f back : List Wanted) → AreOnce (f ++ w ∷ back) → P (f ++ w ∷ back) → Q (f ++ back))
+    → i < length ws → w ≡ get_or ws i w → next ≡ front → AreOnce (front ++ drop i ws) → P (front ++ drop i ws) → Q (next ++ drop (i + 1) ws)
+turn_less P Q ws front next i w removes lt at is once so_far =
     let split = rest_is ws i w lt (sym at) in
-    let made = removes front (drop (i + 1) ws) (subst (λ (l : List Wanted). AreOnce (front ++ l)) split once) (subst (λ (l : List Wanted). Indexes old (front ++ l)) split indexed) in
-    subst (λ (l : List Wanted). Indexes new (l ++ drop (i + 1) ws)) (sym is) made
+    let made = removes front (drop (i + 1) ws) (subst (λ (l : List Wanted). AreOnce (front ++ l)) split once) (subst (λ (l : List Wanted). P (front ++ l)) split so_far) in
+    subst (λ (l : List Wanted). Q (l ++ drop (i + 1) ws)) (sym is) made
 
 -- the first and one more of the client, without the client's
 pub without_more : (client i : ℕ) (ws : List Wanted) (w : Wanted) → i < length ws → w ≡ get_or ws i w → w.client ≡ client → without client (take (i + 1) ws) ≡ without client (take i ws)

@@ -1,10 +1,11 @@
 -- What the index beside the list says of it.
-use Rattle.std.specs.Prelude.{◌≡◌, ℕ, ◌≤◌, Bool, true, ◌&&◌, nat_eq, List, length, filter, unwrap_or}
+use Rattle.std.specs.Prelude.{◌≡◌, ℕ, ◌+◌, ◌≤◌, Bool, true, cond, ◌&&◌, nat_eq, List, length, filter, unwrap_or}
 use Rattle.std.specs.List.{list_any}
 use Rattle.std.specs.HashSet.{contains}
 use Rattle.std.specs.HashMap.{HashMap, get}
 use Rattle.rams_model.specs.Service.{Wanted, is_wanted}
 use Rattle.repair_queue.specs.declared.index.Index.{Index}
+use Rattle.repair_queue.specs.declared.index.Run.{Run}
 use Rattle.repair_queue.specs.Queue.{count_of}
 
 -- a client and a number are the same
@@ -19,6 +20,11 @@ counted counts client = unwrap_or (get nat_eq counts client) 0
 pub record Indexes (index : Index) (ws : List Wanted) : Type 0 where
   pub pairs : index.whole ≡ true → (client n : ℕ) → contains same_pair index.pairs (client, n) ≡ list_any (is_wanted client n) ws
   pub counts : index.whole ≡ true → (client : ℕ) → counted index.counts client ≡ count_of client ws
+
+-- The same, where the run's pairs went and its client's count still has them.
+pub record Owes (index : Index) (ws : List Wanted) (run : Run) : Type 0 where
+  pub pairs : index.whole ≡ true → (client n : ℕ) → contains same_pair index.pairs (client, n) ≡ list_any (is_wanted client n) ws
+  pub counts : index.whole ≡ true → (client : ℕ) → counted index.counts client ≡ count_of client ws + cond (nat_eq run.client client) run.len 0
 
 -- no pair is pending twice
 abbrev pub AreOnce : List Wanted → Type 0

@@ -4,5 +4,5 @@ pub mod Span
 unfoldable pub use Rattle.repair_queue.specs.Queue.{is_of, count_of, asked_of, answered, unmarked, without}
 pub use Rattle.repair_queue.specs.Queue.{IsWithinLimits}
 unfoldable pub use Rattle.repair_queue.specs.Index.{same_pair, counted, AreOnce}
-pub use Rattle.repair_queue.specs.Index.{Indexes}
+pub use Rattle.repair_queue.specs.Index.{Indexes, Owes}
 unfoldable pub use Rattle.repair_queue.specs.Span.{AreFrom, Spans}

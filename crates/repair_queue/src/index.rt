@@ -2,7 +2,7 @@
 ghost use Rattle.std.specs.Prelude.{◌≡◌, ℕ, ◌+◌, ◌-◌, ◌<◌, ◌≤◌, nat_lt, ◌==◌, ◌&&◌, ◌||◌, not, true, if◌then◌else◌, List, [], ◌∷◌, ◌++◌, length, IfOk};
 ghost use Rattle.std.specs.List.{list_any};
 ghost use Rattle.rams_model.specs.Service.{Wanted as Repair, wanted, is_wanted};
-ghost use Rattle.repair_queue.specs.{count_of, asked_of, answered, unmarked, without, AreOnce, Indexes, counted, same_pair};
+ghost use Rattle.repair_queue.specs.{count_of, asked_of, answered, unmarked, without, AreOnce, Indexes, Owes, counted, same_pair};
 ghost use Rattle.std.specs.HashSet.{contains};
 
 use crate::wanted::{Asked, MOST_OF_CLIENT, MOST_PENDING, Wanted};
@@ -17,6 +17,13 @@ pub(crate) struct Index {
     pairs: HashSet<(u64, u64)>,
     counts: HashMap<u64, u32>,
     whole: bool,
+}
+
+// Pairs of one client that went one after another, and that its count has still in it.
+#[derive(Clone, Copy)]
+struct Run {
+    client: u64,
+    len: u32,
 }
 
 impl Index {
@@ -119,12 +126,24 @@ impl Index {
         self.whole = false;
     }
 
-    // One pair less, which is there.
-    fn remove(&mut self, client: u64, n: u64)
-        ensures { (front back : List Repair) → AreOnce (front ++ wanted client n ∷ back) → Indexes self.old (front ++ wanted client n ∷ back) → Indexes self.new (front ++ back) }
+    // One pair less, which is there, in the run of its client.
+    fn remove(&mut self, run: Run, w: Wanted) -> Run
+        requires { run.len < 4096 }
+        ensures removed { (front back : List Repair) → AreOnce (front ++ w ∷ back) → Owes self.old (front ++ w ∷ back) run → Owes self.new (front ++ back) result }
+        ensures len { result.len ≤ run.len + 1 }
     {
-        take_pair(&mut self.pairs, client, n);
-        take_one(&mut self.counts, client);
+        take_pair(&mut self.pairs, w.client, w.n);
+        if w.client == run.client {
+            return Run {
+                client: run.client,
+                len: run.len + 1,
+            };
+        }
+        take_run(&mut self.counts, run);
+        Run {
+            client: w.client,
+            len: 1,
+        }
     }
 
     /// An index that isn't whole is built anew, where there is memory.
@@ -153,32 +172,37 @@ impl Index {
 
     /// The pairs of the marked repairs go. Those behind the flags stay.
     pub(crate) fn drop_marked(&mut self, pending: &[Wanted], done: &[bool])
+        requires few { length pending.now ≤ 4096 }
         requires within { length done.now ≤ length pending.now }
         requires once { AreOnce pending.now }
         requires indexed { Indexes self.old pending.now }
         ensures { Indexes self.new (unmarked pending.now done.now) }
     {
+        let mut run = Run { client: 0, len: 0 };
         for (i, is_done) in done.iter().enumerate() {
             if !*is_done {
                 continue;
             }
-            let w = pending[i];
-            self.remove(w.client, w.n);
+            run = self.remove(run, pending[i]);
         }
+        take_run(&mut self.counts, run);
     }
 
     /// The pairs of a client go.
     pub(crate) fn drop_client(&mut self, pending: &[Wanted], client: u64)
+        requires few { length pending.now ≤ 4096 }
         requires once { AreOnce pending.now }
         requires indexed { Indexes self.old pending.now }
         ensures { Indexes self.new (without client pending.now) }
     {
+        let mut run = Run { client, len: 0 };
         for w in pending {
             if w.client != client {
                 continue;
             }
-            self.remove(w.client, w.n);
+            run = self.remove(run, *w);
         }
+        take_run(&mut self.counts, run);
     }
 }
 
@@ -226,15 +250,18 @@ fn take_pair(pairs: &mut HashSet<(u64, u64)>, client: u64, n: u64)
     let _ = pairs.remove(&(client, n));
 }
 
-// Counts one less of the client.
-fn take_one(counts: &mut HashMap<u64, u32>, client: u64)
-    ensures { (other : ℕ) → counted counts.new other ≡ counted counts.old other - (if client == other then 1 else 0) }
+// The client's count goes down by the length of the run.
+fn take_run(counts: &mut HashMap<u64, u32>, run: Run)
+    ensures { (other : ℕ) → counted counts.new other ≡ counted counts.old other - (if run.client == other then run.len else 0) }
 {
-    if let Some(count) = counts.get_mut(&client) {
-        if *count > 1 {
-            *count -= 1;
+    if run.len == 0 {
+        return;
+    }
+    if let Some(count) = counts.get_mut(&run.client) {
+        if *count > run.len {
+            *count -= run.len;
             return;
         }
     }
-    let _ = counts.remove(&client);
+    let _ = counts.remove(&run.client);
 }

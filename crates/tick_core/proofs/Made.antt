@@ -19,7 +19,7 @@ use Rattle.channel_parts.proofs.Ordered.{known_rise}
 use Rattle.channel_parts.proofs.Given.{moment}
 use Rattle.link_budget.specs.Amounts.{Amounts}
 use Rattle.tick_core.specs.declared.allowance.Allowance.{Allowance}
-use Rattle.tick_core.specs.{Drafted, new_draft, allowance_of, idle_allowance, or_changed, all_allowances, AreOfBursts, allowances_of, with_all_served, Repaired, with_all_wanted, with_all_forgotten, begun_left, drafted_runs, drafted_repairs, drafted_tick, planned_answer, planned_flags, is_over}
+use Rattle.tick_core.specs.{Drafted, new_draft, allowance_of, idle_allowance, or_changed, all_allowances, AreOfBursts, AreOfKnown, allowances_of, with_all_served, Repaired, with_all_wanted, with_all_forgotten, begun_left, drafted_runs, drafted_repairs, drafted_tick, planned_answer, planned_flags, is_over}
 use Rattle.tick_core.proofs.Planning.{each_found, planned}
 use Rattle.tick_core.proofs.Walking.{whose, rise_sorted}
 
@@ -65,6 +65,14 @@ module _ (s : Settings) (held : List Held) (t : Clients) (allowed : ℕ → Opti
       (λ t all. ((λ u. all.0), all.1)) (λ f all. ((λ u. absurd (both_ways (is_some e.1.burst) f u)), all)) some in
       ap (λ (a : Allowance). a ∷ all_allowances s.channel.burst es allowed) (first_is e.0 e.1 (allowed e.0) found.0 refl parts.0)
       ∙ ap (λ (l : List Allowance). allowance_of s held e.0 e.1 e.1.burst ∷ l) (all_are es found.1 parts.1)
+
+-- each is that of a known client
+pub bursts_are_of_known : (s : Settings) (held : List Held) (t : Clients) (allowed : ℕ → Option Allowance) → AreOfBursts s held t allowed → AreOfKnown t allowed
+bursts_are_of_known s held t allowed bursts k some = known_by (allowed k) refl some
+  where
+    known_by : (o : Option Allowance) → allowed k ≡ o → IsSome o → IsSome (entry_of t k)
+    known_by None is told = absurd cc
+    known_by (Some a) is told = ap is_some (bursts.each k a is).1
 
 pub begun_allowances : (s : Settings) (held : List Held) (t : Clients) (allowed : ℕ → Option Allowance) → AreRising t → AreOfBursts s held t allowed
     → all_allowances s.channel.burst t.known allowed ≡ allowances_of s held t.known

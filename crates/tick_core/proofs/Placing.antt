@@ -1,5 +1,5 @@
 -- What the repairs of clients may take, where only what was changed is written down.
-use Rattle.std.proofs.Common.{◌≡◌, ℕ, ◌<◌, true, cond, ⊎_elim, List, [], ◌∷◌, Option, Some, None, refl, ap, sym, ◌∙◌, subst, arith, eqb}
+use Rattle.std.proofs.Common.{◌≡◌, ℕ, ◌<◌, true, cond, ⊎_elim, List, [], ◌∷◌, Option, Some, None, IsSome, refl, ap, sym, ◌∙◌, subst, arith, eqb}
 use Rattle.std.specs.List.{AllByRecursion}
 use Rattle.std.specs.Option.{option_map}
 use Rattle.std.specs.Map.{keys_of, lookup}
@@ -11,7 +11,7 @@ use Rattle.client_table.specs.{AreRising, entry_of}
 use Rattle.client_table.specs.Clients.{Clients}
 use Rattle.channel_parts.proofs.Tables.{at_is}
 use Rattle.tick_core.specs.declared.allowance.Allowance.{Allowance}
-use Rattle.tick_core.specs.{Rise, clients_of, allowance_for, after_repair, with_taken, idle_allowance, or_changed, all_allowances}
+use Rattle.tick_core.specs.{Rise, clients_of, allowance_for, after_repair, with_taken, idle_allowance, or_changed, all_allowances, AreOfKnown}
 use Rattle.tick_core.proofs.Walking.{rise_sorted}
 
 pub clients_stay : (k size : ℕ) (l : List Allowance) → clients_of (with_taken k size l) ≡ clients_of l
@@ -51,6 +51,36 @@ pub has_allowance : (most : ℕ) (changed : ℕ → Option Allowance) (k : ℕ) 
     → Some (or_changed o (idle_allowance most k e)) ≡ allowance_for k (all_allowances most t.known changed)
 has_allowance most changed k t e o known is =
     sym (found_by most changed k t.known ∙ (ap (option_map (λ d. or_changed (changed k) (idle_allowance most k d))) (sym known) ∙ ap (λ (x : Option Allowance). Some (or_changed x (idle_allowance most k e))) is))
+
+-- where something is told of it, it is known
+pub told_allowance : (most : ℕ) (changed : ℕ → Option Allowance) (k : ℕ) (t : Clients) (a : Allowance) → AreOfKnown t changed → Some a ≡ changed k → Some (record a { client = k }) ≡ allowance_for k (all_allowances most t.known changed)
+told_allowance most changed k t a known is = told_by_entry (entry_of t k) refl (known k (subst IsSome is refl))
+  where
+    told_by_entry : (o : Option Entry) → o ≡ entry_of t k → IsSome o → Some (record a { client = k }) ≡ allowance_for k (all_allowances most t.known changed)
+    told_by_entry None same some = absurd cc
+    told_by_entry (Some e) same some = has_allowance most changed k t e (Some a) same (sym is)
+
+is_known : (most : ℕ) (changed : ℕ → Option Allowance) (k : ℕ) (t : Clients) (a : Allowance) → allowance_for k (all_allowances most t.known changed) ≡ Some a → IsSome (entry_of t k)
+is_known most changed k t a found = by_entry (entry_of t k) refl
+  where
+    by_entry : (o : Option Entry) → o ≡ entry_of t k → IsSome o
+    by_entry None same = let clash : None ≡ Some a = no_allowance most changed k t same ∙ found in absurd cc
+    by_entry (Some e) same = refl
+
+-- whose it is
+pub whose_allowance : (k : ℕ) (l : List Allowance) (a : Allowance) → allowance_for k l ≡ Some a → a.client ≡ k
+whose_allowance k [] a found = absurd cc
+whose_allowance k (x ∷ l) a found =
+    cond_both (eqb x.client k) (Some x) (allowance_for k l) (λ o. o ≡ Some a → a.client ≡ k)
+    (λ t e. let there : x ≡ a = cc in sym (ap (λ (y : Allowance). y.client) there) ∙ eqb-true x.client k t)
+    (λ f e. whose_allowance k l a e) found
+
+-- one more of which something is told
+pub known_still : (most : ℕ) (changed now : ℕ → Option Allowance) (k : ℕ) (t : Clients) (a b : Allowance) → AreOfKnown t changed → allowance_for k (all_allowances most t.known changed) ≡ Some a
+    → ((j : ℕ) → now j ≡ cond (eqb k j) (Some b) (changed j)) → AreOfKnown t now
+known_still most changed now k t a b known found puts j some =
+    cond_both (eqb k j) (Some b) (changed j) (λ o. IsSome o → IsSome (entry_of t j))
+    (λ is told. subst (λ (i : ℕ). IsSome (entry_of t i)) (eqb-true k j is) (is_known most changed k t a found)) (λ f told. known j told) (subst IsSome (puts j) some)
 
 -- ---- after a repair
 some_same : (x y : Allowance) → Some x ≡ Some y → x ≡ y

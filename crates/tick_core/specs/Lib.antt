@@ -1,6 +1,7 @@
 pub mod Drafts
 pub mod Runs
 pub mod Repairs
+pub mod Allowances
 pub mod Forgetting
 pub mod Plans
 pub mod Committed
@@ -11,6 +12,7 @@ unfoldable pub use Rattle.tick_core.specs.Runs.{unsent, after_packet, sent_after
 pub use Rattle.tick_core.specs.Runs.{AreInOrder, IsSmall, IsNext, AreOfBursts}
 unfoldable pub use Rattle.tick_core.specs.Repairs.{after_repair, allowance_for, with_taken, fits, waiting, with_repair, with_wanted, IsSpent, with_all_wanted, clients_of, Rise, or_changed, all_allowances}
 pub use Rattle.tick_core.specs.Repairs.{Repaired}
+unfoldable pub use Rattle.tick_core.specs.Allowances.{in_place, told_by, AreOfKnown}
 unfoldable pub use Rattle.tick_core.specs.Forgetting.{idle_after, with_forgotten, with_all_forgotten}
 unfoldable pub use Rattle.tick_core.specs.Plans.{begun_left, drafted_runs, drafted_repairs, drafted_tick, planned_answer, planned_flags, ends_wait, is_over}
 pub use Rattle.tick_core.specs.Plans.{IsPlanOf, IsPlanFor}

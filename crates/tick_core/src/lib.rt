@@ -2,6 +2,7 @@
 #![tactic(auto)]
 
 mod allowance;
+mod allowances;
 mod commit;
 mod draft;
 mod entries;

@@ -2,10 +2,11 @@
 ghost use Rattle.std.specs.Prelude.{◌≡◌, ◌≤◌, ◌&&◌, nat_le, nat_eq, false, [], ◌++◌, length, drop, replicate, Some, None, IfOk};
 ghost use Rattle.std.specs.HashMap.{get};
 ghost use Rattle.client_table.specs.{AreRising};
-ghost use Rattle.tick_core.specs.{IsSpent, all_allowances, allowance_for, after_repair, waiting, with_repair, with_wanted, with_all_wanted};
+ghost use Rattle.tick_core.specs.{IsSpent, AreOfKnown, all_allowances, allowance_for, after_repair, waiting, with_repair, with_wanted, with_all_wanted};
 ghost use Rattle.packet_ring.specs.{packet_of};
 
 use crate::allowance::Allowance;
+use crate::allowances::Allowances;
 use crate::draft::Draft;
 use crate::runs::idle_allowance;
 use channel_cache::Cache;
@@ -26,21 +27,19 @@ pub struct Repairs<'a> {
     most: u64,
     draft: Draft,
     /// What the repairs of clients may still take that have a burst, or were sent one.
-    changed: HashMap<u64, Allowance>,
+    changed: Allowances,
     done: Vec<bool>,
 }
 
 impl<'a> Model for Repairs<'a> {
-    ghost use Rattle.std.specs.Prelude.{nat_eq};
-    ghost use Rattle.std.specs.HashMap.{get};
     ghost use Rattle.client_table.specs.Clients.{AreRising};
-    ghost use Rattle.tick_core.specs.{Repaired, all_allowances};
+    ghost use Rattle.tick_core.specs.{Repaired, all_allowances, told_by, AreOfKnown};
 
     ghost Value = { Repaired };
 
-    ghost view = { λ r. record { draft = r.draft; allowances = all_allowances r.most r.table.now.known (get nat_eq r.changed); done = r.done.items } };
+    ghost view = { λ r. record { draft = r.draft; allowances = all_allowances r.most r.table.now.known (told_by r.changed); done = r.done.items } };
 
-    ghost invariant = { λ r. AreRising r.table.now };
+    ghost invariant = { λ r. record { rising : AreRising r.table.now; known : AreOfKnown r.table.now (told_by r.changed) } };
 }
 
 impl<'a> Repairs<'a> {
@@ -52,14 +51,15 @@ impl<'a> Repairs<'a> {
         draft: Draft,
         allowances: HashMap<u64, Allowance>,
     ) -> Repairs<'a>
-        requires { AreRising table.now }
+        requires rising { AreRising table.now }
+        requires known { AreOfKnown table.now (get nat_eq allowances) }
         ensures { result ≡ record { draft = draft; allowances = all_allowances most table.now.known (get nat_eq allowances); done = [] } }
     {
         Repairs {
             table,
             most,
             draft,
-            changed: allowances,
+            changed: Allowances::new(allowances),
             done: Vec::new(alloc),
         }
     }
@@ -68,11 +68,11 @@ impl<'a> Repairs<'a> {
     fn allowance(&self, client: u64) -> Option<Allowance>
         ensures { result ≡ allowance_for client self.now.allowances }
     {
+        if let Some(changed) = self.changed.get(client) {
+            return Some(Allowance { client, ..changed });
+        }
         let entry = self.table.find(client)?;
-        let Some(changed) = self.changed.get(&client) else {
-            return Some(idle_allowance(self.most, client, &entry));
-        };
-        Some(Allowance { client, ..*changed })
+        Some(idle_allowance(self.most, client, &entry))
     }
 
     /// The repair waits on.
@@ -107,7 +107,7 @@ impl<'a> Repairs<'a> {
         self.draft
             .send(Note::Repair { client, n, seq }, client, seq, held)?;
         self.done.push(true)?;
-        self.changed.insert(client, taken(allowance, held))?;
+        self.changed.put(taken(allowance, held))?;
         Ok(())
     }
 

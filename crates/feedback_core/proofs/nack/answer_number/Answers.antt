@@ -49,8 +49,8 @@ returns-in-QueueFull-clause-answers c = λ before history hold from w.
 
 pub returns-in-Queued-clause-answers : goal.returns-in-Queued-clause-answers
 returns-in-Queued-clause-answers c = λ before history hold from w.
-    answer_queued c.args.config.now c.args.cache.now.held c.args.sender before history c.args.queue.now c.ask.new.self c.args.visitor.now c.args.low c.lo.result c.hi.result c.in-Some.n
-    c.ask.result c.channel.result.now c.entry_under.result
+    answer_queued c.args.config.now c.args.cache.now.held c.args.sender before history c.args.queue.now c.ask.new.self c.args.visitor.now c.know.new.self c.args.low c.lo.result c.hi.result
+    c.in-Some.n c.ask.result c.channel.result.now
     (record { run = c.requires.ready.run; from_is = c.lo.ensures.value; to_is = c.hi.ensures.value; resolved = c.in-Some.ensures.found; only = c.in-Some.ensures.only })
     (sym c.is_early.ensures ∙ c.if-is_early.false) (sym c.is_full.ensures ∙ c.if-is_full.false) c.ask.ensures.answer c.ask.ensures.pending c.in-Queued.is
-    c.channel.ensures.value c.channel.ensures.lawful.seq0_most c.entry_under.ensures from w
+    c.channel.ensures.value c.channel.ensures.lawful.seq0_most c.know.ensures from w

@@ -1,9 +1,6 @@
-use Rattle.std.proofs.Common.{◌<◌, List, [], ◌∷◌, ◌++◌, ap, ◌∙◌, arith}
-use Rattle.std.specs.Prelude.{is_ok, if◌then◌else◌}
+use Rattle.std.proofs.Common.{◌<◌, ◌∙◌, arith}
 use Rattle.std.proofs.lemmas.List.Elements.{All-from_get_or}
-use Rattle.rams_model.specs.declared.note.Note.{Note}
-use Rattle.rams_model.specs.declared.note.Note.TheVariants.{Live as LiveNoted}
-use Rattle.rams_model.specs.Service.{answered, arrivals, history_of}
+use Rattle.rams_model.specs.Service.{arrivals, history_of}
 use Rattle.session_core.proofs.Living.{live_stands}
 use Rattle.session_core.proofs.live.answer_live.Goals as goal
 use Rattle.channel_parts.proofs.Staying.{few_arrive}

@@ -2,8 +2,13 @@ use Rattle.std.proofs.Common.{[], nat_eq, ap, ◌∙◌}
 use Rattle.std.specs.HashMap.{get}
 use Rattle.rams_model.specs.declared.channel.Channel.{Channel}
 use Rattle.tick_core.specs.{all_allowances}
-use Rattle.tick_core.proofs.Made.{IsMade, by_calls, begun_allowances}
+use Rattle.tick_core.proofs.Made.{IsMade, by_calls, bursts_are_of_known, begun_allowances}
 use Rattle.tick_core.proofs.plan.plan_of.Goals as goal
+
+pub new-repairs-requires-clause-known : goal.new-repairs-requires-clause-known
+new-repairs-requires-clause-known c =
+    let p = c.args.parts.now in
+    bursts_are_of_known p.config p.cache.held p.table (get nat_eq c.in_ok-allowances.allowances) c.in_ok-allowances.ensures.allowances
 
 pub returns : goal.returns
 returns c =

@@ -1,9 +1,25 @@
-use Rattle.std.proofs.Common.{◌∙◌, refl, ap, ◌-◌, cond, nat_eq, ℕ}
-use Rattle.repair_queue.proofs.Indexed.{pair_less, count_less}
+use Rattle.std.proofs.Common.{◌∷◌, ◌++◌, sym, subst, refl, ◌∙◌}
+use Rattle.rams_model.specs.Service.{Wanted}
+use Rattle.repair_queue.specs.{AreOnce, Owes}
+use Rattle.repair_queue.proofs.Indexed.{pair_less, count_less, count_ended}
 use Rattle.repair_queue.proofs.index.Index.remove.Goals as goal
 
-pub returns : goal.returns
-returns c = λ front back once is. record {
-  pairs = λ whole k m. c.take_pair.ensures k m ∙ pair_less c.args.client c.args.n k m front back _ _ refl once (is.pairs whole k m);
-  counts = λ whole k. c.take_one.ensures k ∙ (ap (λ (x : ℕ). x - cond (nat_eq c.args.client k) 1 0) (is.counts whole k) ∙ count_less c.args.client c.args.n k front back);
-}
+pub returns-then-w-run-clause-removed : goal.returns-then-w-run-clause-removed
+returns-then-w-run-clause-removed c = λ front back once owes.
+    let w = c.w.inside in
+    let once_there = subst (λ (x : Wanted). AreOnce (front ++ x ∷ back)) (sym c.w.view_is) once in
+    let is = subst (λ (x : Wanted). Owes c.args.self.now (front ++ x ∷ back) c.args.run) (sym c.w.view_is) owes in
+    record {
+      pairs = λ whole k m. c.take_pair.ensures k m ∙ pair_less w.client w.n k m front back _ _ refl once_there (is.pairs whole k m);
+      counts = λ whole k. count_less w.client w.n k c.args.run.client c.args.run.len front back _ c.if-w-run.true (is.counts whole k);
+    }
+
+pub returns-clause-removed : goal.returns-clause-removed
+returns-clause-removed c = λ front back once owes.
+    let w = c.w.inside in
+    let once_there = subst (λ (x : Wanted). AreOnce (front ++ x ∷ back)) (sym c.w.view_is) once in
+    let is = subst (λ (x : Wanted). Owes c.args.self.now (front ++ x ∷ back) c.args.run) (sym c.w.view_is) owes in
+    record {
+      pairs = λ whole k m. c.take_pair.ensures k m ∙ pair_less w.client w.n k m front back _ _ refl once_there (is.pairs whole k m);
+      counts = λ whole k. count_ended w.client w.n k c.args.run.client c.args.run.len front back _ _ (is.counts whole k) (c.take_run.ensures k);
+    }
