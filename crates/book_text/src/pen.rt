@@ -1,6 +1,7 @@
 //! The lines of notes, and what many of them begin with.
 ghost use Rattle.std.specs.Prelude.{◌≡◌, ◌+◌, ◌<◌, ◌≤◌, ◌++◌, OnOk, OnErr, codes, length, decimal, vec_capacity};
 ghost use Rattle.rams_model.specs.Texts.{spaced, note_line, send_line};
+ghost use Rattle.book_text.specs.{send_front};
 
 use crate::line::append_with_hex;
 use crate::note::{words, words_to};
@@ -22,8 +23,8 @@ struct Front {
 
 impl Front {
     fn new(event: u64, id: u16) -> Front
-        ensures front { result.piece ≡ decimal event ++ spaced id ++ codes " " }
-        ensures few { length result.piece ≤ 42 }
+        ensures event { result.event ≡ event }
+        ensures id { result.id ≡ id }
     {
         Front {
             event,
@@ -35,8 +36,8 @@ impl Front {
     /// Turns to an event of a channel; where it was there already, nothing is written.
     #[inline]
     fn turn_to(&mut self, event: u64, id: u16)
-        ensures front { self.new.piece ≡ decimal event ++ spaced id ++ codes " " }
-        ensures few { length self.new.piece ≤ 42 }
+        ensures event { self.new.event ≡ event }
+        ensures id { self.new.id ≡ id }
     {
         if self.event != event || self.id != id {
             *self = Front::new(event, id);
@@ -44,35 +45,85 @@ impl Front {
     }
 }
 
-/// A space and the number of a client.
-#[derive(Drop)]
-struct Addressee {
-    client: u64,
-    piece: Piece,
-    ghost spelled: { piece ≡ spaced client },
-    ghost few: { length piece ≤ 21 },
+/// The end of a note's line, and behind it the line of a datagram to a client, as far as its digits.
+fn write_sending(lines: &mut Tail, front: &Piece, to: &Piece)
+    requires front { length front.now ≤ 42 }
+    requires to { length to.now ≤ 21 }
+    ensures lines { lines.new ≡ codes "\n" ++ (front.now ++ (codes "send" ++ (to.now ++ codes " "))) }
+{
+    lines.clear();
+    lines.byte(b' ');
+    lines.piece(to);
+    lines.word(b"send");
+    lines.piece(front);
+    lines.byte(b'\n');
 }
 
-impl Addressee {
-    fn new(client: u64) -> Addressee
-        ensures to { result.piece ≡ spaced client }
-        ensures few { length result.piece ≤ 21 }
-    {
-        Addressee {
+/// What `write_sending` writes of a client at an event of a channel.
+#[derive(Drop)]
+struct Sending {
+    event: u64,
+    id: u16,
+    client: u64,
+    to: Piece,
+    lines: Tail,
+    ghost spelled: { to ≡ spaced client },
+    ghost few: { length to ≤ 21 },
+    ghost begun: { lines ≡ send_front event id client },
+}
+
+impl Sending {
+    fn new(front: &Front, client: u64) -> Sending {
+        let to = Piece::spaced(client);
+        let mut lines = Tail::new();
+        write_sending(&mut lines, &front.piece, &to);
+        Sending {
+            event: front.event,
+            id: front.id,
             client,
-            piece: Piece::spaced(client),
+            to,
+            lines,
         }
     }
 
-    /// Turns to a client; where it was there already, nothing is written.
+    /// Turns to a client at an event of a channel; where it was there already, nothing is written.
     #[inline]
-    fn turn_to(&mut self, client: u64)
-        ensures to { self.new.piece ≡ spaced client }
-        ensures few { length self.new.piece ≤ 21 }
+    fn turn_to(&mut self, front: &Front, client: u64)
+        ensures event { self.new.event ≡ front.now.event }
+        ensures id { self.new.id ≡ front.now.id }
+        ensures client { self.new.client ≡ client }
     {
-        if self.client != client {
-            *self = Addressee::new(client);
+        if self.event != front.event || self.id != front.id || self.client != client {
+            self.event = front.event;
+            self.id = front.id;
+            self.client = client;
+            self.to = Piece::spaced(client);
+            write_sending(&mut self.lines, &front.piece, &self.to);
         }
+    }
+
+    /// Appends the line of a note, and behind it that of a datagram to the client.
+    #[tactic(auto, unfolding(rams_model::specs::Texts::BookText::note_line, rams_model::specs::Texts::BookText::send_line))]
+    fn append(
+        &mut self,
+        text: &mut Vec<u8>,
+        front: &Front,
+        note: &Note,
+        bytes: &[u8],
+    ) -> Result<(), NoMemory>
+        requires event { self.old.event ≡ front.now.event }
+        requires id { self.old.id ≡ front.now.id }
+        ensures text { OnOk result (text.new.items ≡ text.old.items ++ (note_line self.old.event self.old.id note.now ++ send_line self.old.event self.old.id self.old.client bytes.now)) }
+        ensures err { OnErr result (text.new.items ≡ text.old.items) }
+        ensures full { OnErr result (vec_capacity text.old < length text.old.items + length (note_line self.old.event self.old.id note.now ++ send_line self.old.event self.old.id self.old.client bytes.now)) }
+        ensures room { vec_capacity text.old ≤ vec_capacity text.new }
+    {
+        let kept = self.lines.len();
+        words_to(&mut self.lines, note, self.client, &self.to);
+        self.lines.piece(&front.piece);
+        let appended = append_with_hex(text, &self.lines, bytes);
+        self.lines.keep(kept);
+        appended
     }
 }
 
@@ -82,7 +133,7 @@ impl Addressee {
 #[derive(Drop)]
 pub struct Pen {
     front: Front,
-    to: Addressee,
+    sending: Sending,
     lines: Tail,
 }
 
@@ -95,9 +146,11 @@ impl Model for Pen {
 impl Pen {
     /// A pen that wrote nothing yet.
     pub fn new() -> Pen {
+        let front = Front::new(0, 0);
+        let sending = Sending::new(&front, 0);
         Pen {
-            front: Front::new(0, 0),
-            to: Addressee::new(0),
+            front,
+            sending,
             lines: Tail::new(),
         }
     }
@@ -141,15 +194,7 @@ impl Pen {
         ensures room { vec_capacity text.old ≤ vec_capacity text.new }
     {
         self.front.turn_to(event, id);
-        self.to.turn_to(client);
-        self.lines.clear();
-        self.lines.byte(b' ');
-        self.lines.piece(&self.to.piece);
-        self.lines.word(b"send");
-        self.lines.piece(&self.front.piece);
-        self.lines.byte(b'\n');
-        words_to(&mut self.lines, note, client, &self.to.piece);
-        self.lines.piece(&self.front.piece);
-        append_with_hex(text, &self.lines, bytes)
+        self.sending.turn_to(&self.front, client);
+        self.sending.append(text, &self.front, note, bytes)
     }
 }
