@@ -10,6 +10,9 @@ use Rattle.rams_model.specs.declared.event.Event.TheVariants.{Feedback}
 use Rattle.rams_model.specs.declared.note.Note.TheVariants.{BadFeedback}
 use Rattle.rams_model.specs.Service.{answered, Settings, Message, messages, unframed, heard_feedback, heard_of, began, noted, History, arrivals, known, is_among, without, sendings, ssrc, bursts, Wanted, pending, quiet_ticks, channel_left, info_order, order_of, newest_notes, newest_orders, newest_answer, after_messages, after_hearing, history_of, answer}
 use Rattle.rams_model.specs.Formats.{Framed, framed}
+use Rattle.link_budget.specs.Amounts.{Amounts}
+use Rattle.client_table.specs.Clients.{Clients}
+use Rattle.client_table.specs.{entry_of}
 use Rattle.channel_parts.specs.declared.parts.Parts.{Parts}
 use Rattle.channel_parts.specs.{IsTable, IsQueue, IsBudget, IsCache, StandsFor}
 use Rattle.channel_parts.proofs.Facts.{events_reserve_nothing, other_notes_reserve_nothing, only_known_clients_have_bursts, repairs_are_of_known_clients}
@@ -18,9 +21,9 @@ use Rattle.channel_parts.proofs.Turning.{OthersAreClosed}
 use Rattle.channel_parts.proofs.Staying.{cache_stays}
 use Rattle.feedback_core.specs.declared.page.Page.{Page}
 use Rattle.feedback_core.specs.declared.visitor.Visitor.{Visitor}
-use Rattle.feedback_core.specs.{IsAsBefore, IsClient, IsVisit, answered_of, IsTurned, has_place, with_place, with_kept}
+use Rattle.feedback_core.specs.{woken, IsAsBefore, IsClient, IsVisit, answered_of, IsTurned, has_place, with_place, with_kept, with_changed}
 use Rattle.feedback_core.proofs.Beginning.{at_datagram}
-use Rattle.feedback_core.proofs.Places.{place_is, table_ended}
+use Rattle.feedback_core.proofs.Places.{place_is, table_ended, table_woken}
 use Rattle.feedback_core.proofs.Visiting.{entry_as_before}
 
 -- the history after a datagram that frames
@@ -45,6 +48,28 @@ begun_arrivals : (k : ℕ) (ms : List Message) (history : History) → arrivals 
 unfolding arrivals
 begun_arrivals k ms history = refl
 
+-- The parts after a datagram that frames, where their table is what the history says.
+pub stands_visited : (p new : Parts) (events : List Event) (k : ℕ) (bytes : List ℕ) (ms : List Message) (queue : List Wanted) (v : Visitor) (table : Clients) → StandsFor p events
+    → IsVisit p.config (at_datagram k ms (history_of p.config events)) (history_of p.config (Feedback k bytes ∷ events)) v queue
+    → IsTable p.config (history_of p.config (Feedback k bytes ∷ events)) table
+    → new ≡ record { config = p.config; cache = p.cache; budget = v.budget; queue = queue; table = table } → StandsFor new (Feedback k bytes ∷ events)
+stands_visited p new events k bytes ms queue v table st w is_table ne =
+    let s = p.config in
+    let history = history_of s events in
+    let after = history_of s (Feedback k bytes ∷ events) in
+    let whole : StandsFor (record { config = p.config; cache = p.cache; budget = v.budget; queue = queue; table = table }) (Feedback k bytes ∷ events) =
+    record {
+      lawful = st.lawful;
+      packets = cache_stays s history after p.cache (w.arrivals_are ∙ begun_arrivals k ms history) st.packets;
+      table = is_table;
+      queue = record {
+        pending_is = w.queue_is;
+        known_is = subst (All (λ w. is_among w.client (known after) ≡ true)) (sym w.queue_is) (repairs_are_of_known_clients s after st.lawful (moment s (Feedback k bytes ∷ events)));
+      };
+      budget = w.budget_is;
+    } in
+    subst (λ (x : Parts). StandsFor x (Feedback k bytes ∷ events)) (sym ne) whole
+
 -- The parts after a datagram that frames, and its answer.
 pub stands_after : (p new : Parts) (events : List Event) (k seq0 : ℕ) (bytes : List ℕ) (ps : List Framed) (queue : List Wanted) (v : Visitor) (page : Page) → StandsFor p events
     → framed bytes ≡ Ok ps → v.client ≡ k → v.has_place ≡ has_place p.table k → (IsSome v.entry → v.has_place ≡ true)
@@ -58,26 +83,33 @@ stands_after p new events k seq0 bytes ps queue v page st e ke pe placed t ne =
     let ms = answered_of true ps in
     let base = at_datagram k ms history in
     let after = history_of s (Feedback k bytes ∷ events) in
-    let is = history_framed s events k bytes ps e in
-    let w : IsVisit s base after v queue = subst (λ (h : History). IsVisit s base h v queue) (sym is) t.visit in
+    let w : IsVisit s base after v queue = subst (λ (h : History). IsVisit s base h v queue) (sym (history_framed s events k bytes ps e)) t.visit in
     let closed : OthersAreClosed s after = λ j. only_known_clients_have_bursts s (Feedback k bytes ∷ events) st.lawful j in
     let table : IsTable s after (with_kept (with_place p.table k seq0) k v.entry) =
     table_ended s k history after p.table (with_place p.table k seq0) (has_place p.table k) v.entry st.table (place_is k seq0 history p.table st.table.clients)
     (subst (λ (j : ℕ). IsClient s j after v.entry) ke w.client_is) (λ some. sym pe ∙ placed some)
     (λ j away. begun_as_before s j k ms history after away (w.others j (λ q. away (q ∙ ke))))
     (subst (λ (j : ℕ). without j (known after) ≡ without j (known history)) ke w.rest) closed in
-    let whole : StandsFor (record { config = p.config; cache = p.cache; budget = v.budget; queue = queue; table = with_kept (with_place p.table k seq0) k v.entry }) (Feedback k bytes ∷ events) =
-    record {
-      lawful = st.lawful;
-      packets = cache_stays s history after p.cache (w.arrivals_are ∙ begun_arrivals k ms history) st.packets;
-      table = table;
-      queue = record {
-        pending_is = w.queue_is;
-        known_is = subst (All (λ w. is_among w.client (known after) ≡ true)) (sym w.queue_is) (repairs_are_of_known_clients s after st.lawful (moment s (Feedback k bytes ∷ events)));
-      };
-      budget = w.budget_is;
-    } in
-    subst (λ (x : Parts). StandsFor x (Feedback k bytes ∷ events)) (sym ne) whole
+    stands_visited p new events k bytes ms queue v (with_kept (with_place p.table k seq0) k v.entry) st w table ne
+
+-- The same of a datagram without a message.
+pub stands_unasked : (p new : Parts) (events : List Event) (k : ℕ) (bytes : List ℕ) (ms : List Message) (v : Visitor) → StandsFor p events → v.client ≡ k
+    → v.entry ≡ woken (entry_of p.table k) → v.budget ≡ p.budget
+    → IsVisit p.config (at_datagram k ms (history_of p.config events)) (history_of p.config (Feedback k bytes ∷ events)) v p.queue
+    → new ≡ record p { table = with_changed p.table k (woken (entry_of p.table k)) } → StandsFor new (Feedback k bytes ∷ events)
+unfolding known
+stands_unasked p new events k bytes ms v st ke ee be w ne =
+    let s = p.config in
+    let history = history_of s events in
+    let after = history_of s (Feedback k bytes ∷ events) in
+    let o = entry_of p.table k in
+    let closed : OthersAreClosed s after = λ j. only_known_clients_have_bursts s (Feedback k bytes ∷ events) st.lawful j in
+    let client : IsClient s k after (woken o) = subst (IsClient s k after) ee (subst (λ (j : ℕ). IsClient s j after v.entry) ke w.client_is) in
+    let table : IsTable s after (with_changed p.table k (woken o)) =
+    table_woken s k history after p.table o refl st.table client (λ j away. begun_as_before s j k ms history after away (w.others j (λ q. away (q ∙ ke))))
+    (subst (λ (j : ℕ). without j (known after) ≡ without j (known history)) ke w.rest) closed in
+    stands_visited p new events k bytes ms p.queue v (with_changed p.table k (woken o)) st w table
+    (ne ∙ ap (λ (b : Amounts). record p { budget = b; table = with_changed p.table k (woken o) }) (sym be))
 
 pub answer_after : (s : Settings) (events : List Event) (k : ℕ) (bytes : List ℕ) (ps : List Framed) (queue : List Wanted) (v : Visitor) (page : Page) (orders : List Order)
     → framed bytes ≡ Ok ps → v.client ≡ k

@@ -13,7 +13,7 @@ use Rattle.channel_parts.specs.{IsEntry, IsTable}
 use Rattle.channel_parts.proofs.Ordered.{Rise, known_rise, same_rise}
 use Rattle.channel_parts.proofs.Tables.{has_entry, entry_among, no_entry, clients-with_entry, entry-with_entry, others-with_entry, clients-with_client, entry-with_client, others-with_client, clients-without, others-without, without_none}
 use Rattle.channel_parts.proofs.Turning.{OthersAreClosed}
-use Rattle.feedback_core.specs.{IsAsBefore, IsClient, is_full_table, has_place, with_place, with_kept}
+use Rattle.feedback_core.specs.{woken, IsAsBefore, IsClient, is_full_table, has_place, with_place, with_kept, with_changed}
 use Rattle.feedback_core.proofs.Others.{rest_noted, any_left}
 use Rattle.feedback_core.proofs.Visiting.{entry_as_before}
 
@@ -158,3 +158,18 @@ table_ended s k before after t u there (Some e) is place client placed same rest
           (λ j ne. others-with_entry u k e j ne ∙ place.others j ne) same;
       others = closed;
     }
+
+-- The table as a datagram ends that changes nothing of the client but that it is no longer idle.
+pub table_woken : (s : Settings) (k : ℕ) (before after : History) (t : Clients) (o : Option Entry) → entry_of t k ≡ o → IsTable s before t → IsClient s k after (woken o)
+    → ((j : ℕ) → j ≢ k → IsAsBefore s j before after) → without k (known after) ≡ without k (known before) → OthersAreClosed s after → IsTable s after (with_changed t k (woken o))
+table_woken s k before after t None found is client same rest closed =
+    let apart : is_among k (known before) ≡ false = ap (is_among k) (sym is.clients) ∙ sym (has_entry t k) ∙ ap is_some found in
+    record {
+      most = is.most;
+      clients = is.clients ∙ sym (without_none k (known before) apart) ∙ sym rest ∙ without_none k (known after) client.unknown;
+      entries = entries_by s k before after t t None is found client (λ j ne. refl) same;
+      others = closed;
+    }
+table_woken s k before after t (Some e) found is client same rest closed =
+    table_ended s k before after t t true (Some (record e { idle = 0 })) is (place_same k t true (subst Rise (sym is.clients) (known_rise before)) (ap is_some found)) client (λ some. refl) same
+    rest closed

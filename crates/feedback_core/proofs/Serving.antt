@@ -4,7 +4,7 @@ use Rattle.std.specs.Prelude.{◌*◌, IfOk, is_some, IsSome, option_map, option
 use Rattle.std.proofs.lemmas.Bool.{or_left}
 use Rattle.rams_model.specs.declared.event.Event.{Event}
 use Rattle.rams_model.specs.declared.event.Event.TheVariants.{Feedback}
-use Rattle.rams_model.specs.Service.{Answered, answered, Settings, Message, History, arrivals, hold, info_order, after_messages, history_of, answer, Wanted}
+use Rattle.rams_model.specs.Service.{Answered, answered, Settings, Message, History, arrivals, hold, info_order, newest_notes, newest_orders, newest_answer, after_messages, history_of, answer, Wanted}
 use Rattle.rams_model.specs.Formats.{Framed, framed}
 use Rattle.link_budget.specs.Amounts.{Amounts}
 use Rattle.client_table.specs.declared.entry.Entry.{Entry}
@@ -16,10 +16,10 @@ use Rattle.channel_parts.proofs.Facts.{known_clients_are_few}
 use Rattle.channel_parts.proofs.Given.{moment, held_is}
 use Rattle.feedback_core.specs.declared.page.Page.{Page}
 use Rattle.feedback_core.specs.declared.visitor.Visitor.{Visitor}
-use Rattle.feedback_core.specs.{woken, answered_of, IsTurned, Turns, sitting, is_full_table, has_place, with_place, with_kept, IsReady, IsSafe, AreOfOne}
+use Rattle.feedback_core.specs.{woken, answered_of, IsVisit, IsPage, IsTurned, Holds, Serves, is_full_table, has_place, with_place, with_kept, with_changed, IsReady, IsSafe, AreOfOne}
 use Rattle.feedback_core.proofs.Beginning.{at_datagram, visit_begun, page_begun, ready_is, safe_begun}
 use Rattle.feedback_core.proofs.Places.{place_counts}
-use Rattle.feedback_core.proofs.Closing.{stands_after, answer_after}
+use Rattle.feedback_core.proofs.Closing.{history_framed, stands_after, stands_unasked, answer_after}
 
 -- the client as it was received
 abbrev pub received : Parts → ℕ → Visitor
@@ -61,23 +61,27 @@ begun_hold : (s : Settings) (k : ℕ) (ms : List Message) (history : History) �
 unfolding arrivals
 begun_hold s k ms history = refl
 
+-- the messages of these packets are answered
+abbrev IsServed : Parts → Visitor → Visitor → List Wanted → Page → Page → List Framed → Type 0
+IsServed p v w queue page new ps = Serves p.config (Holds p.config p.cache.held) v p.queue (λ before history. IsPage p.config v.client history page
+    → IsTurned p.config before (after_messages p.config v.client (answered_of page.is_due ps) history) queue w new)
+
 -- what was answered to the messages
 pub all_turned : (p q : Parts) (events : List Event) (k : ℕ) (ps : List Framed) (due : Bool) (v w : Visitor) (queue : List Wanted) (page new : Page) → StandsFor p events → q ≡ placed_parts p k
     → v ≡ received p k → page.notes.items ≡ [] → page.info ≡ None → page.is_due ≡ true
-    → Turns q.config q.cache.held (sitting v q.queue page) (sitting w queue new) (λ history. after_messages q.config v.client (answered_of page.is_due ps) history)
+    → IsServed q v w queue page new ps
     → (let ms = answered_of true ps in let base = at_datagram k ms (history_of p.config events) in IsTurned p.config base (after_messages p.config k ms base) queue w new)
 all_turned p q events k ps due v w queue page new st e ve ne ie de turns =
     let ms = answered_of true ps in
     let base = at_datagram k ms (history_of p.config events) in
-    let turns' : Turns p.config p.cache.held (sitting v p.queue page) (sitting w queue new) (λ history. after_messages p.config v.client (answered_of page.is_due ps) history) =
-    subst (λ (x : Parts). Turns x.config x.cache.held (sitting v x.queue page) (sitting w queue new) (λ history. after_messages x.config v.client (answered_of page.is_due ps) history)) e turns in
-    let t = turns' base base (begun_hold p.config k ms (history_of p.config events) ∙ sym (held_is p events st)) (turned_begun p events k ms v page st ve ne ie) in
+    let begun = turned_begun p events k ms v page st ve ne ie in
+    let t = subst (λ (x : Parts). IsServed x v w queue page new ps) e turns base base (begun_hold p.config k ms (history_of p.config events) ∙ sym (held_is p events st)) begun.visit begun.written in
     subst (λ (j : ℕ). IsTurned p.config base (after_messages p.config j ms base) queue w new) (ap (λ (x : Visitor). x.client) ve)
     (subst (λ (d : Bool). IsTurned p.config base (after_messages p.config v.client (answered_of d ps) base) queue w new) de t)
 
 pub served : (p q new : Parts) (events : List Event) (k : ℕ) (bytes : List ℕ) (ps : List Framed) (v w : Visitor) (queue : List Wanted) (page written : Page) (given : Answered) → StandsFor p events
     → framed bytes ≡ Ok ps → q ≡ placed_parts p k → v ≡ received p k → page.notes.items ≡ [] → page.info ≡ None → page.is_due ≡ true
-    → Turns q.config q.cache.held (sitting v q.queue page) (sitting w queue written) (λ history. after_messages q.config v.client (answered_of page.is_due ps) history)
+    → IsServed q v w queue page written ps
     → AreOfOne v w → (IsSome w.entry → w.has_place ≡ true) → new ≡ record q { budget = w.budget; queue = queue; table = with_kept q.table k w.entry }
     → given ≡ answered written.notes.items (option_to_list (option_map (info_order k) written.info))
     → (given ≡ answer p.config events (Feedback k bytes)) × StandsFor new (Feedback k bytes ∷ events)
@@ -88,6 +92,24 @@ served p q new events k bytes ps v w queue page written given st fe e ve ne ie d
     let new' = newe ∙ ap (λ (x : Parts). record x { budget = w.budget; queue = queue; table = with_kept x.table k w.entry }) e in (
       ge ∙ answer_after p.config events k bytes ps queue w written (option_to_list (option_map (info_order k) written.info)) fe ke t refl,
       stands_after p new events k p.config.channel.seq0 bytes ps queue w written st fe ke pe placed t new',
+    )
+
+-- a datagram without a message
+pub unasked : (p new : Parts) (events : List Event) (k : ℕ) (bytes : List ℕ) (ps : List Framed) (given : Answered) → StandsFor p events → framed bytes ≡ Ok ps → answered_of true ps ≡ []
+    → new ≡ record p { table = with_changed p.table k (woken (entry_of p.table k)) } → given ≡ answered [] []
+    → (given ≡ answer p.config events (Feedback k bytes)) × StandsFor new (Feedback k bytes ∷ events)
+unfolding after_messages newest_notes newest_orders
+unasked p new events k bytes ps given st fe none ne ge =
+    let s = p.config in
+    let history = history_of s events in
+    let ms = answered_of true ps in
+    let base = at_datagram k ms history in
+    let v = received p k in
+    let is : history_of s (Feedback k bytes ∷ events) ≡ base = history_framed s events k bytes ps fe ∙ ap (λ (l : List Message). after_messages s k l base) none in
+    let counts = place_counts s k history p.table st.table (known_clients_are_few s history (moment s events)) in
+    let w = subst (λ (h : History). IsVisit s base h v p.queue) (sym is) (visit_begun p events k ms v st refl refl counts refl) in (
+      ge ∙ ap (newest_answer s) (sym is),
+      stands_unasked p new events k bytes ms v st refl refl refl w ne,
     )
 
 -- no more notes, and what is answered where there is memory

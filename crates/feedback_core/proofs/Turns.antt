@@ -14,7 +14,7 @@ use Rattle.rams_model.proofs.Newest.{notes_behind, orders_behind}
 use Rattle.feedback_core.specs.declared.page.Page.{Page}
 use Rattle.feedback_core.specs.declared.said.Said.{Said}
 use Rattle.feedback_core.specs.declared.visitor.Visitor.{Visitor}
-use Rattle.feedback_core.specs.{IsVisit, said_notes, said_orders, IsSaid, AreNoted, or_info, IsPage, IsTurned, turn_of, due_after, answered_of}
+use Rattle.feedback_core.specs.{IsVisit, IsHeard, said_notes, said_orders, IsSaid, AreNoted, or_info, IsPage, IsTurned, turn_of, due_after, answered_of}
 use Rattle.feedback_core.proofs.Visiting.{told_visit}
 
 -- the message that is told changes neither notes nor orders
@@ -61,7 +61,7 @@ noted_turn s m before history lawful queue waiting v w page new ke ie t a =
     }
 
 -- what a message is answered on
-pub told_hold : (s : Settings) (k : ℕ) (m : Message) (history : History) (held : List Held) → hold s history ≡ held → hold s (told k m ∷ history) ≡ held
+told_hold : (s : Settings) (k : ℕ) (m : Message) (history : History) (held : List Held) → hold s history ≡ held → hold s (told k m ∷ history) ≡ held
 unfolding arrivals
 told_hold s k m history held e = e
 
@@ -136,9 +136,12 @@ messages_joined s k [] ns history = refl
 messages_joined s k (m ∷ ms) ns history = messages_joined s k ms ns (after_message s k m (told k m ∷ history))
 
 -- who sent it
-pub told_sender : (k : ℕ) (m : Message) (history : History) (from : Option ℕ) → sender m ≡ from → newest_sender (told k m ∷ history) ≡ from
+told_sender : (k : ℕ) (m : Message) (history : History) (from : Option ℕ) → sender m ≡ from → newest_sender (told k m ∷ history) ≡ from
 unfolding newest_sender
 told_sender k m history from e = e
+
+pub told_heard : (s : Settings) (k : ℕ) (m : Message) (history : History) (held : List Held) (from : ℕ) → hold s history ≡ held → sender m ≡ Some from → IsHeard s held from (told k m ∷ history)
+told_heard s k m history held from he e = record { held_is = told_hold s k m history held he; sender_is = told_sender k m history (Some from) e }
 
 -- whether a RAMS message is due is not written
 pub due_turn : (s : Settings) (before history : History) (queue : List Wanted) (v : Visitor) (page new : Page) (due : Bool) → new ≡ record page { is_due = due }

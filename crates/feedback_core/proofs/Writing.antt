@@ -5,10 +5,10 @@ use Rattle.std.proofs.lemmas.Bool.{cond_both}
 use Rattle.rams_model.specs.declared.answer.Order.{Order}
 use Rattle.rams_model.specs.declared.held.Held.{Held}
 use Rattle.rams_model.specs.declared.note.Note.{Note}
-use Rattle.rams_model.specs.Service.{Settings, noted, History, arrivals, hold, newest_sender, order_of, newest_notes, newest_orders, Room, room, is_early, repair_note, held_answer, number_answer, after_numbers, open_burst, Wanted, pending, pending_of, is_pending, is_full}
+use Rattle.rams_model.specs.Service.{Settings, noted, History, arrivals, newest_sender, order_of, newest_notes, newest_orders, Room, room, is_early, repair_note, held_answer, number_answer, after_numbers, open_burst, Wanted, pending, pending_of, is_pending, is_full}
 use Rattle.rams_model.proofs.Newest.{notes_behind}
 use Rattle.feedback_core.specs.declared.visitor.Visitor.{Visitor}
-use Rattle.feedback_core.specs.{IsVisit, IsAnswered, AreNoted}
+use Rattle.feedback_core.specs.{IsVisit, IsHeard, IsAnswered, AreNoted}
 use Rattle.feedback_core.proofs.Others.{IsOf}
 use Rattle.feedback_core.proofs.Visiting.{IsIdle, idle_visit}
 
@@ -38,8 +38,7 @@ number_order s held k low history at = held_order s k low history at (find (λ h
 pub record IsUnderWay (s : Settings) (held : List Held) (sender k : ℕ) (before history : History) (all left : List ℕ) (queue : List Wanted) (v : Visitor) (old new : List Note) : Type 0 where
   pub middle : History
   pub are_noted : AreNoted s before history middle queue v old new
-  pub held_is : hold s middle ≡ held
-  pub sender_is : newest_sender middle ≡ Some sender
+  pub heard : IsHeard s held sender middle
   pub rest : after_numbers s held k left middle ≡ after_numbers s held k all history
 
 pub next_number : (s : Settings) (held : List Held) (sender k : ℕ) (before history : History) (all left rest : List ℕ) (low : ℕ) (queue later : List Wanted) (v w : Visitor)
@@ -57,8 +56,7 @@ next_number s held sender k before history all left rest low queue later v w old
         orders = ap (λ (o : Option Order). newest_orders s u.middle (option_to_list o ++ [])) (number_order s held k low u.middle u.middle) ∙ u.are_noted.orders;
         visit = subst (λ (n : Note). IsVisit s before (noted n None ∷ u.middle) w later) a.is_lawful a.visit;
       };
-      held_is = u.held_is;
-      sender_is = u.sender_is;
+      heard = record { held_is = u.heard.held_is; sender_is = u.heard.sender_is };
       rest = ap (λ (ns : List ℕ). after_numbers s held k ns u.middle) (sym e) ∙ u.rest;
     }
 

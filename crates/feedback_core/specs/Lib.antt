@@ -8,15 +8,15 @@ pub mod Pages
 pub mod Places
 pub mod Telling
 unfoldable pub use Rattle.feedback_core.specs.Visitors.{open_in, open_of, entry_under, begun_burst, is_sent_later, woken}
-unfoldable pub use Rattle.feedback_core.specs.Visits.{IsClient}
-pub use Rattle.feedback_core.specs.Visits.{IsUnknown, IsKnown, IsAsBefore, IsVisit}
-unfoldable pub use Rattle.feedback_core.specs.Ready.{rate_for, Answers, AnswersBurst}
+unfoldable pub use Rattle.feedback_core.specs.Visits.{IsClient, IsAny, Holds, Serves}
+pub use Rattle.feedback_core.specs.Visits.{IsUnknown, IsKnown, IsAsBefore, IsVisit, IsHeard, HasBurst}
+unfoldable pub use Rattle.feedback_core.specs.Ready.{rate_for}
 pub use Rattle.feedback_core.specs.Ready.{IsHeldRun, IsReady, IsSafeBurst, IsSafe, AreOfOne, IsAnswered}
-unfoldable pub use Rattle.feedback_core.specs.Saying.{only, end_notes, said_notes, said_orders, Says, SaysToQueue, desk, Notes, SaysTo}
-pub use Rattle.feedback_core.specs.Saying.{IsSaid, AreNoted, Desk}
+unfoldable pub use Rattle.feedback_core.specs.Saying.{only, end_notes, said_notes, said_orders}
+pub use Rattle.feedback_core.specs.Saying.{IsSaid, AreNoted}
 unfoldable pub use Rattle.feedback_core.specs.Counting.{most_of_nack, most_of, most_notes, most_of_message}
 unfoldable pub use Rattle.feedback_core.specs.Framing.{shown_message, answered_of, turn_of, due_after}
-unfoldable pub use Rattle.feedback_core.specs.Pages.{or_info, last_of, info_for, IsFresh, sitting, Turns}
-pub use Rattle.feedback_core.specs.Pages.{IsPage, IsTurned, Sitting}
-unfoldable pub use Rattle.feedback_core.specs.Places.{is_full_table, has_place, with_place, with_kept}
+unfoldable pub use Rattle.feedback_core.specs.Pages.{or_info, last_of, info_for, IsFresh}
+pub use Rattle.feedback_core.specs.Pages.{IsPage, IsTurned}
+unfoldable pub use Rattle.feedback_core.specs.Places.{is_full_table, has_place, with_place, with_kept, with_changed}
 unfoldable pub use Rattle.feedback_core.specs.Telling.{IsInfo, TellsAlone}

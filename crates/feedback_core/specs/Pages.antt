@@ -1,10 +1,9 @@
 -- What is noted of a datagram so far, and what its client is told.
 use Rattle.std.specs.Prelude.{◌≡◌, ℕ, true, List, [], Option, Some, None, option_map, option_to_list}
 use Rattle.rams_model.specs.declared.message.Info.{Info}
-use Rattle.rams_model.specs.declared.held.Held.{Held}
 use Rattle.rams_model.specs.declared.note.Note.{Note}
 use Rattle.rams_model.specs.declared.note.Note.TheVariants.{Accept, Update, Again, Refuse}
-use Rattle.rams_model.specs.Service.{Settings, refuse_info, History, hold, info_order, newest_notes, newest_orders, Wanted}
+use Rattle.rams_model.specs.Service.{Settings, refuse_info, History, info_order, newest_notes, newest_orders, Wanted}
 use Rattle.client_table.specs.declared.entry.Entry.{Entry}
 use Rattle.feedback_core.specs.declared.page.Page.{Page}
 use Rattle.feedback_core.specs.declared.visitor.Visitor.{Visitor}
@@ -41,17 +40,3 @@ IsFresh page = page.is_due ≡ true → page.info ≡ None
 pub record IsTurned (s : Settings) (before lawful : History) (queue : List Wanted) (v : Visitor) (page : Page) : Type 0 where
   pub visit : IsVisit s before lawful v queue
   pub written : IsPage s v.client lawful page
-
--- a visitor, the pending repairs and the page
-pub record Sitting : Type 0 where
-  pub visitor : Visitor
-  pub queue : List Wanted
-  pub page : Page
-
-abbrev pub sitting : Visitor → List Wanted → Page → Sitting
-sitting visitor queue page = record { visitor = visitor; queue = queue; page = page }
-
--- whichever history it is
-abbrev pub Turns : Settings → List Held → Sitting → Sitting → (History → History) → Type 0
-Turns s held old new lawful = (before history : History) → hold s history ≡ held → IsTurned s before history old.queue old.visitor old.page
-    → IsTurned s before (lawful history) new.queue new.visitor new.page

@@ -1,13 +1,11 @@
 -- What makes the answers to a datagram safe, and what they are.
-use Rattle.std.specs.Prelude.{◌≡◌, ℕ, ◌+◌, ◌<◌, ◌≤◌, ◌^◌, true, List, ◌∷◌, length, Option, Some, None, IsSome, IfSome}
+use Rattle.std.specs.Prelude.{◌≡◌, ℕ, ◌+◌, ◌<◌, ◌≤◌, ◌^◌, true, List, ◌∷◌, length, Option, None, IsSome, IfSome}
 use Rattle.rams_model.specs.declared.held.Held.{Held}
 use Rattle.rams_model.specs.declared.note.Note.{Note}
-use Rattle.rams_model.specs.Service.{Settings, rate_of, noted, History, hold, newest_sender, open_burst, Wanted}
+use Rattle.rams_model.specs.Service.{Settings, rate_of, noted, History, Wanted}
 use Rattle.rams_model.specs.Packets.{lo, hi, Follows}
-use Rattle.rams_model.specs.Service.Bursts as model
 use Rattle.link_budget.specs.Amounts.{Amounts}
 use Rattle.channel_cache.specs.Seen as caches
-use Rattle.channel_parts.specs.{burst_kept}
 use Rattle.feedback_core.specs.declared.visitor.Open.{Open}
 use Rattle.feedback_core.specs.declared.visitor.Visitor.{Visitor}
 use Rattle.feedback_core.specs.Visitors.{open_of}
@@ -50,14 +48,3 @@ rate_for s bps = rate_of bps s.tick s.channel.burst
 pub record IsAnswered (s : Settings) (before history : History) (queue : List Wanted) (new : Visitor) (note lawful : Note) : Type 0 where
   pub is_lawful : note ≡ lawful
   pub visit : IsVisit s before (noted note None ∷ history) new queue
-
--- whichever history it is
-abbrev pub Answers : Settings → List Held → ℕ → Visitor → Visitor → Note → (History → Note) → Type 0
-Answers s held sender old new note lawful = (before history : History) (queue : List Wanted) → hold s history ≡ held → newest_sender history ≡ Some sender
-    → IsVisit s before history old queue → IsAnswered s before history queue new note (lawful history)
-
--- the same of a client with an open burst
-abbrev pub AnswersBurst : Settings → List Held → Visitor → Visitor → Note → Open → (History → model.Burst → Note) → Type 0
-AnswersBurst s held old new note o lawful = (before history : History) (queue : List Wanted) (b : model.Burst) → hold s history ≡ held
-    → open_burst s old.client history ≡ Some b → o.burst ≡ burst_kept s b → IsVisit s before history old queue
-    → IsAnswered s before history queue new note (lawful history b)

@@ -3,9 +3,8 @@ use Rattle.std.specs.Prelude.{◌≡◌, ℕ, List, [], ◌∷◌, ◌++◌, Opt
 use Rattle.rams_model.specs.declared.answer.Order.{Order}
 use Rattle.rams_model.specs.declared.note.Cause.{Cause}
 use Rattle.rams_model.specs.declared.note.Note.{Note}
-use Rattle.rams_model.specs.declared.held.Held.{Held}
 use Rattle.rams_model.specs.declared.note.Note.TheVariants.{End}
-use Rattle.rams_model.specs.Service.{Settings, History, hold, newest_sender, info_order, newest_notes, newest_orders, Wanted}
+use Rattle.rams_model.specs.Service.{Settings, History, info_order, newest_notes, newest_orders, Wanted}
 use Rattle.feedback_core.specs.declared.said.Said.{Said}
 use Rattle.feedback_core.specs.declared.visitor.Visitor.{Visitor}
 use Rattle.feedback_core.specs.Visits.{IsVisit}
@@ -33,35 +32,8 @@ pub record IsSaid (s : Settings) (before history lawful : History) (queue : List
   pub orders : (later : List Order) → newest_orders s lawful later ≡ newest_orders s history (said_orders v.client said ++ later)
   pub visit : IsVisit s before lawful v queue
 
--- whichever history it is
-abbrev pub Says : Settings → Visitor → Visitor → Said → (History → History) → Type 0
-Says s old new said lawful = (before history : History) (queue : List Wanted) → IsVisit s before history old queue → IsSaid s before history (lawful history) queue new said
-
--- the same where pending repairs may change
-abbrev pub SaysToQueue : Settings → Visitor → Visitor → List Wanted → List Wanted → Said → (History → History) → Type 0
-SaysToQueue s old new waiting later said lawful = (before history : History) → IsVisit s before history old waiting → IsSaid s before history (lawful history) later new said
-
 -- Notes without orders were made: the history with them is the lawful one, and the visitor and the pending repairs are what it says.
 pub record AreNoted (s : Settings) (before history lawful : History) (queue : List Wanted) (v : Visitor) (old new : List Note) : Type 0 where
   pub notes : newest_notes history [] ≡ old → newest_notes lawful [] ≡ new
   pub orders : newest_orders s lawful [] ≡ newest_orders s history []
   pub visit : IsVisit s before lawful v queue
-
--- a visitor, the pending repairs, and the notes of its datagram so far
-pub record Desk : Type 0 where
-  pub visitor : Visitor
-  pub queue : List Wanted
-  pub notes : List Note
-
-abbrev pub desk : Visitor → List Wanted → List Note → Desk
-desk visitor queue notes = record { visitor = visitor; queue = queue; notes = notes }
-
--- The numbers that a NACK of this sender names are answered so, whichever history it is.
-abbrev pub Notes : Settings → List Held → ℕ → Desk → Desk → (History → History) → Type 0
-Notes s held sender old new lawful = (before history : History) → hold s history ≡ held → newest_sender history ≡ Some sender → IsVisit s before history old.visitor old.queue
-    → AreNoted s before history (lawful history) new.queue new.visitor old.notes new.notes
-
--- a request of this sender is answered so, whichever history it is
-abbrev pub SaysTo : Settings → List Held → ℕ → Visitor → Visitor → Said → (History → History) → Type 0
-SaysTo s held sender old new said lawful = (before history : History) (queue : List Wanted) → hold s history ≡ held → newest_sender history ≡ Some sender
-    → IsVisit s before history old queue → IsSaid s before history (lawful history) queue new said

@@ -1,7 +1,9 @@
 -- What a channel's history says of the client of a datagram while its messages are answered.
 use Rattle.std.specs.Prelude.{◌≡◌, ◌≢◌, ℕ, true, false, ◌==◌, nat_lt, List, length, Option, Some, None}
+use Rattle.rams_model.specs.declared.held.Held.{Held}
+use Rattle.rams_model.specs.Service.Bursts as model
 use Rattle.std.specs.List.{list_any}
-use Rattle.rams_model.specs.Service.{Settings, History, arrivals, known, is_among, without, sendings, ssrc, bursts, open_burst, Wanted, pending, quiet_ticks}
+use Rattle.rams_model.specs.Service.{Settings, History, hold, newest_sender, arrivals, known, is_among, without, sendings, ssrc, bursts, open_burst, Wanted, pending, quiet_ticks}
 use Rattle.client_table.specs.declared.entry.Entry.{Entry}
 use Rattle.channel_parts.specs.{IsEntry, IsBudget}
 use Rattle.feedback_core.specs.declared.visitor.Visitor.{Visitor}
@@ -44,3 +46,25 @@ pub record IsVisit (s : Settings) (before history : History) (v : Visitor) (queu
   pub place_is : v.has_place ≡ nat_lt (length (without v.client (known history))) s.channel.clients
   pub budget_is : IsBudget s history v.budget
   pub queue_is : queue ≡ pending history
+
+-- Nothing else is known of the history.
+abbrev pub IsAny : History → Type 0
+IsAny history = Unit {0}
+
+-- These live packets are held.
+abbrev pub Holds : Settings → List Held → History → Type 0
+Holds s held history = hold s history ≡ held
+
+-- These live packets are held, and this is the sender of the newest message.
+pub record IsHeard (s : Settings) (held : List Held) (sender : ℕ) (history : History) : Type 0 where
+  pub held_is : hold s history ≡ held
+  pub sender_is : newest_sender history ≡ Some sender
+
+-- These live packets are held, and the client has this open burst.
+pub record HasBurst (s : Settings) (held : List Held) (k : ℕ) (b : model.Burst) (history : History) : Type 0 where
+  pub held_is : hold s history ≡ held
+  pub is_open : open_burst s k history ≡ Some b
+
+-- Whichever history it is of which so much is known: where it says what the visitor and the pending repairs are, this is true of it.
+abbrev pub Serves : Settings → (History → Type 0) → Visitor → List Wanted → (History → History → Type 0) → Type 0
+Serves s heard v queue is = (before history : History) → heard history → IsVisit s before history v queue → is before history

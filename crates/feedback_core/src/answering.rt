@@ -1,8 +1,8 @@
 //! The answers to the messages of a datagram, in their order.
-ghost use Rattle.std.specs.Prelude.{◌≡◌, ◌+◌, ◌≤◌, ◌<◌, true, None, vec_len, vec_capacity, ◌∷◌, false};
-ghost use Rattle.rams_model.specs.Service.{after_message, after_messages, told, noted, is_rams, message_of as model_message, verdict};
+ghost use Rattle.std.specs.Prelude.{◌≡◌, ◌+◌, ◌≤◌, ◌<◌, true, List, None, vec_len, vec_capacity, ◌∷◌, false};
+ghost use Rattle.rams_model.specs.Service.{after_message, after_messages, told, noted, is_rams, message_of as model_message, verdict, Wanted};
 ghost use Rattle.rtcp_frame.specs.{packets_left, shown_packet};
-ghost use Rattle.feedback_core.specs.{most_of, most_of_message, most_notes, shown_message, turn_of, due_after, answered_of, IsFresh, Turns, sitting, IsReady, IsSafe, AreOfOne, SaysTo};
+ghost use Rattle.feedback_core.specs.{most_of, most_of_message, most_notes, shown_message, turn_of, due_after, answered_of, IsFresh, IsPage, IsTurned, IsReady, IsSafe, AreOfOne, Holds, IsHeard, IsSaid, Serves};
 ghost use Rattle.rams_model.specs.Formats.{request_at};
 
 use crate::bye::answer_bye;
@@ -35,8 +35,9 @@ pub(crate) fn answer_packets(
     ensures safe { IsSafe config.now visitor.new }
     ensures one { AreOfOne visitor.old visitor.new }
     ensures few { vec_len page.new.notes ≤ vec_len page.old.notes + most_notes (packets_left packets.entry) }
-    ensures answers { Turns config.now cache.now.held (sitting visitor.old queue.old page.old) (sitting visitor.new queue.new page.new)
-        (λ history. after_messages config.now visitor.old.client (answered_of page.old.is_due (packets_left packets.entry)) history) }
+    ensures answers { Serves config.now (Holds config.now cache.now.held) visitor.old queue.old
+        (λ before history. IsPage config.now visitor.old.client history page.old
+        → IsTurned config.now before (after_messages config.now visitor.old.client (answered_of page.old.is_due (packets_left packets.entry)) history) queue.new visitor.new page.new) }
 {
     for packet in packets {
         answer_packet(config, cache, visitor, queue, page, &packet);
@@ -62,8 +63,9 @@ fn answer_packet(
     ensures few { vec_len page.new.notes ≤ vec_len page.old.notes + most_of (shown_packet packet.now) }
     ensures room { vec_capacity page.new.notes ≡ vec_capacity page.old.notes }
     ensures due { page.new.is_due ≡ due_after page.old.is_due (model_message (shown_packet packet.now)) }
-    ensures answers { Turns config.now cache.now.held (sitting visitor.old queue.old page.old) (sitting visitor.new queue.new page.new)
-        (λ history. after_messages config.now visitor.old.client (turn_of page.old.is_due (model_message (shown_packet packet.now))) history) }
+    ensures answers { Serves config.now (Holds config.now cache.now.held) visitor.old queue.old
+        (λ before history. IsPage config.now visitor.old.client history page.old
+        → IsTurned config.now before (after_messages config.now visitor.old.client (turn_of page.old.is_due (model_message (shown_packet packet.now))) history) queue.new visitor.new page.new) }
 {
     let Some(message) = message_of(packet) else {
         return;
@@ -93,8 +95,9 @@ fn answer_message(
     ensures due { page.new.is_due ≡ page.old.is_due }
     ensures few { vec_len page.new.notes ≤ vec_len page.old.notes + most_of_message message.now }
     ensures room { vec_capacity page.new.notes ≡ vec_capacity page.old.notes }
-    ensures answers { Turns config.now cache.now.held (sitting visitor.old queue.old page.old) (sitting visitor.new queue.new page.new)
-        (λ history. after_message config.now visitor.old.client (shown_message message.now) (told visitor.old.client (shown_message message.now) ∷ history)) }
+    ensures answers { Serves config.now (Holds config.now cache.now.held) visitor.old queue.old
+        (λ before history. IsPage config.now visitor.old.client history page.old
+        → IsTurned config.now before (after_message config.now visitor.old.client (shown_message message.now) (told visitor.old.client (shown_message message.now) ∷ history)) queue.new visitor.new page.new) }
 {
     let client = visitor.client;
     match message {
@@ -128,8 +131,8 @@ fn say_request(
     requires safe { IsSafe config.now visitor.old }
     ensures safe { IsSafe config.now visitor.new }
     ensures one { AreOfOne visitor.old visitor.new }
-    ensures says { SaysTo config.now cache.now.held sender visitor.old visitor.new result
-        (λ history. noted (verdict config.now visitor.old.client history (request_at fci.now)) None ∷ history) }
+    ensures says { (queue : List Wanted) → Serves config.now (IsHeard config.now cache.now.held sender) visitor.old queue
+        (λ before history. IsSaid config.now before history (noted (verdict config.now visitor.old.client history (request_at fci.now)) None ∷ history) queue visitor.new result) }
 {
     let note = answer_request(config, cache, visitor, sender, fci);
     Said {

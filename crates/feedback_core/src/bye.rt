@@ -2,7 +2,7 @@
 ghost use Rattle.std.specs.Prelude.{◌≡◌, None};
 ghost use Rattle.rams_model.specs.Service.{after_bye};
 ghost use Rattle.rtcp_frame.specs.{shown_packet};
-ghost use Rattle.feedback_core.specs.{IsSafe, AreOfOne, SaysToQueue};
+ghost use Rattle.feedback_core.specs.{IsSafe, AreOfOne, IsAny, IsSaid, Serves};
 
 use crate::said::Said;
 use crate::visitor::Visitor;
@@ -23,8 +23,8 @@ pub(crate) fn answer_bye(
     ensures safe { IsSafe config.now visitor.new }
     ensures one { AreOfOne visitor.old visitor.new }
     ensures info { result.info ≡ None }
-    ensures says { SaysToQueue config.now visitor.old visitor.new queue.old queue.new result
-        (λ history. after_bye config.now visitor.old.client (shown_packet packet.now) history) }
+    ensures says { Serves config.now IsAny visitor.old queue.old
+        (λ before history. IsSaid config.now before history (after_bye config.now visitor.old.client (shown_packet packet.now) history) queue.new visitor.new result) }
 {
     let client = visitor.client;
     let Some(entry) = visitor.entry else {

@@ -11,9 +11,9 @@ ghost use Rattle.client_table.specs.{entry_of};
 ghost use Rattle.rams_model.specs.declared.note.Note.TheVariants.{BadFeedback};
 
 use crate::answering::answer_packets;
-use crate::framing::most_notes;
+use crate::framing::{has_message, most_notes};
 use crate::page::Page;
-use crate::placing::{keep, make_place};
+use crate::placing::{keep, make_place, wake};
 use crate::visitor::Visitor;
 use channel_parts::Parts;
 use ram_io::NoMemory;
@@ -56,7 +56,7 @@ pub fn answer_feedback(
     }
 }
 
-// Answers the packets of a datagram that frames.
+// Answers the packets of a datagram that frames. One without a message takes no place and no memory.
 fn answer_framed(
     alloc: Global,
     parts: &mut Parts,
@@ -72,6 +72,10 @@ fn answer_framed(
     ensures few { IfOk result (λ a. (length a.notes ≤ most_notes (packets_left packets.entry)) × (length a.orders ≤ 1)) }
     ensures told { IfOk result TellsAlone }
 {
+    if !has_message(packets) {
+        wake(&mut parts.table, client);
+        return Ok(Answer::new(Vec::new(alloc), Vec::new(alloc)));
+    }
     let mut page = Page::new(alloc, most_notes(packets))?;
     let orders = Vec::with_capacity(alloc, 1)?;
     let mut visitor = receive(alloc, parts, client)?;

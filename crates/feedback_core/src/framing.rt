@@ -1,9 +1,9 @@
 //! Which packets of a datagram are messages that are answered.
-ghost use Rattle.std.specs.Prelude.{◌≡◌, ◌<◌, ◌≤◌, ◌^◌, ◌==◌, if◌then◌else◌, option_map, IfSome};
+ghost use Rattle.std.specs.Prelude.{◌≡◌, ◌<◌, ◌≤◌, ◌^◌, ◌==◌, true, false, [], if◌then◌else◌, option_map, IfSome};
 ghost use Rattle.rams_model.specs.Service.{is_rams, message_of, feedback_message, rams_message};
 ghost use Rattle.rtcp_feedback.specs.{shown_feedback};
 ghost use Rattle.rtcp_frame.specs.{packets_left, shown_packet};
-ghost use Rattle.feedback_core.specs.{most_of, most_of_message, most_of_nack, most_notes, shown_message};
+ghost use Rattle.feedback_core.specs.{most_of, most_of_message, most_of_nack, most_notes, shown_message, answered_of};
 
 use rams_model::{BYE, FMT_NACK, FMT_RAMS, RTPFB, SFMT_RAMS_R, SFMT_RAMS_T};
 use rtcp_feedback::{Feedback, feedback};
@@ -69,6 +69,18 @@ fn rams_message(message: Feedback<'_>) -> Option<Message<'_>>
         Some(&SFMT_RAMS_T) => Some(Message::Stop(message)),
         _ => None,
     }
+}
+
+/// Whether one of these packets is a message that is answered.
+pub(crate) fn has_message(packets: Packets<'_>) -> bool
+    ensures { result ≡ false → answered_of true (packets_left packets.entry) ≡ [] }
+{
+    for packet in packets {
+        if message_of(&packet).is_some() {
+            return true;
+        }
+    }
+    false
 }
 
 /// How many notes the answers to these packets make at most.

@@ -1,9 +1,9 @@
 //! The answer to a generic NACK (RFC 4585, 6.2.1).
 ghost use Rattle.std.specs.Prelude.{◌≡◌, ◌+◌, ◌≤◌, ℕ, Some, length, vec_len, vec_capacity};
-ghost use Rattle.rams_model.specs.Service.{room, number_answer, after_numbers, after_nack, named, History, hold, newest_sender};
+ghost use Rattle.rams_model.specs.Service.{room, number_answer, after_numbers, after_nack, named};
 ghost use Rattle.rams_model.specs.Formats.{nack_numbers};
 ghost use Rattle.rtcp_feedback.specs.{numbers_left};
-ghost use Rattle.feedback_core.specs.{most_of_nack, desk, Notes, IsReady, IsSafe, AreOfOne, IsAnswered, IsVisit};
+ghost use Rattle.feedback_core.specs.{most_of_nack, IsReady, IsSafe, AreOfOne, IsAnswered, IsHeard, AreNoted, Serves};
 
 use crate::visitor::Visitor;
 use channel_cache::Cache;
@@ -30,8 +30,9 @@ pub(crate) fn answer_nack(
     ensures one { AreOfOne visitor.old visitor.new }
     ensures few { vec_len notes.new ≤ vec_len notes.old + most_of_nack nack.now.fci.now }
     ensures room { vec_capacity notes.new ≡ vec_capacity notes.old }
-    ensures answers { Notes config.now cache.now.held nack.now.sender (desk visitor.old queue.old notes.old.items) (desk visitor.new queue.new notes.new.items)
-        (λ history. after_nack config.now visitor.old.client nack.now.media (named (nack_numbers nack.now.fci.now)) history) }
+    ensures answers { Serves config.now (IsHeard config.now cache.now.held nack.now.sender) visitor.old queue.old
+        (λ before history. AreNoted config.now before history (after_nack config.now visitor.old.client nack.now.media (named (nack_numbers nack.now.fci.now)) history)
+        queue.new visitor.new notes.old.items notes.new.items) }
 {
     if nack.media != config.channel().ssrc {
         notes.push_reserved(Note::ForeignNack {
@@ -64,8 +65,9 @@ fn answer_numbers(
     ensures one { AreOfOne visitor.old visitor.new }
     ensures few { vec_len notes.new ≤ vec_len notes.old + length (numbers_left numbers.entry) }
     ensures room { vec_capacity notes.new ≡ vec_capacity notes.old }
-    ensures answers { Notes config.now cache.now.held sender (desk visitor.old queue.old notes.old.items) (desk visitor.new queue.new notes.new.items)
-        (λ history. after_numbers config.now cache.now.held visitor.old.client (numbers_left numbers.entry) history) }
+    ensures answers { Serves config.now (IsHeard config.now cache.now.held sender) visitor.old queue.old
+        (λ before history. AreNoted config.now before history (after_numbers config.now cache.now.held visitor.old.client (numbers_left numbers.entry) history)
+        queue.new visitor.new notes.old.items notes.new.items) }
 {
     for low in numbers {
         let note = answer_number(config, cache, visitor, queue, sender, low);
@@ -86,9 +88,8 @@ fn answer_number(
     requires safe { IsSafe config.now visitor.old }
     ensures safe { IsSafe config.now visitor.new }
     ensures one { AreOfOne visitor.old visitor.new }
-    ensures answers { (before history : History) → hold config.now history ≡ cache.now.held → newest_sender history ≡ Some sender
-        → IsVisit config.now before history visitor.old queue.old
-        → IsAnswered config.now before history queue.new visitor.new result (number_answer room config.now cache.now.held visitor.old.client history low) }
+    ensures answers { Serves config.now (IsHeard config.now cache.now.held sender) visitor.old queue.old
+        (λ before history. IsAnswered config.now before history queue.new visitor.new result (number_answer room config.now cache.now.held visitor.old.client history low)) }
 {
     let client = visitor.client;
     let Some(n) = resolve_in(cache.lo(), cache.hi(), low) else {

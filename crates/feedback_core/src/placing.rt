@@ -1,7 +1,7 @@
 //! A client's place in the table while its datagram is answered.
 ghost use Rattle.std.specs.Prelude.{◌≡◌, ◌↔◌, is_some, IfOk, OnOk, OnErr};
 ghost use Rattle.client_table.specs.{entry_of};
-ghost use Rattle.feedback_core.specs.{has_place, with_place, with_kept};
+ghost use Rattle.feedback_core.specs.{has_place, with_place, with_kept, with_changed, woken};
 
 use client_table::{AdmitFault, Entry, Table};
 use ram_io::NoMemory;
@@ -41,4 +41,11 @@ pub(crate) fn keep(table: &mut Table, client: u64, entry: Option<Entry>)
             table.remove(client);
         }
     }
+}
+
+/// The client is no longer idle, where it is known.
+pub(crate) fn wake(table: &mut Table, client: u64)
+    ensures { table.new ≡ with_changed table.old client (woken (entry_of table.old client)) }
+{
+    table.change(client, |entry| Entry { idle: 0, ..entry });
 }

@@ -4,9 +4,12 @@ ghost use Rattle.rams_model.specs.declared.held.Held.{Held};
 ghost use Rattle.rams_model.specs.Formats.{request_at};
 ghost use Rattle.rams_model.specs.Packets.{behind as behind_of};
 ghost use Rattle.rams_tlv.specs.{shown_request};
-ghost use Rattle.feedback_core.specs.{open_of, begun_burst, IsReady, IsSafe, AreOfOne, Answers, AnswersBurst, rate_for};
+ghost use Rattle.feedback_core.specs.{open_of, begun_burst, IsReady, IsSafe, AreOfOne, IsAnswered, IsHeard, HasBurst, Serves, rate_for};
 ghost use Rattle.rams_model.specs.declared.note.Note.TheVariants.{Refuse};
 ghost use Rattle.rams_model.specs.Service.Verdict as verdicts;
+ghost use Rattle.rams_model.specs.Service.Bursts as model;
+ghost use Rattle.rams_model.specs.Service.{Wanted};
+ghost use Rattle.channel_parts.specs.{burst_kept};
 
 use crate::holding::behind;
 use crate::rams_i::{accept_info, update_info};
@@ -37,8 +40,8 @@ pub(crate) fn answer_request(
     requires safe { IsSafe config.now visitor.old }
     ensures safe { IsSafe config.now visitor.new }
     ensures one { AreOfOne visitor.old visitor.new }
-    ensures answers { Answers config.now cache.now.held sender visitor.old visitor.new result
-        (λ history. verdicts.verdict config.now visitor.old.client history (request_at fci.now)) }
+    ensures answers { (queue : List Wanted) → Serves config.now (IsHeard config.now cache.now.held sender) visitor.old queue
+        (λ before history. IsAnswered config.now before history queue visitor.new result (verdicts.verdict config.now visitor.old.client history (request_at fci.now))) }
 {
     match read_request(fci) {
         Ok(request) => on_request(config, cache, visitor, sender, &request),
@@ -67,8 +70,8 @@ fn on_request(
     requires safe { IsSafe config.now visitor.old }
     ensures safe { IsSafe config.now visitor.new }
     ensures one { AreOfOne visitor.old visitor.new }
-    ensures answers { Answers config.now cache.now.held sender visitor.old visitor.new result
-        (λ history. verdicts.verdict config.now visitor.old.client history (Ok (shown_request request.now))) }
+    ensures answers { (queue : List Wanted) → Serves config.now (IsHeard config.now cache.now.held sender) visitor.old queue
+        (λ before history. IsAnswered config.now before history queue visitor.new result (verdicts.verdict config.now visitor.old.client history (Ok (shown_request request.now)))) }
 {
     if request.preamble {
         return refuse(visitor, ONLY_PREAMBLE);
@@ -95,8 +98,9 @@ fn on_burst(
     requires opened { open_of visitor.old.entry ≡ Some current.now }
     ensures safe { IsSafe config.now visitor.new }
     ensures one { AreOfOne visitor.old visitor.new }
-    ensures answers { AnswersBurst config.now cache.now.held visitor.old visitor.new result current.now
-        (λ history b. verdicts.on_burst config.now cache.now.held visitor.old.client (rate_for config.now bps) history b bps) }
+    ensures answers { (queue : List Wanted) (b : model.Burst) → current.now.burst ≡ burst_kept config.now b
+        → Serves config.now (HasBurst config.now cache.now.held visitor.old.client b) visitor.old queue
+        (λ before history. IsAnswered config.now before history queue visitor.new result (verdicts.on_burst config.now cache.now.held visitor.old.client (rate_for config.now bps) history b bps)) }
 {
     let again = Note::Again {
         client: visitor.client,
@@ -119,8 +123,9 @@ fn change(config: &Config, cache: &Cache, visitor: &mut Visitor, current: &Open,
     requires rate { rate ≤ 10 ^ 9 }
     ensures safe { IsSafe config.now visitor.new }
     ensures one { AreOfOne visitor.old visitor.new }
-    ensures answers { AnswersBurst config.now cache.now.held visitor.old visitor.new result current.now
-        (λ history b. verdicts.changes config.now cache.now.held visitor.old.client rate history b) }
+    ensures answers { (queue : List Wanted) (b : model.Burst) → current.now.burst ≡ burst_kept config.now b
+        → Serves config.now (HasBurst config.now cache.now.held visitor.old.client b) visitor.old queue
+        (λ before history. IsAnswered config.now before history queue visitor.new result (verdicts.changes config.now cache.now.held visitor.old.client rate history b)) }
 {
     let client = visitor.client;
     let channel = config.channel();
@@ -160,8 +165,8 @@ fn begin(
     requires closed { open_of visitor.old.entry ≡ None }
     ensures safe { IsSafe config.now visitor.new }
     ensures one { AreOfOne visitor.old visitor.new }
-    ensures answers { Answers config.now cache.now.held sender visitor.old visitor.new result
-        (λ history. verdicts.on_request config.now cache.now.held visitor.old.client (shown_request request.now) history None) }
+    ensures answers { (queue : List Wanted) → Serves config.now (IsHeard config.now cache.now.held sender) visitor.old queue
+        (λ before history. IsAnswered config.now before history queue visitor.new result (verdicts.on_request config.now cache.now.held visitor.old.client (shown_request request.now) history None)) }
 {
     if visitor.is_full() {
         return refuse(visitor, TOO_MANY_CLIENTS);
@@ -191,8 +196,9 @@ fn accept(
     requires first { first < 2 ^ 63 }
     ensures safe { IsSafe config.now visitor.new }
     ensures one { AreOfOne visitor.old visitor.new }
-    ensures answers { (held : List Held) (h : Held) → h.n ≡ first → behind_of first held ≡ behind → Answers config.now held sender visitor.old visitor.new result
-        (λ history. verdicts.begins config.now held visitor.old.client rate history (Ok h)) }
+    ensures answers { (held : List Held) (h : Held) → h.n ≡ first → behind_of first held ≡ behind
+        → (queue : List Wanted) → Serves config.now (IsHeard config.now held sender) visitor.old queue
+        (λ before history. IsAnswered config.now before history queue visitor.new result (verdicts.begins config.now held visitor.old.client rate history (Ok h))) }
 {
     let client = visitor.client;
     let channel = config.channel();

@@ -1,8 +1,8 @@
 //! The answer to a RAMS-T (RFC 6285, 7.4).
-ghost use Rattle.std.specs.Prelude.{◌≡◌, ℕ};
-ghost use Rattle.rams_model.specs.Service.{after_stop, stop_burst as after_stop_burst, open_burst};
+ghost use Rattle.std.specs.Prelude.{◌≡◌, List};
+ghost use Rattle.rams_model.specs.Service.{after_stop, stop_burst as after_stop_burst, open_burst, Wanted};
 ghost use Rattle.rams_model.specs.Formats.{stop_at};
-ghost use Rattle.feedback_core.specs.{IsSafe, AreOfOne, Says};
+ghost use Rattle.feedback_core.specs.{IsSafe, AreOfOne, IsAny, IsSaid, Serves};
 
 use crate::said::Said;
 use crate::visitor::Visitor;
@@ -18,8 +18,8 @@ pub(crate) fn answer_stop(config: &Config, visitor: &mut Visitor, fci: &[u8]) ->
     requires { IsSafe config.now visitor.old }
     ensures safe { IsSafe config.now visitor.new }
     ensures one { AreOfOne visitor.old visitor.new }
-    ensures says { Says config.now visitor.old visitor.new result
-        (λ history. after_stop config.now visitor.old.client (stop_at fci.now) history) }
+    ensures says { (queue : List Wanted) → Serves config.now IsAny visitor.old queue
+        (λ before history. IsSaid config.now before history (after_stop config.now visitor.old.client (stop_at fci.now) history) queue visitor.new result) }
 {
     match read_stop(fci) {
         Ok(stop) => stop_burst(config, visitor, stop.first_multicast),
@@ -40,8 +40,8 @@ fn stop_burst(config: &Config, visitor: &mut Visitor, named: Option<u32>) -> Sai
     requires { IsSafe config.now visitor.old }
     ensures safe { IsSafe config.now visitor.new }
     ensures one { AreOfOne visitor.old visitor.new }
-    ensures says { Says config.now visitor.old visitor.new result
-        (λ history. after_stop_burst visitor.old.client named (open_burst config.now visitor.old.client history) history) }
+    ensures says { (queue : List Wanted) → Serves config.now IsAny visitor.old queue
+        (λ before history. IsSaid config.now before history (after_stop_burst visitor.old.client named (open_burst config.now visitor.old.client history) history) queue visitor.new result) }
 {
     let client = visitor.client;
     let Some(open) = visitor.open() else {

@@ -13,6 +13,7 @@ use Rattle.trace_serving.specs.{Stage, eventless, claim_of}
 use Rattle.trace_loop.specs.declared.turn.Turn.TheVariants.{GoesOn}
 use Rattle.trace_book.specs.{settings_of}
 use Rattle.world_laws.specs.World.{World}
+use Rattle.world_laws.specs.declared.world.WorldNote.{WorldNote}
 use Rattle.world_net.specs.{Seen, StandsFor, with_channel}
 use Rattle.world_book.specs.{meet}
 use Rattle.meet_loop.specs.{WorldServes, Serves, Stands, CanOpen, OpensIn, IsUnder, Comes, Took}
@@ -64,11 +65,11 @@ claims_more w s =
     ap (map claim_of) (map-append (λ c. c.settings) w.channels (served s [] ∷ [])) ∙ map-append claim_of (settings_of w.channels) (s ∷ [])
 
 -- what stands behind the line of a channel
-pub opened_turn : (world new : Option Seen) (events version number : ℕ) (later : Reached) (s : Settings) (stage : Stage World) → s.tick ≡ tick_of later.head → OpensIn s world new
-    → Comes world events later (channel_line version s.channel) stage → Took (eventless meet stage later (channel_line version s.channel)) new events later number GoesOn
-opened_turn None new events version number later s stage tick opens comes = absurd opens
-opened_turn (Some v) None events version number later s stage tick opens comes = absurd opens
-opened_turn (Some v) (Some w) events version number later s stage tick opens comes =
+pub opened_turn : (world new : Option Seen) (events version number : ℕ) (later : Reached) (s : Settings) (stage : Stage World) (notes : List WorldNote) → s.tick ≡ tick_of later.head → OpensIn s world new
+    → Comes world events later (channel_line version s.channel) stage → Took (eventless meet stage later (channel_line version s.channel)) new events later notes number GoesOn
+opened_turn None new events version number later s stage notes tick opens comes = absurd opens
+opened_turn (Some v) None events version number later s stage notes tick opens comes = absurd opens
+opened_turn (Some v) (Some w) events version number later s stage notes tick opens comes =
     let c = s.channel in
     let so = accepted_so (Some v) events later (channel_line version c) stage comes in
     let j = channel_so stage.reached stage.reached.head c later so.gives in
@@ -94,9 +95,9 @@ none_before true head h = absurd cc
 none_before false true h = absurd cc
 none_before false false h = refl
 
-pub head_turn : (world : Option Seen) (v : Seen) (events version tick link number : ℕ) (later : Reached) (stage : Stage World) → IsUnder tick link v → Comes world events later (head_line version tick link) stage
-    → Took (eventless meet stage later (head_line version tick link)) (Some v) events later number GoesOn
-head_turn world v events version tick link number later stage under comes = (by world stage.reached.head refl comes.before.served, refl, refl)
+pub head_turn : (world : Option Seen) (v : Seen) (events version tick link number : ℕ) (later : Reached) (stage : Stage World) (notes : List WorldNote) → IsUnder tick link v → Comes world events later (head_line version tick link) stage
+    → Took (eventless meet stage later (head_line version tick link)) (Some v) events later notes number GoesOn
+head_turn world v events version tick link number later stage notes under comes = (by world stage.reached.head refl comes.before.served, refl, refl)
   where
     so : IsAccepted stage.reached (head_line version tick link) later
     so = accepted_so world events later (head_line version tick link) stage comes

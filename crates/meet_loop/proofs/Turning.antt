@@ -1,7 +1,5 @@
 -- The turns of lines.
 use Rattle.std.proofs.Common.{◌≡◌, ℕ, ◌+◌, ◌<◌, Bool, true, false, not, ◌&&◌, List, [], map, Option, None, Some, Result, Ok, Err, is_some, refl, sym, subst, ap, ◌∙◌, arith, ltb, length}
-use Rattle.std.specs.Prelude.{Vec}
-use Rattle.std.specs.declared.alloc.Global.{Global}
 use Rattle.std.proofs.lemmas.Bool.{and_parts, lt-ltb}
 use Rattle.rams_model.specs.declared.fault.LineFault.{LineFault}
 use Rattle.rams_model.specs.Texts.{TraceLine, head_line, channel_line, live_line, feedback_line, tick_line, end_line, tune_line, give_line, mcast_line, ask_line, drop_line, Claim, Head, Reached, has_channel, has_events, has_receivers, judged, kind_of, kind_may_come, with_line}
@@ -31,18 +29,18 @@ comes_next world events reached later bytes read stage stands h = record {
 }
 
 -- its turn is that of the line
-pub judged_turn : (stage : Stage World) (number : ℕ) (bytes : List ℕ) (read : TraceLine) (later now : Reached) (world : Option Seen) (events : ℕ) (t : Turn (Vec WorldNote Global)) → judged stage.reached bytes ≡ Ok (read, later)
-    → Took (after_line meet stage later read (brought meet read)) world events now number t → Took (turn meet stage number bytes) world events now number t
+pub judged_turn : (stage : Stage World) (number : ℕ) (bytes : List ℕ) (read : TraceLine) (later now : Reached) (world : Option Seen) (events : ℕ) (notes : List WorldNote) (t : Turn (Unit {0})) → judged stage.reached bytes ≡ Ok (read, later)
+    → Took (after_line meet stage later read (brought meet read)) world events now notes number t → Took (turn meet stage number bytes) world events now notes number t
 unfolding turn
-judged_turn stage number bytes read later now world events t h took =
-    subst (λ (o : Result (TraceLine × Reached) LineFault). Took (after_judging meet stage number o) world events now number t) (sym h) took
+judged_turn stage number bytes read later now world events notes t h took =
+    subst (λ (o : Result (TraceLine × Reached) LineFault). Took (after_judging meet stage number o) world events now notes number t) (sym h) took
 
 -- a line that is refused
-pub refused_turn : (stage : Stage World) (number : ℕ) (bytes : List ℕ) (fault : LineFault) (world : Option Seen) (events : ℕ) (reached : Reached) → judged stage.reached bytes ≡ Err fault
-    → Took (turn meet stage number bytes) world events reached number (Refused fault)
+pub refused_turn : (stage : Stage World) (number : ℕ) (bytes : List ℕ) (fault : LineFault) (world : Option Seen) (events : ℕ) (reached : Reached) (notes : List WorldNote) → judged stage.reached bytes ≡ Err fault
+    → Took (turn meet stage number bytes) world events reached notes number (Refused fault)
 unfolding turn
-refused_turn stage number bytes fault world events reached h =
-    subst (λ (o : Result (TraceLine × Reached) LineFault). Took (after_judging meet stage number o) world events reached number (Refused fault)) (sym h) (refl, refl)
+refused_turn stage number bytes fault world events reached notes h =
+    subst (λ (o : Result (TraceLine × Reached) LineFault). Took (after_judging meet stage number o) world events reached notes number (Refused fault)) (sym h) (refl, refl)
 
 -- an event line begins the events, and comes behind a channel line
 abbrev begun : Reached → Reached
@@ -112,17 +110,17 @@ event_stage world events later line e stage brings comes =
     })
 
 -- the turn of an event line
-pub brought_turn : (stage : Stage World) (later : Reached) (line : TraceLine) (e : WorldEvent) (world : Option Seen) (events number : ℕ) (t : Turn (Vec WorldNote Global)) → brought meet line ≡ Some e
-    → Took (counted meet stage later e) world events later number t → Took (after_line meet stage later line (brought meet line)) world events later number t
-brought_turn stage later line e world events number t is took = subst (λ (o : Option WorldEvent). Took (after_line meet stage later line o) world events later number t) (sym is) took
+pub brought_turn : (stage : Stage World) (later : Reached) (line : TraceLine) (e : WorldEvent) (world : Option Seen) (events : ℕ) (notes : List WorldNote) (number : ℕ) (t : Turn (Unit {0})) → brought meet line ≡ Some e
+    → Took (counted meet stage later e) world events later notes number t → Took (after_line meet stage later line (brought meet line)) world events later notes number t
+brought_turn stage later line e world events notes number t is took = subst (λ (o : Option WorldEvent). Took (after_line meet stage later line o) world events later notes number t) (sym is) took
 
 -- an event that is served
-pub served_turn : (v w : Seen) (events : ℕ) (e : WorldEvent) (notes : Vec WorldNote Global) → events < 100000 → w.calls ≡ v.calls + 1 → ((u : World) → StandsFor v u → Happens e u w (Some notes))
-    → (stage : Stage World) (number : ℕ) → Stands (Some v) events stage.reached stage → stage.reached.begun ≡ true → Took (counted meet stage stage.reached e) (Some w) (events + 1) stage.reached number (Said notes)
+pub served_turn : (v w : Seen) (events : ℕ) (e : WorldEvent) (notes : List WorldNote) → events < 100000 → w.calls ≡ v.calls + 1 → ((u : World) → StandsFor v u → Happens e u w notes true)
+    → (stage : Stage World) (number : ℕ) → Stands (Some v) events stage.reached stage → stage.reached.begun ≡ true → Took (counted meet stage stage.reached e) (Some w) (events + 1) stage.reached notes number (Said tt)
 served_turn v w events e notes few calls said stage number stands begun = by_head stage.reached.head refl stands.served
   where
     by_head : (h : Option Head) → stage.reached.head ≡ h → WorldServes (Some v) h stage.reached.begun stage.state stage.events
-        → Took (counted meet stage stage.reached e) (Some w) (events + 1) stage.reached number (Said notes)
+        → Took (counted meet stage stage.reached e) (Some w) (events + 1) stage.reached notes number (Said tt)
     by_head None is serves = absurd serves
     by_head (Some head) is serves =
         let told = said stage.state serves.stands in

@@ -1,6 +1,5 @@
 -- What a line of a world's trace does, as code has it.
-use Rattle.std.specs.Prelude.{◌≡◌, ℕ, Bool, true, false, List, [], map, Option, Some, None, Ok, Vec}
-use Rattle.std.specs.declared.alloc.Global.{Global}
+use Rattle.std.specs.Prelude.{◌≡◌, ℕ, Bool, false, List, [], map, Option, Some, None, Ok}
 use Rattle.rams_model.specs.Service.{Settings}
 use Rattle.rams_model.specs.Texts.{TraceLine, Head, Reached, judged}
 use Rattle.server_hub.specs.{refused as refused_add}
@@ -67,11 +66,10 @@ abbrev pub OpensIn : Settings → Option Seen → Option Seen → Type 0
 OpensIn s (Some old) (Some new) = Opens s old new
 OpensIn s _ _ = ⊥
 
--- This is said of an event, and what is kept stands for the world after it; where nothing is said, it brings a datagram too many.
-abbrev pub Happens : WorldEvent → World → Seen → Option (Vec WorldNote Global) → Type 0
-Happens e w v None = meet.fits (happens e w).world ≡ false
-Happens e w v (Some notes) = (notes.items ≡ (happens e w).notes) × StandsFor v (happens e w).world × (meet.fits (happens e w).world ≡ true)
+-- This is said of an event, what is kept stands for the world after it, and this is whether it brings no datagram too many.
+abbrev pub Happens : WorldEvent → World → Seen → List WorldNote → Bool → Type 0
+Happens e w v notes fits = (notes ≡ (happens e w).notes) × StandsFor v (happens e w).world × (meet.fits (happens e w).world ≡ fits)
 
--- the line's turn was taken
-abbrev pub Took : text.Turn World → Option Seen → ℕ → Reached → ℕ → Turn (Vec WorldNote Global) → Type 0
-Took was world events reached number t = TookSo was (Stands world events reached) (ending t) (written (λ notes. notes_lines events notes.items) number t)
+-- the line's turn was taken, and these are the notes of the last event
+abbrev pub Took : text.Turn World → Option Seen → ℕ → Reached → List WorldNote → ℕ → Turn (Unit {0}) → Type 0
+Took was world events reached notes number t = TookSo was (Stands world events reached) (ending t) (written (λ said. notes_lines events notes) number t)

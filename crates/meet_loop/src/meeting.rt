@@ -29,30 +29,33 @@ const MOST_EVENTS: u64 = 100_000;
 const MOST_DATAGRAMS: u64 = 400_000;
 
 /// What a line of a trace for `meet` does.
-type Turn = trace_loop::Turn<Vec<WorldNote>>;
+type Turn = trace_loop::Turn<()>;
 
-/// What stands before a line: the world, how many events there were, and the lines.
+/// What stands before a line: the world, how many events there were, and the lines. What was said of the
+/// last event is kept until the next.
 #[derive(Drop)]
 pub(crate) struct Meeting {
     /// `None` before the head line.
     world: Option<World>,
     events: u64,
     state: State,
+    notes: Vec<WorldNote>,
 }
 
 /// Before the first line.
-pub(crate) fn new_meeting() -> Meeting
+pub(crate) fn new_meeting(alloc: Global) -> Meeting
     ensures { Stands result.world result.events result.state (opening meet) }
 {
     Meeting {
         world: None,
         events: 0,
         state: State::new(Mode::Meet),
+        notes: Vec::new(alloc),
     }
 }
 
 impl TraceServer for Meeting {
-    type Answer = Vec<WorldNote>;
+    type Answer = ();
 
     ghost state = { Worlds };
 
@@ -62,7 +65,7 @@ impl TraceServer for Meeting {
 
     ghost stands = { λ m stage. Stands m.world m.events m.state stage };
 
-    ghost lines = { λ m answer. notes_lines m.events answer.items };
+    ghost lines = { λ m answer. notes_lines m.events m.notes.items };
 
     ghost can_write = { λ answer. Unit {0} };
 
@@ -74,9 +77,9 @@ impl TraceServer for Meeting {
         &self,
         writer: &mut Writer,
         sink: &mut K,
-        answer: &Vec<WorldNote>,
+        _answer: &(),
     ) -> Result<(), Stop> {
-        write_notes(writer, sink, self.events, answer)
+        write_notes(writer, sink, self.events, &self.notes)
     }
 }
 
@@ -84,7 +87,7 @@ impl TraceServer for Meeting {
 fn take_line(alloc: Global, meeting: &mut Meeting, line: &[u8]) -> Result<Turn, NoMemory>
     requires { StandsSomewhere (Stands meeting.old.world meeting.old.events meeting.old.state) }
     ensures { IfOk result (λ t. (stage : Stage Worlds) (number : ℕ) → Stands meeting.old.world meeting.old.events meeting.old.state stage
-        → Took (turn meet stage number line.now) meeting.new.world meeting.new.events meeting.new.state number t) }
+        → Took (turn meet stage number line.now) meeting.new.world meeting.new.events meeting.new.state meeting.new.notes.items number t) }
 {
     match meeting.state.judge(line) {
         Ok(read) => after_line(alloc, meeting, &read),
@@ -97,7 +100,7 @@ fn after_line(alloc: Global, meeting: &mut Meeting, line: &Judged<'_>) -> Result
     requires settled { IsSettled (tick_of meeting.old.state.head) line.now }
     requires comes { (stage : Stage Worlds) × Comes meeting.old.world meeting.old.events meeting.old.state (told line.now) stage }
     ensures { IfOk result (λ t. (stage : Stage Worlds) (number : ℕ) → Comes meeting.old.world meeting.old.events meeting.old.state (told line.now) stage
-        → Took (after_line meet stage meeting.old.state (told line.now) (brought meet (told line.now))) meeting.new.world meeting.new.events meeting.new.state number t) }
+        → Took (after_line meet stage meeting.old.state (told line.now) (brought meet (told line.now))) meeting.new.world meeting.new.events meeting.new.state meeting.new.notes.items number t) }
 {
     match line {
         Judged::Channel { config, .. } => open(alloc, &mut meeting.world, *config),
@@ -111,10 +114,16 @@ fn after_other(alloc: Global, meeting: &mut Meeting, line: Line<'_>) -> Result<T
     requires digits { HasDigits line }
     requires comes { (stage : Stage Worlds) × Comes meeting.old.world meeting.old.events meeting.old.state (shown line) stage }
     ensures { IfOk result (λ t. (stage : Stage Worlds) (number : ℕ) → Comes meeting.old.world meeting.old.events meeting.old.state (shown line.entry) stage
-        → Took (after_line meet stage meeting.old.state (shown line.entry) (brought meet (shown line.entry))) meeting.new.world meeting.new.events meeting.new.state number t) }
+        → Took (after_line meet stage meeting.old.state (shown line.entry) (brought meet (shown line.entry))) meeting.new.world meeting.new.events meeting.new.state meeting.new.notes.items number t) }
 {
     match event_of(alloc, line)? {
-        Some(event) => serve(alloc, &mut meeting.world, &mut meeting.events, &event),
+        Some(event) => serve(
+            alloc,
+            &mut meeting.world,
+            &mut meeting.events,
+            &mut meeting.notes,
+            &event,
+        ),
         None => begin_or_end(alloc, meeting, line),
     }
 }
@@ -126,7 +135,7 @@ fn begin_or_end(alloc: Global, meeting: &mut Meeting, line: Line<'_>) -> Result<
     requires silent { brought meet (shown line) ≡ None }
     requires comes { (stage : Stage Worlds) × Comes meeting.old.world meeting.old.events meeting.old.state (shown line) stage }
     ensures { IfOk result (λ t. (stage : Stage Worlds) (number : ℕ) → Comes meeting.old.world meeting.old.events meeting.old.state (shown line.entry) stage
-        → Took (eventless meet stage meeting.old.state (shown line.entry)) meeting.new.world meeting.new.events meeting.new.state number t) }
+        → Took (eventless meet stage meeting.old.state (shown line.entry)) meeting.new.world meeting.new.events meeting.new.state meeting.new.notes.items number t) }
 {
     match line {
         Line::Head { tick_ms, link, .. } => {
@@ -168,12 +177,13 @@ fn serve(
     alloc: Global,
     world: &mut Option<World>,
     events: &mut u64,
+    notes: &mut Vec<WorldNote>,
     event: &WorldEvent,
 ) -> Result<Turn, NoMemory>
     requires stands { (stage : Stage Worlds) × Stands world.old events.old stage.reached stage }
     requires there { is_some world.old ≡ true }
     ensures { IfOk result (λ t. (stage : Stage Worlds) (number : ℕ) → Stands world.old events.old stage.reached stage → stage.reached.begun ≡ true
-        → Took (counted meet stage stage.reached event.now) world.new events.new stage.reached number t) }
+        → Took (counted meet stage stage.reached event.now) world.new events.new stage.reached notes.new.items number t) }
 {
     if *events >= MOST_EVENTS {
         return Ok(Turn::TooLong);
@@ -181,28 +191,24 @@ fn serve(
     let Some(world) = world else {
         return Ok(Turn::Refused(LineFault::Order));
     };
-    match happen(alloc, world, event)? {
-        Some(notes) => {
-            *events += 1;
-            Ok(Turn::Said(notes))
-        }
-        None => Ok(Turn::TooLong),
+    if !happen(alloc, world, event, notes)? {
+        return Ok(Turn::TooLong);
     }
+    *events += 1;
+    Ok(Turn::Said(()))
 }
 
-/// What is said of an event; `None` exactly where it brings a datagram too many.
+/// What is said of an event stands in `notes` then. Whether it brings no datagram too many.
 fn happen(
     alloc: Global,
     world: &mut World,
     event: &WorldEvent,
-) -> Result<Option<Vec<WorldNote>>, NoMemory>
+    notes: &mut Vec<WorldNote>,
+) -> Result<bool, NoMemory>
     requires { world.old.calls < 2 ^ 40 }
-    ensures said { IfOk result (λ notes. (w : Worlds) → StandsFor world.old w → Happens event.now w world.new notes) }
+    ensures said { IfOk result (λ fits. (w : Worlds) → StandsFor world.old w → Happens event.now w world.new notes.new.items fits) }
     ensures calls { world.new.calls ≡ world.old.calls + 1 }
 {
-    let notes = world.step(alloc, event)?;
-    if world.datagrams() > MOST_DATAGRAMS {
-        return Ok(None);
-    }
-    Ok(Some(notes))
+    world.step(alloc, event, notes)?;
+    Ok(world.datagrams() <= MOST_DATAGRAMS)
 }

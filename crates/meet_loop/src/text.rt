@@ -32,6 +32,6 @@ pub fn write_world<S: Source, K: Sink>(
     ensures steady { S.is_steady source.old → IfTold (S.left source.old)
         (λ xs. K.is_steady sink.old (length (meet_text xs).text) → OnlyMemoryStops result (Unit {0})) }
 {
-    let mut meeting = new_meeting();
+    let mut meeting = new_meeting(alloc);
     write_text(alloc, &mut meeting, b"rams-world 1\n", source, sink)
 }

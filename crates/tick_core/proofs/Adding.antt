@@ -1,5 +1,5 @@
 -- A tick's history is made of its notes, and each note says which packet it sends.
-use Rattle.std.proofs.Common.{◌≡◌, ℕ, ◌+◌, ◌-◌, ◌<◌, ◌≤◌, Bool, true, ◌&&◌, List, [], ◌∷◌, ◌++◌, Option, Some, None, refl, ap, sym, ◌∙◌, subst, arith, eqb, leb, filter, append_assoc, append-nil}
+use Rattle.std.proofs.Common.{◌≡◌, ℕ, ◌+◌, ◌-◌, ◌<◌, ◌≤◌, Bool, true, ◌&&◌, List, [], ◌∷◌, ◌++◌, Option, Some, None, IsSome, refl, ap, sym, ◌∙◌, subst, arith, eqb, leb, filter, append_assoc, append-nil}
 use Rattle.std.specs.List.{AllByRecursion as Each}
 use Rattle.std.proofs.lemmas.Bool.{cond_both, cond-true, cond-false, eq-eqb, ne_eqb, eqb-true, or_parts}
 use Rattle.rams_model.specs.declared.held.Held.{Held}
@@ -16,8 +16,8 @@ use Rattle.channel_parts.proofs.Opening.{none_of}
 
 -- What a note of a tick says of the history before it: the packet that it sends is the held one of its number; a burst that ends was open; one who is forgotten has none.
 abbrev pub Fits : Settings → List Held → Note → Option Held → History → Type 0
-Fits s held (BurstNote client n seq) packet history = packet ≡ packet_of n held
-Fits s held (Repair client n seq) packet history = packet ≡ packet_of n held
+Fits s held (BurstNote client n seq) packet history = (packet ≡ packet_of n held) × IsSome packet
+Fits s held (Repair client n seq) packet history = (packet ≡ packet_of n held) × IsSome packet
 Fits s held (Gone client n) packet history = Unit {0}
 Fits s held (End client cause) packet history = (b : model.Burst) × (open_burst s client history ≡ Some b)
 Fits s held (Forgot client) packet history = open_burst s client history ≡ None
@@ -68,7 +68,7 @@ unfolding send
 send_adds s held k [] history found = none
 send_adds s held k (h ∷ hs) history found =
     let seq = sequence s k history in
-    then s held history (noted (BurstNote k h.n seq) (Some h) ∷ history) _ (one s held (BurstNote k h.n seq) (Some h) history (sym found.0)) (send_adds s held k hs _ found.1)
+    then s held history (noted (BurstNote k h.n seq) (Some h) ∷ history) _ (one s held (BurstNote k h.n seq) (Some h) history (sym found.0, refl)) (send_adds s held k hs _ found.1)
 
 after_run_adds : (s : Settings) (held : List Held) (k : ℕ) (o : Option model.Burst) (history : History) → open_burst s k history ≡ o → Adds s held history (after_run s k o history)
 after_run_adds s held k None history is = none
@@ -94,7 +94,7 @@ repaired_adds : (s : Settings) (held : List Held) (w : Wanted) (o : Option Held)
 repaired_adds s held w None history is = one s held (Gone w.client w.n) None history tt
 repaired_adds s held w (Some h) history is =
     cond_both (leb h.wire (may_take s held w.client history) && leb h.wire (channel_left s history)) _ history (Adds s held history)
-    (λ t. one s held (Repair w.client w.n (sequence s w.client history)) (Some h) history (sym is)) (λ f. none)
+    (λ t. one s held (Repair w.client w.n (sequence s w.client history)) (Some h) history (sym is, refl)) (λ f. none)
 
 pub all_repaired_adds : (s : Settings) (held : List Held) (ws : List Wanted) (history : History) → Adds s held history (all_repaired s held ws history)
 unfolding all_repaired

@@ -19,3 +19,5 @@ pub mod Carrying
 pub mod Spent
 pub mod Kept
 pub mod Sending
+pub mod Sized
+pub mod Sizing

@@ -265,8 +265,8 @@ forgot_mid s held k packet history c closed mid =
 -- ---- any note
 pub note_mid : (s : Settings) (held : List Held) (note : Note) (packet : Option Held) (history : History) (c : Committed) → Fits s held note packet history → IsMid s history c
     → IsMid s (noted note packet ∷ history) (with_committed s held note c)
-note_mid s held (BurstNote k n seq) packet history c fits mid = burst_mid s held k n seq packet history c fits mid
-note_mid s held (Repair k n seq) packet history c fits mid = repair_mid s held k n seq packet history c fits mid
+note_mid s held (BurstNote k n seq) packet history c fits mid = burst_mid s held k n seq packet history c fits.0 mid
+note_mid s held (Repair k n seq) packet history c fits mid = repair_mid s held k n seq packet history c fits.0 mid
 note_mid s held (End k cause) packet history c fits mid = end_mid s held k cause packet history c fits.0 fits.1 mid
 note_mid s held (Gone k n) packet history c fits mid = gone_mid s held k n packet history c mid
 note_mid s held (Forgot k) packet history c fits mid = forgot_mid s held k packet history c fits mid

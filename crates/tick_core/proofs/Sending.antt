@@ -5,7 +5,6 @@ use Rattle.std.specs.Map.{set_value}
 use Rattle.std.specs.BTreeMap.{is_at}
 use Rattle.std.specs.Ordering.{nat_cmp}
 use Rattle.std.proofs.lemmas.Bool.{cond_both, cond-true, cond-false}
-use Rattle.rams_model.specs.declared.held.Held.{Held}
 use Rattle.rams_model.specs.declared.note.Note.{Note}
 use Rattle.rams_model.specs.declared.note.Note.TheVariants.{Burst as BurstNote, Repair, Gone, End, Forgot}
 use Rattle.rams_model.specs.Service.{Settings}
@@ -13,9 +12,10 @@ use Rattle.client_table.specs.declared.entry.Burst.{Burst}
 use Rattle.client_table.specs.declared.entry.Entry.{Entry}
 use Rattle.client_table.specs.{entry_of, with_entry}
 use Rattle.client_table.specs.Clients.{Clients}
+use Rattle.link_budget.specs.Amounts.{Amounts}
 use Rattle.channel_parts.proofs.Tables.{entry-with_entry, entry_among}
 use Rattle.tick_core.specs.declared.sendings.Sendings.{Sendings}
-use Rattle.tick_core.specs.{changed, changed_by, burst_sent, IsNextSmall, IsNextSmallIfKnown, MayCommit, with_committed, both_sendings, entry_after, with_sendings, MaySend, with_sent, MaySendIfAny, sending_of, with_other}
+use Rattle.tick_core.specs.{committing, changed, changed_by, burst_sent, IsNextSmall, IsNextSmallIfKnown, MayCommit, both_sendings, entry_after, with_sendings, MaySend, with_sent, MaySendIfAny, sending_of, with_other, with_sized}
 use Rattle.tick_core.specs.Committed.{Committed}
 use Rattle.tick_core.proofs.Midway.{is_change}
 
@@ -57,6 +57,9 @@ entry_both x y e =
     ap (λ (n : ℕ). record e { seq = n; idle = 0; burst = option_map (burst_sent y.of_burst y.bytes) (option_map (burst_sent x.of_burst x.bytes) e.burst) }) (sequence_both e.seq x.packets y.packets)
     ∙ ap (λ (b : Option Burst). record e { seq = (e.seq + (x.packets + y.packets)) % 65536; idle = 0; burst = b }) (burst_both x.of_burst y.of_burst x.bytes y.bytes e.burst)
 
+same_parts : (t u : Clients) (budget : Amounts) (m n : ℕ) → t ≡ u → m ≡ n → committing t (record budget { left = m }) ≡ committing u (record budget { left = n })
+same_parts t u budget m n tables lefts = ap (λ (x : Clients). committing x (record budget { left = m })) tables ∙ ap (λ (k : ℕ). committing u (record budget { left = k })) lefts
+
 pub sent_both : (x y : Sendings) (c : Committed) → y.client ≡ x.client → with_sendings (both_sendings x y) c ≡ with_sendings y (with_sendings x c)
 sent_both x y c same =
     let left : c.budget.left - (x.bytes + y.bytes) ≡ (c.budget.left - x.bytes) - y.bytes = omega arith in
@@ -64,8 +67,7 @@ sent_both x y c same =
     sym (ap (changed (entry_after y) (changed (entry_after x) c.table x.client)) same
     ∙ (changed_twice (entry_after x) (entry_after y) c.table x.client
     ∙ changed_alike (λ e. entry_after y (entry_after x e)) (entry_after (both_sendings x y)) c.table x.client (entry_of c.table x.client) (entry_both x y))) in
-    ap (λ (n : ℕ). record { table = changed (entry_after (both_sendings x y)) c.table x.client; budget = record c.budget { left = n } }) left
-    ∙ ap (λ (t : Clients). record { table = t; budget = record c.budget { left = (c.budget.left - x.bytes) - y.bytes } }) table
+    same_parts _ _ c.budget _ _ table left
 
 small_both : (m n a : ℕ) (o : Option Burst) → IsNextSmall n (option_map (burst_sent m a) o) → IsNextSmall (m + n) o
 small_both m n a None small = tt
@@ -83,21 +85,21 @@ may_both x y c same may =
 
 -- ---- a note
 -- one that sends a packet
-pub sends : (s : Settings) (held : List Held) (note : Note) (x : Sendings) (c : Committed) → Some x ≡ sending_of held note → with_sendings x c ≡ with_committed s held note c
-sends s held (BurstNote k n seq) x c is = ap (λ (o : Option Sendings). with_sent o c) is
-sends s held (Repair k n seq) x c is = ap (λ (o : Option Sendings). with_sent o c) is
-sends s held note x c is = absurd cc
+pub sends : (s : Settings) (size : ℕ) (note : Note) (x : Sendings) (c : Committed) → Some x ≡ sending_of size note → with_sendings x c ≡ with_sized s size note c
+sends s size (BurstNote k n seq) x c is = ap (λ (o : Option Sendings). with_sent o c) is
+sends s size (Repair k n seq) x c is = ap (λ (o : Option Sendings). with_sent o c) is
+sends s size note x c is = absurd cc
 
-pub may_send : (s : Settings) (held : List Held) (note : Note) (x : Sendings) (c : Committed) → Some x ≡ sending_of held note → MayCommit s note c → MaySend x c
-may_send s held (BurstNote k n seq) x c is may = subst (λ (o : Option Sendings). MaySendIfAny o c) (sym is) may
-may_send s held (Repair k n seq) x c is may = subst (λ (o : Option Sendings). MaySendIfAny o c) (sym is) may
-may_send s held note x c is may = absurd cc
+pub may_send : (s : Settings) (size : ℕ) (note : Note) (x : Sendings) (c : Committed) → Some x ≡ sending_of size note → MayCommit s note c → MaySend x c
+may_send s size (BurstNote k n seq) x c is may = subst (λ (o : Option Sendings). MaySendIfAny o c) (sym is) may
+may_send s size (Repair k n seq) x c is may = subst (λ (o : Option Sendings). MaySendIfAny o c) (sym is) may
+may_send s size note x c is may = absurd cc
 
 -- one that sends none
-pub sends_none : (s : Settings) (held : List Held) (note : Note) (c : Committed) → None ≡ sending_of held note → with_other s note c ≡ with_committed s held note c
-sends_none s held (BurstNote k n seq) c is = absurd cc
-sends_none s held (Repair k n seq) c is = absurd cc
-sends_none s held (End k cause) c is = refl
-sends_none s held (Gone k n) c is = refl
-sends_none s held (Forgot k) c is = refl
-sends_none s held note c is = refl
+pub sends_none : (s : Settings) (size : ℕ) (note : Note) (c : Committed) → None ≡ sending_of size note → with_other s note c ≡ with_sized s size note c
+sends_none s size (BurstNote k n seq) c is = absurd cc
+sends_none s size (Repair k n seq) c is = absurd cc
+sends_none s size (End k cause) c is = refl
+sends_none s size (Gone k n) c is = refl
+sends_none s size (Forgot k) c is = refl
+sends_none s size note c is = refl

@@ -1,13 +1,11 @@
 -- Packets that were sent to one client, and are written down together.
-use Rattle.std.specs.Prelude.{ℕ, ◌+◌, ◌-◌, ◌%◌, List, Option, Some, None, option_map}
-use Rattle.rams_model.specs.declared.held.Held.{Held}
+use Rattle.std.specs.Prelude.{ℕ, ◌+◌, ◌-◌, ◌%◌, Option, Some, None, option_map}
 use Rattle.rams_model.specs.declared.note.Note.{Note}
 use Rattle.rams_model.specs.declared.note.Note.TheVariants.{Burst as BurstNote, Repair, Gone, End, Forgot}
-use Rattle.rams_model.specs.Service.{Settings, size_of}
+use Rattle.rams_model.specs.Service.{Settings}
 use Rattle.client_table.specs.declared.entry.Entry.{Entry}
 use Rattle.client_table.specs.{entry_of, without}
 use Rattle.tick_core.specs.declared.sendings.Sendings.{Sendings}
-use Rattle.packet_ring.specs.{packet_of}
 use Rattle.tick_core.specs.Committed.{Committed, burst_sent, changed, entry_awake, with_closed, IsNextSmallIfKnown}
 
 -- one packet
@@ -38,11 +36,11 @@ abbrev pub MaySendIfAny : Option Sendings → Committed → Type 0
 MaySendIfAny None c = Unit {0}
 MaySendIfAny (Some x) c = MaySend x c
 
--- the packet that a note sends
-abbrev pub sending_of : List Held → Note → Option Sendings
-sending_of held (BurstNote client n seq) = Some (one_sending client 1 (size_of (packet_of n held)))
-sending_of held (Repair client n seq) = Some (one_sending client 0 (size_of (packet_of n held)))
-sending_of held _ = None
+-- the packet of this size that a note sends
+abbrev pub sending_of : ℕ → Note → Option Sendings
+sending_of size (BurstNote client n seq) = Some (one_sending client 1 size)
+sending_of size (Repair client n seq) = Some (one_sending client 0 size)
+sending_of size _ = None
 
 -- after a note that sends none
 abbrev pub with_other : Settings → Note → Committed → Committed

@@ -2,30 +2,19 @@
 ghost use Rattle.std.specs.Prelude.{◌≡◌, ◌-◌, ◌<◌, ◌^◌, List, ◌∷◌};
 ghost use Rattle.rams_model.specs.declared.event.Event.{Event};
 ghost use Rattle.rams_model.specs.declared.event.Event.TheVariants.{Tick};
-ghost use Rattle.rams_model.specs.Service.{size_of};
 ghost use Rattle.channel_parts.specs.{StandsFor};
-ghost use Rattle.tick_core.specs.{IsPlanFor, committing, amount_of, amount_for, with_sendings, MaySend, with_sent, MaySendIfAny, sending_of, with_other, with_closed, with_committed, with_all_committed, MayEnd, MayCommit, MayCommitAll};
+ghost use Rattle.tick_core.specs.{IsPlanFor, committing, amount_of, amount_for, with_sendings, MaySend, with_sent, MaySendIfAny, sending_of, with_other, with_closed, sizes, sizes_left, first_size, later_sizes, sizes_behind, with_sized, with_all_sized, MayEnd, MayCommit, MayCommitSized};
 ghost use Rattle.client_table.specs.{entry_of, without};
-ghost use Rattle.packet_ring.specs.{packet_of};
 
 use crate::entries::{begin_entries, close_entry, end_entries, send_to, wake};
 use crate::plan::TickPlan;
 use crate::sendings::Sendings;
+use crate::sizes::Sizes;
 use channel_config::Config;
-use channel_parts::{Cache, Parts, Table};
+use channel_parts::{Parts, Table};
 use client_table::Burst;
 use link_budget::Budget;
-use rams_model::Note;
-
-/// The bytes that the packet of a number takes on the wire.
-fn size_of(cache: &Cache, n: u64) -> u64
-    ensures { result ≡ size_of (packet_of n cache.now.held) }
-{
-    match cache.held(n) {
-        Some(held) => u64::from(held.wire),
-        None => 0,
-    }
-}
+use rams_model::{Note, Order};
 
 /// Takes the size of a packet that was sent from what the channel has left.
 fn spend(budget: &mut Budget, size: u64)
@@ -110,10 +99,10 @@ fn commit_end(depth: u64, table: &mut Table, budget: &mut Budget, client: u64)
 }
 
 /// What a note of a tick says is done, after the packets that were sent last. It answers which packets are
-/// still to be written down then.
+/// still to be written down then. Where it sends one, that has the first of these sizes.
 fn commit_note(
     config: &Config,
-    cache: &Cache,
+    sizes: &mut Sizes<'_>,
     table: &mut Table,
     budget: &mut Budget,
     sent: Option<Sendings>,
@@ -122,9 +111,10 @@ fn commit_note(
     requires sent { MaySendIfAny sent (committing table.old budget.old) }
     requires note { MayCommit config.now note.now (with_sent sent (committing table.old budget.old)) }
     ensures may { MaySendIfAny result (committing table.new budget.new) }
-    ensures value { with_sent result (committing table.new budget.new) ≡ with_committed config.now cache.now.held note.now (with_sent sent (committing table.old budget.old)) }
+    ensures value { with_sent result (committing table.new budget.new) ≡ with_sized config.now (first_size (sizes_left sizes.old)) note.now (with_sent sent (committing table.old budget.old)) }
+    ensures sizes { sizes_left sizes.new ≡ sizes_behind note.now (sizes_left sizes.old) }
 {
-    if let Some(next) = sending_of(cache, note) {
+    if let Some(next) = sending_of(sizes, note) {
         return Some(join_sendings(table, budget, sent, next));
     }
     commit_sent(table, budget, sent);
@@ -132,16 +122,25 @@ fn commit_note(
     None
 }
 
-/// The packet that a note sends.
-fn sending_of(cache: &Cache, note: &Note) -> Option<Sendings>
-    ensures { result ≡ sending_of cache.now.held note.now }
+/// The packet that a note sends, of the first of these sizes.
+fn sending_of(sizes: &mut Sizes<'_>, note: &Note) -> Option<Sendings>
+    ensures value { result ≡ sending_of (first_size (sizes_left sizes.old)) note.now }
+    ensures sizes { sizes_left sizes.new ≡ sizes_behind note.now (sizes_left sizes.old) }
 {
-    let (client, n, of_burst) = match *note {
-        Note::Burst { client, n, .. } => (client, n, 1),
-        Note::Repair { client, n, .. } => (client, n, 0),
+    let (client, of_burst) = match *note {
+        Note::Burst { client, .. } => (client, 1),
+        Note::Repair { client, .. } => (client, 0),
         _ => return None,
     };
-    Some(Sendings::one(client, of_burst, size_of(cache, n)))
+    Some(Sendings::one(client, of_burst, next_size(sizes)))
+}
+
+/// The first of these sizes, and those behind it are left; 0 where there is none.
+fn next_size(sizes: &mut Sizes<'_>) -> u64
+    ensures value { result ≡ first_size (sizes_left sizes.old) }
+    ensures sizes { sizes_left sizes.new ≡ later_sizes (sizes_left sizes.old) }
+{
+    sizes.next().unwrap_or(0)
 }
 
 /// What a note says that sends no packet.
@@ -164,20 +163,21 @@ fn forget(table: &mut Table, client: u64)
     let _ = table.remove(client);
 }
 
-/// What the notes of a tick say is done, in their order.
+/// What the notes of a tick say is done, in their order. Their orders have the packets that they send.
 fn commit_notes(
     config: &Config,
-    cache: &Cache,
     table: &mut Table,
     budget: &mut Budget,
     notes: &[Note],
+    orders: &[Order],
 )
-    requires { MayCommitAll config.now cache.now.held notes.now (committing table.old budget.old) }
-    ensures { committing table.new budget.new ≡ with_all_committed config.now cache.now.held notes.now (committing table.old budget.old) }
+    requires { MayCommitSized config.now (sizes orders.now) notes.now (committing table.old budget.old) }
+    ensures { committing table.new budget.new ≡ with_all_sized config.now (sizes orders.now) notes.now (committing table.old budget.old) }
 {
+    let mut sizes = Sizes::new(orders);
     let mut sent = None;
     for note in notes {
-        sent = commit_note(config, cache, table, budget, sent, note);
+        sent = commit_note(config, &mut sizes, table, budget, sent, note);
     }
     commit_sent(table, budget, sent);
 }
@@ -193,10 +193,10 @@ pub fn commit_tick(parts: &mut Parts, plan: &TickPlan)
     begin_entries(&mut parts.table);
     commit_notes(
         &parts.config,
-        &parts.cache,
         &mut parts.table,
         &mut parts.budget,
         &plan.answer.notes,
+        &plan.answer.orders,
     );
     let channel = parts.config.channel();
     end_entries(&mut parts.table, channel.depth, channel.idle);

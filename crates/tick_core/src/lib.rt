@@ -11,6 +11,7 @@ mod plan;
 mod repairs;
 mod runs;
 mod sendings;
+mod sizes;
 
 pub use channel_parts::Parts;
 pub use commit::commit_tick;

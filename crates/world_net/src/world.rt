@@ -71,13 +71,19 @@ impl World {
         self.parts.hub.add(alloc, config)
     }
 
-    /// What happens: what is said of it, in order. A client is tuned to a channel once; a number that is too
-    /// far from the one that a receiver presents next isn't delivered to it. After want of memory every
-    /// later event is answered with that.
-    pub fn step(&mut self, alloc: Global, event: &WorldEvent) -> Result<Vec<WorldNote>, NoMemory>
+    /// What happens: what is said of it, in order, stands in `notes` then, whose room is used again; what
+    /// stood there goes. A client is tuned to a channel once; a number that is too far from the one that a
+    /// receiver presents next isn't delivered to it. After want of memory every later event is answered
+    /// with that.
+    pub fn step(
+        &mut self,
+        alloc: Global,
+        event: &WorldEvent,
+        notes: &mut Vec<WorldNote>,
+    ) -> Result<(), NoMemory>
         requires { self.old.calls < 2 ^ 40 }
         ensures stands { (w : Worlds) → StandsFor self.old w
-            → IfOk result (λ notes. (notes.items ≡ (happens event.now w).notes) × StandsFor self.new (happens event.now w).world) }
+            → OnOk result ((notes.new.items ≡ (happens event.now w).notes) × StandsFor self.new (happens event.now w).world) }
         ensures cut_off { self.old.cut_off ≡ true → IsErr result }
         ensures stays { OnErr result (self.new.cut_off ≡ true) }
         ensures calls { self.new.calls ≡ self.old.calls + 1 }
@@ -87,10 +93,10 @@ impl World {
             return Err(NoMemory);
         }
         self.cut_off = true;
-        let mut notes = Vec::new(alloc);
-        happen(&mut self.parts, alloc, event, &mut notes)?;
+        notes.clear();
+        happen(&mut self.parts, alloc, event, notes)?;
         self.cut_off = false;
-        Ok(notes)
+        Ok(())
     }
 
     /// How many datagrams were sent so far, by the server and by receivers.

@@ -4,25 +4,27 @@ use Rattle.rams_model.specs.Service.{after_message, told, is_rams}
 use Rattle.feedback_core.specs.declared.framing.Message.{Message}
 use Rattle.feedback_core.specs.{shown_message, IsTurned}
 use Rattle.feedback_core.specs.declared.framing.Message.TheVariants.{Bye, Nack, Request, Stop}
-use Rattle.feedback_core.proofs.Turns.{said_turn, noted_turn, told_hold, told_turn, told_sender}
+use Rattle.feedback_core.proofs.Turns.{said_turn, noted_turn, told_heard, told_turn}
 use Rattle.feedback_core.proofs.answering.answer_message.Goals as goal
 
 pub returns-in-Bye-clause-answers : goal.returns-in-Bye-clause-answers
-returns-in-Bye-clause-answers c = λ before history hold t.
+returns-in-Bye-clause-answers c = λ before history hold visit written.
     let s = c.args.config.now in
     let v = c.args.visitor.now in
+    let t : IsTurned s before history c.args.queue.now v c.args.page.now = record { visit = visit; written = written } in
     let m = shown_message (Bye c.in-Bye.packet) in
     let w = told_turn s m before history c.args.queue.now v c.args.page.now t in
     subst (λ (x : Message). IsTurned s before (after_message s v.client (shown_message x) (told v.client (shown_message x) ∷ history)) c.answer_bye-said.new.queue
     c.answer_bye-said.new.visitor c.write.new.self) (sym c.in-Bye.is)
     (said_turn s m before history (after_message s v.client m (told v.client m ∷ history)) c.answer_bye-said.new.queue c.args.queue.now c.answer_bye-said.new.visitor v
     c.answer_bye-said.result c.args.page.now c.write.new.self c.answer_bye-said.ensures.one.client c.write.ensures.notes c.write.ensures.info
-    (inl c.answer_bye-said.ensures.info) t (c.answer_bye-said.ensures.says before (told v.client m ∷ history) w))
+    (inl c.answer_bye-said.ensures.info) t (c.answer_bye-said.ensures.says before (told v.client m ∷ history) tt w))
 
 pub returns-in-Nack-clause-answers : goal.returns-in-Nack-clause-answers
-returns-in-Nack-clause-answers c = λ before history hold t.
+returns-in-Nack-clause-answers c = λ before history hold visit written.
     let s = c.args.config.now in
     let v = c.args.visitor.now in
+    let t : IsTurned s before history c.args.queue.now v c.args.page.now = record { visit = visit; written = written } in
     let m = shown_message (Nack c.in-Nack.nack) in
     let w = told_turn s m before history c.args.queue.now v c.args.page.now t in
     let page = record c.args.page.now { notes = c.answer_nack.new.notes } in
@@ -30,12 +32,13 @@ returns-in-Nack-clause-answers c = λ before history hold t.
     c.answer_nack.new.visitor page) (sym c.in-Nack.is)
     (noted_turn s m before history (after_message s v.client m (told v.client m ∷ history)) c.answer_nack.new.queue c.args.queue.now c.answer_nack.new.visitor v
     c.args.page.now page c.answer_nack.ensures.one.client refl t
-    (c.answer_nack.ensures.answers before (told v.client m ∷ history) (told_hold s v.client m history c.args.cache.now.held hold) (told_sender v.client m history _ refl) w))
+    (c.answer_nack.ensures.answers before (told v.client m ∷ history) (told_heard s v.client m history c.args.cache.now.held c.in-Nack.nack.sender hold refl) w))
 
 pub returns-in-Request-clause-answers : goal.returns-in-Request-clause-answers
-returns-in-Request-clause-answers c = λ before history hold t.
+returns-in-Request-clause-answers c = λ before history hold visit written.
     let s = c.args.config.now in
     let v = c.args.visitor.now in
+    let t : IsTurned s before history c.args.queue.now v c.args.page.now = record { visit = visit; written = written } in
     let m = shown_message (Request c.in-Request.feedback) in
     let w = told_turn s m before history c.args.queue.now v c.args.page.now t in
     subst (λ (x : Message). IsTurned s before (after_message s v.client (shown_message x) (told v.client (shown_message x) ∷ history)) c.args.queue.now
@@ -43,13 +46,13 @@ returns-in-Request-clause-answers c = λ before history hold t.
     (said_turn s m before history (after_message s v.client m (told v.client m ∷ history)) c.args.queue.now c.args.queue.now c.say_request-said.new.visitor v
     c.say_request-said.result c.args.page.now c.write-in-Request.new.self c.say_request-said.ensures.one.client c.write-in-Request.ensures.notes c.write-in-Request.ensures.info
     (inr (c.requires.fresh (ap (λ (x : Message). is_rams (shown_message x)) c.in-Request.is))) t
-    (c.say_request-said.ensures.says before (told v.client m ∷ history) c.args.queue.now (told_hold s v.client m history c.args.cache.now.held hold)
-    (told_sender v.client m history _ refl) w))
+    (c.say_request-said.ensures.says c.args.queue.now before (told v.client m ∷ history) (told_heard s v.client m history c.args.cache.now.held c.in-Request.feedback.sender hold refl) w))
 
 pub returns-in-Stop-clause-answers : goal.returns-in-Stop-clause-answers
-returns-in-Stop-clause-answers c = λ before history hold t.
+returns-in-Stop-clause-answers c = λ before history hold visit written.
     let s = c.args.config.now in
     let v = c.args.visitor.now in
+    let t : IsTurned s before history c.args.queue.now v c.args.page.now = record { visit = visit; written = written } in
     let m = shown_message (Stop c.in-Stop.feedback) in
     let w = told_turn s m before history c.args.queue.now v c.args.page.now t in
     subst (λ (x : Message). IsTurned s before (after_message s v.client (shown_message x) (told v.client (shown_message x) ∷ history)) c.args.queue.now
@@ -57,4 +60,4 @@ returns-in-Stop-clause-answers c = λ before history hold t.
     (said_turn s m before history (after_message s v.client m (told v.client m ∷ history)) c.args.queue.now c.args.queue.now c.answer_stop-said.new.visitor v
     c.answer_stop-said.result c.args.page.now c.write-in-Stop.new.self c.answer_stop-said.ensures.one.client c.write-in-Stop.ensures.notes c.write-in-Stop.ensures.info
     (inr (c.requires.fresh (ap (λ (x : Message). is_rams (shown_message x)) c.in-Stop.is))) t
-    (c.answer_stop-said.ensures.says before (told v.client m ∷ history) c.args.queue.now w))
+    (c.answer_stop-said.ensures.says c.args.queue.now before (told v.client m ∷ history) tt w))

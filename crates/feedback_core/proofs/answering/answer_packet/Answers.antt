@@ -4,21 +4,23 @@ use Rattle.std.specs.Prelude.{◌&&◌, not}
 use Rattle.rams_model.specs.Service.{is_rams, message_of}
 use Rattle.rtcp_frame.specs.{shown_packet}
 use Rattle.feedback_core.specs.declared.page.Page.{Page}
-use Rattle.feedback_core.specs.{shown_message, turn_of}
+use Rattle.feedback_core.specs.{shown_message, turn_of, IsTurned}
 use Rattle.feedback_core.proofs.Turns.{no_turn, one_turn, is_skipped, is_taken, due_turn}
 use Rattle.feedback_core.proofs.answering.answer_packet.Goals as goal
 
 pub returns-in_default-clause-answers : goal.returns-in_default-clause-answers
-returns-in_default-clause-answers c = λ before history hold t.
+returns-in_default-clause-answers c = λ before history hold visit written.
+    let t : IsTurned c.args.config.now before history c.args.queue.now c.args.visitor.now c.args.page.now = record { visit = visit; written = written } in
     let m = message_of (shown_packet c.args.packet.now) in
     let none : m ≡ None = sym c.in_default.ensures.message in
     no_turn c.args.config.now c.args.visitor.now.client c.args.page.now.is_due m before history c.args.queue.now c.args.visitor.now c.args.page.now
     (ap (turn_of c.args.page.now.is_due) none) t
 
 pub returns-then-not-takes-clause-answers : goal.returns-then-not-takes-clause-answers
-returns-then-not-takes-clause-answers c = λ before history hold t.
+returns-then-not-takes-clause-answers c = λ before history hold visit written.
     let s = c.args.config.now in
     let v = c.args.visitor.now in
+    let t : IsTurned s before history c.args.queue.now v c.args.page.now = record { visit = visit; written = written } in
     let m = message_of (shown_packet c.args.packet.now) in
     let x = shown_message c.in-Some.message in
     let due = c.args.page.now.is_due in
@@ -41,14 +43,15 @@ returns-clause-few c =
     omega (arith, few, len, c.answer_message.ensures.few)
 
 pub returns-clause-answers : goal.returns-clause-answers
-returns-clause-answers c = λ before history hold t.
+returns-clause-answers c = λ before history hold visit written.
     let s = c.args.config.now in
     let v = c.args.visitor.now in
+    let t : IsTurned s before history c.args.queue.now v c.args.page.now = record { visit = visit; written = written } in
     let m = message_of (shown_packet c.args.packet.now) in
     let x = shown_message c.in-Some.message in
     let due = c.args.page.now.is_due in
     let some : m ≡ Some x = sym c.in-Some.ensures.message in
+    let taken = due_turn s before history c.args.queue.now v c.args.page.now c.takes.new.self (due && not (is_rams x)) c.takes.ensures.due t in
     one_turn s v.client due m x before history c.answer_message.new.queue c.answer_message.new.visitor c.answer_message.new.page
     (ap (turn_of due) some ∙ is_taken due x (sym c.takes.ensures.takes ∙ c.if-not-takes.false))
-    (c.answer_message.ensures.answers before history hold
-    (due_turn s before history c.args.queue.now v c.args.page.now c.takes.new.self (due && not (is_rams x)) c.takes.ensures.due t))
+    (c.answer_message.ensures.answers before history hold taken.visit taken.written)

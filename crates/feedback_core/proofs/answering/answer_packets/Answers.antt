@@ -22,18 +22,18 @@ loop-packet-preserved c =
       fresh = c.answer_packet.ensures.fresh;
       room = omega (arith, step, i.room, c.answer_packet.ensures.few, c.answer_packet.ensures.room);
       few = omega (arith, step, i.few, c.answer_packet.ensures.few);
-      answers = λ before history hold t.
-          let a = i.answers before history hold t in
+      answers = λ before history hold visit written.
+          let a = i.answers before history hold visit written in
           after_packet s c.args.cache.now.held c.args.visitor.now.client c.loop-packet.visitor.client before history
           (answered_of c.args.page.now.is_due (packets_left c.args.packets)) c.loop-packet.page.is_due c.answer_packet.new.page.is_due
           (packets_left c.loop-packet.packet-iterator) (packets_left c.next.new.self) p c.loop-packet.queue c.answer_packet.new.queue c.loop-packet.visitor
           c.answer_packet.new.visitor c.loop-packet.page c.answer_packet.new.page a i.one.client c.in-Some.ensures.steps c.answer_packet.ensures.due
-          (c.answer_packet.ensures.answers before a.middle a.held_is a.turned);
+          (c.answer_packet.ensures.answers before a.middle a.held_is a.turned.visit a.turned.written);
     }
 
 pub returns-clause-answers : goal.returns-clause-answers
-returns-clause-answers c = λ before history hold t.
+returns-clause-answers c = λ before history hold visit written.
     let s = c.args.config.now in
-    let a = c.loop-packet.invariant.answers before history hold t in
+    let a = c.loop-packet.invariant.answers before history hold visit written in
     at_last s c.args.cache.now.held c.args.visitor.now.client before history (answered_of c.args.page.now.is_due (packets_left c.args.packets)) c.loop-packet.page.is_due
     (packets_left c.loop-packet.packet-iterator) c.loop-packet.queue c.loop-packet.visitor c.loop-packet.page a c.in-None.ensures.steps.0

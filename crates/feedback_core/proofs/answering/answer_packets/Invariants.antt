@@ -1,8 +1,7 @@
 -- The packets so far are answered.
-use Rattle.std.proofs.Common.{◌≡◌, ◌+◌, ◌≤◌, vec_len, vec_capacity}
-use Rattle.rams_model.specs.Service.{History, hold}
+use Rattle.std.proofs.Common.{◌+◌, ◌≤◌, vec_len, vec_capacity}
 use Rattle.rtcp_frame.specs.{packets_left}
-use Rattle.feedback_core.specs.{most_notes, answered_of, IsFresh, IsTurned, IsSafe, AreOfOne}
+use Rattle.feedback_core.specs.{most_notes, answered_of, IsFresh, IsPage, IsSafe, AreOfOne, Holds, Serves}
 use Rattle.feedback_core.proofs.Turns.{IsPartway}
 use Rattle.feedback_core.proofs.answering.answer_packets.Given as goal
 
@@ -15,7 +14,7 @@ invariant-loop-packet l = record {
   fresh : IsFresh l.page;
   room : vec_len l.page.notes + most_notes (packets_left l.packet-iterator) ≤ vec_capacity l.page.notes;
   few : vec_len l.page.notes + most_notes (packets_left l.packet-iterator) ≤ vec_len l.fn.page.notes + most_notes (packets_left l.fn.packets);
-  answers : (before history : History) → hold l.config history ≡ l.cache.held → IsTurned l.config before history l.fn.queue l.fn.visitor l.fn.page
+  answers : Serves l.config (Holds l.config l.cache.held) l.fn.visitor l.fn.queue (λ before history. IsPage l.config l.fn.visitor.client history l.fn.page
       → IsPartway l.config l.cache.held l.fn.visitor.client before history (answered_of l.fn.page.is_due (packets_left l.fn.packets)) l.page.is_due (packets_left l.packet-iterator) l.queue
-      l.visitor l.page;
+      l.visitor l.page);
 }

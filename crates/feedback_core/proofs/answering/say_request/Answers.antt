@@ -4,7 +4,7 @@ use Rattle.feedback_core.proofs.Told.{said_reply}
 use Rattle.feedback_core.proofs.answering.say_request.Goals as goal
 
 pub returns-clause-says : goal.returns-clause-says
-returns-clause-says c = λ before history queue hold from w.
-    let a = c.answer_request-note.ensures.answers before history queue hold from w in
+returns-clause-says c = λ queue before history heard w.
+    let a = c.answer_request-note.ensures.answers queue before history heard w in
     said_reply c.args.config.now before history queue c.answer_request-note.new.visitor c.args.visitor.now.client (request_at c.args.fci.now) c.answer_request-note.result
     c.request_info.result a.is_lawful c.answer_request-note.ensures.one.client c.request_info.ensures a.visit

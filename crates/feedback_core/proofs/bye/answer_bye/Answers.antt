@@ -10,7 +10,7 @@ use Rattle.feedback_core.proofs.Byes.{bye_unknown, bye_other, bye_without, bye_e
 use Rattle.feedback_core.proofs.bye.answer_bye.Goals as goal
 
 pub returns-in_default-clause-says : goal.returns-in_default-clause-says
-returns-in_default-clause-says c = λ before history w.
+returns-in_default-clause-says c = λ before history any w.
     let s = c.args.config.now in
     let v = c.args.visitor.now in
     let p = shown_packet c.args.packet.now in
@@ -18,7 +18,7 @@ returns-in_default-clause-says c = λ before history w.
     (bye_unknown s before history c.args.queue.now v p c.in_default.is w)
 
 pub returns-then-not-bye_names-clause-says : goal.returns-then-not-bye_names-clause-says
-returns-then-not-bye_names-clause-says c = λ before history w.
+returns-then-not-bye_names-clause-says c = λ before history any w.
     let s = c.args.config.now in
     let v = c.args.visitor.now in
     let p = shown_packet c.args.packet.now in
@@ -27,7 +27,7 @@ returns-then-not-bye_names-clause-says c = λ before history w.
     (bye_other s before history c.args.queue.now v p c.in-Some.entry c.in-Some.is (sym c.bye_names.ensures ∙ c.if-not-bye_names.true) w)
 
 pub returns-in_default-open-clause-says : goal.returns-in_default-open-clause-says
-returns-in_default-open-clause-says c = λ before history w.
+returns-in_default-open-clause-says c = λ before history any w.
     let s = c.args.config.now in
     let v = c.args.visitor.now in
     let p = shown_packet c.args.packet.now in
@@ -38,7 +38,7 @@ returns-in_default-open-clause-says c = λ before history w.
     (sym c.open-open.ensures ∙ c.in_default-open.is) c.forget.ensures w)
 
 pub returns-clause-says : goal.returns-clause-says
-returns-clause-says c = λ before history w.
+returns-clause-says c = λ before history any w.
     let s = c.args.config.now in
     let v = c.args.visitor.now in
     bye_ends s before history c.args.queue.now c.forget.new.self v (shown_packet c.args.packet.now) c.in-Some.entry c.in-Some-open.open c.channel.result.now c.release.new.self

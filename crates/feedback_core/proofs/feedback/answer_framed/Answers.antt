@@ -1,8 +1,11 @@
 -- The client is received, answered and kept.
-use Rattle.std.proofs.Common.{ap}
+use Rattle.std.proofs.Common.{List, [], ap, ◌∙◌}
+use Rattle.rams_model.specs.declared.note.Note.{Note}
+use Rattle.rams_model.specs.Service.{answered}
+use Rattle.client_table.specs.Clients.{Clients}
 use Rattle.channel_parts.specs.declared.parts.Parts.{Parts}
 use Rattle.rtcp_frame.specs.{packets_left}
-use Rattle.feedback_core.proofs.Serving.{parts_with, ready_placed, safe_placed, served}
+use Rattle.feedback_core.proofs.Serving.{parts_with, ready_placed, safe_placed, served, unasked}
 use Rattle.feedback_core.proofs.Telling.{page_tells}
 use Rattle.feedback_core.proofs.feedback.answer_framed.Goals as goal
 
@@ -28,3 +31,9 @@ returns-clause-settings c = ap (λ (p : Parts). p.config) c.in_ok-visitor.ensure
 
 pub returns-clause-told : goal.returns-clause-told
 returns-clause-told c = page_tells c.finish.result _ c.args.client _ c.finish.ensures
+
+pub returns-then-not-has_message-clause-stands : goal.returns-then-not-has_message-clause-stands
+returns-then-not-has_message-clause-stands c = λ events bytes st fe.
+    unasked c.args.parts.now (record c.args.parts.now { table = c.wake.new.table }) events c.args.client bytes (packets_left c.args.packets) c.new-then-not-has_message-2.result st fe
+    (c.has_message.ensures c.if-not-has_message.true) (ap (λ (t : Clients). record c.args.parts.now { table = t }) c.wake.ensures)
+    (c.new-then-not-has_message-2.ensures ∙ ap (λ (ns : List Note). answered ns c.new-then-not-has_message.result.items) c.new.ensures.items ∙ ap (answered []) c.new-then-not-has_message.ensures.items)

@@ -1,8 +1,7 @@
 -- The numbers so far are answered.
-use Rattle.std.proofs.Common.{◌≡◌, ◌+◌, ◌≤◌, Some, length, vec_len, vec_capacity}
-use Rattle.rams_model.specs.Service.{History, hold, newest_sender}
+use Rattle.std.proofs.Common.{◌≡◌, ◌+◌, ◌≤◌, length, vec_len, vec_capacity}
 use Rattle.rtcp_feedback.specs.{numbers_left}
-use Rattle.feedback_core.specs.{IsSafe, AreOfOne, IsVisit}
+use Rattle.feedback_core.specs.{IsSafe, AreOfOne, IsHeard, Serves}
 use Rattle.feedback_core.proofs.Writing.{IsUnderWay}
 use Rattle.feedback_core.proofs.nack.answer_numbers.Given as goal
 
@@ -15,6 +14,7 @@ invariant-loop-low l = record {
   room : vec_len l.notes + length (numbers_left l.low-iterator) ≤ vec_capacity l.notes;
   few : vec_len l.notes + length (numbers_left l.low-iterator) ≤ vec_len l.fn.notes + length (numbers_left l.fn.numbers);
   same : vec_capacity l.notes ≡ vec_capacity l.fn.notes;
-  answers : (before history : History) → hold l.config history ≡ l.cache.held → newest_sender history ≡ Some l.sender → IsVisit l.config before history l.fn.visitor l.fn.queue
-      → IsUnderWay l.config l.cache.held l.sender l.fn.visitor.client before history (numbers_left l.fn.numbers) (numbers_left l.low-iterator) l.queue l.visitor l.fn.notes.items l.notes.items;
+  answers : Serves l.config (IsHeard l.config l.cache.held l.sender) l.fn.visitor l.fn.queue
+      (λ before history. IsUnderWay l.config l.cache.held l.sender l.fn.visitor.client before history (numbers_left l.fn.numbers) (numbers_left l.low-iterator) l.queue l.visitor l.fn.notes.items
+      l.notes.items);
 }

@@ -10,14 +10,14 @@ use Rattle.feedback_core.proofs.Verdicts.{refused, begins_slow, begins_much, acc
 use Rattle.feedback_core.proofs.rams_r.accept.Goals as goal
 
 pub returns-then-rate-channel-clause-answers : goal.returns-then-rate-channel-clause-answers
-returns-then-rate-channel-clause-answers c = λ held h number size before history queue hold from w.
+returns-then-rate-channel-clause-answers c = λ held h number size queue before history heard w.
     let s = c.args.config.now in
     let v = c.args.visitor.now in
     let slow : c.args.rate < s.channel.declared + 1500 = subst (λ (x : Channel). c.args.rate < x.declared + 1500) c.channel-channel.ensures.value c.if-rate-channel.true in
     refused s before history queue v c.refuse.result (begins s held v.client c.args.rate history (Ok h)) 403 c.refuse.ensures (begins_slow s held v.client c.args.rate history h slow) w
 
 pub returns-then-not-reserve-clause-answers : goal.returns-then-not-reserve-clause-answers
-returns-then-not-reserve-clause-answers c = λ held h number size before history queue hold from w.
+returns-then-not-reserve-clause-answers c = λ held h number size queue before history heard w.
     let s = c.args.config.now in
     let v = c.args.visitor.now in
     let fast = subst (λ (x : Channel). x.declared + 1500 ≤ c.args.rate) c.channel-channel.ensures.value c.if-rate-channel.false in
@@ -30,7 +30,7 @@ returns-then-not-reserve-clause-answers c = λ held h number size before history
     c.refuse-then-not-reserve.result (begins s held v.client c.args.rate history (Ok h))) (sym same) answer
 
 pub returns-clause-answers : goal.returns-clause-answers
-returns-clause-answers c = λ held h number size before history queue hold from w.
+returns-clause-answers c = λ held h number size queue before history heard w.
     let s = c.args.config.now in
     let v = c.args.visitor.now in
     let channel = c.channel-channel.result.now in
@@ -38,4 +38,4 @@ returns-clause-answers c = λ held h number size before history queue hold from 
     accepts s held c.args.sender before history queue v c.args.rate c.args.first c.args.behind c.join_ticks-join.result h channel c.reserve.new.self c.entry_under-entry.result
     c.accept_info-last.result c.begun.result c.channel-channel.ensures.value c.channel-channel.ensures.lawful.seq0_most number size fast
     (c.reserve.ensures.room.0 c.if-not-reserve.false) (OnTrue_at c.if-not-reserve.false c.reserve.ensures.taken) c.join_ticks-join.ensures c.entry_under-entry.ensures
-    c.accept_info-last.ensures c.begun.ensures c.requires.closed from w
+    c.accept_info-last.ensures c.begun.ensures c.requires.closed heard.sender_is w

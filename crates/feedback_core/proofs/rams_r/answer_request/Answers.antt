@@ -7,15 +7,15 @@ use Rattle.feedback_core.proofs.Verdicts.{refused, answers_so, unread_request}
 use Rattle.feedback_core.proofs.rams_r.answer_request.Goals as goal
 
 pub returns-in-Ok-clause-answers : goal.returns-in-Ok-clause-answers
-returns-in-Ok-clause-answers c = λ before history queue hold from w.
+returns-in-Ok-clause-answers c = λ queue before history heard w.
     let s = c.args.config.now in
     let k = c.args.visitor.now.client in
     let read : Ok (shown_request c.in-Ok.request) ≡ request_at c.args.fci.now = c.in-Ok.ensures.exact in
     answers_so s before history queue c.on_request.new.visitor c.on_request.result (verdict s k history (Ok (shown_request c.in-Ok.request)))
-    (verdict s k history (request_at c.args.fci.now)) (ap (verdict s k history) read) (c.on_request.ensures.answers before history queue hold from w)
+    (verdict s k history (request_at c.args.fci.now)) (ap (verdict s k history) read) (c.on_request.ensures.answers queue before history heard w)
 
 pub returns-in-Err-clause-answers : goal.returns-in-Err-clause-answers
-returns-in-Err-clause-answers c = λ before history queue hold from w.
+returns-in-Err-clause-answers c = λ queue before history heard w.
     let s = c.args.config.now in
     let v = c.args.visitor.now in
     let fault = c.in-Err.field-0 in

@@ -5,7 +5,7 @@ use Rattle.feedback_core.proofs.Verdicts.{begin_full, begin_refused, begin_small
 use Rattle.feedback_core.proofs.rams_r.begin.Goals as goal
 
 pub returns-then-is_full-clause-answers : goal.returns-then-is_full-clause-answers
-returns-then-is_full-clause-answers c = λ before history queue hold from w.
+returns-then-is_full-clause-answers c = λ queue before history heard w.
     begin_full c.args.config.now c.args.cache.now.held before history queue c.args.visitor.now (shown_request c.args.request.now) c.refuse.result (sym c.is_full.ensures ∙ c.if-is_full.true) c.refuse.ensures w
 
 pub accept-requires-clause-first : goal.accept-requires-clause-first
@@ -26,7 +26,7 @@ accept-requires-clause-first c =
     c.requires.ready.run c.in-Start.is
 
 pub returns-in-Start-clause-answers : goal.returns-in-Start-clause-answers
-returns-in-Start-clause-answers c = λ before history queue hold from w.
+returns-in-Start-clause-answers c = λ queue before history heard w.
     begin_accepts c.args.config.now c.args.cache.now.held c.args.sender before history queue c.args.visitor.now c.accept.new.visitor (shown_request c.args.request.now)
     c.rate_of-rate.result c.in-Start.n c.in-Start.behind c.choose.result c.accept.result
     (record {
@@ -41,10 +41,10 @@ returns-in-Start-clause-answers c = λ before history queue hold from w.
       settings_are = c.requires.ready.settings_are;
       choice_is = c.choose.ensures;
     })
-    c.in-Start.is (sym c.is_full.ensures ∙ c.if-is_full.false) (λ h number size. c.accept.ensures.answers c.args.cache.now.held h number size before history queue hold from w) w
+    c.in-Start.is (sym c.is_full.ensures ∙ c.if-is_full.false) (λ h number size. c.accept.ensures.answers c.args.cache.now.held h number size queue before history heard w) w
 
 pub returns-in-NoStart-clause-answers : goal.returns-in-NoStart-clause-answers
-returns-in-NoStart-clause-answers c = λ before history queue hold from w.
+returns-in-NoStart-clause-answers c = λ queue before history heard w.
     begin_refused c.args.config.now c.args.cache.now.held before history queue c.args.visitor.now (shown_request c.args.request.now) c.rate_of-rate.result c.choose.result
     c.refuse-in-NoStart.result 507
     (record {
@@ -62,7 +62,7 @@ returns-in-NoStart-clause-answers c = λ before history queue hold from w.
     (λ choice. (refused_choice c.args.cache.now.held c.choose.result _ choice).0 c.in-NoStart.is) (sym c.is_full.ensures ∙ c.if-is_full.false) c.refuse-in-NoStart.ensures w
 
 pub returns-in-MinUnmet-clause-answers : goal.returns-in-MinUnmet-clause-answers
-returns-in-MinUnmet-clause-answers c = λ before history queue hold from w.
+returns-in-MinUnmet-clause-answers c = λ queue before history heard w.
     begin_refused c.args.config.now c.args.cache.now.held before history queue c.args.visitor.now (shown_request c.args.request.now) c.rate_of-rate.result c.choose.result
     c.refuse-in-MinUnmet.result 401
     (record {
@@ -80,7 +80,7 @@ returns-in-MinUnmet-clause-answers c = λ before history queue hold from w.
     (λ choice. (refused_choice c.args.cache.now.held c.choose.result _ choice).1 c.in-MinUnmet.is) (sym c.is_full.ensures ∙ c.if-is_full.false) c.refuse-in-MinUnmet.ensures w
 
 pub returns-in-MaxUnmet-clause-answers : goal.returns-in-MaxUnmet-clause-answers
-returns-in-MaxUnmet-clause-answers c = λ before history queue hold from w.
+returns-in-MaxUnmet-clause-answers c = λ queue before history heard w.
     begin_refused c.args.config.now c.args.cache.now.held before history queue c.args.visitor.now (shown_request c.args.request.now) c.rate_of-rate.result c.choose.result
     c.refuse-in-MaxUnmet.result 402
     (record {

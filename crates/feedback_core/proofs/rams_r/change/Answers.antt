@@ -9,7 +9,7 @@ use Rattle.feedback_core.proofs.Verdicts.{refused, changes_slow, changes_much, u
 use Rattle.feedback_core.proofs.rams_r.change.Goals as goal
 
 pub returns-then-rate-channel-clause-answers : goal.returns-then-rate-channel-clause-answers
-returns-then-rate-channel-clause-answers c = λ before history queue b hold is_open same w.
+returns-then-rate-channel-clause-answers c = λ queue b same before history has w.
     let s = c.args.config.now in
     let v = c.args.visitor.now in
     let held = c.args.cache.now.held in
@@ -17,7 +17,7 @@ returns-then-rate-channel-clause-answers c = λ before history queue b hold is_o
     refused s before history queue v c.refuse.result (changes s held v.client c.args.rate history b) 403 c.refuse.ensures (changes_slow s held v.client c.args.rate history b slow) w
 
 pub returns-then-not-reserve-clause-answers : goal.returns-then-not-reserve-clause-answers
-returns-then-not-reserve-clause-answers c = λ before history queue b hold is_open same w.
+returns-then-not-reserve-clause-answers c = λ queue b same before history has w.
     let s = c.args.config.now in
     let v = c.args.visitor.now in
     let held = c.args.cache.now.held in
@@ -28,10 +28,10 @@ returns-then-not-reserve-clause-answers c = λ before history queue b hold is_op
     (changes_much s held v.client c.args.rate history b v.budget c.args.current.now fast w.budget_is same none) w
 
 pub returns-clause-answers : goal.returns-clause-answers
-returns-clause-answers c = λ before history queue b hold is_open same w.
+returns-clause-answers c = λ queue b same before history has w.
     let s = c.args.config.now in
     let v = c.args.visitor.now in
     let fast = subst (λ (x : Channel). x.declared + 1500 ≤ c.args.rate) c.channel-channel.ensures.value c.if-rate-channel.false in
     updates s c.args.cache.now.held before history queue v c.args.rate c.behind-behind.result c.join_ticks-join.result b c.args.current.now c.channel-channel.result.now
     c.release.new.self c.reserve.new.self c.update_info-last.result c.channel-channel.ensures.value fast c.release.ensures (c.reserve.ensures.room.0 c.if-not-reserve.false)
-    (OnTrue_at c.if-not-reserve.false c.reserve.ensures.taken) c.behind-behind.ensures c.join_ticks-join.ensures c.update_info-last.ensures c.requires.opened is_open same w
+    (OnTrue_at c.if-not-reserve.false c.reserve.ensures.taken) c.behind-behind.ensures c.join_ticks-join.ensures c.update_info-last.ensures c.requires.opened has.is_open same w

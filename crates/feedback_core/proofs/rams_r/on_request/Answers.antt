@@ -8,14 +8,14 @@ use Rattle.feedback_core.proofs.Verdicts.{refused, only_preamble, foreign_reques
 use Rattle.feedback_core.proofs.rams_r.on_request.Goals as goal
 
 pub returns-then-request-clause-answers : goal.returns-then-request-clause-answers
-returns-then-request-clause-answers c = λ before history queue hold from w.
+returns-then-request-clause-answers c = λ queue before history heard w.
     let s = c.args.config.now in
     let v = c.args.visitor.now in
     let r = shown_request c.args.request.now in
     refused s before history queue v c.refuse.result (verdict s v.client history (Ok r)) 512 c.refuse.ensures (only_preamble s v.client history r c.if-request.true) w
 
 pub returns-then-not-names-clause-answers : goal.returns-then-not-names-clause-answers
-returns-then-not-names-clause-answers c = λ before history queue hold from w.
+returns-then-not-names-clause-answers c = λ queue before history heard w.
     let s = c.args.config.now in
     let v = c.args.visitor.now in
     let r = shown_request c.args.request.now in
@@ -24,17 +24,17 @@ returns-then-not-names-clause-answers c = λ before history queue hold from w.
     (foreign_request s v.client history r c.if-request.false foreign) w
 
 pub returns-in-Some-clause-answers : goal.returns-in-Some-clause-answers
-returns-in-Some-clause-answers c = λ before history queue hold from w.
+returns-in-Some-clause-answers c = λ queue before history heard w.
     let s = c.args.config.now in
     let r = shown_request c.args.request.now in
     let named = subst (λ (x : Channel). names r x.ssrc ≡ true) c.channel.ensures.value (sym c.names.ensures ∙ c.if-not-names.false) in
-    request_on_burst s c.args.cache.now.held before history queue c.args.visitor.now c.on_burst.new.visitor r c.in-Some.open c.on_burst.result c.if-request.false named hold
-    (sym c.open.ensures ∙ c.in-Some.is) w (λ b is_open same. c.on_burst.ensures.answers before history queue b hold is_open same w)
+    request_on_burst s c.args.cache.now.held before history queue c.args.visitor.now c.on_burst.new.visitor r c.in-Some.open c.on_burst.result c.if-request.false named heard.held_is
+    (sym c.open.ensures ∙ c.in-Some.is) w (λ b is_open same. c.on_burst.ensures.answers queue b same before history (record { held_is = heard.held_is; is_open = is_open }) w)
 
 pub returns-in-None-clause-answers : goal.returns-in-None-clause-answers
-returns-in-None-clause-answers c = λ before history queue hold from w.
+returns-in-None-clause-answers c = λ queue before history heard w.
     let s = c.args.config.now in
     let r = shown_request c.args.request.now in
     let named = subst (λ (x : Channel). names r x.ssrc ≡ true) c.channel.ensures.value (sym c.names.ensures ∙ c.if-not-names.false) in
-    request_without s c.args.cache.now.held before history queue c.args.visitor.now c.begin.new.visitor r c.begin.result c.if-request.false named hold
-    (sym c.open.ensures ∙ c.in-None.is) w (c.begin.ensures.answers before history queue hold from w)
+    request_without s c.args.cache.now.held before history queue c.args.visitor.now c.begin.new.visitor r c.begin.result c.if-request.false named heard.held_is
+    (sym c.open.ensures ∙ c.in-None.is) w (c.begin.ensures.answers queue before history heard w)

@@ -9,7 +9,7 @@ use Rattle.feedback_core.proofs.Stops.{closed_from, unset_from, stop_none, stop_
 use Rattle.feedback_core.proofs.rams_t.stop_burst.Goals as goal
 
 pub returns-in_default-clause-says : goal.returns-in_default-clause-says
-returns-in_default-clause-says c = λ before history queue w.
+returns-in_default-clause-says c = λ queue before history any w.
     let s = c.args.config.now in
     let v = c.args.visitor.now in
     let lawful = stop_burst v.client c.args.named (open_burst s v.client history) history in
@@ -17,7 +17,7 @@ returns-in_default-clause-says c = λ before history queue w.
     (stop_none s before history queue v c.args.named (sym c.open.ensures ∙ closed_from c.open.result c.in_default.not-Some) w)
 
 pub returns-in-Some-stop-clause-says : goal.returns-in-Some-stop-clause-says
-returns-in-Some-stop-clause-says c = λ before history queue w.
+returns-in-Some-stop-clause-says c = λ queue before history any w.
     let s = c.args.config.now in
     let v = c.args.visitor.now in
     let n = c.in-Some-stop.n in
@@ -26,7 +26,7 @@ returns-in-Some-stop-clause-says c = λ before history queue w.
     (stop_kept s before history queue v c.in-Some.open c.args.named n (sym c.open.ensures ∙ c.in-Some.is) c.in-Some-stop.is w)
 
 pub returns-then-n-open-clause-says : goal.returns-then-n-open-clause-says
-returns-then-n-open-clause-says c = λ before history queue w.
+returns-then-n-open-clause-says c = λ queue before history any w.
     let s = c.args.config.now in
     let v = c.args.visitor.now in
     stop_ends s before history queue v c.in-Some.open c.args.named c.stop_of-n.result c.channel.result.now c.release.new.self c.end_info.result
@@ -34,7 +34,7 @@ returns-then-n-open-clause-says c = λ before history queue w.
     c.release.ensures c.end_info.ensures w
 
 pub returns-clause-says : goal.returns-clause-says
-returns-clause-says c = λ before history queue w.
+returns-clause-says c = λ queue before history any w.
     let s = c.args.config.now in
     let v = c.args.visitor.now in
     let n = c.stop_of-n.result in

@@ -1,6 +1,4 @@
 use Rattle.std.proofs.Common.{◌≡◌, sym, subst}
-use Rattle.std.specs.Prelude.{Vec}
-use Rattle.std.specs.declared.alloc.Global.{Global}
 use Rattle.std.proofs.lemmas.Result.{IfOk-weaker}
 use Rattle.rams_model.specs.Texts.{Reached, tick_of}
 use Rattle.trace_serving.specs.{after_line, brought}
@@ -8,7 +6,6 @@ use Rattle.trace_text.specs.declared.line.Judged.{Judged}
 use Rattle.trace_text.specs.{told, IsSettled}
 use Rattle.trace_loop.specs.declared.turn.Turn.{Turn}
 use Rattle.trace_loop.specs.declared.turn.Turn.TheVariants.{GoesOn}
-use Rattle.world_laws.specs.declared.world.WorldNote.{WorldNote}
 use Rattle.world_book.specs.{meet}
 use Rattle.meet_loop.specs.{Comes, Took}
 use Rattle.meet_loop.proofs.Opening.{opens_next, opened_turn}
@@ -36,9 +33,9 @@ returns-in-Channel c =
     IfOk-weaker call.result _ _
     (λ t opens stage number comes.
     let come = subst (λ (j : Judged). Comes m.world m.events m.state (told j) stage) c.in-Channel.is comes in
-    let took = opened_turn m.world call.new.world m.events c.in-Channel.version number m.state c.in-Channel.config stage (settled m.state _ _ c.in-Channel.is c.requires.settled) opens.1 come in
-    subst (λ (x : Turn (Vec WorldNote Global)). Took (after_line meet stage m.state (told c.args.line.now) (brought meet (told c.args.line.now))) call.new.world m.events m.state number x) (sym opens.0)
-    (subst (λ (j : Judged). Took (after_line meet stage m.state (told j) (brought meet (told j))) call.new.world m.events m.state number GoesOn) (sym c.in-Channel.is) took))
+    let took = opened_turn m.world call.new.world m.events c.in-Channel.version number m.state c.in-Channel.config stage m.notes.items (settled m.state _ _ c.in-Channel.is c.requires.settled) opens.1 come in
+    subst (λ (x : Turn (Unit {0})). Took (after_line meet stage m.state (told c.args.line.now) (brought meet (told c.args.line.now))) call.new.world m.events m.state m.notes.items number x) (sym opens.0)
+    (subst (λ (j : Judged). Took (after_line meet stage m.state (told j) (brought meet (told j))) call.new.world m.events m.state m.notes.items number GoesOn) (sym c.in-Channel.is) took))
     call.ensures
 
 pub returns-in-Other : goal.returns-in-Other
@@ -47,6 +44,6 @@ returns-in-Other c =
     let m = c.args.meeting.now in
     IfOk-weaker call.result _ _
     (λ t took stage number comes.
-    subst (λ (j : Judged). Took (after_line meet stage m.state (told j) (brought meet (told j))) call.new.meeting.world call.new.meeting.events call.new.meeting.state number t) (sym c.in-Other.is)
+    subst (λ (j : Judged). Took (after_line meet stage m.state (told j) (brought meet (told j))) call.new.meeting.world call.new.meeting.events call.new.meeting.state call.new.meeting.notes.items number t) (sym c.in-Other.is)
     (took stage number (subst (λ (j : Judged). Comes m.world m.events m.state (told j) stage) c.in-Other.is comes)))
     call.ensures

@@ -17,6 +17,6 @@ returns-in-Some c =
     (λ t took stage number comes.
     let brings = sym c.in_ok-event.ensures ∙ c.in-Some.is in
     let begun = event_stage m.world m.events m.state (shown c.args.line) c.in-Some.event stage brings comes in
-    brought_turn stage m.state (shown c.args.line) c.in-Some.event call.new.world call.new.events number t brings
+    brought_turn stage m.state (shown c.args.line) c.in-Some.event call.new.world call.new.events call.new.notes.items number t brings
     (took (record stage { reached = m.state }) number begun.stands begun.begun_is))
     call.ensures

@@ -37,5 +37,5 @@ returns-in_ok-new_world-in-Head c = λ stage number comes.
     let m = c.args.meeting.now in
     let v = c.in_ok-new_world-in-Head.field-0 in
     let come = subst (λ (l : Line). Comes m.world m.events m.state (shown l) stage) c.in-Head.is comes in
-    subst (λ (l : Line). Took (eventless meet stage m.state (shown l)) (Some v) m.events m.state number GoesOn) (sym c.in-Head.is)
-    (head_turn m.world v m.events c.in-Head.version c.in-Head.tick_ms c.in-Head.link number m.state stage c.in_ok-new_world-in-Head.ensures come)
+    subst (λ (l : Line). Took (eventless meet stage m.state (shown l)) (Some v) m.events m.state m.notes.items number GoesOn) (sym c.in-Head.is)
+    (head_turn m.world v m.events c.in-Head.version c.in-Head.tick_ms c.in-Head.link number m.state stage m.notes.items c.in_ok-new_world-in-Head.ensures come)

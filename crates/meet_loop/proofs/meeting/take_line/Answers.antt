@@ -12,12 +12,12 @@ pub returns-in-Ok : goal.returns-in-Ok
 returns-in-Ok c =
     IfOk-weaker c.after_line.result _ _
     (λ t took stage number stands.
-    judged_turn stage number c.args.line.now (told c.in-Ok.read) c.judge.new.self _ _ _ t
+    judged_turn stage number c.args.line.now (told c.in-Ok.read) c.judge.new.self _ _ _ _ t
     (subst (λ (r : Reached). judged r c.args.line.now ≡ Ok (told c.in-Ok.read, c.judge.new.self)) stands.lines c.in-Ok.ensures.ok)
     (took stage number (comes_next _ _ _ c.judge.new.self c.args.line.now (told c.in-Ok.read) stage stands c.in-Ok.ensures.ok)))
     c.after_line.ensures
 
 pub returns-in-Err : goal.returns-in-Err
 returns-in-Err c = λ stage number stands.
-    refused_turn stage number c.args.line.now c.in-Err.fault _ _ _
+    refused_turn stage number c.args.line.now c.in-Err.fault _ _ _ c.args.meeting.now.notes.items
     (subst (λ (r : Reached). judged r c.args.line.now ≡ Err c.in-Err.fault) stands.lines c.in-Err.ensures.err)

@@ -1,6 +1,5 @@
 -- Each datagram is the front of what is left.
-use Rattle.std.proofs.Common.{◌≡◌, ◌+◌, ◌<◌, ◌≤◌, ℕ, List, ◌++◌, length, map, get_or, take, drop, sym, ap, ◌∙◌, subst, arith}
-use Rattle.std.specs.List.{flat_map}
+use Rattle.std.proofs.Common.{◌≡◌, ◌<◌, ◌≤◌, ℕ, List, ◌++◌, length, map, get_or, take, drop, sym, ap, ◌∙◌, subst, arith}
 use Rattle.rams_model.specs.Service.{datagram, client_of}
 use Rattle.world_laws.specs.{way_of}
 use Rattle.world_laws.specs.World.{Datagram}

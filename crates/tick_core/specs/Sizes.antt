@@ -1,0 +1,60 @@
+-- The sizes on the wire of the packets that a tick sends.
+use Rattle.std.specs.Prelude.{ℕ, List, [], ◌∷◌}
+use Rattle.std.specs.Slice.Iter.{iter_rest}
+use Rattle.rams_model.specs.declared.answer.Order.{Order}
+use Rattle.rams_model.specs.declared.answer.Order.TheVariants.{Rtx, Info}
+use Rattle.rams_model.specs.declared.held.Held.{Held}
+use Rattle.rams_model.specs.declared.note.Note.{Note}
+use Rattle.rams_model.specs.declared.note.Note.TheVariants.{Burst as BurstNote, Repair}
+use Rattle.rams_model.specs.Formats.{wire_size}
+use Rattle.rams_model.specs.Service.{Settings, size_of}
+use Rattle.packet_ring.specs.{packet_of}
+use Rattle.tick_core.specs.declared.sizes.Sizes.{Sizes}
+use Rattle.tick_core.specs.Committed.{Committed, with_sending, MayCommit}
+use Rattle.tick_core.specs.Sendings.{with_other}
+
+-- those of the packets that orders send
+abbrev pub sizes : List Order → List ℕ
+sizes [] = []
+sizes (Rtx client n seq packet ∷ orders) = wire_size packet ∷ sizes orders
+sizes (Info client info ∷ orders) = sizes orders
+
+abbrev pub sizes_left : Sizes → List ℕ
+sizes_left x = sizes (iter_rest x.orders)
+
+-- those of the packets that notes name
+abbrev pub sizes_named : List Held → List Note → List ℕ
+sizes_named held [] = []
+sizes_named held (BurstNote client n seq ∷ notes) = size_of (packet_of n held) ∷ sizes_named held notes
+sizes_named held (Repair client n seq ∷ notes) = size_of (packet_of n held) ∷ sizes_named held notes
+sizes_named held (_ ∷ notes) = sizes_named held notes
+
+-- the first; 0 where there is none
+abbrev pub first_size : List ℕ → ℕ
+first_size [] = 0
+first_size (size ∷ sizes) = size
+
+abbrev pub later_sizes : List ℕ → List ℕ
+later_sizes [] = []
+later_sizes (size ∷ sizes) = sizes
+
+-- those behind the packet of a note
+abbrev pub sizes_behind : Note → List ℕ → List ℕ
+sizes_behind (BurstNote client n seq) sizes = later_sizes sizes
+sizes_behind (Repair client n seq) sizes = later_sizes sizes
+sizes_behind _ sizes = sizes
+
+-- after a note, whose packet has this size
+abbrev pub with_sized : Settings → ℕ → Note → Committed → Committed
+with_sized s size (BurstNote client n seq) c = with_sending client 1 size c
+with_sized s size (Repair client n seq) c = with_sending client 0 size c
+with_sized s size note c = with_other s note c
+
+-- after these notes, whose packets have these sizes
+unfoldable pub with_all_sized : Settings → List ℕ → List Note → Committed → Committed
+with_all_sized s sizes [] c = c
+with_all_sized s sizes (note ∷ notes) c = with_all_sized s (sizes_behind note sizes) notes (with_sized s (first_size sizes) note c)
+
+unfoldable pub MayCommitSized : Settings → List ℕ → List Note → Committed → Type 0
+MayCommitSized s sizes [] c = Unit {0}
+MayCommitSized s sizes (note ∷ notes) c = MayCommit s note c × MayCommitSized s (sizes_behind note sizes) notes (with_sized s (first_size sizes) note c)
