@@ -5,7 +5,7 @@ ghost use Rattle.order_datagrams.specs.{Renders};
 ghost use Rattle.answer_text.specs.{entry_text};
 
 use crate::asking::{asked, asks, client_of};
-use book_text::{append_note, append_told};
+use book_text::Pen;
 use order_datagrams::{Config, append_order};
 use ram_io::NoMemory;
 use rams_model::{Note, Octets, Order};
@@ -13,6 +13,7 @@ use rams_model::{Note, Octets, Order};
 /// Appends the lines of a note, at the event of this number; `orders` are those of this note and of the
 /// notes after it. The datagram is made in `room`. An error changes nothing of the text.
 pub fn append_entry(
+    pen: &mut Pen,
     text: &mut Vec<u8>,
     room: &mut Vec<u8>,
     config: &Config,
@@ -29,15 +30,16 @@ pub fn append_entry(
         Some(order) => {
             room.clear();
             append_order(room, config, order)?;
-            append_told(text, event, id, note, client_of(order), room)
+            pen.append_told(text, event, id, note, client_of(order), room)
         }
-        None => append_note(text, event, id, note),
+        None => pen.append_note(text, event, id, note),
     }
 }
 
 /// Appends the lines of a note whose datagram is made already: the orders are those of this note and of
-/// the notes after it, and so are their datagrams.
+/// the notes after it, and so are their datagrams. An error changes nothing of the text.
 pub(crate) fn append_entry_with(
+    pen: &mut Pen,
     text: &mut Vec<u8>,
     config: &Config,
     event: u64,
@@ -46,13 +48,14 @@ pub(crate) fn append_entry_with(
     made: &[Octets],
 ) -> Result<(), NoMemory>
     requires { made.now ≡ map (datagram config.now) orders.now }
-    ensures { OnOk result (text.new.items ≡ text.old.items ++ entry_text config.now event note.now orders.now) }
+    ensures text { OnOk result (text.new.items ≡ text.old.items ++ entry_text config.now event note.now orders.now) }
+    ensures err { OnErr result (text.new.items ≡ text.old.items) }
 {
     let id = config.channel().id;
     match (asks(note), orders, made) {
         (true, [order, ..], [bytes, ..]) => {
-            append_told(text, event, id, note, client_of(order), bytes.bytes())
+            pen.append_told(text, event, id, note, client_of(order), bytes.bytes())
         }
-        _ => append_note(text, event, id, note),
+        _ => pen.append_note(text, event, id, note),
     }
 }

@@ -6,6 +6,7 @@
 
 mod line;
 mod note;
+mod pen;
 mod piece;
 mod tail;
 
@@ -13,5 +14,5 @@ pub use line::{
     append_count, append_hex, append_no_channel, append_refused, append_send, append_with_hex,
     begin,
 };
-pub use note::{append_note, append_told};
+pub use pen::Pen;
 pub use tail::Tail;

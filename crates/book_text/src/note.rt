@@ -1,58 +1,13 @@
-//! The lines of notes.
+//! The words of notes.
 ghost use Rattle.std.specs.Prelude.{◌≡◌, ◌∷◌, ◌++◌, ◌+◌, ◌≤◌, ◌<◌, OnOk, OnErr, codes, length, vec_capacity};
 ghost use Rattle.rams_model.specs.Texts.{spaced, of_number, of_word, live_words, note_words, note_line, send_line, rtp_fault_word, frame_fault_word, cause_word};
 
-use crate::line::{append_with_hex, begin};
 use crate::piece::Piece;
 use crate::tail::Tail;
-use ram_io::NoMemory;
 use rams_model::{Cause, FrameFault, LiveNote, Note, RtpFault};
 
-/// The line of a note: `EVENT ID`, and the note's words, as `5 7 burst 5 65547 500`.
-#[tactic(auto, unfolding(rams_model::specs::Texts::BookText::note_line))]
-pub fn append_note(text: &mut Vec<u8>, event: u64, id: u16, note: &Note) -> Result<(), NoMemory>
-    ensures text { OnOk result (text.new.items ≡ text.old.items ++ note_line event id note.now) }
-    ensures err { OnErr result (text.new.items ≡ text.old.items) }
-    ensures full { OnErr result (vec_capacity text.old < length text.old.items + length (note_line event id note.now)) }
-    ensures room { vec_capacity text.old ≤ vec_capacity text.new }
-{
-    let mut line = Tail::new();
-    line.byte(b'\n');
-    words(&mut line, note);
-    begin(&mut line, event, id);
-    line.append_to(text)
-}
-
-/// The line of a note, and behind it that of a datagram to a client.
-#[tactic(auto, unfolding(rams_model::specs::Texts::BookText::note_line, rams_model::specs::Texts::BookText::send_line))]
-pub fn append_told(
-    text: &mut Vec<u8>,
-    event: u64,
-    id: u16,
-    note: &Note,
-    client: u64,
-    bytes: &[u8],
-) -> Result<(), NoMemory>
-    ensures text { OnOk result (text.new.items ≡ text.old.items ++ (note_line event id note.now ++ send_line event id client bytes.now)) }
-    ensures err { OnErr result (text.new.items ≡ text.old.items) }
-    ensures full { OnErr result (vec_capacity text.old < length text.old.items + length (note_line event id note.now ++ send_line event id client bytes.now)) }
-    ensures room { vec_capacity text.old ≤ vec_capacity text.new }
-{
-    let mut lines = Tail::new();
-    let front = Piece::front(event, id);
-    let to = Piece::spaced(client);
-    lines.byte(b' ');
-    lines.piece(&to);
-    lines.word(b"send");
-    lines.piece(&front);
-    lines.byte(b'\n');
-    words_to(&mut lines, note, client, &to);
-    lines.piece(&front);
-    append_with_hex(text, &lines, bytes)
-}
-
-// The words of a note, where the digits of a client are at hand.
-fn words_to(line: &mut Tail, note: &Note, client: u64, to: &Piece)
+/// The words of a note, where the digits of a client are at hand.
+pub(crate) fn words_to(line: &mut Tail, note: &Note, client: u64, to: &Piece)
     requires to { to.now ≡ spaced client }
     requires few { length to.now ≤ 21 }
     requires room { length line.old + 110 ≤ 224 }
@@ -70,8 +25,8 @@ fn words_to(line: &mut Tail, note: &Note, client: u64, to: &Piece)
     }
 }
 
-// The words of a note, without a space in front.
-fn words(line: &mut Tail, note: &Note)
+/// The words of a note, without a space in front.
+pub(crate) fn words(line: &mut Tail, note: &Note)
     requires { length line.old + 110 ≤ 224 }
     ensures line { line.new ≡ note_words note.now ++ line.old }
     ensures few { length line.new ≤ length line.old + 110 }

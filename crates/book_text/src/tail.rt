@@ -1,5 +1,5 @@
 //! The end of a line, which grows at its front.
-ghost use Rattle.std.specs.Prelude.{◌≡◌, ◌+◌, ◌≤◌, ◌<◌, ◌++◌, [], ◌∷◌, OnOk, OnErr, length, decimal, vec_capacity};
+ghost use Rattle.std.specs.Prelude.{◌≡◌, ◌+◌, ◌-◌, ◌≤◌, ◌<◌, ◌++◌, [], ◌∷◌, OnOk, OnErr, drop, length, decimal, vec_capacity};
 ghost use Rattle.rams_model.specs.Texts.{spaced, of_number};
 
 use crate::piece::{PIECE, Piece};
@@ -39,6 +39,23 @@ impl Tail {
             bytes: [0; ROOM],
             start: ROOM,
         }
+    }
+
+    /// Takes all its bytes away; the room stays as it is.
+    #[inline]
+    pub(crate) fn clear(&mut self)
+        ensures { self.new ≡ [] }
+    {
+        self.start = ROOM;
+    }
+
+    /// Keeps so many bytes at its end, and takes those in front of them away.
+    #[inline]
+    pub(crate) fn keep(&mut self, n: usize)
+        requires { n ≤ length self.old }
+        ensures { self.new ≡ drop (length self.old - n) self.old }
+    {
+        self.start = ROOM.saturating_sub(n);
     }
 
     /// How many bytes it has.

@@ -1,6 +1,6 @@
 //! Lines of a book behind a text, written by hand.
 use crate::fixtures::same;
-use book_text::{append_count, append_no_channel, append_note, append_refused, append_send};
+use book_text::{Pen, append_count, append_no_channel, append_refused, append_send};
 use rams_model::{Cause, FrameFault, LineFault, LiveNote, Note, RtpFault};
 use std::alloc::Global;
 use std::process::Abort;
@@ -251,7 +251,7 @@ fn expect_lines<T, F: Fn(Vec<u8>, &T) -> Result<Vec<u8>, Fail>>(
 }
 
 fn note_line(mut text: Vec<u8>, note: &Note) -> Result<Vec<u8>, Fail> {
-    append_note(&mut text, 4, 7, note)?;
+    Pen::new().append_note(&mut text, 4, 7, note)?;
     Ok(text)
 }
 
@@ -284,7 +284,7 @@ const FORGOT: Note = Note::Forgot {
 #[test]
 fn the_greatest_numbers_are_written(rt: HostRuntime) -> Result<(), Fail> {
     let mut text = Vec::new(rt.alloc());
-    append_note(&mut text, u64::MAX, 65_535, &FORGOT)?;
+    Pen::new().append_note(&mut text, u64::MAX, 65_535, &FORGOT)?;
     append_no_channel(&mut text, 4, 7)?;
     append_count(&mut text, b"done", 0)?;
     let want = b"18446744073709551615 65535 forgot 281474976710655\n4 7 no-channel\ndone 0\n";

@@ -1,12 +1,13 @@
 //! The books of channels, read side by side in the order of their events.
-ghost use Rattle.std.specs.Prelude.{◌≡◌, ◌++◌, ◌==◌, IfOk, OnOk};
+ghost use Rattle.std.specs.Prelude.{◌≡◌, ◌++◌, ◌==◌, IfOk, OnErr, OnOk};
+ghost use Rattle.std.specs.Io.{StartsWith};
 ghost use Rattle.std.specs.List.{flat_map, list_any};
 ghost use Rattle.pool_loop.specs.declared.routes.Route.TheVariants.{To};
 ghost use Rattle.pool_loop.specs.{AllCanRender, CanRender, all_left, all_past, heard_text, left_of, next_text, number_of, past, route_text, turned, unheard_text};
 
 use crate::routes::{Route, reaches};
 use answer_text::append_answer;
-use book_text::append_no_channel;
+use book_text::{Pen, append_no_channel};
 use channel_book::{Book, Entry};
 use channel_config::Config;
 use ram_io::NoMemory;
@@ -36,6 +37,7 @@ pub(crate) fn whole_books(alloc: Global, books: &[Book]) -> Result<Vec<Unwritten
 /// Appends what a book has for the event of this number, its next, and goes past it. The datagrams are
 /// made in `room`.
 fn append_next(
+    pen: &mut Pen,
     text: &mut Vec<u8>,
     room: &mut Vec<u8>,
     left: &mut Unwritten<'_>,
@@ -43,10 +45,11 @@ fn append_next(
 ) -> Result<(), NoMemory>
     requires { CanRender (left_of left.old) }
     ensures text { OnOk result (text.new.items ≡ text.old.items ++ next_text event (left_of left.old)) }
+    ensures front { StartsWith text.new.items text.old.items }
     ensures left { OnOk result (left_of left.new ≡ turned (left_of left.old)) }
 {
     if let [entry, later @ ..] = left.entries {
-        append_answer(text, room, left.config, event, &entry.answer)?;
+        append_answer(pen, text, room, left.config, event, &entry.answer)?;
         left.entries = later;
     }
     Ok(())
@@ -54,6 +57,7 @@ fn append_next(
 
 /// The same, where the event goes to the book's channel.
 fn append_heard(
+    pen: &mut Pen,
     text: &mut Vec<u8>,
     room: &mut Vec<u8>,
     left: &mut Unwritten<'_>,
@@ -62,16 +66,18 @@ fn append_heard(
 ) -> Result<(), NoMemory>
     requires { CanRender (left_of left.old) }
     ensures text { OnOk result (text.new.items ≡ text.old.items ++ heard_text event route (left_of left.old)) }
+    ensures front { StartsWith text.new.items text.old.items }
     ensures left { OnOk result (left_of left.new ≡ past route (left_of left.old)) }
 {
     if reaches(route, left.config.channel().id) {
-        append_next(text, room, left, event)?;
+        append_next(pen, text, room, left, event)?;
     }
     Ok(())
 }
 
 /// The same for each book.
 fn append_all(
+    pen: &mut Pen,
     text: &mut Vec<u8>,
     room: &mut Vec<u8>,
     left: &mut [Unwritten<'_>],
@@ -80,10 +86,11 @@ fn append_all(
 ) -> Result<(), NoMemory>
     requires { AllCanRender (all_left left.old) }
     ensures text { OnOk result (text.new.items ≡ text.old.items ++ flat_map (heard_text event route) (all_left left.old)) }
+    ensures front { StartsWith text.new.items text.old.items }
     ensures left { OnOk result (all_left left.new ≡ all_past route (all_left left.old)) }
 {
     for place in 0..left.len() {
-        append_heard(text, room, &mut left[place], event, route)?;
+        append_heard(pen, text, room, &mut left[place], event, route)?;
     }
     Ok(())
 }
@@ -102,7 +109,8 @@ fn append_unknown(
     event: u64,
     id: u16,
 ) -> Result<(), NoMemory>
-    ensures { OnOk result (text.new.items ≡ text.old.items ++ unheard_text event (To id) (all_left left.now)) }
+    ensures text { OnOk result (text.new.items ≡ text.old.items ++ unheard_text event (To id) (all_left left.now)) }
+    ensures err { OnErr result (text.new.items ≡ text.old.items) }
 {
     if has_number(left, id) {
         return Ok(());
@@ -117,7 +125,8 @@ fn append_unheard(
     event: u64,
     route: Route,
 ) -> Result<(), NoMemory>
-    ensures { OnOk result (text.new.items ≡ text.old.items ++ unheard_text event route (all_left left.now)) }
+    ensures text { OnOk result (text.new.items ≡ text.old.items ++ unheard_text event route (all_left left.now)) }
+    ensures err { OnErr result (text.new.items ≡ text.old.items) }
 {
     match route {
         Route::To(id) => append_unknown(text, left, event, id),
@@ -126,8 +135,9 @@ fn append_unheard(
 }
 
 /// Appends the lines of the event of this number, which goes there, and goes past it in each book that
-/// has it.
+/// has it. An error changes nothing of the text.
 pub(crate) fn append_event(
+    pen: &mut Pen,
     text: &mut Vec<u8>,
     room: &mut Vec<u8>,
     left: &mut [Unwritten<'_>],
@@ -137,7 +147,30 @@ pub(crate) fn append_event(
     requires { AllCanRender (all_left left.old) }
     ensures text { OnOk result (text.new.items ≡ text.old.items ++ route_text event route (all_left left.old)) }
     ensures left { OnOk result (all_left left.new ≡ all_past route (all_left left.old)) }
+    ensures err { OnErr result (text.new.items ≡ text.old.items) }
+{
+    let start = text.len();
+    let appended = append_routed(pen, text, room, left, event, route);
+    if appended.is_err() {
+        text.truncate(start);
+    }
+    appended
+}
+
+/// The same, where an error leaves the first lines.
+fn append_routed(
+    pen: &mut Pen,
+    text: &mut Vec<u8>,
+    room: &mut Vec<u8>,
+    left: &mut [Unwritten<'_>],
+    event: u64,
+    route: Route,
+) -> Result<(), NoMemory>
+    requires { AllCanRender (all_left left.old) }
+    ensures text { OnOk result (text.new.items ≡ text.old.items ++ route_text event route (all_left left.old)) }
+    ensures left { OnOk result (all_left left.new ≡ all_past route (all_left left.old)) }
+    ensures front { StartsWith text.new.items text.old.items }
 {
     append_unheard(text, left, event, route)?;
-    append_all(text, room, left, event, route)
+    append_all(pen, text, room, left, event, route)
 }

@@ -10,7 +10,7 @@ ghost use Rattle.pool_loop.specs.{AllCanRender, all_left, all_past, closing_text
 
 use crate::routes::Route;
 use crate::walking::{Unwritten, append_event, whole_books};
-use book_text::append_count;
+use book_text::{Pen, append_count};
 use channel_book::Book;
 use ledger_text::append_ledger;
 use line_io::Gather;
@@ -18,30 +18,30 @@ use pool_run::{Ledger, Pooled};
 use ram_io::{NoMemory, Sink};
 use rams_model::Status;
 use std::alloc::Global;
-use trace_loop::{Stop, flush, put};
+use trace_loop::{Stop, flush, put, settle};
 
-/// The text that waits for the sink, and room for some lines and a datagram.
+/// The text that waits for the sink, what writes the lines of notes, and room for a datagram.
 #[derive(Drop)]
-struct Pen {
+struct Writer {
     gather: Gather,
-    lines: Vec<u8>,
+    pen: Pen,
     datagram: Vec<u8>,
 }
 
-/// A pen with which nothing waits.
-fn new_pen(alloc: Global) -> Result<Pen, NoMemory>
-    ensures { IfOk result (λ pen. pen.gather ≡ []) }
+/// A writer with which nothing waits.
+fn new_writer(alloc: Global) -> Result<Writer, NoMemory>
+    ensures { IfOk result (λ writer. writer.gather ≡ []) }
 {
-    Ok(Pen {
+    Ok(Writer {
         gather: Gather::new(alloc)?,
-        lines: Vec::new(alloc),
+        pen: Pen::new(),
         datagram: Vec::new(alloc),
     })
 }
 
 /// Adds the lines of the event of this number, which goes there.
 fn write_event<K: Sink>(
-    pen: &mut Pen,
+    writer: &mut Writer,
     sink: &mut K,
     left: &mut [Unwritten<'_>],
     event: u64,
@@ -49,33 +49,39 @@ fn write_event<K: Sink>(
 ) -> Result<(), Stop>
     requires { AllCanRender (all_left left.old) }
     ensures left { OnOk result (all_left left.new ≡ all_past route.now (all_left left.old)) }
-    ensures all { OnOk result (Passes (K.held sink.old) (K.held sink.new) (pen.old.gather ++ route_text event route.now (all_left left.old)) pen.new.gather) }
-    ensures front { IfErr result (StopsIn (K.held sink.old) (K.held sink.new) (pen.old.gather ++ route_text event route.now (all_left left.old)) pen.new.gather) }
+    ensures all { OnOk result (Passes (K.held sink.old) (K.held sink.new) (writer.old.gather ++ route_text event route.now (all_left left.old)) writer.new.gather) }
+    ensures front { IfErr result (StopsIn (K.held sink.old) (K.held sink.new) (writer.old.gather ++ route_text event route.now (all_left left.old)) writer.new.gather) }
     ensures cause { IsStoppedByWrite (K.faults sink.old) (K.faults sink.new) result }
-    ensures steady { (room : ℕ) → K.is_steady sink.old (length pen.old.gather + length (route_text event route.now (all_left left.old)) + room)
-        → OnlyMemoryStops result (K.is_steady sink.new (length pen.new.gather + room)) }
+    ensures steady { (room : ℕ) → K.is_steady sink.old (length writer.old.gather + length (route_text event route.now (all_left left.old)) + room)
+        → OnlyMemoryStops result (K.is_steady sink.new (length writer.new.gather + room)) }
 {
-    pen.lines.clear();
-    append_event(&mut pen.lines, &mut pen.datagram, left, event, *route)?;
-    put(&mut pen.gather, sink, &pen.lines)
+    append_event(
+        &mut writer.pen,
+        writer.gather.text(),
+        &mut writer.datagram,
+        left,
+        event,
+        *route,
+    )?;
+    settle(&mut writer.gather, sink)
 }
 
 /// Adds the lines of events that go there; they are counted from 1.
 fn write_events<K: Sink>(
-    pen: &mut Pen,
+    writer: &mut Writer,
     sink: &mut K,
     left: &mut [Unwritten<'_>],
     routes: &[Route],
 ) -> Result<(), Stop>
     requires { AllCanRender (all_left left.old) }
-    ensures all { OnOk result (Passes (K.held sink.old) (K.held sink.new) (pen.old.gather ++ walk_text 1 routes.now (all_left left.old)) pen.new.gather) }
-    ensures front { IfErr result (StopsIn (K.held sink.old) (K.held sink.new) (pen.old.gather ++ walk_text 1 routes.now (all_left left.old)) pen.new.gather) }
+    ensures all { OnOk result (Passes (K.held sink.old) (K.held sink.new) (writer.old.gather ++ walk_text 1 routes.now (all_left left.old)) writer.new.gather) }
+    ensures front { IfErr result (StopsIn (K.held sink.old) (K.held sink.new) (writer.old.gather ++ walk_text 1 routes.now (all_left left.old)) writer.new.gather) }
     ensures cause { IsStoppedByWrite (K.faults sink.old) (K.faults sink.new) result }
-    ensures steady { (room : ℕ) → K.is_steady sink.old (length pen.old.gather + length (walk_text 1 routes.now (all_left left.old)) + room)
-        → OnlyMemoryStops result (K.is_steady sink.new (length pen.new.gather + room)) }
+    ensures steady { (room : ℕ) → K.is_steady sink.old (length writer.old.gather + length (walk_text 1 routes.now (all_left left.old)) + room)
+        → OnlyMemoryStops result (K.is_steady sink.new (length writer.new.gather + room)) }
 {
     for place in 0..routes.len() {
-        write_event(pen, sink, left, place as u64 + 1, &routes[place])?;
+        write_event(writer, sink, left, place as u64 + 1, &routes[place])?;
     }
     Ok(())
 }
@@ -93,46 +99,54 @@ fn ids_of(alloc: Global, books: &[Book]) -> Result<Vec<u16>, NoMemory>
 
 /// Adds the line of the end of a book of so many events, and a ledger.
 fn write_closing<K: Sink>(
-    pen: &mut Pen,
+    alloc: Global,
+    writer: &mut Writer,
     sink: &mut K,
     events: u64,
     ids: &[u16],
     ledger: &Ledger,
 ) -> Result<(), Stop>
     requires few { claimed ledger.now.claims.items < 2 ^ 64 }
-    ensures all { OnOk result (Passes (K.held sink.old) (K.held sink.new) (pen.old.gather ++ closing_text events ids.now ledger.now.granted ledger.now.claims.items) pen.new.gather) }
-    ensures front { IfErr result (StopsIn (K.held sink.old) (K.held sink.new) (pen.old.gather ++ closing_text events ids.now ledger.now.granted ledger.now.claims.items) pen.new.gather) }
+    ensures all { OnOk result (Passes (K.held sink.old) (K.held sink.new) (writer.old.gather ++ closing_text events ids.now ledger.now.granted ledger.now.claims.items) writer.new.gather) }
+    ensures front { IfErr result (StopsIn (K.held sink.old) (K.held sink.new) (writer.old.gather ++ closing_text events ids.now ledger.now.granted ledger.now.claims.items) writer.new.gather) }
     ensures cause { IsStoppedByWrite (K.faults sink.old) (K.faults sink.new) result }
-    ensures steady { (room : ℕ) → K.is_steady sink.old (length pen.old.gather + length (closing_text events ids.now ledger.now.granted ledger.now.claims.items) + room)
-        → OnlyMemoryStops result (K.is_steady sink.new (length pen.new.gather + room)) }
+    ensures steady { (room : ℕ) → K.is_steady sink.old (length writer.old.gather + length (closing_text events ids.now ledger.now.granted ledger.now.claims.items) + room)
+        → OnlyMemoryStops result (K.is_steady sink.new (length writer.new.gather + room)) }
 {
-    pen.lines.clear();
-    append_count(&mut pen.lines, b"done", events)?;
-    append_ledger(&mut pen.lines, ids, ledger)?;
-    put(&mut pen.gather, sink, &pen.lines)
+    let mut lines = Vec::new(alloc);
+    append_count(&mut lines, b"done", events)?;
+    append_ledger(&mut lines, ids, ledger)?;
+    put(&mut writer.gather, sink, &lines)
 }
 
 /// Adds the book of the events that go there, and the ledger.
 fn write_parts<K: Sink>(
     alloc: Global,
-    pen: &mut Pen,
+    writer: &mut Writer,
     sink: &mut K,
     routes: &[Route],
     pooled: &Pooled,
 ) -> Result<(), Stop>
     requires rendered { AllCanRender pooled.now.books.items }
     requires few { claimed pooled.now.ledger.claims.items < 2 ^ 64 }
-    ensures all { OnOk result (Passes (K.held sink.old) (K.held sink.new) (pen.old.gather ++ pooled_text routes.now pooled.now.books.items pooled.now.ledger.granted pooled.now.ledger.claims.items) pen.new.gather) }
-    ensures front { IfErr result (StopsIn (K.held sink.old) (K.held sink.new) (pen.old.gather ++ pooled_text routes.now pooled.now.books.items pooled.now.ledger.granted pooled.now.ledger.claims.items) pen.new.gather) }
+    ensures all { OnOk result (Passes (K.held sink.old) (K.held sink.new) (writer.old.gather ++ pooled_text routes.now pooled.now.books.items pooled.now.ledger.granted pooled.now.ledger.claims.items) writer.new.gather) }
+    ensures front { IfErr result (StopsIn (K.held sink.old) (K.held sink.new) (writer.old.gather ++ pooled_text routes.now pooled.now.books.items pooled.now.ledger.granted pooled.now.ledger.claims.items) writer.new.gather) }
     ensures cause { IsStoppedByWrite (K.faults sink.old) (K.faults sink.new) result }
-    ensures steady { (room : ℕ) → K.is_steady sink.old (length pen.old.gather + length (pooled_text routes.now pooled.now.books.items pooled.now.ledger.granted pooled.now.ledger.claims.items) + room)
-        → OnlyMemoryStops result (K.is_steady sink.new (length pen.new.gather + room)) }
+    ensures steady { (room : ℕ) → K.is_steady sink.old (length writer.old.gather + length (pooled_text routes.now pooled.now.books.items pooled.now.ledger.granted pooled.now.ledger.claims.items) + room)
+        → OnlyMemoryStops result (K.is_steady sink.new (length writer.new.gather + room)) }
 {
     let ids = ids_of(alloc, &pooled.books)?;
     let mut left = whole_books(alloc, &pooled.books)?;
-    put(&mut pen.gather, sink, b"rams-book 1\n")?;
-    write_events(pen, sink, &mut left, routes)?;
-    write_closing(pen, sink, routes.len() as u64, &ids, &pooled.ledger)
+    put(&mut writer.gather, sink, b"rams-book 1\n")?;
+    write_events(writer, sink, &mut left, routes)?;
+    write_closing(
+        alloc,
+        writer,
+        sink,
+        routes.len() as u64,
+        &ids,
+        &pooled.ledger,
+    )
 }
 
 /// Writes the book of the trace whose events go there, and the ledger.
@@ -150,8 +164,8 @@ pub(crate) fn write_pooled<K: Sink>(
     ensures cause { IsStoppedByWrite (K.faults sink.old) (K.faults sink.new) result }
     ensures steady { K.is_steady sink.old (length (pooled_text routes.now pooled.now.books.items pooled.now.ledger.granted pooled.now.ledger.claims.items)) → OnlyMemoryStops result (Unit {0}) }
 {
-    let mut pen = new_pen(alloc)?;
-    write_parts(alloc, &mut pen, sink, routes, pooled)?;
-    flush(&mut pen.gather, sink)?;
+    let mut writer = new_writer(alloc)?;
+    write_parts(alloc, &mut writer, sink, routes, pooled)?;
+    flush(&mut writer.gather, sink)?;
     Ok(Status::Done)
 }

@@ -57,6 +57,7 @@ fn write_entry<K: Sink>(
         → OnlyMemoryStops result (K.is_steady sink.new (length writer.new.gather + room)) }
 {
     append_entry(
+        &mut writer.pen,
         writer.gather.text(),
         &mut writer.datagram,
         config,

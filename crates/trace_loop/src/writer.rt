@@ -7,14 +7,16 @@ ghost use Rattle.trace_loop.specs.{last_line, written, CanWrite, IsStoppedByWrit
 use crate::server::TraceServer;
 use crate::stop::Stop;
 use crate::turn::{Turn, append_last};
+use book_text::Pen;
 use line_io::Gather;
 use ram_io::{NoMemory, Sink};
 use std::alloc::Global;
 
-/// The text that waits for the sink, and room for a datagram.
+/// The text that waits for the sink, what writes the lines of notes, and room for a datagram.
 #[derive(Drop)]
 pub struct Writer {
     pub gather: Gather,
+    pub pen: Pen,
     pub datagram: Vec<u8>,
 }
 
@@ -24,6 +26,7 @@ pub(crate) fn new_writer(alloc: Global) -> Result<Writer, NoMemory>
 {
     Ok(Writer {
         gather: Gather::new(alloc)?,
+        pen: Pen::new(),
         datagram: Vec::new(alloc),
     })
 }

@@ -4,7 +4,7 @@ ghost use Rattle.rams_model.specs.Texts.{spaced, of_word, hex_word, book_line};
 ghost use Rattle.world_text.specs.{info_words, media_word, bytes_line, named_line, item_line, world_line};
 ghost use Rattle.world_laws.specs.declared.world.WorldItem.TheVariants as item;
 
-use book_text::{Tail, append_no_channel, append_note, append_send, append_with_hex, begin};
+use book_text::{Pen, Tail, append_no_channel, append_send, append_with_hex, begin};
 use ram_io::NoMemory;
 use rams_model::{InfoCame, MediaCame};
 use world_laws::{WorldItem, WorldNote};
@@ -12,14 +12,19 @@ use world_laws::{WorldItem, WorldNote};
 /// The line of a note: `EVENT ID`, and its words, as `9 7 info 5 taken`; `EVENT no-datagram NUMBER`
 /// of a datagram that isn't there.
 #[tactic(auto, unfolding(crate::specs::WorldLines::world_line))]
-pub fn append_world_note(text: &mut Vec<u8>, event: u64, note: &WorldNote) -> Result<(), NoMemory>
+pub fn append_world_note(
+    pen: &mut Pen,
+    text: &mut Vec<u8>,
+    event: u64,
+    note: &WorldNote,
+) -> Result<(), NoMemory>
     ensures text { OnOk result (text.new.items ≡ text.old.items ++ world_line event note.now) }
     ensures err { OnErr result (text.new.items ≡ text.old.items) }
 {
     let id = note.id;
     match &note.item {
         WorldItem::NoChannel(_) => append_no_channel(text, event, id),
-        WorldItem::Note(note) => append_note(text, event, id, note),
+        WorldItem::Note(note) => pen.append_note(text, event, id, note),
         WorldItem::Send { client, bytes } => append_send(text, event, id, *client, bytes),
         WorldItem::Post { client, bytes } => append_post(text, event, id, *client, bytes),
         WorldItem::Info { client, came } => append_info(text, event, id, *client, *came),

@@ -1,11 +1,12 @@
 use Rattle.std.proofs.Common.{◌∙◌, ◌<◌, ◌≤◌, length, refl, arith}
 use Rattle.std.proofs.lemmas.List.{length-set}
+use Rattle.answer_text.proofs.Fronts.{starts_on, starts_with_itself}
 use Rattle.pool_loop.specs.{all_left}
 use Rattle.pool_loop.proofs.Sides.{none_done, next_left, goes_on, all_done}
 use Rattle.pool_loop.proofs.walking.append_all.Goals as goal
 
 pub loop-place-init : goal.loop-place-init
-loop-place-init c = record { halfway = none_done c.args.event c.args.route c.args.text.now.items (all_left c.args.left.now) (all_left c.args.left.now) c.args.text.now.items refl refl; many = refl }
+loop-place-init c = record { halfway = none_done c.args.event c.args.route c.args.text.now.items (all_left c.args.left.now) (all_left c.args.left.now) c.args.text.now.items refl refl; begun = starts_with_itself c.args.text.now.items; many = refl }
 
 pub append_heard-requires : goal.append_heard-requires
 append_heard-requires c =
@@ -18,6 +19,7 @@ loop-place-preserved c =
     record {
       halfway = goes_on c.args.event c.args.route c.args.text.now.items (all_left c.args.left.now) c.loop-place.left c.append_heard.new.left c.loop-place.text.items c.append_heard.new.text.items c.loop-place.place c.index-left-place.result
           c.loop-place.invariant.halfway less c.in_ok-append_heard.ensures.left c.in_ok-append_heard.ensures.text;
+      begun = rw c.in_ok-append_heard.ensures.text (starts_on c.args.text.now.items c.loop-place.text.items _ c.loop-place.invariant.begun);
       many = length-set c.loop-place.left c.loop-place.place c.append_heard.new.left ∙ c.loop-place.invariant.many;
     }
 

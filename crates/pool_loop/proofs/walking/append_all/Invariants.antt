@@ -1,4 +1,5 @@
 use Rattle.std.proofs.Common.{◌≡◌, length}
+use Rattle.std.specs.Io.{StartsWith}
 use Rattle.pool_loop.specs.{all_left}
 use Rattle.pool_loop.proofs.Sides.{Halfway}
 use Rattle.pool_loop.proofs.walking.append_all.Given as goal
@@ -6,5 +7,6 @@ use Rattle.pool_loop.proofs.walking.append_all.Given as goal
 abbrev pub invariant-loop-place : goal.invariant-loop-place
 invariant-loop-place l = record {
   halfway : Halfway l.event l.route l.fn.text.items (all_left l.fn.left) (all_left l.left) l.text.items l.place;
+  begun : StartsWith l.text.items l.fn.text.items;
   many : length l.left ≡ length l.fn.left;
 }

@@ -12,18 +12,18 @@ pub returns-in_err-write_event-clause-front : goal.returns-in_err-write_event-cl
 returns-in_err-write_event-clause-front g c =
     let e = walk_more c.args.routes.now (all_left c.loop-place.left) c.loop-place.place _ c.loop-place-test.true in
     let p = err_from_is_err_and c.from_residual.result c.from_residual.ensures.1 in
-    let whole = c.args.pen.now.gather ++ walk_text 1 c.args.routes.now (all_left c.args.left.now) in
-    let stops = writing_stops _ _ _ _ _ _ (g.K.Sink.held c.write_event.new.sink) whole _ _ _ _ c.write_event.new.pen.gather c.in_err-write_event.field-0.0 c.loop-place.invariant.writing e c.in_err-write_event.ensures.front in
-    subst (λ (r : Result (Unit {0}) Stop). IfErr r (StopsIn (g.K.Sink.held c.args.sink.now) (g.K.Sink.held c.write_event.new.sink) whole c.write_event.new.pen.gather)) (sym p.1)
-    (subst (StopsIn (g.K.Sink.held c.args.sink.now) (g.K.Sink.held c.write_event.new.sink) whole c.write_event.new.pen.gather) (sym p.2) stops)
+    let whole = c.args.writer.now.gather ++ walk_text 1 c.args.routes.now (all_left c.args.left.now) in
+    let stops = writing_stops _ _ _ _ _ _ (g.K.Sink.held c.write_event.new.sink) whole _ _ _ _ c.write_event.new.writer.gather c.in_err-write_event.field-0.0 c.loop-place.invariant.writing e c.in_err-write_event.ensures.front in
+    subst (λ (r : Result (Unit {0}) Stop). IfErr r (StopsIn (g.K.Sink.held c.args.sink.now) (g.K.Sink.held c.write_event.new.sink) whole c.write_event.new.writer.gather)) (sym p.1)
+    (subst (StopsIn (g.K.Sink.held c.args.sink.now) (g.K.Sink.held c.write_event.new.sink) whole c.write_event.new.writer.gather) (sym p.2) stops)
 
 pub returns-in_err-write_event-clause-steady : goal.returns-in_err-write_event-clause-steady
 returns-in_err-write_event-clause-steady g c = λ room s.
     let e = walk_more c.args.routes.now (all_left c.loop-place.left) c.loop-place.place _ c.loop-place-test.true in
-    let all = subst (g.K.Sink.is_steady c.args.sink.now) (ap (λ n. n + room) (sym (length-append c.args.pen.now.gather (walk_text 1 c.args.routes.now (all_left c.args.left.now))))) s in
+    let all = subst (g.K.Sink.is_steady c.args.sink.now) (ap (λ n. n + room) (sym (length-append c.args.writer.now.gather (walk_text 1 c.args.routes.now (all_left c.args.left.now))))) s in
     let p = err_from_is_err_and c.from_residual.result c.from_residual.ensures.1 in
     let stop = c.in_err-write_event.ensures.steady _ (writing_has_room _ _ _ _ _ _ _ _ _ _ _ c.loop-place.invariant.writing e room all) in
-    subst (λ (r : Result (Unit {0}) Stop). OnlyMemoryStops r (g.K.Sink.is_steady c.write_event.new.sink (length c.write_event.new.pen.gather + room))) (sym p.1) (p.2 ∙ stop)
+    subst (λ (r : Result (Unit {0}) Stop). OnlyMemoryStops r (g.K.Sink.is_steady c.write_event.new.sink (length c.write_event.new.writer.gather + room))) (sym p.1) (p.2 ∙ stop)
 
 pub loop-place-preserved : goal.loop-place-preserved
 loop-place-preserved g c =
@@ -41,4 +41,4 @@ returns-clause-all g c = writing_ends _ _ _ _ _ _ _ _ _ c.loop-place.invariant.w
 pub returns-clause-steady : goal.returns-clause-steady
 returns-clause-steady g c = λ room s.
     writing_ends_steadily _ _ _ _ _ _ _ _ _ c.loop-place.invariant.writing (walk_past c.args.routes.now (all_left c.loop-place.left) c.loop-place.place c.loop-place-test.false) room
-    (subst (g.K.Sink.is_steady c.args.sink.now) (ap (λ n. n + room) (sym (length-append c.args.pen.now.gather (walk_text 1 c.args.routes.now (all_left c.args.left.now))))) s)
+    (subst (g.K.Sink.is_steady c.args.sink.now) (ap (λ n. n + room) (sym (length-append c.args.writer.now.gather (walk_text 1 c.args.routes.now (all_left c.args.left.now))))) s)

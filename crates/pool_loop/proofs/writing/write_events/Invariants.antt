@@ -6,6 +6,6 @@ use Rattle.pool_loop.proofs.writing.write_events.Given as goal
 abbrev pub invariant-loop-place : goal.invariant-loop-place
 invariant-loop-place g l = record {
   writing : IsWriting (g.K.Sink.held l.fn.sink) (g.K.Sink.held l.sink) (g.K.Sink.faults l.fn.sink) (g.K.Sink.faults l.sink) (g.K.Sink.is_steady l.fn.sink) (g.K.Sink.is_steady l.sink)
-      (l.fn.pen.gather ++ walk_text 1 l.routes (all_left l.fn.left)) l.pen.gather (walk_text (l.place + 1) (drop l.place l.routes) (all_left l.left));
+      (l.fn.writer.gather ++ walk_text 1 l.routes (all_left l.fn.left)) l.writer.gather (walk_text (l.place + 1) (drop l.place l.routes) (all_left l.left));
   rendered : AllCanRender (all_left l.left);
 }

@@ -24,18 +24,18 @@ pub returns-in_err-write_piece-clause-front : goal.returns-in_err-write_piece-cl
 returns-in_err-write_piece-clause-front g c =
     let e = part_more c.args.config.now c.args.part c.args.entries.now c.loop-place.place c.index-entries-place.result c.loop-place-test.true c.index-entries-place.is in
     let p = err_from_is_err_and c.from_residual.result c.from_residual.ensures.1 in
-    let whole = c.args.pen.now.gather ++ part_text c.args.config.now c.args.part 1 c.args.entries.now in
-    let stops = writing_stops _ _ _ _ _ _ (g.K.Sink.held c.write_piece.new.sink) whole _ _ _ _ c.write_piece.new.pen.gather c.in_err-write_piece.field-0.0 c.loop-place.invariant e c.in_err-write_piece.ensures.front in
-    subst (λ (r : Result (Unit {0}) Stop). IfErr r (StopsIn (g.K.Sink.held c.args.sink.now) (g.K.Sink.held c.write_piece.new.sink) whole c.write_piece.new.pen.gather)) (sym p.1)
-    (subst (StopsIn (g.K.Sink.held c.args.sink.now) (g.K.Sink.held c.write_piece.new.sink) whole c.write_piece.new.pen.gather) (sym p.2) stops)
+    let whole = c.args.writer.now.gather ++ part_text c.args.config.now c.args.part 1 c.args.entries.now in
+    let stops = writing_stops _ _ _ _ _ _ (g.K.Sink.held c.write_piece.new.sink) whole _ _ _ _ c.write_piece.new.writer.gather c.in_err-write_piece.field-0.0 c.loop-place.invariant e c.in_err-write_piece.ensures.front in
+    subst (λ (r : Result (Unit {0}) Stop). IfErr r (StopsIn (g.K.Sink.held c.args.sink.now) (g.K.Sink.held c.write_piece.new.sink) whole c.write_piece.new.writer.gather)) (sym p.1)
+    (subst (StopsIn (g.K.Sink.held c.args.sink.now) (g.K.Sink.held c.write_piece.new.sink) whole c.write_piece.new.writer.gather) (sym p.2) stops)
 
 pub returns-in_err-write_piece-clause-steady : goal.returns-in_err-write_piece-clause-steady
 returns-in_err-write_piece-clause-steady g c = λ room s.
     let e = part_more c.args.config.now c.args.part c.args.entries.now c.loop-place.place c.index-entries-place.result c.loop-place-test.true c.index-entries-place.is in
-    let all = subst (g.K.Sink.is_steady c.args.sink.now) (ap (λ n. n + room) (sym (length-append c.args.pen.now.gather (part_text c.args.config.now c.args.part 1 c.args.entries.now)))) s in
+    let all = subst (g.K.Sink.is_steady c.args.sink.now) (ap (λ n. n + room) (sym (length-append c.args.writer.now.gather (part_text c.args.config.now c.args.part 1 c.args.entries.now)))) s in
     let p = err_from_is_err_and c.from_residual.result c.from_residual.ensures.1 in
     let stop = c.in_err-write_piece.ensures.steady _ (writing_has_room _ _ _ _ _ _ _ _ _ _ _ c.loop-place.invariant e room all) in
-    subst (λ (r : Result (Unit {0}) Stop). OnlyMemoryStops r (g.K.Sink.is_steady c.write_piece.new.sink (length c.write_piece.new.pen.gather + room))) (sym p.1) (p.2 ∙ stop)
+    subst (λ (r : Result (Unit {0}) Stop). OnlyMemoryStops r (g.K.Sink.is_steady c.write_piece.new.sink (length c.write_piece.new.writer.gather + room))) (sym p.1) (p.2 ∙ stop)
 
 pub loop-place-preserved : goal.loop-place-preserved
 loop-place-preserved g c =
@@ -49,4 +49,4 @@ returns-clause-all g c = writing_ends _ _ _ _ _ _ _ _ _ c.loop-place.invariant (
 pub returns-clause-steady : goal.returns-clause-steady
 returns-clause-steady g c = λ room s.
     writing_ends_steadily _ _ _ _ _ _ _ _ _ c.loop-place.invariant (part_past c.args.config.now c.args.part c.args.entries.now c.loop-place.place c.loop-place-test.false) room
-    (subst (g.K.Sink.is_steady c.args.sink.now) (ap (λ n. n + room) (sym (length-append c.args.pen.now.gather (part_text c.args.config.now c.args.part 1 c.args.entries.now)))) s)
+    (subst (g.K.Sink.is_steady c.args.sink.now) (ap (λ n. n + room) (sym (length-append c.args.writer.now.gather (part_text c.args.config.now c.args.part 1 c.args.entries.now)))) s)

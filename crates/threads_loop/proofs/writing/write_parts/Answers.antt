@@ -15,7 +15,7 @@ returns-in_err-put-clause-front g c =
     let p = err_from_is_err_and c.from_residual.result c.from_residual.ensures.1 in
     let s = c.args.config.now in
     let entries = c.args.entries.now in
-    let waiting = c.args.pen.now.gather in
+    let waiting = c.args.writer.now.gather in
     let text = written_text s c.args.head.now entries in
     let a = g.K.Sink.held c.args.sink.now in
     let n = g.K.Sink.faults c.args.sink.now in
@@ -29,7 +29,7 @@ returns-in_err-put-clause-steady g c = λ room h.
     let p = err_from_is_err_and c.from_residual.result c.from_residual.ensures.1 in
     let s = c.args.config.now in
     let entries = c.args.entries.now in
-    let waiting = c.args.pen.now.gather in
+    let waiting = c.args.writer.now.gather in
     let text = written_text s c.args.head.now entries in
     let a = g.K.Sink.held c.args.sink.now in
     let n = g.K.Sink.faults c.args.sink.now in
@@ -43,7 +43,7 @@ returns-in_err-write_part-clause-front g c =
     let p = err_from_is_err_and c.from_residual-in_err-write_part.result c.from_residual-in_err-write_part.ensures.1 in
     let s = c.args.config.now in
     let entries = c.args.entries.now in
-    let waiting = c.args.pen.now.gather in
+    let waiting = c.args.writer.now.gather in
     let text = written_text s c.args.head.now entries in
     let a = g.K.Sink.held c.args.sink.now in
     let n = g.K.Sink.faults c.args.sink.now in
@@ -52,15 +52,15 @@ returns-in_err-write_part-clause-front g c =
     let w1 =
     writing_goes_on a (g.K.Sink.held c.args.sink.now) n (g.K.Sink.faults c.args.sink.now) steady (g.K.Sink.is_steady c.args.sink.now) (g.K.Sink.held c.put.new.sink) (g.K.Sink.faults c.put.new.sink) (g.K.Sink.is_steady c.put.new.sink)
     (waiting ++ text) waiting text c.args.head.now (from_trace s entries) c.put.new.gather w0 refl c.in_ok-put.ensures.all c.put.ensures.cause.later c.in_ok-put.ensures.steady in
-    err_so c.from_residual-in_err-write_part.result p.0 c.in_err-write_part.field-0.0 (StopsIn a (g.K.Sink.held c.write_part.new.sink) (waiting ++ text) c.write_part.new.pen.gather) p.1 p.2
-    (writing_stops a (g.K.Sink.held c.put.new.sink) n (g.K.Sink.faults c.put.new.sink) steady (g.K.Sink.is_steady c.put.new.sink) (g.K.Sink.held c.write_part.new.sink) (waiting ++ text) c.put.new.gather (from_trace s entries) (part_text s Trace 1 entries) (from_end s entries) c.write_part.new.pen.gather c.in_err-write_part.field-0.0 w1 refl c.in_err-write_part.ensures.front)
+    err_so c.from_residual-in_err-write_part.result p.0 c.in_err-write_part.field-0.0 (StopsIn a (g.K.Sink.held c.write_part.new.sink) (waiting ++ text) c.write_part.new.writer.gather) p.1 p.2
+    (writing_stops a (g.K.Sink.held c.put.new.sink) n (g.K.Sink.faults c.put.new.sink) steady (g.K.Sink.is_steady c.put.new.sink) (g.K.Sink.held c.write_part.new.sink) (waiting ++ text) c.put.new.gather (from_trace s entries) (part_text s Trace 1 entries) (from_end s entries) c.write_part.new.writer.gather c.in_err-write_part.field-0.0 w1 refl c.in_err-write_part.ensures.front)
 
 pub returns-in_err-write_part-clause-steady : goal.returns-in_err-write_part-clause-steady
 returns-in_err-write_part-clause-steady g c = λ room h.
     let p = err_from_is_err_and c.from_residual-in_err-write_part.result c.from_residual-in_err-write_part.ensures.1 in
     let s = c.args.config.now in
     let entries = c.args.entries.now in
-    let waiting = c.args.pen.now.gather in
+    let waiting = c.args.writer.now.gather in
     let text = written_text s c.args.head.now entries in
     let a = g.K.Sink.held c.args.sink.now in
     let n = g.K.Sink.faults c.args.sink.now in
@@ -77,7 +77,7 @@ returns-in_err-put-2-clause-front g c =
     let p = err_from_is_err_and c.from_residual-in_err-put-2.result c.from_residual-in_err-put-2.ensures.1 in
     let s = c.args.config.now in
     let entries = c.args.entries.now in
-    let waiting = c.args.pen.now.gather in
+    let waiting = c.args.writer.now.gather in
     let text = written_text s c.args.head.now entries in
     let a = g.K.Sink.held c.args.sink.now in
     let n = g.K.Sink.faults c.args.sink.now in
@@ -88,16 +88,16 @@ returns-in_err-put-2-clause-front g c =
     (waiting ++ text) waiting text c.args.head.now (from_trace s entries) c.put.new.gather w0 refl c.in_ok-put.ensures.all c.put.ensures.cause.later c.in_ok-put.ensures.steady in
     let w2 =
     writing_goes_on a (g.K.Sink.held c.put.new.sink) n (g.K.Sink.faults c.put.new.sink) steady (g.K.Sink.is_steady c.put.new.sink) (g.K.Sink.held c.write_part.new.sink) (g.K.Sink.faults c.write_part.new.sink) (g.K.Sink.is_steady c.write_part.new.sink)
-    (waiting ++ text) c.put.new.gather (from_trace s entries) (part_text s Trace 1 entries) (from_end s entries) c.write_part.new.pen.gather w1 refl c.in_ok-write_part.ensures.all c.write_part.ensures.cause.later c.in_ok-write_part.ensures.steady in
+    (waiting ++ text) c.put.new.gather (from_trace s entries) (part_text s Trace 1 entries) (from_end s entries) c.write_part.new.writer.gather w1 refl c.in_ok-write_part.ensures.all c.write_part.ensures.cause.later c.in_ok-write_part.ensures.steady in
     err_so c.from_residual-in_err-put-2.result p.0 c.in_err-put-2.field-0.0 (StopsIn a (g.K.Sink.held c.put-2.new.sink) (waiting ++ text) c.put-2.new.gather) p.1 p.2
-    (writing_stops a (g.K.Sink.held c.write_part.new.sink) n (g.K.Sink.faults c.write_part.new.sink) steady (g.K.Sink.is_steady c.write_part.new.sink) (g.K.Sink.held c.put-2.new.sink) (waiting ++ text) c.write_part.new.pen.gather (from_end s entries) (codes "end\nrams-book 1\n") (from_book s entries) c.put-2.new.gather c.in_err-put-2.field-0.0 w2 refl c.in_err-put-2.ensures.front)
+    (writing_stops a (g.K.Sink.held c.write_part.new.sink) n (g.K.Sink.faults c.write_part.new.sink) steady (g.K.Sink.is_steady c.write_part.new.sink) (g.K.Sink.held c.put-2.new.sink) (waiting ++ text) c.write_part.new.writer.gather (from_end s entries) (codes "end\nrams-book 1\n") (from_book s entries) c.put-2.new.gather c.in_err-put-2.field-0.0 w2 refl c.in_err-put-2.ensures.front)
 
 pub returns-in_err-put-2-clause-steady : goal.returns-in_err-put-2-clause-steady
 returns-in_err-put-2-clause-steady g c = λ room h.
     let p = err_from_is_err_and c.from_residual-in_err-put-2.result c.from_residual-in_err-put-2.ensures.1 in
     let s = c.args.config.now in
     let entries = c.args.entries.now in
-    let waiting = c.args.pen.now.gather in
+    let waiting = c.args.writer.now.gather in
     let text = written_text s c.args.head.now entries in
     let a = g.K.Sink.held c.args.sink.now in
     let n = g.K.Sink.faults c.args.sink.now in
@@ -108,16 +108,16 @@ returns-in_err-put-2-clause-steady g c = λ room h.
     (waiting ++ text) waiting text c.args.head.now (from_trace s entries) c.put.new.gather w0 refl c.in_ok-put.ensures.all c.put.ensures.cause.later c.in_ok-put.ensures.steady in
     let w2 =
     writing_goes_on a (g.K.Sink.held c.put.new.sink) n (g.K.Sink.faults c.put.new.sink) steady (g.K.Sink.is_steady c.put.new.sink) (g.K.Sink.held c.write_part.new.sink) (g.K.Sink.faults c.write_part.new.sink) (g.K.Sink.is_steady c.write_part.new.sink)
-    (waiting ++ text) c.put.new.gather (from_trace s entries) (part_text s Trace 1 entries) (from_end s entries) c.write_part.new.pen.gather w1 refl c.in_ok-write_part.ensures.all c.write_part.ensures.cause.later c.in_ok-write_part.ensures.steady in
+    (waiting ++ text) c.put.new.gather (from_trace s entries) (part_text s Trace 1 entries) (from_end s entries) c.write_part.new.writer.gather w1 refl c.in_ok-write_part.ensures.all c.write_part.ensures.cause.later c.in_ok-write_part.ensures.steady in
     only_err c.from_residual-in_err-put-2.result p.0 c.in_err-put-2.field-0.0 _ p.1 p.2
-    (c.in_err-put-2.ensures.steady _ (writing_has_room a (g.K.Sink.held c.write_part.new.sink) n (g.K.Sink.faults c.write_part.new.sink) steady (g.K.Sink.is_steady c.write_part.new.sink) (waiting ++ text) c.write_part.new.pen.gather (from_end s entries) (codes "end\nrams-book 1\n") (from_book s entries) w2 refl room (together steady waiting text room h)))
+    (c.in_err-put-2.ensures.steady _ (writing_has_room a (g.K.Sink.held c.write_part.new.sink) n (g.K.Sink.faults c.write_part.new.sink) steady (g.K.Sink.is_steady c.write_part.new.sink) (waiting ++ text) c.write_part.new.writer.gather (from_end s entries) (codes "end\nrams-book 1\n") (from_book s entries) w2 refl room (together steady waiting text room h)))
 
 pub returns-in_err-write_part-2-clause-front : goal.returns-in_err-write_part-2-clause-front
 returns-in_err-write_part-2-clause-front g c =
     let p = err_from_is_err_and c.from_residual-in_err-write_part-2.result c.from_residual-in_err-write_part-2.ensures.1 in
     let s = c.args.config.now in
     let entries = c.args.entries.now in
-    let waiting = c.args.pen.now.gather in
+    let waiting = c.args.writer.now.gather in
     let text = written_text s c.args.head.now entries in
     let a = g.K.Sink.held c.args.sink.now in
     let n = g.K.Sink.faults c.args.sink.now in
@@ -128,19 +128,19 @@ returns-in_err-write_part-2-clause-front g c =
     (waiting ++ text) waiting text c.args.head.now (from_trace s entries) c.put.new.gather w0 refl c.in_ok-put.ensures.all c.put.ensures.cause.later c.in_ok-put.ensures.steady in
     let w2 =
     writing_goes_on a (g.K.Sink.held c.put.new.sink) n (g.K.Sink.faults c.put.new.sink) steady (g.K.Sink.is_steady c.put.new.sink) (g.K.Sink.held c.write_part.new.sink) (g.K.Sink.faults c.write_part.new.sink) (g.K.Sink.is_steady c.write_part.new.sink)
-    (waiting ++ text) c.put.new.gather (from_trace s entries) (part_text s Trace 1 entries) (from_end s entries) c.write_part.new.pen.gather w1 refl c.in_ok-write_part.ensures.all c.write_part.ensures.cause.later c.in_ok-write_part.ensures.steady in
+    (waiting ++ text) c.put.new.gather (from_trace s entries) (part_text s Trace 1 entries) (from_end s entries) c.write_part.new.writer.gather w1 refl c.in_ok-write_part.ensures.all c.write_part.ensures.cause.later c.in_ok-write_part.ensures.steady in
     let w3 =
     writing_goes_on a (g.K.Sink.held c.write_part.new.sink) n (g.K.Sink.faults c.write_part.new.sink) steady (g.K.Sink.is_steady c.write_part.new.sink) (g.K.Sink.held c.put-2.new.sink) (g.K.Sink.faults c.put-2.new.sink) (g.K.Sink.is_steady c.put-2.new.sink)
-    (waiting ++ text) c.write_part.new.pen.gather (from_end s entries) (codes "end\nrams-book 1\n") (from_book s entries) c.put-2.new.gather w2 refl c.in_ok-put-2.ensures.all c.put-2.ensures.cause.later c.in_ok-put-2.ensures.steady in
-    err_so c.from_residual-in_err-write_part-2.result p.0 c.in_err-write_part-2.field-0.0 (StopsIn a (g.K.Sink.held c.write_part-2.new.sink) (waiting ++ text) c.write_part-2.new.pen.gather) p.1 p.2
-    (writing_stops a (g.K.Sink.held c.put-2.new.sink) n (g.K.Sink.faults c.put-2.new.sink) steady (g.K.Sink.is_steady c.put-2.new.sink) (g.K.Sink.held c.write_part-2.new.sink) (waiting ++ text) c.put-2.new.gather (from_book s entries) (part_text s Book 1 entries) (done (length entries)).text c.write_part-2.new.pen.gather c.in_err-write_part-2.field-0.0 w3 refl c.in_err-write_part-2.ensures.front)
+    (waiting ++ text) c.write_part.new.writer.gather (from_end s entries) (codes "end\nrams-book 1\n") (from_book s entries) c.put-2.new.gather w2 refl c.in_ok-put-2.ensures.all c.put-2.ensures.cause.later c.in_ok-put-2.ensures.steady in
+    err_so c.from_residual-in_err-write_part-2.result p.0 c.in_err-write_part-2.field-0.0 (StopsIn a (g.K.Sink.held c.write_part-2.new.sink) (waiting ++ text) c.write_part-2.new.writer.gather) p.1 p.2
+    (writing_stops a (g.K.Sink.held c.put-2.new.sink) n (g.K.Sink.faults c.put-2.new.sink) steady (g.K.Sink.is_steady c.put-2.new.sink) (g.K.Sink.held c.write_part-2.new.sink) (waiting ++ text) c.put-2.new.gather (from_book s entries) (part_text s Book 1 entries) (done (length entries)).text c.write_part-2.new.writer.gather c.in_err-write_part-2.field-0.0 w3 refl c.in_err-write_part-2.ensures.front)
 
 pub returns-in_err-write_part-2-clause-steady : goal.returns-in_err-write_part-2-clause-steady
 returns-in_err-write_part-2-clause-steady g c = λ room h.
     let p = err_from_is_err_and c.from_residual-in_err-write_part-2.result c.from_residual-in_err-write_part-2.ensures.1 in
     let s = c.args.config.now in
     let entries = c.args.entries.now in
-    let waiting = c.args.pen.now.gather in
+    let waiting = c.args.writer.now.gather in
     let text = written_text s c.args.head.now entries in
     let a = g.K.Sink.held c.args.sink.now in
     let n = g.K.Sink.faults c.args.sink.now in
@@ -151,10 +151,10 @@ returns-in_err-write_part-2-clause-steady g c = λ room h.
     (waiting ++ text) waiting text c.args.head.now (from_trace s entries) c.put.new.gather w0 refl c.in_ok-put.ensures.all c.put.ensures.cause.later c.in_ok-put.ensures.steady in
     let w2 =
     writing_goes_on a (g.K.Sink.held c.put.new.sink) n (g.K.Sink.faults c.put.new.sink) steady (g.K.Sink.is_steady c.put.new.sink) (g.K.Sink.held c.write_part.new.sink) (g.K.Sink.faults c.write_part.new.sink) (g.K.Sink.is_steady c.write_part.new.sink)
-    (waiting ++ text) c.put.new.gather (from_trace s entries) (part_text s Trace 1 entries) (from_end s entries) c.write_part.new.pen.gather w1 refl c.in_ok-write_part.ensures.all c.write_part.ensures.cause.later c.in_ok-write_part.ensures.steady in
+    (waiting ++ text) c.put.new.gather (from_trace s entries) (part_text s Trace 1 entries) (from_end s entries) c.write_part.new.writer.gather w1 refl c.in_ok-write_part.ensures.all c.write_part.ensures.cause.later c.in_ok-write_part.ensures.steady in
     let w3 =
     writing_goes_on a (g.K.Sink.held c.write_part.new.sink) n (g.K.Sink.faults c.write_part.new.sink) steady (g.K.Sink.is_steady c.write_part.new.sink) (g.K.Sink.held c.put-2.new.sink) (g.K.Sink.faults c.put-2.new.sink) (g.K.Sink.is_steady c.put-2.new.sink)
-    (waiting ++ text) c.write_part.new.pen.gather (from_end s entries) (codes "end\nrams-book 1\n") (from_book s entries) c.put-2.new.gather w2 refl c.in_ok-put-2.ensures.all c.put-2.ensures.cause.later c.in_ok-put-2.ensures.steady in
+    (waiting ++ text) c.write_part.new.writer.gather (from_end s entries) (codes "end\nrams-book 1\n") (from_book s entries) c.put-2.new.gather w2 refl c.in_ok-put-2.ensures.all c.put-2.ensures.cause.later c.in_ok-put-2.ensures.steady in
     only_err c.from_residual-in_err-write_part-2.result p.0 c.in_err-write_part-2.field-0.0 _ p.1 p.2
     (c.in_err-write_part-2.ensures.steady _ (writing_has_room a (g.K.Sink.held c.put-2.new.sink) n (g.K.Sink.faults c.put-2.new.sink) steady (g.K.Sink.is_steady c.put-2.new.sink) (waiting ++ text) c.put-2.new.gather (from_book s entries) (part_text s Book 1 entries) (done (length entries)).text w3 refl room (together steady waiting text room h)))
 
@@ -162,7 +162,7 @@ pub returns-clause-all : goal.returns-clause-all
 returns-clause-all g c =
     let s = c.args.config.now in
     let entries = c.args.entries.now in
-    let waiting = c.args.pen.now.gather in
+    let waiting = c.args.writer.now.gather in
     let text = written_text s c.args.head.now entries in
     let a = g.K.Sink.held c.args.sink.now in
     let n = g.K.Sink.faults c.args.sink.now in
@@ -173,20 +173,20 @@ returns-clause-all g c =
     (waiting ++ text) waiting text c.args.head.now (from_trace s entries) c.put.new.gather w0 refl c.in_ok-put.ensures.all c.put.ensures.cause.later c.in_ok-put.ensures.steady in
     let w2 =
     writing_goes_on a (g.K.Sink.held c.put.new.sink) n (g.K.Sink.faults c.put.new.sink) steady (g.K.Sink.is_steady c.put.new.sink) (g.K.Sink.held c.write_part.new.sink) (g.K.Sink.faults c.write_part.new.sink) (g.K.Sink.is_steady c.write_part.new.sink)
-    (waiting ++ text) c.put.new.gather (from_trace s entries) (part_text s Trace 1 entries) (from_end s entries) c.write_part.new.pen.gather w1 refl c.in_ok-write_part.ensures.all c.write_part.ensures.cause.later c.in_ok-write_part.ensures.steady in
+    (waiting ++ text) c.put.new.gather (from_trace s entries) (part_text s Trace 1 entries) (from_end s entries) c.write_part.new.writer.gather w1 refl c.in_ok-write_part.ensures.all c.write_part.ensures.cause.later c.in_ok-write_part.ensures.steady in
     let w3 =
     writing_goes_on a (g.K.Sink.held c.write_part.new.sink) n (g.K.Sink.faults c.write_part.new.sink) steady (g.K.Sink.is_steady c.write_part.new.sink) (g.K.Sink.held c.put-2.new.sink) (g.K.Sink.faults c.put-2.new.sink) (g.K.Sink.is_steady c.put-2.new.sink)
-    (waiting ++ text) c.write_part.new.pen.gather (from_end s entries) (codes "end\nrams-book 1\n") (from_book s entries) c.put-2.new.gather w2 refl c.in_ok-put-2.ensures.all c.put-2.ensures.cause.later c.in_ok-put-2.ensures.steady in
+    (waiting ++ text) c.write_part.new.writer.gather (from_end s entries) (codes "end\nrams-book 1\n") (from_book s entries) c.put-2.new.gather w2 refl c.in_ok-put-2.ensures.all c.put-2.ensures.cause.later c.in_ok-put-2.ensures.steady in
     let w4 =
     writing_goes_on a (g.K.Sink.held c.put-2.new.sink) n (g.K.Sink.faults c.put-2.new.sink) steady (g.K.Sink.is_steady c.put-2.new.sink) (g.K.Sink.held c.write_part-2.new.sink) (g.K.Sink.faults c.write_part-2.new.sink) (g.K.Sink.is_steady c.write_part-2.new.sink)
-    (waiting ++ text) c.put-2.new.gather (from_book s entries) (part_text s Book 1 entries) (done (length entries)).text c.write_part-2.new.pen.gather w3 refl c.in_ok-write_part-2.ensures.all c.write_part-2.ensures.cause.later c.in_ok-write_part-2.ensures.steady in
-    on_ok_weaker c.write_done.result (writing_last a (g.K.Sink.held c.write_part-2.new.sink) (g.K.Sink.held c.write_done.new.sink) n (g.K.Sink.faults c.write_part-2.new.sink) steady (g.K.Sink.is_steady c.write_part-2.new.sink) (waiting ++ text) c.write_part-2.new.pen.gather (done (length entries)).text c.write_done.new.pen.gather w4) c.write_done.ensures.all
+    (waiting ++ text) c.put-2.new.gather (from_book s entries) (part_text s Book 1 entries) (done (length entries)).text c.write_part-2.new.writer.gather w3 refl c.in_ok-write_part-2.ensures.all c.write_part-2.ensures.cause.later c.in_ok-write_part-2.ensures.steady in
+    on_ok_weaker c.write_done.result (writing_last a (g.K.Sink.held c.write_part-2.new.sink) (g.K.Sink.held c.write_done.new.sink) n (g.K.Sink.faults c.write_part-2.new.sink) steady (g.K.Sink.is_steady c.write_part-2.new.sink) (waiting ++ text) c.write_part-2.new.writer.gather (done (length entries)).text c.write_done.new.writer.gather w4) c.write_done.ensures.all
 
 pub returns-clause-front : goal.returns-clause-front
 returns-clause-front g c =
     let s = c.args.config.now in
     let entries = c.args.entries.now in
-    let waiting = c.args.pen.now.gather in
+    let waiting = c.args.writer.now.gather in
     let text = written_text s c.args.head.now entries in
     let a = g.K.Sink.held c.args.sink.now in
     let n = g.K.Sink.faults c.args.sink.now in
@@ -197,20 +197,20 @@ returns-clause-front g c =
     (waiting ++ text) waiting text c.args.head.now (from_trace s entries) c.put.new.gather w0 refl c.in_ok-put.ensures.all c.put.ensures.cause.later c.in_ok-put.ensures.steady in
     let w2 =
     writing_goes_on a (g.K.Sink.held c.put.new.sink) n (g.K.Sink.faults c.put.new.sink) steady (g.K.Sink.is_steady c.put.new.sink) (g.K.Sink.held c.write_part.new.sink) (g.K.Sink.faults c.write_part.new.sink) (g.K.Sink.is_steady c.write_part.new.sink)
-    (waiting ++ text) c.put.new.gather (from_trace s entries) (part_text s Trace 1 entries) (from_end s entries) c.write_part.new.pen.gather w1 refl c.in_ok-write_part.ensures.all c.write_part.ensures.cause.later c.in_ok-write_part.ensures.steady in
+    (waiting ++ text) c.put.new.gather (from_trace s entries) (part_text s Trace 1 entries) (from_end s entries) c.write_part.new.writer.gather w1 refl c.in_ok-write_part.ensures.all c.write_part.ensures.cause.later c.in_ok-write_part.ensures.steady in
     let w3 =
     writing_goes_on a (g.K.Sink.held c.write_part.new.sink) n (g.K.Sink.faults c.write_part.new.sink) steady (g.K.Sink.is_steady c.write_part.new.sink) (g.K.Sink.held c.put-2.new.sink) (g.K.Sink.faults c.put-2.new.sink) (g.K.Sink.is_steady c.put-2.new.sink)
-    (waiting ++ text) c.write_part.new.pen.gather (from_end s entries) (codes "end\nrams-book 1\n") (from_book s entries) c.put-2.new.gather w2 refl c.in_ok-put-2.ensures.all c.put-2.ensures.cause.later c.in_ok-put-2.ensures.steady in
+    (waiting ++ text) c.write_part.new.writer.gather (from_end s entries) (codes "end\nrams-book 1\n") (from_book s entries) c.put-2.new.gather w2 refl c.in_ok-put-2.ensures.all c.put-2.ensures.cause.later c.in_ok-put-2.ensures.steady in
     let w4 =
     writing_goes_on a (g.K.Sink.held c.put-2.new.sink) n (g.K.Sink.faults c.put-2.new.sink) steady (g.K.Sink.is_steady c.put-2.new.sink) (g.K.Sink.held c.write_part-2.new.sink) (g.K.Sink.faults c.write_part-2.new.sink) (g.K.Sink.is_steady c.write_part-2.new.sink)
-    (waiting ++ text) c.put-2.new.gather (from_book s entries) (part_text s Book 1 entries) (done (length entries)).text c.write_part-2.new.pen.gather w3 refl c.in_ok-write_part-2.ensures.all c.write_part-2.ensures.cause.later c.in_ok-write_part-2.ensures.steady in
-    IfErr-weaker c.write_done.result _ _ (λ stop. writing_stops a (g.K.Sink.held c.write_part-2.new.sink) n (g.K.Sink.faults c.write_part-2.new.sink) steady (g.K.Sink.is_steady c.write_part-2.new.sink) (g.K.Sink.held c.write_done.new.sink) (waiting ++ text) c.write_part-2.new.pen.gather (done (length entries)).text (done (length entries)).text [] c.write_done.new.pen.gather stop w4 (sym (append-nil (done (length entries)).text))) c.write_done.ensures.front
+    (waiting ++ text) c.put-2.new.gather (from_book s entries) (part_text s Book 1 entries) (done (length entries)).text c.write_part-2.new.writer.gather w3 refl c.in_ok-write_part-2.ensures.all c.write_part-2.ensures.cause.later c.in_ok-write_part-2.ensures.steady in
+    IfErr-weaker c.write_done.result _ _ (λ stop. writing_stops a (g.K.Sink.held c.write_part-2.new.sink) n (g.K.Sink.faults c.write_part-2.new.sink) steady (g.K.Sink.is_steady c.write_part-2.new.sink) (g.K.Sink.held c.write_done.new.sink) (waiting ++ text) c.write_part-2.new.writer.gather (done (length entries)).text (done (length entries)).text [] c.write_done.new.writer.gather stop w4 (sym (append-nil (done (length entries)).text))) c.write_done.ensures.front
 
 pub returns-clause-steady : goal.returns-clause-steady
 returns-clause-steady g c = λ room h.
     let s = c.args.config.now in
     let entries = c.args.entries.now in
-    let waiting = c.args.pen.now.gather in
+    let waiting = c.args.writer.now.gather in
     let text = written_text s c.args.head.now entries in
     let a = g.K.Sink.held c.args.sink.now in
     let n = g.K.Sink.faults c.args.sink.now in
@@ -221,11 +221,11 @@ returns-clause-steady g c = λ room h.
     (waiting ++ text) waiting text c.args.head.now (from_trace s entries) c.put.new.gather w0 refl c.in_ok-put.ensures.all c.put.ensures.cause.later c.in_ok-put.ensures.steady in
     let w2 =
     writing_goes_on a (g.K.Sink.held c.put.new.sink) n (g.K.Sink.faults c.put.new.sink) steady (g.K.Sink.is_steady c.put.new.sink) (g.K.Sink.held c.write_part.new.sink) (g.K.Sink.faults c.write_part.new.sink) (g.K.Sink.is_steady c.write_part.new.sink)
-    (waiting ++ text) c.put.new.gather (from_trace s entries) (part_text s Trace 1 entries) (from_end s entries) c.write_part.new.pen.gather w1 refl c.in_ok-write_part.ensures.all c.write_part.ensures.cause.later c.in_ok-write_part.ensures.steady in
+    (waiting ++ text) c.put.new.gather (from_trace s entries) (part_text s Trace 1 entries) (from_end s entries) c.write_part.new.writer.gather w1 refl c.in_ok-write_part.ensures.all c.write_part.ensures.cause.later c.in_ok-write_part.ensures.steady in
     let w3 =
     writing_goes_on a (g.K.Sink.held c.write_part.new.sink) n (g.K.Sink.faults c.write_part.new.sink) steady (g.K.Sink.is_steady c.write_part.new.sink) (g.K.Sink.held c.put-2.new.sink) (g.K.Sink.faults c.put-2.new.sink) (g.K.Sink.is_steady c.put-2.new.sink)
-    (waiting ++ text) c.write_part.new.pen.gather (from_end s entries) (codes "end\nrams-book 1\n") (from_book s entries) c.put-2.new.gather w2 refl c.in_ok-put-2.ensures.all c.put-2.ensures.cause.later c.in_ok-put-2.ensures.steady in
+    (waiting ++ text) c.write_part.new.writer.gather (from_end s entries) (codes "end\nrams-book 1\n") (from_book s entries) c.put-2.new.gather w2 refl c.in_ok-put-2.ensures.all c.put-2.ensures.cause.later c.in_ok-put-2.ensures.steady in
     let w4 =
     writing_goes_on a (g.K.Sink.held c.put-2.new.sink) n (g.K.Sink.faults c.put-2.new.sink) steady (g.K.Sink.is_steady c.put-2.new.sink) (g.K.Sink.held c.write_part-2.new.sink) (g.K.Sink.faults c.write_part-2.new.sink) (g.K.Sink.is_steady c.write_part-2.new.sink)
-    (waiting ++ text) c.put-2.new.gather (from_book s entries) (part_text s Book 1 entries) (done (length entries)).text c.write_part-2.new.pen.gather w3 refl c.in_ok-write_part-2.ensures.all c.write_part-2.ensures.cause.later c.in_ok-write_part-2.ensures.steady in
+    (waiting ++ text) c.put-2.new.gather (from_book s entries) (part_text s Book 1 entries) (done (length entries)).text c.write_part-2.new.writer.gather w3 refl c.in_ok-write_part-2.ensures.all c.write_part-2.ensures.cause.later c.in_ok-write_part-2.ensures.steady in
     c.write_done.ensures.steady room (w4.steadily room (together steady waiting text room h))

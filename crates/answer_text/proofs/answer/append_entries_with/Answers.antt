@@ -4,8 +4,9 @@ use Rattle.std.specs.Prelude.{if◌then◌else◌}
 use Rattle.std.proofs.lemmas.List.{drop-map}
 use Rattle.rams_model.specs.Service.{datagram}
 use Rattle.rams_model.specs.Texts.{notes_text}
+use Rattle.answer_text.proofs.Fronts.{starts_on}
 use Rattle.answer_text.proofs.Notes.{notes_text-step, notes_text-past}
-use Rattle.answer_text.proofs.answer.append_answer_with.Goals as goal
+use Rattle.answer_text.proofs.answer.append_entries_with.Goals as goal
 
 pub loop-note-preserved : goal.loop-note-preserved
 loop-note-preserved c =
@@ -18,10 +19,11 @@ loop-note-preserved c =
     let taken = if c.asks-asks.result then 1 else 0 in
     record {
       made = c.behind-made.ensures ∙ ap (drop taken) c.loop-note.invariant.made ∙ drop-map (datagram s) taken orders ∙ ap (map (datagram s)) (sym c.behind-orders.ensures);
-      written = ap (λ t. t ++ later) c.in_ok-append_entry_with.ensures ∙ append_assoc c.loop-note.text.items _ later ∙ ap (λ t. c.loop-note.text.items ++ t) (sym more) ∙ c.loop-note.invariant.written;
+      begun = rw c.in_ok-append_entry_with.ensures.text (starts_on c.args.text.now.items c.loop-note.text.items _ c.loop-note.invariant.begun);
+      written = ap (λ t. t ++ later) c.in_ok-append_entry_with.ensures.text ∙ append_assoc c.loop-note.text.items _ later ∙ ap (λ t. c.loop-note.text.items ++ t) (sym more) ∙ c.loop-note.invariant.written;
     }
 
-pub returns : goal.returns
-returns c =
+pub returns-clause-text : goal.returns-clause-text
+returns-clause-text c =
     let none = notes_text-past c.args.config.now c.args.event c.deref-note-items.result.now c.loop-note.orders.now c.loop-note.note-index c.loop-note-test.false in
     sym (append-nil c.loop-note.text.items) ∙ ap (λ t. c.loop-note.text.items ++ t) (sym none) ∙ c.loop-note.invariant.written
