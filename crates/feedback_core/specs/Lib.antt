@@ -21,4 +21,4 @@ unfoldable pub use Rattle.feedback_core.specs.Pages.{or_info, last_of, info_for,
 pub use Rattle.feedback_core.specs.Pages.{IsPage, IsTurned}
 unfoldable pub use Rattle.feedback_core.specs.Places.{is_full_table, has_place, with_place, with_kept, with_changed}
 unfoldable pub use Rattle.feedback_core.specs.Telling.{IsInfo, TellsAlone}
-pub use Rattle.feedback_core.specs.Desks.{IsSameDesk}
+pub use Rattle.feedback_core.specs.Desks.{IsSameDesk, IsReadyDesk}

@@ -2,14 +2,13 @@
 ghost use Rattle.std.specs.Prelude.{◌≡◌, ◌+◌, ◌≤◌, ◌<◌, true, List, None, vec_len, vec_capacity, ◌∷◌, false};
 ghost use Rattle.rams_model.specs.Service.{after_message, after_messages, told, noted, is_rams, message_of as model_message, verdict, Wanted};
 ghost use Rattle.rtcp_frame.specs.{packets_left, shown_packet};
-ghost use Rattle.feedback_core.specs.{most_of, most_of_message, most_notes, shown_message, turn_of, due_after, answered_of, IsFresh, IsPage, IsTurned, IsReady, IsSafe, AreOfOne, IsSameDesk, Holds, IsHeard, IsSaid, Serves};
+ghost use Rattle.feedback_core.specs.{most_of, most_of_message, most_notes, shown_message, turn_of, due_after, answered_of, IsFresh, IsPage, IsTurned, IsReady, IsSafe, AreOfOne, IsSameDesk, IsReadyDesk, Holds, IsHeard, IsSaid, Serves};
 ghost use Rattle.rams_model.specs.Formats.{request_at};
 
 use crate::bye::answer_bye;
 use crate::desk::Desk;
 use crate::framing::{Message, message_of};
 use crate::nack::answer_nack;
-use crate::page::Page;
 use crate::rams_i::request_info;
 use crate::rams_r::answer_request;
 use crate::rams_t::answer_stop;
@@ -21,11 +20,10 @@ use rtcp_frame::{Packet, Packets};
 
 /// Answers the messages of these packets, for whose notes there is room.
 pub(crate) fn answer_packets(desk: &mut Desk<'_>, packets: Packets<'_>)
-    requires ready { IsReady desk.old.config.now desk.old.cache.now }
-    requires safe { IsSafe desk.old.config.now desk.old.visitor }
+    requires ready { IsReadyDesk desk.old }
     requires fresh { IsFresh desk.old.page }
     requires room { vec_len desk.old.page.notes + most_notes (packets_left packets) ≤ vec_capacity desk.old.page.notes }
-    ensures safe { IsSafe desk.old.config.now desk.new.visitor }
+    ensures ready { IsReadyDesk desk.new }
     ensures same_queue { desk.new.queue.ghost_name ≡ desk.old.queue.ghost_name }
     ensures same { IsSameDesk desk.old desk.new }
     ensures few { vec_len desk.new.page.notes ≤ vec_len desk.old.page.notes + most_notes (packets_left packets.entry) }
@@ -40,11 +38,10 @@ pub(crate) fn answer_packets(desk: &mut Desk<'_>, packets: Packets<'_>)
 
 // Answers the message that a packet is, where it is one and is answered.
 fn answer_packet(desk: &mut Desk<'_>, packet: &Packet<'_>)
-    requires ready { IsReady desk.old.config.now desk.old.cache.now }
-    requires safe { IsSafe desk.old.config.now desk.old.visitor }
+    requires ready { IsReadyDesk desk.old }
     requires fresh { IsFresh desk.old.page }
     requires room { vec_len desk.old.page.notes + most_of (shown_packet packet.now) ≤ vec_capacity desk.old.page.notes }
-    ensures safe { IsSafe desk.old.config.now desk.new.visitor }
+    ensures ready { IsReadyDesk desk.new }
     ensures same_queue { desk.new.queue.ghost_name ≡ desk.old.queue.ghost_name }
     ensures same { IsSameDesk desk.old desk.new }
     ensures fresh { IsFresh desk.new.page }
@@ -66,11 +63,10 @@ fn answer_packet(desk: &mut Desk<'_>, packet: &Packet<'_>)
 
 // Answers a message.
 fn answer_message(desk: &mut Desk<'_>, message: &Message<'_>)
-    requires ready { IsReady desk.old.config.now desk.old.cache.now }
-    requires safe { IsSafe desk.old.config.now desk.old.visitor }
+    requires ready { IsReadyDesk desk.old }
     requires fresh { is_rams (shown_message message.now) ≡ true → desk.old.page.info ≡ None }
     requires room { vec_len desk.old.page.notes + most_of_message message.now ≤ vec_capacity desk.old.page.notes }
-    ensures safe { IsSafe desk.old.config.now desk.new.visitor }
+    ensures ready { IsReadyDesk desk.new }
     ensures same_queue { desk.new.queue.ghost_name ≡ desk.old.queue.ghost_name }
     ensures same { IsSameDesk desk.old desk.new }
     ensures info { is_rams (shown_message message.now) ≡ false → desk.new.page.info ≡ desk.old.page.info }
@@ -88,14 +84,7 @@ fn answer_message(desk: &mut Desk<'_>, message: &Message<'_>)
             desk.page.write(client, &said);
         }
         Message::Nack(nack) => {
-            answer_nack(
-                desk.config,
-                desk.cache,
-                &mut desk.visitor,
-                desk.queue,
-                &mut desk.page.notes,
-                nack,
-            );
+            answer_nack(desk, nack);
         }
         Message::Request(feedback) => {
             let said = say_request(

@@ -2,6 +2,7 @@
 use Rattle.std.proofs.Common.{◌∷◌, inl, inr, refl, sym, ap, subst}
 use Rattle.rams_model.specs.Service.{after_message, told, is_rams}
 use Rattle.feedback_core.specs.declared.framing.Message.{Message}
+use Rattle.feedback_core.specs.declared.page.Page.{Page}
 use Rattle.feedback_core.specs.{shown_message, IsTurned}
 use Rattle.feedback_core.specs.declared.framing.Message.TheVariants.{Bye, Nack, Request, Stop}
 use Rattle.feedback_core.proofs.Turns.{said_turn, noted_turn, told_heard, told_turn}
@@ -27,11 +28,11 @@ returns-in-Nack-clause-answers c = λ before history hold visit written.
     let t : IsTurned s before history c.args.desk.now.queue.now v c.args.desk.now.page = record { visit = visit; written = written } in
     let m = shown_message (Nack c.in-Nack.nack) in
     let w = told_turn s m before history c.args.desk.now.queue.now v c.args.desk.now.page t in
-    let page = record c.args.desk.now.page { notes = c.answer_nack.new.notes } in
-    subst (λ (x : Message). IsTurned s before (after_message s v.client (shown_message x) (told v.client (shown_message x) ∷ history)) c.answer_nack.new.queue
-    c.answer_nack.new.visitor page) (sym c.in-Nack.is)
-    (noted_turn s m before history (after_message s v.client m (told v.client m ∷ history)) c.answer_nack.new.queue c.args.desk.now.queue.now c.answer_nack.new.visitor v
-    c.args.desk.now.page page c.answer_nack.ensures.one.client refl t
+    let page = c.answer_nack.new.desk.page in
+    subst (λ (x : Message). IsTurned s before (after_message s v.client (shown_message x) (told v.client (shown_message x) ∷ history)) c.answer_nack.new.desk.queue.now
+    c.answer_nack.new.desk.visitor page) (sym c.in-Nack.is)
+    (noted_turn s m before history (after_message s v.client m (told v.client m ∷ history)) c.answer_nack.new.desk.queue.now c.args.desk.now.queue.now c.answer_nack.new.desk.visitor v
+    c.args.desk.now.page page c.answer_nack.ensures.same.one.client (ap (λ (p : Page). p.info) c.answer_nack.ensures.page) t
     (c.answer_nack.ensures.answers before (told v.client m ∷ history) (told_heard s v.client m history c.args.desk.now.cache.now.held c.in-Nack.nack.sender hold refl) w))
 
 pub returns-in-Request-clause-answers : goal.returns-in-Request-clause-answers

@@ -2,15 +2,9 @@
 use Rattle.std.proofs.Common.{◌≡◌, ◌+◌, ◌∙◌, ap, arith}
 use Rattle.rtcp_frame.specs.{packets_left, shown_packet}
 use Rattle.feedback_core.specs.{most_of, most_notes, answered_of}
-use Rattle.feedback_core.proofs.Desks.{same_still, ready_still, safe_still, safe_before, step_before}
+use Rattle.feedback_core.proofs.Desks.{same_still, step_before}
 use Rattle.feedback_core.proofs.Turns.{after_packet, at_last}
 use Rattle.feedback_core.proofs.answering.answer_packets.Goals as goal
-
-pub answer_packet-requires-clause-ready : goal.answer_packet-requires-clause-ready
-answer_packet-requires-clause-ready c = ready_still c.args.desk.now c.loop-packet.desk c.loop-packet.invariant.same c.requires.ready
-
-pub answer_packet-requires-clause-safe : goal.answer_packet-requires-clause-safe
-answer_packet-requires-clause-safe c = safe_still c.args.desk.now c.loop-packet.desk c.loop-packet.desk.visitor c.loop-packet.invariant.same c.loop-packet.invariant.safe
 
 pub loop-packet-preserved : goal.loop-packet-preserved
 loop-packet-preserved c =
@@ -23,7 +17,7 @@ loop-packet-preserved c =
       is_finite = tt;
       same_queue = c.answer_packet.ensures.same_queue ∙ i.same_queue;
       same = same_still c.args.desk.now c.loop-packet.desk c.answer_packet.new.desk i.same c.answer_packet.ensures.same;
-      safe = safe_before c.args.desk.now c.loop-packet.desk c.answer_packet.new.desk.visitor i.same c.answer_packet.ensures.safe;
+      ready = c.answer_packet.ensures.ready;
       fresh = c.answer_packet.ensures.fresh;
       room = omega (arith, step, i.room, c.answer_packet.ensures.few, c.answer_packet.ensures.room);
       few = omega (arith, step, i.few, c.answer_packet.ensures.few);

@@ -1,7 +1,7 @@
 -- The packets so far are answered.
 use Rattle.std.proofs.Common.{◌≡◌, ◌+◌, ◌≤◌, vec_len, vec_capacity}
 use Rattle.rtcp_frame.specs.{packets_left}
-use Rattle.feedback_core.specs.{most_notes, answered_of, IsFresh, IsPage, IsSafe, IsSameDesk, Holds, Serves}
+use Rattle.feedback_core.specs.{most_notes, answered_of, IsFresh, IsPage, IsSameDesk, IsReadyDesk, Holds, Serves}
 use Rattle.feedback_core.proofs.Turns.{IsPartway}
 use Rattle.feedback_core.proofs.answering.answer_packets.Given as goal
 
@@ -11,7 +11,7 @@ invariant-loop-packet l = record {
   is_finite : (goal.iterator-loop-packet).is_finite l.packet-iterator;
   same_queue : l.desk.queue.ghost_name ≡ l.fn.desk.queue.ghost_name;
   same : IsSameDesk l.fn.desk l.desk;
-  safe : IsSafe l.fn.desk.config.now l.desk.visitor;
+  ready : IsReadyDesk l.desk;
   fresh : IsFresh l.desk.page;
   room : vec_len l.desk.page.notes + most_notes (packets_left l.packet-iterator) ≤ vec_capacity l.desk.page.notes;
   few : vec_len l.desk.page.notes + most_notes (packets_left l.packet-iterator) ≤ vec_len l.fn.desk.page.notes + most_notes (packets_left l.fn.packets);

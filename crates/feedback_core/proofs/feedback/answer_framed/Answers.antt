@@ -10,20 +10,18 @@ use Rattle.feedback_core.proofs.Telling.{page_tells}
 use Rattle.feedback_core.proofs.feedback.answer_framed.Goals as goal
 
 pub answer_packets-requires-clause-ready : goal.answer_packets-requires-clause-ready
-answer_packets-requires-clause-ready c =
-    ready_placed c.args.parts.now c.receive.new.parts c.requires.stands.0 c.args.client c.requires.stands.1 c.in_ok-visitor.ensures.parts
-
-pub answer_packets-requires-clause-safe : goal.answer_packets-requires-clause-safe
-answer_packets-requires-clause-safe c =
-    safe_placed c.args.parts.now c.receive.new.parts c.requires.stands.0 c.args.client c.in_ok-visitor.visitor c.requires.stands.1 c.in_ok-visitor.ensures.parts
-    c.in_ok-visitor.ensures.visitor
+answer_packets-requires-clause-ready c = record {
+  ready = ready_placed c.args.parts.now c.receive.new.parts c.requires.stands.0 c.args.client c.requires.stands.1 c.in_ok-visitor.ensures.parts;
+  safe = safe_placed c.args.parts.now c.receive.new.parts c.requires.stands.0 c.args.client c.in_ok-visitor.visitor c.requires.stands.1 c.in_ok-visitor.ensures.parts
+      c.in_ok-visitor.ensures.visitor;
+}
 
 pub returns-clause-stands : goal.returns-clause-stands
 returns-clause-stands c = λ events bytes st fe.
     served c.args.parts.now c.receive.new.parts _ events c.args.client bytes (packets_left c.args.packets) c.in_ok-visitor.visitor c.answer_packets.new.desk.visitor
     c.answer_packets.new.desk.queue.now c.in_ok-page.page c.answer_packets.new.desk.page c.finish.result st fe c.in_ok-visitor.ensures.parts c.in_ok-visitor.ensures.visitor
     c.in_ok-page.ensures.notes c.in_ok-page.ensures.info c.in_ok-page.ensures.due c.answer_packets.ensures.answers c.answer_packets.ensures.same.one
-    c.answer_packets.ensures.safe.placed
+    c.answer_packets.ensures.ready.safe.placed
     (parts_ended c.receive.new.parts _ c.answer_packets.new.desk.visitor.budget _ c.answer_packets.new.desk.queue.now c.keep.new.table _ refl (search (rules, sym c.answer_packets.ensures.same_queue)) c.keep.ensures) c.finish.ensures
 
 pub returns-clause-settings : goal.returns-clause-settings
