@@ -18,3 +18,4 @@ pub mod Framed
 pub mod Closing
 pub mod Serving
 pub mod Telling
+pub mod Desks

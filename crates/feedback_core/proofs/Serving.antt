@@ -29,9 +29,11 @@ received p k = record { client = k; entry = woken (entry_of p.table k); has_plac
 abbrev pub placed_parts : Parts → ℕ → Parts
 placed_parts p k = record p { table = with_place p.table k p.config.channel.seq0 }
 
--- other parts, with the same settings and live packets
-abbrev pub parts_with : Parts → Amounts → List Wanted → Clients → Parts
-parts_with p budget queue table = record p { budget = budget; queue = queue; table = table }
+-- the parts as the datagram ends
+pub parts_ended : (p new : Parts) (budget : Amounts) (left queue : List Wanted) (table kept : Clients) → new ≡ record p { budget = budget; queue = left; table = table } → left ≡ queue → table ≡ kept
+    → new ≡ record p { budget = budget; queue = queue; table = kept }
+parts_ended p new budget left queue table kept is same put =
+    is ∙ (ap (λ (ws : List Wanted). record p { budget = budget; queue = ws; table = table }) same ∙ ap (λ (t : Clients). record p { budget = budget; queue = queue; table = t }) put)
 
 known_place : (t : Clients) (k : ℕ) (o : Option Entry) → entry_of t k ≡ o → IsSome (woken o) → has_place t k ≡ true
 known_place t k None e some = absurd cc

@@ -7,6 +7,7 @@ pub mod Framing
 pub mod Pages
 pub mod Places
 pub mod Telling
+pub mod Desks
 unfoldable pub use Rattle.feedback_core.specs.Visitors.{open_in, open_of, entry_under, begun_burst, is_sent_later, woken}
 unfoldable pub use Rattle.feedback_core.specs.Visits.{IsClient, IsAny, Holds, Serves}
 pub use Rattle.feedback_core.specs.Visits.{IsUnknown, IsKnown, IsAsBefore, IsVisit, IsHeard, HasBurst}
@@ -20,3 +21,4 @@ unfoldable pub use Rattle.feedback_core.specs.Pages.{or_info, last_of, info_for,
 pub use Rattle.feedback_core.specs.Pages.{IsPage, IsTurned}
 unfoldable pub use Rattle.feedback_core.specs.Places.{is_full_table, has_place, with_place, with_kept, with_changed}
 unfoldable pub use Rattle.feedback_core.specs.Telling.{IsInfo, TellsAlone}
+pub use Rattle.feedback_core.specs.Desks.{IsSameDesk, IsReadyDesk}

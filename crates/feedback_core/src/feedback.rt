@@ -11,6 +11,7 @@ ghost use Rattle.client_table.specs.{entry_of};
 ghost use Rattle.rams_model.specs.declared.note.Note.TheVariants.{BadFeedback};
 
 use crate::answering::answer_packets;
+use crate::desk::Desk;
 use crate::framing::{has_message, most_notes};
 use crate::page::Page;
 use crate::placing::{keep, make_place, wake};
@@ -76,17 +77,24 @@ fn answer_framed(
         wake(&mut parts.table, client);
         return Ok(Answer::new(Vec::new(alloc), Vec::new(alloc)));
     }
-    let mut page = Page::new(alloc, most_notes(packets))?;
+    let page = Page::new(alloc, most_notes(packets))?;
     let orders = Vec::with_capacity(alloc, 1)?;
-    let mut visitor = receive(alloc, parts, client)?;
-    answer_packets(
-        &parts.config,
-        &parts.cache,
-        &mut visitor,
-        &mut parts.queue,
-        &mut page,
-        packets,
-    );
+    let visitor = receive(alloc, parts, client)?;
+    let mut desk = Desk {
+        config: &parts.config,
+        cache: &parts.cache,
+        queue: &mut parts.queue,
+        visitor,
+        page,
+    };
+    answer_packets(&mut desk, packets);
+    // The queue is given back, for the proof.
+    let Desk {
+        queue: _queue,
+        visitor,
+        page,
+        ..
+    } = desk;
     keep(&mut parts.table, client, visitor.entry);
     parts.budget = visitor.budget;
     Ok(page.finish(client, orders))

@@ -6,6 +6,7 @@
 
 mod answering;
 mod bye;
+mod desk;
 mod feedback;
 mod framing;
 mod holding;

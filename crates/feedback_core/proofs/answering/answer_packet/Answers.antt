@@ -10,24 +10,24 @@ use Rattle.feedback_core.proofs.answering.answer_packet.Goals as goal
 
 pub returns-in_default-clause-answers : goal.returns-in_default-clause-answers
 returns-in_default-clause-answers c = λ before history hold visit written.
-    let t : IsTurned c.args.config.now before history c.args.queue.now c.args.visitor.now c.args.page.now = record { visit = visit; written = written } in
+    let t : IsTurned c.args.desk.now.config.now before history c.args.desk.now.queue.now c.args.desk.now.visitor c.args.desk.now.page = record { visit = visit; written = written } in
     let m = message_of (shown_packet c.args.packet.now) in
     let none : m ≡ None = sym c.in_default.ensures.message in
-    no_turn c.args.config.now c.args.visitor.now.client c.args.page.now.is_due m before history c.args.queue.now c.args.visitor.now c.args.page.now
-    (ap (turn_of c.args.page.now.is_due) none) t
+    no_turn c.args.desk.now.config.now c.args.desk.now.visitor.client c.args.desk.now.page.is_due m before history c.args.desk.now.queue.now c.args.desk.now.visitor c.args.desk.now.page
+    (ap (turn_of c.args.desk.now.page.is_due) none) t
 
 pub returns-then-not-takes-clause-answers : goal.returns-then-not-takes-clause-answers
 returns-then-not-takes-clause-answers c = λ before history hold visit written.
-    let s = c.args.config.now in
-    let v = c.args.visitor.now in
-    let t : IsTurned s before history c.args.queue.now v c.args.page.now = record { visit = visit; written = written } in
+    let s = c.args.desk.now.config.now in
+    let v = c.args.desk.now.visitor in
+    let t : IsTurned s before history c.args.desk.now.queue.now v c.args.desk.now.page = record { visit = visit; written = written } in
     let m = message_of (shown_packet c.args.packet.now) in
     let x = shown_message c.in-Some.message in
-    let due = c.args.page.now.is_due in
+    let due = c.args.desk.now.page.is_due in
     let some : m ≡ Some x = sym c.in-Some.ensures.message in
-    no_turn s v.client due m before history c.args.queue.now v c.takes.new.self
+    no_turn s v.client due m before history c.args.desk.now.queue.now v c.takes.new.self
     (ap (turn_of due) some ∙ is_skipped due x (sym c.takes.ensures.takes ∙ c.if-not-takes.true))
-    (due_turn s before history c.args.queue.now v c.args.page.now c.takes.new.self (due && not (is_rams x)) c.takes.ensures.due t)
+    (due_turn s before history c.args.desk.now.queue.now v c.args.desk.now.page c.takes.new.self (due && not (is_rams x)) c.takes.ensures.due t)
 
 pub answer_message-requires-clause-room : goal.answer_message-requires-clause-room
 answer_message-requires-clause-room c =
@@ -44,14 +44,14 @@ returns-clause-few c =
 
 pub returns-clause-answers : goal.returns-clause-answers
 returns-clause-answers c = λ before history hold visit written.
-    let s = c.args.config.now in
-    let v = c.args.visitor.now in
-    let t : IsTurned s before history c.args.queue.now v c.args.page.now = record { visit = visit; written = written } in
+    let s = c.args.desk.now.config.now in
+    let v = c.args.desk.now.visitor in
+    let t : IsTurned s before history c.args.desk.now.queue.now v c.args.desk.now.page = record { visit = visit; written = written } in
     let m = message_of (shown_packet c.args.packet.now) in
     let x = shown_message c.in-Some.message in
-    let due = c.args.page.now.is_due in
+    let due = c.args.desk.now.page.is_due in
     let some : m ≡ Some x = sym c.in-Some.ensures.message in
-    let taken = due_turn s before history c.args.queue.now v c.args.page.now c.takes.new.self (due && not (is_rams x)) c.takes.ensures.due t in
-    one_turn s v.client due m x before history c.answer_message.new.queue c.answer_message.new.visitor c.answer_message.new.page
+    let taken = due_turn s before history c.args.desk.now.queue.now v c.args.desk.now.page c.takes.new.self (due && not (is_rams x)) c.takes.ensures.due t in
+    one_turn s v.client due m x before history c.answer_message.new.desk.queue.now c.answer_message.new.desk.visitor c.answer_message.new.desk.page
     (ap (turn_of due) some ∙ is_taken due x (sym c.takes.ensures.takes ∙ c.if-not-takes.false))
     (c.answer_message.ensures.answers before history hold taken.visit taken.written)

@@ -1,7 +1,7 @@
 -- The packets so far are answered.
-use Rattle.std.proofs.Common.{◌+◌, ◌≤◌, vec_len, vec_capacity}
+use Rattle.std.proofs.Common.{◌≡◌, ◌+◌, ◌≤◌, vec_len, vec_capacity}
 use Rattle.rtcp_frame.specs.{packets_left}
-use Rattle.feedback_core.specs.{most_notes, answered_of, IsFresh, IsPage, IsSafe, AreOfOne, Holds, Serves}
+use Rattle.feedback_core.specs.{most_notes, answered_of, IsFresh, IsPage, IsSameDesk, IsReadyDesk, Holds, Serves}
 use Rattle.feedback_core.proofs.Turns.{IsPartway}
 use Rattle.feedback_core.proofs.answering.answer_packets.Given as goal
 
@@ -9,12 +9,14 @@ abbrev pub invariant-loop-packet : goal.invariant-loop-packet
 invariant-loop-packet l = record {
   can_next : (goal.iterator-loop-packet).can_next l.packet-iterator;
   is_finite : (goal.iterator-loop-packet).is_finite l.packet-iterator;
-  safe : IsSafe l.config l.visitor;
-  one : AreOfOne l.fn.visitor l.visitor;
-  fresh : IsFresh l.page;
-  room : vec_len l.page.notes + most_notes (packets_left l.packet-iterator) ≤ vec_capacity l.page.notes;
-  few : vec_len l.page.notes + most_notes (packets_left l.packet-iterator) ≤ vec_len l.fn.page.notes + most_notes (packets_left l.fn.packets);
-  answers : Serves l.config (Holds l.config l.cache.held) l.fn.visitor l.fn.queue (λ before history. IsPage l.config l.fn.visitor.client history l.fn.page
-      → IsPartway l.config l.cache.held l.fn.visitor.client before history (answered_of l.fn.page.is_due (packets_left l.fn.packets)) l.page.is_due (packets_left l.packet-iterator) l.queue
-      l.visitor l.page);
+  same_queue : l.desk.queue.ghost_name ≡ l.fn.desk.queue.ghost_name;
+  same : IsSameDesk l.fn.desk l.desk;
+  ready : IsReadyDesk l.desk;
+  fresh : IsFresh l.desk.page;
+  room : vec_len l.desk.page.notes + most_notes (packets_left l.packet-iterator) ≤ vec_capacity l.desk.page.notes;
+  few : vec_len l.desk.page.notes + most_notes (packets_left l.packet-iterator) ≤ vec_len l.fn.desk.page.notes + most_notes (packets_left l.fn.packets);
+  answers : Serves l.fn.desk.config.now (Holds l.fn.desk.config.now l.fn.desk.cache.now.held) l.fn.desk.visitor l.fn.desk.queue.now (λ before history.
+      IsPage l.fn.desk.config.now l.fn.desk.visitor.client history l.fn.desk.page
+      → IsPartway l.fn.desk.config.now l.fn.desk.cache.now.held l.fn.desk.visitor.client before history (answered_of l.fn.desk.page.is_due (packets_left l.fn.packets)) l.desk.page.is_due
+      (packets_left l.packet-iterator) l.desk.queue.now l.desk.visitor l.desk.page);
 }

@@ -1,30 +1,28 @@
 -- The client is received, answered and kept.
-use Rattle.std.proofs.Common.{List, [], ap, ◌∙◌}
+use Rattle.std.proofs.Common.{List, [], ap, ◌∙◌, sym, refl, rules}
 use Rattle.rams_model.specs.declared.note.Note.{Note}
 use Rattle.rams_model.specs.Service.{answered}
 use Rattle.client_table.specs.Clients.{Clients}
 use Rattle.channel_parts.specs.declared.parts.Parts.{Parts}
 use Rattle.rtcp_frame.specs.{packets_left}
-use Rattle.feedback_core.proofs.Serving.{parts_with, ready_placed, safe_placed, served, unasked}
+use Rattle.feedback_core.proofs.Serving.{parts_ended, ready_placed, safe_placed, served, unasked}
 use Rattle.feedback_core.proofs.Telling.{page_tells}
 use Rattle.feedback_core.proofs.feedback.answer_framed.Goals as goal
 
 pub answer_packets-requires-clause-ready : goal.answer_packets-requires-clause-ready
-answer_packets-requires-clause-ready c =
-    ready_placed c.args.parts.now c.receive.new.parts c.requires.stands.0 c.args.client c.requires.stands.1 c.in_ok-visitor.ensures.parts
-
-pub answer_packets-requires-clause-safe : goal.answer_packets-requires-clause-safe
-answer_packets-requires-clause-safe c =
-    safe_placed c.args.parts.now c.receive.new.parts c.requires.stands.0 c.args.client c.in_ok-visitor.visitor c.requires.stands.1 c.in_ok-visitor.ensures.parts
-    c.in_ok-visitor.ensures.visitor
+answer_packets-requires-clause-ready c = record {
+  ready = ready_placed c.args.parts.now c.receive.new.parts c.requires.stands.0 c.args.client c.requires.stands.1 c.in_ok-visitor.ensures.parts;
+  safe = safe_placed c.args.parts.now c.receive.new.parts c.requires.stands.0 c.args.client c.in_ok-visitor.visitor c.requires.stands.1 c.in_ok-visitor.ensures.parts
+      c.in_ok-visitor.ensures.visitor;
+}
 
 pub returns-clause-stands : goal.returns-clause-stands
 returns-clause-stands c = λ events bytes st fe.
-    served c.args.parts.now c.receive.new.parts (parts_with c.receive.new.parts c.answer_packets.new.visitor.budget c.answer_packets.new.queue c.keep.new.table) events c.args.client bytes (packets_left c.args.packets) c.in_ok-visitor.visitor c.answer_packets.new.visitor
-    c.answer_packets.new.queue c.in_ok-page.page c.answer_packets.new.page c.finish.result st fe c.in_ok-visitor.ensures.parts c.in_ok-visitor.ensures.visitor
-    c.in_ok-page.ensures.notes c.in_ok-page.ensures.info c.in_ok-page.ensures.due c.answer_packets.ensures.answers c.answer_packets.ensures.one
-    c.answer_packets.ensures.safe.placed
-    (ap (parts_with c.receive.new.parts c.answer_packets.new.visitor.budget c.answer_packets.new.queue) c.keep.ensures) c.finish.ensures
+    served c.args.parts.now c.receive.new.parts _ events c.args.client bytes (packets_left c.args.packets) c.in_ok-visitor.visitor c.answer_packets.new.desk.visitor
+    c.answer_packets.new.desk.queue.now c.in_ok-page.page c.answer_packets.new.desk.page c.finish.result st fe c.in_ok-visitor.ensures.parts c.in_ok-visitor.ensures.visitor
+    c.in_ok-page.ensures.notes c.in_ok-page.ensures.info c.in_ok-page.ensures.due c.answer_packets.ensures.answers c.answer_packets.ensures.same.one
+    c.answer_packets.ensures.ready.safe.placed
+    (parts_ended c.receive.new.parts _ c.answer_packets.new.desk.visitor.budget _ c.answer_packets.new.desk.queue.now c.keep.new.table _ refl (search (rules, sym c.answer_packets.ensures.same_queue)) c.keep.ensures) c.finish.ensures
 
 pub returns-clause-settings : goal.returns-clause-settings
 returns-clause-settings c = ap (λ (p : Parts). p.config) c.in_ok-visitor.ensures.parts

@@ -8,7 +8,7 @@ use Rattle.feedback_core.proofs.nack.answer_nack.Goals as goal
 
 pub returns-then-nack-channel-clause-answers : goal.returns-then-nack-channel-clause-answers
 returns-then-nack-channel-clause-answers c = λ before history heard w.
-    nack_foreign c.args.config.now before history c.args.queue.now c.args.visitor.now c.args.nack.now.media (named (nack_numbers c.args.nack.now.fci.now)) c.channel.result.now c.args.notes.now.items
+    nack_foreign c.args.desk.now.config.now before history c.args.desk.now.queue.now c.args.desk.now.visitor c.args.nack.now.media (named (nack_numbers c.args.nack.now.fci.now)) c.channel.result.now c.args.desk.now.page.notes.items
     c.push_reserved.new.self.items c.channel.ensures.value c.if-nack-channel.true c.push_reserved.ensures.items w
 
 pub answer_numbers-requires-clause-room : goal.answer_numbers-requires-clause-room
@@ -21,11 +21,11 @@ returns-in-Ok-clause-few c =
 
 pub returns-in-Ok-clause-answers : goal.returns-in-Ok-clause-answers
 returns-in-Ok-clause-answers c = λ before history heard w.
-    nack_read c.args.config.now c.args.cache.now.held before history c.answer_numbers.new.queue c.args.visitor.now.client c.answer_numbers.new.visitor c.args.nack.now.media
-    c.args.nack.now.fci.now (numbers_left c.in-Ok.numbers) c.channel.result.now c.args.notes.now.items c.answer_numbers.new.notes.items c.channel.ensures.value c.if-nack-channel.false heard.held_is
+    nack_read c.args.desk.now.config.now c.args.desk.now.cache.now.held before history c.answer_numbers.new.desk.queue.now c.args.desk.now.visitor.client c.answer_numbers.new.desk.visitor c.args.nack.now.media
+    c.args.nack.now.fci.now (numbers_left c.in-Ok.numbers) c.channel.result.now c.args.desk.now.page.notes.items c.answer_numbers.new.desk.page.notes.items c.channel.ensures.value c.if-nack-channel.false heard.held_is
     c.in-Ok.ensures.ok (c.answer_numbers.ensures.answers before history heard w)
 
 pub returns-in-Err-clause-answers : goal.returns-in-Err-clause-answers
 returns-in-Err-clause-answers c = λ before history heard w.
-    nack_unread c.args.config.now c.args.cache.now.held before history c.args.queue.now c.args.visitor.now c.args.nack.now.media c.args.nack.now.fci.now c.in-Err.field-0
-    c.channel.result.now c.args.notes.now.items c.channel.ensures.value c.if-nack-channel.false heard.held_is c.in-Err.ensures.err w
+    nack_unread c.args.desk.now.config.now c.args.desk.now.cache.now.held before history c.args.desk.now.queue.now c.args.desk.now.visitor c.args.nack.now.media c.args.nack.now.fci.now c.in-Err.field-0
+    c.channel.result.now c.args.desk.now.page.notes.items c.channel.ensures.value c.if-nack-channel.false heard.held_is c.in-Err.ensures.err w
