@@ -2,7 +2,7 @@
 ghost use Rattle.std.specs.Prelude.{◌≡◌, ◌+◌, ◌≤◌, ◌<◌, true, List, None, vec_len, vec_capacity, ◌∷◌, false};
 ghost use Rattle.rams_model.specs.Service.{after_message, after_messages, told, noted, is_rams, message_of as model_message, verdict, Wanted};
 ghost use Rattle.rtcp_frame.specs.{packets_left, shown_packet};
-ghost use Rattle.feedback_core.specs.{most_of, most_of_message, most_notes, shown_message, turn_of, due_after, answered_of, IsFresh, IsPage, IsTurned, IsReady, IsSafe, AreOfOne, IsSameDesk, IsReadyDesk, Holds, IsHeard, IsSaid, Serves};
+ghost use Rattle.feedback_core.specs.{most_of, most_of_message, most_notes, shown_message, turn_of, due_after, answered_of, IsFresh, IsPage, IsTurned, AreOfOne, IsSameDesk, IsReadyDesk, Holds, IsHeard, IsSaid, Serves};
 ghost use Rattle.rams_model.specs.Formats.{request_at};
 
 use crate::bye::answer_bye;
@@ -13,9 +13,6 @@ use crate::rams_i::request_info;
 use crate::rams_r::answer_request;
 use crate::rams_t::answer_stop;
 use crate::said::Said;
-use crate::visitor::Visitor;
-use channel_cache::Cache;
-use channel_config::Config;
 use rtcp_frame::{Packet, Packets};
 
 /// Answers the messages of these packets, for whose notes there is room.
@@ -80,48 +77,36 @@ fn answer_message(desk: &mut Desk<'_>, message: &Message<'_>)
     let client = desk.visitor.client;
     match message {
         Message::Bye(packet) => {
-            let said = answer_bye(desk.config, &mut desk.visitor, desk.queue, packet);
+            let said = answer_bye(desk, packet);
             desk.page.write(client, &said);
         }
         Message::Nack(nack) => {
             answer_nack(desk, nack);
         }
         Message::Request(feedback) => {
-            let said = say_request(
-                desk.config,
-                desk.cache,
-                &mut desk.visitor,
-                feedback.sender,
-                feedback.fci,
-            );
+            let said = say_request(desk, feedback.sender, feedback.fci);
             desk.page.write(client, &said);
         }
         Message::Stop(feedback) => {
-            let said = answer_stop(desk.config, &mut desk.visitor, feedback.fci);
+            let said = answer_stop(desk, feedback.fci);
             desk.page.write(client, &said);
         }
     }
 }
 
 // Answers a request, and says what its client is told.
-fn say_request(
-    config: &Config,
-    cache: &Cache,
-    visitor: &mut Visitor,
-    sender: u32,
-    fci: &[u8],
-) -> Said
-    requires ready { IsReady config.now cache.now }
-    requires safe { IsSafe config.now visitor.old }
-    ensures safe { IsSafe config.now visitor.new }
-    ensures one { AreOfOne visitor.old visitor.new }
-    ensures says { (queue : List Wanted) → Serves config.now (IsHeard config.now cache.now.held sender) visitor.old queue
-        (λ before history. IsSaid config.now before history (noted (verdict config.now visitor.old.client history (request_at fci.now)) None ∷ history) queue visitor.new result) }
+fn say_request(desk: &mut Desk<'_>, sender: u32, fci: &[u8]) -> Said
+    requires ready { IsReadyDesk desk.old }
+    ensures ready { IsReadyDesk desk.new }
+    ensures one { AreOfOne desk.old.visitor desk.new.visitor }
+    ensures same { desk.new ≡ record desk.old { visitor = desk.new.visitor } }
+    ensures says { Serves desk.old.config.now (IsHeard desk.old.config.now desk.old.cache.now.held sender) desk.old.visitor desk.old.queue.now
+        (λ before history. IsSaid desk.old.config.now before history (noted (verdict desk.old.config.now desk.old.visitor.client history (request_at fci.now)) None ∷ history) desk.old.queue.now desk.new.visitor result) }
 {
-    let note = answer_request(config, cache, visitor, sender, fci);
+    let note = answer_request(desk, sender, fci);
     Said {
         note,
         end: None,
-        info: request_info(visitor, note),
+        info: request_info(&desk.visitor, note),
     }
 }

@@ -10,16 +10,18 @@ use Rattle.feedback_core.proofs.Verdicts.{refused, begins_slow, begins_much, acc
 use Rattle.feedback_core.proofs.rams_r.accept.Goals as goal
 
 pub returns-then-rate-channel-clause-answers : goal.returns-then-rate-channel-clause-answers
-returns-then-rate-channel-clause-answers c = λ held h number size queue before history heard w.
-    let s = c.args.config.now in
-    let v = c.args.visitor.now in
+returns-then-rate-channel-clause-answers c = λ held h number size before history heard w.
+    let queue = c.args.desk.now.queue.now in
+    let s = c.args.desk.now.config.now in
+    let v = c.args.desk.now.visitor in
     let slow : c.args.rate < s.channel.declared + 1500 = subst (λ (x : Channel). c.args.rate < x.declared + 1500) c.channel-channel.ensures.value c.if-rate-channel.true in
     refused s before history queue v c.refuse.result (begins s held v.client c.args.rate history (Ok h)) 403 c.refuse.ensures (begins_slow s held v.client c.args.rate history h slow) w
 
 pub returns-then-not-reserve-clause-answers : goal.returns-then-not-reserve-clause-answers
-returns-then-not-reserve-clause-answers c = λ held h number size queue before history heard w.
-    let s = c.args.config.now in
-    let v = c.args.visitor.now in
+returns-then-not-reserve-clause-answers c = λ held h number size before history heard w.
+    let queue = c.args.desk.now.queue.now in
+    let s = c.args.desk.now.config.now in
+    let v = c.args.desk.now.visitor in
     let fast = subst (λ (x : Channel). x.declared + 1500 ≤ c.args.rate) c.channel-channel.ensures.value c.if-rate-channel.false in
     let none = subst (λ (x : Channel). HasRoom v.budget (c.args.rate + x.depth) → ⊥) c.channel-channel.ensures.value
     (λ room. both_ways c.reserve.result c.if-not-reserve.true (c.reserve.ensures.room.1 room)) in
@@ -30,9 +32,10 @@ returns-then-not-reserve-clause-answers c = λ held h number size queue before h
     c.refuse-then-not-reserve.result (begins s held v.client c.args.rate history (Ok h))) (sym same) answer
 
 pub returns-clause-answers : goal.returns-clause-answers
-returns-clause-answers c = λ held h number size queue before history heard w.
-    let s = c.args.config.now in
-    let v = c.args.visitor.now in
+returns-clause-answers c = λ held h number size before history heard w.
+    let queue = c.args.desk.now.queue.now in
+    let s = c.args.desk.now.config.now in
+    let v = c.args.desk.now.visitor in
     let channel = c.channel-channel.result.now in
     let fast = subst (λ (x : Channel). x.declared + 1500 ≤ c.args.rate) c.channel-channel.ensures.value c.if-rate-channel.false in
     accepts s held c.args.sender before history queue v c.args.rate c.args.first c.args.behind c.join_ticks-join.result h channel c.reserve.new.self c.entry_under-entry.result

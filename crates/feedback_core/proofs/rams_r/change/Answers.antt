@@ -9,18 +9,20 @@ use Rattle.feedback_core.proofs.Verdicts.{refused, changes_slow, changes_much, u
 use Rattle.feedback_core.proofs.rams_r.change.Goals as goal
 
 pub returns-then-rate-channel-clause-answers : goal.returns-then-rate-channel-clause-answers
-returns-then-rate-channel-clause-answers c = λ queue b same before history has w.
-    let s = c.args.config.now in
-    let v = c.args.visitor.now in
-    let held = c.args.cache.now.held in
+returns-then-rate-channel-clause-answers c = λ b same before history has w.
+    let queue = c.args.desk.now.queue.now in
+    let s = c.args.desk.now.config.now in
+    let v = c.args.desk.now.visitor in
+    let held = c.args.desk.now.cache.now.held in
     let slow = subst (λ (x : Channel). c.args.rate < x.declared + 1500) c.channel-channel.ensures.value c.if-rate-channel.true in
     refused s before history queue v c.refuse.result (changes s held v.client c.args.rate history b) 403 c.refuse.ensures (changes_slow s held v.client c.args.rate history b slow) w
 
 pub returns-then-not-reserve-clause-answers : goal.returns-then-not-reserve-clause-answers
-returns-then-not-reserve-clause-answers c = λ queue b same before history has w.
-    let s = c.args.config.now in
-    let v = c.args.visitor.now in
-    let held = c.args.cache.now.held in
+returns-then-not-reserve-clause-answers c = λ b same before history has w.
+    let queue = c.args.desk.now.queue.now in
+    let s = c.args.desk.now.config.now in
+    let v = c.args.desk.now.visitor in
+    let held = c.args.desk.now.cache.now.held in
     let fast = subst (λ (x : Channel). x.declared + 1500 ≤ c.args.rate) c.channel-channel.ensures.value c.if-rate-channel.false in
     let none = subst (λ (a : Amounts). HasRoom a c.args.rate → ⊥) c.release.ensures
     (λ room. both_ways c.reserve.result c.if-not-reserve.true (c.reserve.ensures.room.1 room)) in
@@ -28,10 +30,11 @@ returns-then-not-reserve-clause-answers c = λ queue b same before history has w
     (changes_much s held v.client c.args.rate history b v.budget c.args.current.now fast w.budget_is same none) w
 
 pub returns-clause-answers : goal.returns-clause-answers
-returns-clause-answers c = λ queue b same before history has w.
-    let s = c.args.config.now in
-    let v = c.args.visitor.now in
+returns-clause-answers c = λ b same before history has w.
+    let queue = c.args.desk.now.queue.now in
+    let s = c.args.desk.now.config.now in
+    let v = c.args.desk.now.visitor in
     let fast = subst (λ (x : Channel). x.declared + 1500 ≤ c.args.rate) c.channel-channel.ensures.value c.if-rate-channel.false in
-    updates s c.args.cache.now.held before history queue v c.args.rate c.behind-behind.result c.join_ticks-join.result b c.args.current.now c.channel-channel.result.now
+    updates s c.args.desk.now.cache.now.held before history queue v c.args.rate c.behind-behind.result c.join_ticks-join.result b c.args.current.now c.channel-channel.result.now
     c.release.new.self c.reserve.new.self c.update_info-last.result c.channel-channel.ensures.value fast c.release.ensures (c.reserve.ensures.room.0 c.if-not-reserve.false)
     (OnTrue_at c.if-not-reserve.false c.reserve.ensures.taken) c.behind-behind.ensures c.join_ticks-join.ensures c.update_info-last.ensures c.requires.opened has.is_open same w
