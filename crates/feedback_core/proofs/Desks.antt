@@ -5,7 +5,7 @@ use Rattle.rams_model.specs.declared.note.Note.{Note}
 use Rattle.rams_model.specs.Service.{Settings, Message, after_messages, room, number_answer}
 use Rattle.channel_cache.specs.Seen as caches
 use Rattle.feedback_core.specs.declared.desk.Desk.{Desk}
-use Rattle.feedback_core.specs.{IsPage, IsTurned, IsAnswered, Holds, IsHeard, Serves, IsSameDesk}
+use Rattle.feedback_core.specs.{IsPage, IsTurned, IsAnswered, Holds, IsHeard, ServesAt, IsSameDesk}
 
 pub same_still : (first old new : Desk) → IsSameDesk first old → IsSameDesk old new → IsSameDesk first new
 same_still first old new so_far same = record {
@@ -16,7 +16,7 @@ same_still first old new so_far same = record {
 
 -- these messages are answered on the desk, which then is the other
 abbrev pub IsStep : Settings → List Held → Desk → Desk → List Message → Type 0
-IsStep s held d e ms = Serves s (Holds s held) d.visitor d.queue.now (λ before history. IsPage s d.visitor.client history d.page
+IsStep s held d e ms = ServesAt s (Holds s held) d.visitor d.queue.now (λ before history. IsPage s d.visitor.client history d.page
     → IsTurned s before (after_messages s d.visitor.client ms history) e.queue.now e.visitor e.page)
 
 pub step_before : (old d e : Desk) (ms : List Message) → IsSameDesk old d → IsStep d.config.now d.cache.now.held d e ms → IsStep old.config.now old.cache.now.held d e ms
@@ -26,7 +26,7 @@ step_before old d e ms same step =
 
 -- this number is answered on the desk with this note
 abbrev pub IsNumber : Settings → List Held → Desk → Desk → ℕ → ℕ → Note → Type 0
-IsNumber s held d e sender low note = Serves s (IsHeard s held sender) d.visitor d.queue.now
+IsNumber s held d e sender low note = ServesAt s (IsHeard s held sender) d.visitor d.queue.now
     (λ before history. IsAnswered s before history e.queue.now e.visitor note (number_answer room s held d.visitor.client history low))
 
 pub number_before : (old d e : Desk) (sender low : ℕ) (note : Note) → IsSameDesk old d → IsNumber d.config.now d.cache.now.held d e sender low note

@@ -16,7 +16,7 @@ use Rattle.channel_parts.proofs.Facts.{known_clients_are_few}
 use Rattle.channel_parts.proofs.Given.{moment, held_is}
 use Rattle.feedback_core.specs.declared.page.Page.{Page}
 use Rattle.feedback_core.specs.declared.visitor.Visitor.{Visitor}
-use Rattle.feedback_core.specs.{woken, answered_of, IsVisit, IsPage, IsTurned, Holds, Serves, is_full_table, has_place, with_place, with_kept, with_changed, IsReady, IsSafe, AreOfOne}
+use Rattle.feedback_core.specs.{woken, answered_of, IsVisit, IsPage, IsTurned, Holds, ServesAt, is_full_table, has_place, with_place, with_kept, with_changed, IsReady, IsSafe, AreOfOne}
 use Rattle.feedback_core.proofs.Beginning.{at_datagram, visit_begun, page_begun, ready_is, safe_begun}
 use Rattle.feedback_core.proofs.Places.{place_counts}
 use Rattle.feedback_core.proofs.Closing.{history_framed, stands_after, stands_unasked, answer_after}
@@ -65,7 +65,7 @@ begun_hold s k ms history = refl
 
 -- the messages of these packets are answered
 abbrev IsServed : Parts → Visitor → Visitor → List Wanted → Page → Page → List Framed → Type 0
-IsServed p v w queue page new ps = Serves p.config (Holds p.config p.cache.held) v p.queue (λ before history. IsPage p.config v.client history page
+IsServed p v w queue page new ps = ServesAt p.config (Holds p.config p.cache.held) v p.queue (λ before history. IsPage p.config v.client history page
     → IsTurned p.config before (after_messages p.config v.client (answered_of page.is_due ps) history) queue w new)
 
 -- what was answered to the messages

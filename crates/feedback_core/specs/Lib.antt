@@ -9,7 +9,7 @@ pub mod Places
 pub mod Telling
 pub mod Desks
 unfoldable pub use Rattle.feedback_core.specs.Visitors.{open_in, open_of, entry_under, begun_burst, is_sent_later, woken}
-unfoldable pub use Rattle.feedback_core.specs.Visits.{IsClient, IsAny, Holds, Serves}
+unfoldable pub use Rattle.feedback_core.specs.Visits.{IsClient, IsAny, Holds, ServesAt}
 pub use Rattle.feedback_core.specs.Visits.{IsUnknown, IsKnown, IsAsBefore, IsVisit, IsHeard, HasBurst}
 unfoldable pub use Rattle.feedback_core.specs.Ready.{rate_for}
 pub use Rattle.feedback_core.specs.Ready.{IsHeldRun, IsReady, IsSafeBurst, IsSafe, AreOfOne, IsAnswered}
@@ -22,3 +22,4 @@ pub use Rattle.feedback_core.specs.Pages.{IsPage, IsTurned}
 unfoldable pub use Rattle.feedback_core.specs.Places.{is_full_table, has_place, with_place, with_kept, with_changed}
 unfoldable pub use Rattle.feedback_core.specs.Telling.{IsInfo, TellsAlone}
 pub use Rattle.feedback_core.specs.Desks.{IsSameDesk, IsReadyDesk}
+unfoldable pub use Rattle.feedback_core.specs.Desks.{HoldsOn, IsHeardOn, HasBurstOn, Serves}

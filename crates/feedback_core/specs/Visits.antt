@@ -66,5 +66,5 @@ pub record HasBurst (s : Settings) (held : List Held) (k : ℕ) (b : model.Burst
   pub is_open : open_burst s k history ≡ Some b
 
 -- Whichever history it is of which so much is known: where it says what the visitor and the pending repairs are, this is true of it.
-abbrev pub Serves : Settings → (History → Type 0) → Visitor → List Wanted → (History → History → Type 0) → Type 0
-Serves s heard v queue is = (before history : History) → heard history → IsVisit s before history v queue → is before history
+abbrev pub ServesAt : Settings → (History → Type 0) → Visitor → List Wanted → (History → History → Type 0) → Type 0
+ServesAt s heard v queue is = (before history : History) → heard history → IsVisit s before history v queue → is before history

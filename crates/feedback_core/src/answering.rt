@@ -1,8 +1,8 @@
 //! The answers to the messages of a datagram, in their order.
-ghost use Rattle.std.specs.Prelude.{◌≡◌, ◌+◌, ◌≤◌, ◌<◌, true, List, None, vec_len, vec_capacity, ◌∷◌, false};
-ghost use Rattle.rams_model.specs.Service.{after_message, after_messages, told, noted, is_rams, message_of as model_message, verdict, Wanted};
+ghost use Rattle.std.specs.Prelude.{◌≡◌, ◌+◌, ◌≤◌, ◌<◌, true, None, vec_len, vec_capacity, ◌∷◌, false};
+ghost use Rattle.rams_model.specs.Service.{after_message, after_messages, told, noted, is_rams, message_of as model_message, verdict};
 ghost use Rattle.rtcp_frame.specs.{packets_left, shown_packet};
-ghost use Rattle.feedback_core.specs.{most_of, most_of_message, most_notes, shown_message, turn_of, due_after, answered_of, IsFresh, IsPage, IsTurned, AreOfOne, IsSameDesk, IsReadyDesk, Holds, IsHeard, IsSaid, Serves};
+ghost use Rattle.feedback_core.specs.{most_of, most_of_message, most_notes, shown_message, turn_of, due_after, answered_of, IsFresh, IsPage, IsTurned, AreOfOne, IsSameDesk, IsReadyDesk, HoldsOn, IsHeardOn, IsSaid, Serves};
 ghost use Rattle.rams_model.specs.Formats.{request_at};
 
 use crate::bye::answer_bye;
@@ -24,9 +24,9 @@ pub(crate) fn answer_packets(desk: &mut Desk<'_>, packets: Packets<'_>)
     ensures same_queue { desk.new.queue.ghost_name ≡ desk.old.queue.ghost_name }
     ensures same { IsSameDesk desk.old desk.new }
     ensures few { vec_len desk.new.page.notes ≤ vec_len desk.old.page.notes + most_notes (packets_left packets.entry) }
-    ensures answers { Serves desk.old.config.now (Holds desk.old.config.now desk.old.cache.now.held) desk.old.visitor desk.old.queue.now
-        (λ before history. IsPage desk.old.config.now desk.old.visitor.client history desk.old.page
-        → IsTurned desk.old.config.now before (after_messages desk.old.config.now desk.old.visitor.client (answered_of desk.old.page.is_due (packets_left packets.entry)) history) desk.new.queue.now desk.new.visitor desk.new.page) }
+    ensures answers { let s = desk.old.config.now in let k = desk.old.visitor.client in
+        Serves desk.old (HoldsOn desk.old) (λ before history. IsPage s k history desk.old.page
+        → IsTurned s before (after_messages s k (answered_of desk.old.page.is_due (packets_left packets.entry)) history) desk.new.queue.now desk.new.visitor desk.new.page) }
 {
     for packet in packets {
         answer_packet(desk, &packet);
@@ -45,9 +45,9 @@ fn answer_packet(desk: &mut Desk<'_>, packet: &Packet<'_>)
     ensures few { vec_len desk.new.page.notes ≤ vec_len desk.old.page.notes + most_of (shown_packet packet.now) }
     ensures room { vec_capacity desk.new.page.notes ≡ vec_capacity desk.old.page.notes }
     ensures due { desk.new.page.is_due ≡ due_after desk.old.page.is_due (model_message (shown_packet packet.now)) }
-    ensures answers { Serves desk.old.config.now (Holds desk.old.config.now desk.old.cache.now.held) desk.old.visitor desk.old.queue.now
-        (λ before history. IsPage desk.old.config.now desk.old.visitor.client history desk.old.page
-        → IsTurned desk.old.config.now before (after_messages desk.old.config.now desk.old.visitor.client (turn_of desk.old.page.is_due (model_message (shown_packet packet.now))) history) desk.new.queue.now desk.new.visitor desk.new.page) }
+    ensures answers { let s = desk.old.config.now in let k = desk.old.visitor.client in
+        Serves desk.old (HoldsOn desk.old) (λ before history. IsPage s k history desk.old.page
+        → IsTurned s before (after_messages s k (turn_of desk.old.page.is_due (model_message (shown_packet packet.now))) history) desk.new.queue.now desk.new.visitor desk.new.page) }
 {
     let Some(message) = message_of(packet) else {
         return;
@@ -70,9 +70,9 @@ fn answer_message(desk: &mut Desk<'_>, message: &Message<'_>)
     ensures due { desk.new.page.is_due ≡ desk.old.page.is_due }
     ensures few { vec_len desk.new.page.notes ≤ vec_len desk.old.page.notes + most_of_message message.now }
     ensures room { vec_capacity desk.new.page.notes ≡ vec_capacity desk.old.page.notes }
-    ensures answers { Serves desk.old.config.now (Holds desk.old.config.now desk.old.cache.now.held) desk.old.visitor desk.old.queue.now
-        (λ before history. IsPage desk.old.config.now desk.old.visitor.client history desk.old.page
-        → IsTurned desk.old.config.now before (after_message desk.old.config.now desk.old.visitor.client (shown_message message.now) (told desk.old.visitor.client (shown_message message.now) ∷ history)) desk.new.queue.now desk.new.visitor desk.new.page) }
+    ensures answers { let s = desk.old.config.now in let k = desk.old.visitor.client in
+        Serves desk.old (HoldsOn desk.old) (λ before history. IsPage s k history desk.old.page
+        → IsTurned s before (after_message s k (shown_message message.now) (told k (shown_message message.now) ∷ history)) desk.new.queue.now desk.new.visitor desk.new.page) }
 {
     let client = desk.visitor.client;
     match message {
@@ -100,8 +100,8 @@ fn say_request(desk: &mut Desk<'_>, sender: u32, fci: &[u8]) -> Said
     ensures ready { IsReadyDesk desk.new }
     ensures one { AreOfOne desk.old.visitor desk.new.visitor }
     ensures same { desk.new ≡ record desk.old { visitor = desk.new.visitor } }
-    ensures says { Serves desk.old.config.now (IsHeard desk.old.config.now desk.old.cache.now.held sender) desk.old.visitor desk.old.queue.now
-        (λ before history. IsSaid desk.old.config.now before history (noted (verdict desk.old.config.now desk.old.visitor.client history (request_at fci.now)) None ∷ history) desk.old.queue.now desk.new.visitor result) }
+    ensures says { let s = desk.old.config.now in let k = desk.old.visitor.client in
+        Serves desk.old (IsHeardOn desk.old sender) (λ before history. IsSaid s before history (noted (verdict s k history (request_at fci.now)) None ∷ history) desk.old.queue.now desk.new.visitor result) }
 {
     let note = answer_request(desk, sender, fci);
     Said {

@@ -18,8 +18,8 @@ pub(crate) fn answer_bye(desk: &mut Desk<'_>, packet: &Packet<'_>) -> Said
     ensures same { IsSameDesk desk.old desk.new }
     ensures page { desk.new.page ≡ desk.old.page }
     ensures info { result.info ≡ None }
-    ensures says { Serves desk.old.config.now IsAny desk.old.visitor desk.old.queue.now
-        (λ before history. IsSaid desk.old.config.now before history (after_bye desk.old.config.now desk.old.visitor.client (shown_packet packet.now) history) desk.new.queue.now desk.new.visitor result) }
+    ensures says { let s = desk.old.config.now in let k = desk.old.visitor.client in
+        Serves desk.old IsAny (λ before history. IsSaid s before history (after_bye s k (shown_packet packet.now) history) desk.new.queue.now desk.new.visitor result) }
 {
     let client = desk.visitor.client;
     let Some(entry) = desk.visitor.entry else {

@@ -1,9 +1,9 @@
 //! The answer to a generic NACK (RFC 4585, 6.2.1).
-ghost use Rattle.std.specs.Prelude.{◌≡◌, ◌+◌, ◌≤◌, ℕ, Some, length, vec_len, vec_capacity};
+ghost use Rattle.std.specs.Prelude.{◌≡◌, ◌+◌, ◌≤◌, length, vec_len, vec_capacity};
 ghost use Rattle.rams_model.specs.Service.{room, number_answer, after_numbers, after_nack, named};
 ghost use Rattle.rams_model.specs.Formats.{nack_numbers};
 ghost use Rattle.rtcp_feedback.specs.{numbers_left};
-ghost use Rattle.feedback_core.specs.{most_of_nack, IsReadyDesk, IsSameDesk, IsAnswered, IsHeard, AreNoted, Serves};
+ghost use Rattle.feedback_core.specs.{most_of_nack, IsReadyDesk, IsSameDesk, IsAnswered, IsHeardOn, AreNoted, Serves};
 
 use crate::desk::Desk;
 use ext_seq::resolve_in;
@@ -22,8 +22,8 @@ pub(crate) fn answer_nack(desk: &mut Desk<'_>, nack: &Feedback<'_>)
     ensures page { desk.new.page ≡ record desk.old.page { notes = desk.new.page.notes } }
     ensures few { vec_len desk.new.page.notes ≤ vec_len desk.old.page.notes + most_of_nack nack.now.fci.now }
     ensures room { vec_capacity desk.new.page.notes ≡ vec_capacity desk.old.page.notes }
-    ensures answers { Serves desk.old.config.now (IsHeard desk.old.config.now desk.old.cache.now.held nack.now.sender) desk.old.visitor desk.old.queue.now
-        (λ before history. AreNoted desk.old.config.now before history (after_nack desk.old.config.now desk.old.visitor.client nack.now.media (named (nack_numbers nack.now.fci.now)) history)
+    ensures answers { let s = desk.old.config.now in let k = desk.old.visitor.client in
+        Serves desk.old (IsHeardOn desk.old nack.now.sender) (λ before history. AreNoted s before history (after_nack s k nack.now.media (named (nack_numbers nack.now.fci.now)) history)
         desk.new.queue.now desk.new.visitor desk.old.page.notes.items desk.new.page.notes.items) }
 {
     if nack.media != desk.config.channel().ssrc {
@@ -50,8 +50,8 @@ fn answer_numbers(desk: &mut Desk<'_>, sender: u32, numbers: NackIter<'_>)
     ensures page { desk.new.page ≡ record desk.old.page { notes = desk.new.page.notes } }
     ensures few { vec_len desk.new.page.notes ≤ vec_len desk.old.page.notes + length (numbers_left numbers.entry) }
     ensures room { vec_capacity desk.new.page.notes ≡ vec_capacity desk.old.page.notes }
-    ensures answers { Serves desk.old.config.now (IsHeard desk.old.config.now desk.old.cache.now.held sender) desk.old.visitor desk.old.queue.now
-        (λ before history. AreNoted desk.old.config.now before history (after_numbers desk.old.config.now desk.old.cache.now.held desk.old.visitor.client (numbers_left numbers.entry) history)
+    ensures answers { let s = desk.old.config.now in let k = desk.old.visitor.client in
+        Serves desk.old (IsHeardOn desk.old sender) (λ before history. AreNoted s before history (after_numbers s desk.old.cache.now.held k (numbers_left numbers.entry) history)
         desk.new.queue.now desk.new.visitor desk.old.page.notes.items desk.new.page.notes.items) }
 {
     for low in numbers {
@@ -67,8 +67,8 @@ fn answer_number(desk: &mut Desk<'_>, sender: u32, low: u16) -> Note
     ensures same_queue { desk.new.queue.ghost_name ≡ desk.old.queue.ghost_name }
     ensures same { IsSameDesk desk.old desk.new }
     ensures page { desk.new.page ≡ desk.old.page }
-    ensures answers { Serves desk.old.config.now (IsHeard desk.old.config.now desk.old.cache.now.held sender) desk.old.visitor desk.old.queue.now
-        (λ before history. IsAnswered desk.old.config.now before history desk.new.queue.now desk.new.visitor result (number_answer room desk.old.config.now desk.old.cache.now.held desk.old.visitor.client history low)) }
+    ensures answers { let s = desk.old.config.now in let k = desk.old.visitor.client in
+        Serves desk.old (IsHeardOn desk.old sender) (λ before history. IsAnswered s before history desk.new.queue.now desk.new.visitor result (number_answer room s desk.old.cache.now.held k history low)) }
 {
     let client = desk.visitor.client;
     let Some(n) = resolve_in(desk.cache.lo(), desk.cache.hi(), low) else {

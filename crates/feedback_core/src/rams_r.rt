@@ -4,11 +4,10 @@ ghost use Rattle.rams_model.specs.declared.held.Held.{Held};
 ghost use Rattle.rams_model.specs.Formats.{request_at};
 ghost use Rattle.rams_model.specs.Packets.{behind as behind_of};
 ghost use Rattle.rams_tlv.specs.{shown_request};
-ghost use Rattle.feedback_core.specs.{open_of, begun_burst, IsReadyDesk, AreOfOne, IsAnswered, IsHeard, HasBurst, Serves, rate_for};
+ghost use Rattle.feedback_core.specs.{open_of, begun_burst, IsReadyDesk, AreOfOne, IsAnswered, IsHeard, IsHeardOn, HasBurstOn, Serves, rate_for};
 ghost use Rattle.rams_model.specs.declared.note.Note.TheVariants.{Refuse};
 ghost use Rattle.rams_model.specs.Service.Verdict as verdicts;
 ghost use Rattle.rams_model.specs.Service.Bursts as model;
-ghost use Rattle.rams_model.specs.Service.{Wanted};
 ghost use Rattle.channel_parts.specs.{burst_kept};
 
 use crate::desk::Desk;
@@ -34,8 +33,9 @@ pub(crate) fn answer_request(desk: &mut Desk<'_>, sender: u32, fci: &[u8]) -> No
     ensures ready { IsReadyDesk desk.new }
     ensures one { AreOfOne desk.old.visitor desk.new.visitor }
     ensures same { desk.new ≡ record desk.old { visitor = desk.new.visitor } }
-    ensures answers { Serves desk.old.config.now (IsHeard desk.old.config.now desk.old.cache.now.held sender) desk.old.visitor desk.old.queue.now
-        (λ before history. IsAnswered desk.old.config.now before history desk.old.queue.now desk.new.visitor result (verdicts.verdict desk.old.config.now desk.old.visitor.client history (request_at fci.now))) }
+    ensures answers { let s = desk.old.config.now in let k = desk.old.visitor.client in
+        Serves desk.old (IsHeardOn desk.old sender) (λ before history.
+        IsAnswered s before history desk.old.queue.now desk.new.visitor result (verdicts.verdict s k history (request_at fci.now))) }
 {
     match read_request(fci) {
         Ok(request) => on_request(desk, sender, &request),
@@ -58,8 +58,9 @@ fn on_request(desk: &mut Desk<'_>, sender: u32, request: &Request<'_>) -> Note
     ensures ready { IsReadyDesk desk.new }
     ensures one { AreOfOne desk.old.visitor desk.new.visitor }
     ensures same { desk.new ≡ record desk.old { visitor = desk.new.visitor } }
-    ensures answers { Serves desk.old.config.now (IsHeard desk.old.config.now desk.old.cache.now.held sender) desk.old.visitor desk.old.queue.now
-        (λ before history. IsAnswered desk.old.config.now before history desk.old.queue.now desk.new.visitor result (verdicts.verdict desk.old.config.now desk.old.visitor.client history (Ok (shown_request request.now)))) }
+    ensures answers { let s = desk.old.config.now in let k = desk.old.visitor.client in
+        Serves desk.old (IsHeardOn desk.old sender) (λ before history.
+        IsAnswered s before history desk.old.queue.now desk.new.visitor result (verdicts.verdict s k history (Ok (shown_request request.now)))) }
 {
     if request.preamble {
         return refuse(&desk.visitor, ONLY_PREAMBLE);
@@ -80,9 +81,10 @@ fn on_burst(desk: &mut Desk<'_>, current: &Open, bps: Option<u64>) -> Note
     ensures ready { IsReadyDesk desk.new }
     ensures one { AreOfOne desk.old.visitor desk.new.visitor }
     ensures same { desk.new ≡ record desk.old { visitor = desk.new.visitor } }
-    ensures answers { (b : model.Burst) → current.now.burst ≡ burst_kept desk.old.config.now b
-        → Serves desk.old.config.now (HasBurst desk.old.config.now desk.old.cache.now.held desk.old.visitor.client b) desk.old.visitor desk.old.queue.now
-        (λ before history. IsAnswered desk.old.config.now before history desk.old.queue.now desk.new.visitor result (verdicts.on_burst desk.old.config.now desk.old.cache.now.held desk.old.visitor.client (rate_for desk.old.config.now bps) history b bps)) }
+    ensures answers { let s = desk.old.config.now in let k = desk.old.visitor.client in
+        (b : model.Burst) → current.now.burst ≡ burst_kept s b
+        → Serves desk.old (HasBurstOn desk.old b) (λ before history.
+        IsAnswered s before history desk.old.queue.now desk.new.visitor result (verdicts.on_burst s desk.old.cache.now.held k (rate_for s bps) history b bps)) }
 {
     let again = Note::Again {
         client: desk.visitor.client,
@@ -105,9 +107,10 @@ fn change(desk: &mut Desk<'_>, current: &Open, rate: u64) -> Note
     ensures ready { IsReadyDesk desk.new }
     ensures one { AreOfOne desk.old.visitor desk.new.visitor }
     ensures same { desk.new ≡ record desk.old { visitor = desk.new.visitor } }
-    ensures answers { (b : model.Burst) → current.now.burst ≡ burst_kept desk.old.config.now b
-        → Serves desk.old.config.now (HasBurst desk.old.config.now desk.old.cache.now.held desk.old.visitor.client b) desk.old.visitor desk.old.queue.now
-        (λ before history. IsAnswered desk.old.config.now before history desk.old.queue.now desk.new.visitor result (verdicts.changes desk.old.config.now desk.old.cache.now.held desk.old.visitor.client rate history b)) }
+    ensures answers { let s = desk.old.config.now in let k = desk.old.visitor.client in
+        (b : model.Burst) → current.now.burst ≡ burst_kept s b
+        → Serves desk.old (HasBurstOn desk.old b) (λ before history.
+        IsAnswered s before history desk.old.queue.now desk.new.visitor result (verdicts.changes s desk.old.cache.now.held k rate history b)) }
 {
     let client = desk.visitor.client;
     let channel = desk.config.channel();
@@ -147,8 +150,9 @@ fn begin(desk: &mut Desk<'_>, sender: u32, request: &Request<'_>) -> Note
     ensures ready { IsReadyDesk desk.new }
     ensures one { AreOfOne desk.old.visitor desk.new.visitor }
     ensures same { desk.new ≡ record desk.old { visitor = desk.new.visitor } }
-    ensures answers { Serves desk.old.config.now (IsHeard desk.old.config.now desk.old.cache.now.held sender) desk.old.visitor desk.old.queue.now
-        (λ before history. IsAnswered desk.old.config.now before history desk.old.queue.now desk.new.visitor result (verdicts.on_request desk.old.config.now desk.old.cache.now.held desk.old.visitor.client (shown_request request.now) history None)) }
+    ensures answers { let s = desk.old.config.now in let k = desk.old.visitor.client in
+        Serves desk.old (IsHeardOn desk.old sender) (λ before history.
+        IsAnswered s before history desk.old.queue.now desk.new.visitor result (verdicts.on_request s desk.old.cache.now.held k (shown_request request.now) history None)) }
 {
     if desk.visitor.is_full() {
         return refuse(&desk.visitor, TOO_MANY_CLIENTS);
@@ -179,9 +183,10 @@ fn accept(desk: &mut Desk<'_>, sender: u32, rate: u64, first: u64, behind: u64) 
     ensures ready { IsReadyDesk desk.new }
     ensures one { AreOfOne desk.old.visitor desk.new.visitor }
     ensures same { desk.new ≡ record desk.old { visitor = desk.new.visitor } }
-    ensures answers { (held : List Held) (h : Held) → h.n ≡ first → behind_of first held ≡ behind
-        → Serves desk.old.config.now (IsHeard desk.old.config.now held sender) desk.old.visitor desk.old.queue.now
-        (λ before history. IsAnswered desk.old.config.now before history desk.old.queue.now desk.new.visitor result (verdicts.begins desk.old.config.now held desk.old.visitor.client rate history (Ok h))) }
+    ensures answers { let s = desk.old.config.now in let k = desk.old.visitor.client in
+        (held : List Held) (h : Held) → h.n ≡ first → behind_of first held ≡ behind
+        → Serves desk.old (IsHeard s held sender) (λ before history.
+        IsAnswered s before history desk.old.queue.now desk.new.visitor result (verdicts.begins s held k rate history (Ok h))) }
 {
     let client = desk.visitor.client;
     let channel = desk.config.channel();

@@ -1,6 +1,6 @@
 //! The answer to a RAMS-T (RFC 6285, 7.4).
-ghost use Rattle.std.specs.Prelude.{◌≡◌, List};
-ghost use Rattle.rams_model.specs.Service.{after_stop, stop_burst as after_stop_burst, open_burst, Wanted};
+ghost use Rattle.std.specs.Prelude.{◌≡◌};
+ghost use Rattle.rams_model.specs.Service.{after_stop, stop_burst as after_stop_burst, open_burst};
 ghost use Rattle.rams_model.specs.Formats.{stop_at};
 ghost use Rattle.feedback_core.specs.{IsReadyDesk, AreOfOne, IsAny, IsSaid, Serves};
 
@@ -18,8 +18,8 @@ pub(crate) fn answer_stop(desk: &mut Desk<'_>, fci: &[u8]) -> Said
     ensures ready { IsReadyDesk desk.new }
     ensures one { AreOfOne desk.old.visitor desk.new.visitor }
     ensures same { desk.new ≡ record desk.old { visitor = desk.new.visitor } }
-    ensures says { Serves desk.old.config.now IsAny desk.old.visitor desk.old.queue.now
-        (λ before history. IsSaid desk.old.config.now before history (after_stop desk.old.config.now desk.old.visitor.client (stop_at fci.now) history) desk.old.queue.now desk.new.visitor result) }
+    ensures says { let s = desk.old.config.now in let k = desk.old.visitor.client in
+        Serves desk.old IsAny (λ before history. IsSaid s before history (after_stop s k (stop_at fci.now) history) desk.old.queue.now desk.new.visitor result) }
 {
     match read_stop(fci) {
         Ok(stop) => stop_burst(desk, stop.first_multicast),
@@ -41,8 +41,8 @@ fn stop_burst(desk: &mut Desk<'_>, named: Option<u32>) -> Said
     ensures ready { IsReadyDesk desk.new }
     ensures one { AreOfOne desk.old.visitor desk.new.visitor }
     ensures same { desk.new ≡ record desk.old { visitor = desk.new.visitor } }
-    ensures says { Serves desk.old.config.now IsAny desk.old.visitor desk.old.queue.now
-        (λ before history. IsSaid desk.old.config.now before history (after_stop_burst desk.old.visitor.client named (open_burst desk.old.config.now desk.old.visitor.client history) history) desk.old.queue.now desk.new.visitor result) }
+    ensures says { let s = desk.old.config.now in let k = desk.old.visitor.client in
+        Serves desk.old IsAny (λ before history. IsSaid s before history (after_stop_burst k named (open_burst s k history) history) desk.old.queue.now desk.new.visitor result) }
 {
     let client = desk.visitor.client;
     let Some(open) = desk.visitor.open() else {

@@ -1,7 +1,7 @@
 -- The packets so far are answered.
 use Rattle.std.proofs.Common.{◌≡◌, ◌+◌, ◌≤◌, vec_len, vec_capacity}
 use Rattle.rtcp_frame.specs.{packets_left}
-use Rattle.feedback_core.specs.{most_notes, answered_of, IsFresh, IsPage, IsSameDesk, IsReadyDesk, Holds, Serves}
+use Rattle.feedback_core.specs.{most_notes, answered_of, IsFresh, IsPage, IsSameDesk, IsReadyDesk, Holds, ServesAt}
 use Rattle.feedback_core.proofs.Turns.{IsPartway}
 use Rattle.feedback_core.proofs.answering.answer_packets.Given as goal
 
@@ -15,7 +15,7 @@ invariant-loop-packet l = record {
   fresh : IsFresh l.desk.page;
   room : vec_len l.desk.page.notes + most_notes (packets_left l.packet-iterator) ≤ vec_capacity l.desk.page.notes;
   few : vec_len l.desk.page.notes + most_notes (packets_left l.packet-iterator) ≤ vec_len l.fn.desk.page.notes + most_notes (packets_left l.fn.packets);
-  answers : Serves l.fn.desk.config.now (Holds l.fn.desk.config.now l.fn.desk.cache.now.held) l.fn.desk.visitor l.fn.desk.queue.now (λ before history.
+  answers : ServesAt l.fn.desk.config.now (Holds l.fn.desk.config.now l.fn.desk.cache.now.held) l.fn.desk.visitor l.fn.desk.queue.now (λ before history.
       IsPage l.fn.desk.config.now l.fn.desk.visitor.client history l.fn.desk.page
       → IsPartway l.fn.desk.config.now l.fn.desk.cache.now.held l.fn.desk.visitor.client before history (answered_of l.fn.desk.page.is_due (packets_left l.fn.packets)) l.desk.page.is_due
       (packets_left l.packet-iterator) l.desk.queue.now l.desk.visitor l.desk.page);

@@ -1,7 +1,7 @@
 -- The numbers so far are answered.
 use Rattle.std.proofs.Common.{◌≡◌, ◌+◌, ◌≤◌, length, vec_len, vec_capacity}
 use Rattle.rtcp_feedback.specs.{numbers_left}
-use Rattle.feedback_core.specs.{IsReadyDesk, IsSameDesk, IsHeard, Serves}
+use Rattle.feedback_core.specs.{IsReadyDesk, IsSameDesk, IsHeard, ServesAt}
 use Rattle.feedback_core.proofs.Writing.{IsUnderWay}
 use Rattle.feedback_core.proofs.nack.answer_numbers.Given as goal
 
@@ -16,7 +16,7 @@ invariant-loop-low l = record {
   room : vec_len l.desk.page.notes + length (numbers_left l.low-iterator) ≤ vec_capacity l.desk.page.notes;
   few : vec_len l.desk.page.notes + length (numbers_left l.low-iterator) ≤ vec_len l.fn.desk.page.notes + length (numbers_left l.fn.numbers);
   capacity : vec_capacity l.desk.page.notes ≡ vec_capacity l.fn.desk.page.notes;
-  answers : Serves l.fn.desk.config.now (IsHeard l.fn.desk.config.now l.fn.desk.cache.now.held l.sender) l.fn.desk.visitor l.fn.desk.queue.now
+  answers : ServesAt l.fn.desk.config.now (IsHeard l.fn.desk.config.now l.fn.desk.cache.now.held l.sender) l.fn.desk.visitor l.fn.desk.queue.now
       (λ before history. IsUnderWay l.fn.desk.config.now l.fn.desk.cache.now.held l.sender l.fn.desk.visitor.client before history (numbers_left l.fn.numbers) (numbers_left l.low-iterator)
       l.desk.queue.now l.desk.visitor l.fn.desk.page.notes.items l.desk.page.notes.items);
 }
