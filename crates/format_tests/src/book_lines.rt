@@ -291,3 +291,29 @@ fn the_greatest_numbers_are_written(rt: HostRuntime) -> Result<(), Fail> {
     same(&rt, &text.as_slice(), &want.as_slice(), &"the last lines");
     Ok(())
 }
+
+/// A repair, under the last of its packet's numbers.
+fn repair(client: u64, n: u64) -> Note {
+    Note::Repair {
+        client,
+        n,
+        seq: 500,
+    }
+}
+
+#[test]
+fn a_pen_writes_one_line_after_another(rt: HostRuntime) -> Result<(), Fail> {
+    let mut pen = Pen::new();
+    let mut text = Vec::new(rt.alloc());
+    pen.append_told(&mut text, 4, 7, &repair(5, 98), 5, &[0xab])?;
+    pen.append_told(&mut text, 4, 7, &repair(5, 100), 5, &[])?;
+    pen.append_told(&mut text, 4, 7, &repair(60, 100), 60, &[1])?;
+    pen.append_note(&mut text, 4, 8, &FORGOT)?;
+    pen.append_told(&mut text, 12, 8, &repair(60, 9), 60, &[2])?;
+    pen.append_told(&mut text, 12, 8, &FORGOT, 60, &[3])?;
+    let want = b"4 7 repair 5 98 500\n4 7 send 5 ab\n4 7 repair 5 100 500\n4 7 send 5 -\n\
+        4 7 repair 60 100 500\n4 7 send 60 01\n4 8 forgot 281474976710655\n\
+        12 8 repair 60 9 500\n12 8 send 60 02\n12 8 forgot 281474976710655\n12 8 send 60 03\n";
+    same(&rt, &text.as_slice(), &want.as_slice(), &"lines of one pen");
+    Ok(())
+}
