@@ -119,7 +119,3 @@ pub few_within : {F : Type 0} (r : Result Answered F) (most bytes : ℕ) → mos
     → IfOk r (λ a. (length a.notes ≤ 5 * bytes + 4) × (length a.orders ≤ 1))
 few_within (Ok a) most bytes le few = (omega (arith, le, few.0), few.1)
 few_within (Err f) most bytes le few = tt
-
-pub answered_as : {F : Type 0} (r : Result Answered F) (same other : Answered) (P : Type 0) → same ≡ other → P → IfOk r (λ a. a ≡ same) → IfOk r (λ a. (a ≡ other) × P)
-answered_as (Ok a) same other P e p is = (is ∙ e, p)
-answered_as (Err f) same other P e p is = tt

@@ -1,14 +1,13 @@
 //! The answer to a datagram.
-ghost use Rattle.std.specs.Prelude.{◌≡◌, ◌+◌, ◌*◌, ◌<◌, ◌≤◌, ◌^◌, ℕ, List, ◌∷◌, length, IfOk, OnErr, Ok, OnOk, []};
+ghost use Rattle.std.specs.Prelude.{◌≡◌, ◌+◌, ◌*◌, ◌<◌, ◌≤◌, ◌^◌, ℕ, List, ◌∷◌, length, IfOk, OnErr, Ok, OnOk};
 ghost use Rattle.rams_model.specs.declared.event.Event.{Event};
 ghost use Rattle.rams_model.specs.declared.event.Event.TheVariants.{Feedback};
-ghost use Rattle.rams_model.specs.Service.{answer, answered};
+ghost use Rattle.rams_model.specs.Service.{answer};
 ghost use Rattle.rams_model.specs.Formats.{framed};
 ghost use Rattle.rtcp_frame.specs.{packets_left};
 ghost use Rattle.channel_parts.specs.{StandsFor};
 ghost use Rattle.feedback_core.specs.{most_notes, woken, has_place, with_place, TellsAlone};
 ghost use Rattle.client_table.specs.{entry_of};
-ghost use Rattle.rams_model.specs.declared.note.Note.TheVariants.{BadFeedback};
 
 use crate::answering::answer_packets;
 use crate::desk::Desk;
@@ -18,7 +17,7 @@ use crate::placing::{keep, make_place, wake};
 use crate::visitor::Visitor;
 use channel_parts::Parts;
 use ram_io::NoMemory;
-use rams_model::{Answer, FrameFault, Note};
+use rams_model::{Answer, Note};
 use rtcp_frame::{Packets, packets};
 use std::alloc::Global;
 
@@ -53,7 +52,7 @@ pub fn answer_feedback(
             }
             answer_framed(alloc, parts, client, packets)
         }
-        Err(fault) => note_fault(alloc, client, fault),
+        Err(fault) => Ok(Answer::one(alloc, Note::BadFeedback { client, fault })),
     }
 }
 
@@ -115,13 +114,4 @@ fn receive(alloc: Global, parts: &mut Parts, client: u64) -> Result<Visitor, NoM
     let seq0 = parts.config.channel().seq0;
     let has_place = make_place(alloc, &mut parts.table, client, entry.is_some(), seq0)?;
     Ok(Visitor::new(client, entry, has_place, &parts.budget))
-}
-
-// The datagram is no compound RTCP packet.
-fn note_fault(alloc: Global, client: u64, fault: FrameFault) -> Result<Answer, NoMemory>
-    ensures { IfOk result (λ a. a ≡ answered (BadFeedback client fault ∷ []) []) }
-{
-    let mut notes = Vec::new(alloc);
-    notes.push(Note::BadFeedback { client, fault })?;
-    Ok(Answer::new(notes, Vec::new(alloc)))
 }

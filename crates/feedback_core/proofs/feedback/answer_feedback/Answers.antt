@@ -1,11 +1,8 @@
 -- A datagram that frames, or doesn't.
-use Rattle.std.proofs.Common.{[], ◌∷◌, length, arith}
+use Rattle.std.proofs.Common.{length, arith, ◌∙◌}
 use Rattle.rams_model.specs.declared.event.Event.TheVariants.{Feedback}
-use Rattle.rams_model.specs.declared.note.Note.TheVariants.{BadFeedback}
-use Rattle.rams_model.specs.Service.{answered, answer}
-use Rattle.channel_parts.specs.{StandsFor}
 use Rattle.feedback_core.specs.{most_notes}
-use Rattle.feedback_core.proofs.Serving.{few_within, answered_as}
+use Rattle.feedback_core.proofs.Serving.{few_within}
 use Rattle.rtcp_frame.specs.{packets_left}
 use Rattle.feedback_core.proofs.Framed.{most_framed}
 use Rattle.feedback_core.proofs.Closing.{stands_unframed, answer_unframed}
@@ -23,7 +20,7 @@ returns-else-datagram-gt-LONGEST_DATAGRAM-clause-few c =
 pub returns-in-Err-clause-stands : goal.returns-in-Err-clause-stands
 returns-in-Err-clause-stands c = λ events st.
     let s = c.args.parts.now.config in
-    let event = Feedback c.args.client c.args.datagram.now in
-    answered_as c.note_fault.result (answered (BadFeedback c.args.client c.in-Err.fault ∷ []) []) (answer s events event) (StandsFor c.args.parts.now (event ∷ events))
-    (answer_unframed s events c.args.client c.args.datagram.now c.in-Err.fault c.in-Err.ensures.err)
-    (stands_unframed c.args.parts.now events c.args.client c.args.datagram.now c.in-Err.fault st c.in-Err.ensures.err) c.note_fault.ensures
+    let event = Feedback c.args.client c.args.datagram.now in (
+      c.one.ensures ∙ answer_unframed s events c.args.client c.args.datagram.now c.in-Err.fault c.in-Err.ensures.err,
+      stands_unframed c.args.parts.now events c.args.client c.args.datagram.now c.in-Err.fault st c.in-Err.ensures.err,
+    )
