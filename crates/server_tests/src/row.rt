@@ -90,7 +90,7 @@ fn told(answer: &Answer) -> Option<Info> {
 
 /// What is noted, as text.
 pub fn text_of(alloc: Global, answer: &Answer) -> Result<String, Fail> {
-    Ok(format!(in alloc; "{:?}", answer.notes)?)
+    Ok(format!(in alloc; "{:?}", answer.notes.as_slice())?)
 }
 
 /// A channel to which nothing came.

@@ -220,7 +220,7 @@ fn quiet_ticks(rt: HostRuntime) -> Result<(), Fail> {
     let first = plan_tick(rt.alloc(), &parts)?;
     same(
         &rt,
-        &(first.answer.notes.len(), first.done.len()),
+        &(first.answer.notes.as_slice().len(), first.done.len()),
         &(0, 0),
         &"the first tick",
     );

@@ -64,7 +64,7 @@ const ROWS: &[Row] = &[
 fn write_answers(text: &mut String, answers: &[At]) -> Result<(), Fail> {
     for at in answers {
         let orders = at.answer.orders.len();
-        writeln!(text, "{} {:?} {orders}", at.id, at.answer.notes)?;
+        writeln!(text, "{} {:?} {orders}", at.id, at.answer.notes.as_slice())?;
     }
     Ok(())
 }
