@@ -4,7 +4,7 @@ use Rattle.std.proofs.Math.Seq.{paste}
 use Rattle.std.specs.List.{list_any, copy_within}
 use Rattle.std.proofs.lemmas.List.Edits.{take-paste}
 use Rattle.repair_queue.proofs.Pending.{unmarked_none}
-use Rattle.std.proofs.lemmas.List.{take_more, take_more_set, drop_more, drop-set-lt, length-take-le, get_or_default}
+use Rattle.std.proofs.lemmas.List.{take_more, take_more_set, drop_more, drop-drop, drop-set-lt, length-take-le, get_or_default}
 use Rattle.std.proofs.lemmas.Grind.{drop_more_same}
 use Rattle.rams_model.specs.Service.{Wanted, wanted}
 use Rattle.repair_queue.specs.{unmarked}
@@ -82,6 +82,17 @@ unset_more done end some within flag unset =
     let next : end - 1 + 1 ≡ end = omega arith in
     ap (list_any (λ is_done. is_done)) (drop_more done (end - 1) false (omega arith))
     ∙ (ap (λ (b : Bool). b || list_any (λ is_done. is_done) (drop (end - 1 + 1) done)) flag ∙ (ap (λ (n : ℕ). list_any (λ is_done. is_done) (drop n done)) next ∙ unset))
+
+any_split : (flags : List Bool) (n : ℕ) → list_any (λ is_done. is_done) (take n flags) ≡ false → list_any (λ is_done. is_done) (drop n flags) ≡ false → list_any (λ is_done. is_done) flags ≡ false
+any_split [] n front back = refl
+any_split (flag ∷ flags) zero front back = back
+any_split (true ∷ flags) (suc n) front back = front
+any_split (false ∷ flags) (suc n) front back = any_split flags n front back
+
+-- no flag of a block is set, and none behind it
+pub unset_block : (done : List Bool) (start n end : ℕ) → start + n ≡ end → list_any (λ is_done. is_done) (take n (drop start done)) ≡ false → list_any (λ is_done. is_done) (drop end done) ≡ false → list_any (λ is_done. is_done) (drop start done) ≡ false
+unset_block done start n end ends block unset =
+    any_split (drop start done) n block (ap (list_any (λ is_done. is_done)) (drop-drop n start done ∙ ap (λ (m : ℕ). drop m done) ends) ∙ unset)
 
 -- all is in place
 pub marked_all : (ws now : List Wanted) (done : List Bool) (kept n rest : ℕ) → MarkedInPlace ws now done kept n → n ≡ length done → rest ≡ length now - n → take (kept + rest) (copy_within now n (length now) kept) ≡ unmarked ws done

@@ -139,12 +139,15 @@ ghost use Rattle.std.specs.Prelude.{◌≡◌, ◌≤◌, false, length, drop, v
 ghost use Rattle.std.specs.List.{list_any};
 ghost use Rattle.repair_queue.specs.{unmarked, without};
 
+// So many flags are looked at together.
+const BLOCK: usize = 64;
+
 // One above the place of the last flag that is set; 0 where none is.
 fn end_of_set(done: &[bool]) -> usize
     ensures within { result ≤ length done.now }
     ensures unset { list_any (λ is_done. is_done) (drop result done.now) ≡ false }
 {
-    let mut end = done.len();
+    let mut end = end_of_blocks(done);
     while end > 0 {
         if done[end - 1] {
             return end;
@@ -152,6 +155,33 @@ fn end_of_set(done: &[bool]) -> usize
         end -= 1;
     }
     end
+}
+
+// The flags without the last whole blocks in which none is set: how many there are.
+fn end_of_blocks(done: &[bool]) -> usize
+    ensures within { result ≤ length done.now }
+    ensures unset { list_any (λ is_done. is_done) (drop result done.now) ≡ false }
+{
+    let mut end = done.len();
+    while end >= BLOCK {
+        if is_any_set(&done[end - BLOCK..end]) {
+            return end;
+        }
+        end -= BLOCK;
+    }
+    end
+}
+
+// Whether one of the flags is set. It goes through all of them, which takes a few vector
+// instructions.
+fn is_any_set(flags: &[bool]) -> bool
+    ensures { result ≡ list_any (λ is_done. is_done) flags.now }
+{
+    let mut is_any = false;
+    for is_done in flags {
+        is_any |= *is_done;
+    }
+    is_any
 }
 
 // Moves the unmarked ones to the front, and drops the rest. Those behind the flags move as a whole.

@@ -1,0 +1,13 @@
+use Rattle.std.proofs.Common.{◌≡◌, ◌-◌, ◌∙◌, ap, sym, arith, ℕ, take, drop, false}
+use Rattle.std.specs.List.{list_any}
+use Rattle.repair_queue.proofs.Marked.{unset_block}
+use Rattle.repair_queue.proofs.queue.end_of_blocks.Goals as goal
+
+pub loop-end-preserved : goal.loop-end-preserved
+loop-end-preserved c =
+    let end = c.loop-end.end in
+    let done = c.args.done.now in
+    record {
+      within = omega (arith, c.loop-end.invariant.within);
+      unset = unset_block done (end - 64) (end - (end - 64)) end (omega (arith, c.loop-end-test.true)) (sym c.is_any_set.ensures ∙ c.if-is_any_set.false) c.loop-end.invariant.unset;
+    }
