@@ -1,3 +1,4 @@
 pub mod Pending
 pub mod Indexed
 pub mod Marked
+pub mod Blocks

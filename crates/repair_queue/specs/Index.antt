@@ -1,9 +1,11 @@
 -- What the index beside the list says of it.
-use Rattle.std.specs.Prelude.{◌≡◌, ℕ, ◌+◌, ◌≤◌, Bool, true, cond, ◌&&◌, nat_eq, List, length, filter, unwrap_or}
+use Rattle.std.specs.Prelude.{◌≡◌, ℕ, ◌+◌, ◌≤◌, Bool, true, false, cond, ◌&&◌, nat_eq, ◌/◌, ◌%◌, List, length, filter, unwrap_or, slice_index_or}
+use Rattle.std.specs.declared.option.Option.{Option}
+use Rattle.std.specs.declared.option.Option.TheVariants.{None, Some}
 use Rattle.std.specs.List.{list_any}
-use Rattle.std.specs.HashSet.{contains}
 use Rattle.std.specs.HashMap.{HashMap, get}
 use Rattle.rams_model.specs.Service.{Wanted, is_wanted}
+use Rattle.repair_queue.specs.declared.block.Block.{Block}
 use Rattle.repair_queue.specs.declared.index.Index.{Index}
 use Rattle.repair_queue.specs.declared.index.Run.{Run}
 use Rattle.repair_queue.specs.Queue.{count_of}
@@ -12,18 +14,31 @@ use Rattle.repair_queue.specs.Queue.{count_of}
 abbrev pub same_pair : ℕ × ℕ → ℕ × ℕ → Bool
 same_pair a b = nat_eq a.0 b.0 && nat_eq a.1 b.1
 
+-- whether a place of a block has a mark
+abbrev pub mark_of : Block → ℕ → Bool
+mark_of block place = slice_index_or block.marks place false
+
+-- where there is no block, none has
+abbrev pub mark_in : Option Block → ℕ → Bool
+mark_in None place = false
+mark_in (Some block) place = mark_of block place
+
+-- whether the number of the client has a mark
+abbrev pub marked : {R : Type 0} → HashMap (ℕ × ℕ) Block R → ℕ → ℕ → Bool
+marked blocks client n = mark_in (get same_pair blocks (client, n / 64)) (n % 64)
+
 -- how often the map counts a client
 abbrev pub counted : {R : Type 0} → HashMap ℕ ℕ R → ℕ → ℕ
 counted counts client = unwrap_or (get nat_eq counts client) 0
 
 -- The pairs of a whole index are those that are pending, and its counts are each client's. One that isn't whole says nothing.
 pub record Indexes (index : Index) (ws : List Wanted) : Type 0 where
-  pub pairs : index.whole ≡ true → (client n : ℕ) → contains same_pair index.pairs (client, n) ≡ list_any (is_wanted client n) ws
+  pub pairs : index.whole ≡ true → (client n : ℕ) → marked index.pairs client n ≡ list_any (is_wanted client n) ws
   pub counts : index.whole ≡ true → (client : ℕ) → counted index.counts client ≡ count_of client ws
 
 -- The same, where the run's pairs went and its client's count still has them.
 pub record Owes (index : Index) (ws : List Wanted) (run : Run) : Type 0 where
-  pub pairs : index.whole ≡ true → (client n : ℕ) → contains same_pair index.pairs (client, n) ≡ list_any (is_wanted client n) ws
+  pub pairs : index.whole ≡ true → (client n : ℕ) → marked index.pairs client n ≡ list_any (is_wanted client n) ws
   pub counts : index.whole ≡ true → (client : ℕ) → counted index.counts client ≡ count_of client ws + cond (nat_eq run.client client) run.len 0
 
 -- no pair is pending twice

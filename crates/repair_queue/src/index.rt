@@ -2,22 +2,32 @@
 ghost use Rattle.std.specs.Prelude.{◌≡◌, ℕ, ◌+◌, ◌-◌, ◌<◌, ◌≤◌, nat_lt, ◌==◌, ◌&&◌, ◌||◌, not, true, if◌then◌else◌, List, [], ◌∷◌, ◌++◌, length, IfOk};
 ghost use Rattle.std.specs.List.{list_any};
 ghost use Rattle.rams_model.specs.Service.{Wanted as Repair, wanted, is_wanted};
-ghost use Rattle.repair_queue.specs.{count_of, asked_of, answered, unmarked, without, AreOnce, Indexes, Owes, counted, same_pair};
-ghost use Rattle.std.specs.HashSet.{contains};
+ghost use Rattle.repair_queue.specs.{count_of, asked_of, answered, unmarked, without, AreOnce, Indexes, Owes, counted, marked};
 
+use crate::block::{BLOCK, Block};
 use crate::wanted::{Asked, MOST_OF_CLIENT, MOST_PENDING, Wanted};
 use ram_io::NoMemory;
 use std::alloc::Global;
-use std::collections::{HashMap, HashSet};
+use std::collections::HashMap;
+
+// The marks of the clients' numbers: the number n of a client is the place n % 64 of its block n / 64.
+// A block has at least one mark.
+type Blocks = HashMap<(u64, u64), Block>;
 
 /// The pending pairs of client and number, and how many pairs each client has. An index that was
 /// refused memory is no longer whole: the pending repairs are walked in its place.
 #[derive(Drop)]
 pub(crate) struct Index {
-    pairs: HashSet<(u64, u64)>,
+    pairs: Blocks,
     counts: HashMap<u64, u32>,
     whole: bool,
 }
+
+// So many numbers share a block.
+const NUMBERS: u64 = BLOCK as u64;
+
+// A block has room at first for so many of the pairs: lost packets come in bursts.
+const PAIRS_OF_BLOCK: usize = 4;
 
 // Pairs of one client that went one after another, and that its count has still in it.
 #[derive(Clone, Copy)]
@@ -32,7 +42,7 @@ impl Index {
         ensures { IfOk result (λ index. Indexes index []) }
     {
         Ok(Index {
-            pairs: HashSet::with_capacity(alloc, room)?,
+            pairs: HashMap::with_capacity(alloc, room / PAIRS_OF_BLOCK)?,
             counts: HashMap::with_capacity(alloc, room)?,
             whole: true,
         })
@@ -44,7 +54,7 @@ impl Index {
         ensures { result ≡ list_any (is_wanted client n) pending.now }
     {
         if self.whole {
-            self.pairs.contains(&(client, n))
+            has_pair(&self.pairs, client, n)
         } else {
             is_pending(pending, client, n)
         }
@@ -104,7 +114,7 @@ impl Index {
         ensures answer { IfOk result (λ asked. (ws : List Repair) → self.old.whole ≡ true → Indexes self.old ws → length ws < 4096 → asked ≡ asked_of ws client n) }
         ensures indexed { IfOk result (λ asked. (ws : List Repair) → self.old.whole ≡ true → Indexes self.old ws → Indexes self.new (answered asked ws client n)) }
     {
-        if !self.pairs.insert((client, n))? {
+        if !put_pair(&mut self.pairs, client, n)? {
             return Ok(Asked::Already);
         }
         if !count_one(&mut self.counts, client)? {
@@ -243,11 +253,41 @@ fn count_one(counts: &mut HashMap<u64, u32>, client: u64) -> Result<bool, NoMemo
     Ok(true)
 }
 
-// Takes a pair out, where it is there.
-fn take_pair(pairs: &mut HashSet<(u64, u64)>, client: u64, n: u64)
-    ensures { (k m : ℕ) → contains same_pair pairs.new (k, m) ≡ (not (client == k && n == m) && contains same_pair pairs.old (k, m)) }
+// Whether a pair is there.
+fn has_pair(pairs: &Blocks, client: u64, n: u64) -> bool
+    ensures { result ≡ marked pairs.now client n }
 {
-    let _ = pairs.remove(&(client, n));
+    match pairs.get(&(client, n / NUMBERS)) {
+        Some(block) => block.has((n % NUMBERS) as usize),
+        None => false,
+    }
+}
+
+// Puts a pair in. Whether it wasn't there.
+fn put_pair(pairs: &mut Blocks, client: u64, n: u64) -> Result<bool, NoMemory>
+    ensures was { IfOk result (λ is_new. is_new ≡ not (marked pairs.old client n)) }
+    ensures marks { IfOk result (λ _. (k m : ℕ) → marked pairs.new k m ≡ (if client == k && n == m then true else marked pairs.old k m)) }
+{
+    let key = (client, n / NUMBERS);
+    let place = (n % NUMBERS) as usize;
+    if let Some(block) = pairs.get_mut(&key) {
+        return Ok(block.mark(place));
+    }
+    pairs.insert(key, Block::with(place))?;
+    Ok(true)
+}
+
+// Takes a pair out, where it is there.
+fn take_pair(pairs: &mut Blocks, client: u64, n: u64)
+    ensures { (k m : ℕ) → marked pairs.new k m ≡ (not (client == k && n == m) && marked pairs.old k m) }
+{
+    let key = (client, n / NUMBERS);
+    if let Some(block) = pairs.get_mut(&key) {
+        if block.unmark((n % NUMBERS) as usize) {
+            return;
+        }
+    }
+    let _ = pairs.remove(&key);
 }
 
 // The client's count goes down by the length of the run.

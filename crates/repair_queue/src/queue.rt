@@ -1,4 +1,5 @@
 //! The queue of pending repairs.
+use crate::block::{BLOCK, is_any_set};
 use crate::index::Index;
 use crate::span::Span;
 use crate::wanted::{Asked, MOST_PENDING, Wanted};
@@ -139,9 +140,6 @@ ghost use Rattle.std.specs.Prelude.{◌≡◌, ◌≤◌, false, length, drop, v
 ghost use Rattle.std.specs.List.{list_any};
 ghost use Rattle.repair_queue.specs.{unmarked, without};
 
-// So many flags are looked at together.
-const BLOCK: usize = 64;
-
 // One above the place of the last flag that is set; 0 where none is.
 fn end_of_set(done: &[bool]) -> usize
     ensures within { result ≤ length done.now }
@@ -170,18 +168,6 @@ fn end_of_blocks(done: &[bool]) -> usize
         end -= BLOCK;
     }
     end
-}
-
-// Whether one of the flags is set. It goes through all of them, which takes a few vector
-// instructions.
-fn is_any_set(flags: &[bool]) -> bool
-    ensures { result ≡ list_any (λ is_done. is_done) flags.now }
-{
-    let mut is_any = false;
-    for is_done in flags {
-        is_any |= *is_done;
-    }
-    is_any
 }
 
 // Moves the unmarked ones to the front, and drops the rest. Those behind the flags move as a whole.

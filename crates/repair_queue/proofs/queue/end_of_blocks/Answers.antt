@@ -1,5 +1,4 @@
-use Rattle.std.proofs.Common.{◌≡◌, ◌-◌, ◌∙◌, ap, sym, arith, ℕ, take, drop, false}
-use Rattle.std.specs.List.{list_any}
+use Rattle.std.proofs.Common.{◌-◌, ◌∙◌, sym, arith}
 use Rattle.repair_queue.proofs.Marked.{unset_block}
 use Rattle.repair_queue.proofs.queue.end_of_blocks.Goals as goal
 

@@ -1,6 +1,6 @@
 use Rattle.std.proofs.Common.{◌≡◌, take}
 use Rattle.std.specs.List.{list_any}
-use Rattle.repair_queue.proofs.queue.is_any_set.Given as goal
+use Rattle.repair_queue.proofs.block.is_any_set.Given as goal
 
 -- whether one so far is set
 abbrev pub invariant-loop-is_done : goal.invariant-loop-is_done
