@@ -5,6 +5,7 @@
 #![tactic(auto)]
 
 mod line;
+mod named;
 mod note;
 mod pen;
 mod piece;

@@ -1,32 +1,13 @@
 //! The words of notes.
-ghost use Rattle.std.specs.Prelude.{◌≡◌, ◌∷◌, ◌++◌, ◌+◌, ◌≤◌, ◌<◌, OnOk, OnErr, codes, length, vec_capacity};
-ghost use Rattle.rams_model.specs.Texts.{spaced, of_number, of_word, live_words, note_words, note_line, send_line, rtp_fault_word, frame_fault_word, cause_word};
+ghost use Rattle.std.specs.Prelude.{◌≡◌, ◌∷◌, ◌++◌, ◌+◌, ◌≤◌, codes, length};
+ghost use Rattle.rams_model.specs.Texts.{spaced, of_word, live_words, note_words, rtp_fault_word, frame_fault_word, cause_word};
 
-use crate::piece::Piece;
+use crate::named::Named;
 use crate::tail::Tail;
 use rams_model::{Cause, FrameFault, LiveNote, Note, RtpFault};
 
-/// The words of a note, where the digits of a client are at hand.
-pub(crate) fn words_to(line: &mut Tail, note: &Note, client: u64, to: &Piece)
-    requires to { to.now ≡ spaced client }
-    requires few { length to.now ≤ 21 }
-    requires room { length line.old + 110 ≤ 224 }
-    ensures line { line.new ≡ note_words note.now ++ line.old }
-    ensures few { length line.new ≤ length line.old + 110 }
-{
-    match note {
-        Note::Burst { client: of, n, seq } if *of == client => sent_to(
-            line, b"burst", to, *n, *seq,
-        ),
-        Note::Repair { client: of, n, seq } if *of == client => sent_to(
-            line, b"repair", to, *n, *seq,
-        ),
-        _ => words(line, note),
-    }
-}
-
 /// The words of a note, without a space in front.
-pub(crate) fn words(line: &mut Tail, note: &Note)
+pub(crate) fn words(line: &mut Tail, note: &Note, named: &mut Named)
     requires { length line.old + 110 ≤ 224 }
     ensures line { line.new ≡ note_words note.now ++ line.old }
     ensures few { length line.new ≤ length line.old + 110 }
@@ -38,29 +19,29 @@ pub(crate) fn words(line: &mut Tail, note: &Note)
             first,
             rate,
             join,
-        } => accept(line, *client, *first, *rate, *join),
-        Note::Update { client, rate, join } => update(line, *client, *rate, *join),
-        Note::Again { client } => line.named(b"again", *client),
-        Note::Refuse { client, code } => line.numbered(b"refuse", *client, u64::from(*code)),
-        Note::StopAt { client, n } => line.numbered(b"stop", *client, *n),
-        Note::StopKept { client, n } => line.numbered(b"stop-kept", *client, *n),
-        Note::StopIdle { client } => line.named(b"stop-idle", *client),
-        Note::Queued { client, n } => line.numbered(b"queued", *client, *n),
-        Note::Already { client, n } => line.numbered(b"already", *client, *n),
-        Note::Unheld { client, low } => line.numbered(b"unheld", *client, u64::from(*low)),
-        Note::Early { client, n } => line.numbered(b"early", *client, *n),
-        Note::TableFull { client, n } => line.numbered(b"table-full", *client, *n),
-        Note::ClientFull { client, n } => line.numbered(b"client-full", *client, *n),
-        Note::QueueFull { client, n } => line.numbered(b"queue-full", *client, *n),
-        Note::ForeignNack { client } => line.named(b"foreign-nack", *client),
-        Note::BadFeedback { client, fault } => bad_feedback(line, *client, *fault),
-        Note::Bye { client } => line.named(b"bye", *client),
-        Note::ByeIdle { client } => line.named(b"bye-idle", *client),
-        Note::Burst { client, n, seq } => sent(line, b"burst", *client, *n, *seq),
-        Note::Repair { client, n, seq } => sent(line, b"repair", *client, *n, *seq),
-        Note::Gone { client, n } => line.numbered(b"gone", *client, *n),
-        Note::End { client, cause } => end(line, *client, *cause),
-        Note::Forgot { client } => line.named(b"forgot", *client),
+        } => accept(line, named, *client, *first, *rate, *join),
+        Note::Update { client, rate, join } => update(line, named, *client, *rate, *join),
+        Note::Again { client } => named.of_client(line, b"again", *client),
+        Note::Refuse { client, code } => named.numbered(line, b"refuse", *client, u64::from(*code)),
+        Note::StopAt { client, n } => named.numbered(line, b"stop", *client, *n),
+        Note::StopKept { client, n } => named.numbered(line, b"stop-kept", *client, *n),
+        Note::StopIdle { client } => named.of_client(line, b"stop-idle", *client),
+        Note::Queued { client, n } => named.numbered(line, b"queued", *client, *n),
+        Note::Already { client, n } => named.numbered(line, b"already", *client, *n),
+        Note::Unheld { client, low } => named.numbered(line, b"unheld", *client, u64::from(*low)),
+        Note::Early { client, n } => named.numbered(line, b"early", *client, *n),
+        Note::TableFull { client, n } => named.numbered(line, b"table-full", *client, *n),
+        Note::ClientFull { client, n } => named.numbered(line, b"client-full", *client, *n),
+        Note::QueueFull { client, n } => named.numbered(line, b"queue-full", *client, *n),
+        Note::ForeignNack { client } => named.of_client(line, b"foreign-nack", *client),
+        Note::BadFeedback { client, fault } => bad_feedback(line, named, *client, *fault),
+        Note::Bye { client } => named.of_client(line, b"bye", *client),
+        Note::ByeIdle { client } => named.of_client(line, b"bye-idle", *client),
+        Note::Burst { client, n, seq } => sent(line, named, b"burst", *client, *n, *seq),
+        Note::Repair { client, n, seq } => sent(line, named, b"repair", *client, *n, *seq),
+        Note::Gone { client, n } => named.numbered(line, b"gone", *client, *n),
+        Note::End { client, cause } => end(line, named, *client, *cause),
+        Note::Forgot { client } => named.of_client(line, b"forgot", *client),
     }
 }
 
@@ -98,12 +79,12 @@ fn bad(line: &mut Tail, fault: RtpFault)
     line.word(name)
 }
 
-fn bad_feedback(line: &mut Tail, client: u64, fault: FrameFault)
+fn bad_feedback(line: &mut Tail, named: &mut Named, client: u64, fault: FrameFault)
     requires { length line.old + 41 ≤ 224 }
     ensures line { line.new ≡ of_word (codes "bad-feedback") client (frame_fault_word fault) ++ line.old }
     ensures few { length line.new ≤ length line.old + 41 }
 {
-    told(line, b"bad-feedback", client, frame_fault(fault));
+    told(line, named, b"bad-feedback", client, frame_fault(fault));
 }
 
 fn frame_fault(fault: FrameFault) -> &'static [u8]
@@ -119,7 +100,7 @@ fn frame_fault(fault: FrameFault) -> &'static [u8]
     }
 }
 
-fn end(line: &mut Tail, client: u64, cause: Cause)
+fn end(line: &mut Tail, named: &mut Named, client: u64, cause: Cause)
     requires { length line.old + 32 ≤ 224 }
     ensures line { line.new ≡ of_word (codes "end") client (cause_word cause) ++ line.old }
     ensures few { length line.new ≤ length line.old + 32 }
@@ -130,20 +111,20 @@ fn end(line: &mut Tail, client: u64, cause: Cause)
         Cause::Limit => b" limit",
         Cause::Bye => b" bye",
     };
-    told(line, b"end", client, name)
+    told(line, named, b"end", client, name)
 }
 
 // A word, a client, and what was told of it.
-fn told(line: &mut Tail, name: &[u8], client: u64, what: &[u8])
+fn told(line: &mut Tail, named: &mut Named, name: &[u8], client: u64, what: &[u8])
     requires { length name.now + length what.now + length line.old + 21 ≤ 224 }
     ensures line { line.new ≡ name.now ++ spaced client ++ what.now ++ line.old }
     ensures few { length line.new ≤ length name.now + length what.now + length line.old + 21 }
 {
     line.word(what);
-    line.named(name, client);
+    named.of_client(line, name, client);
 }
 
-fn accept(line: &mut Tail, client: u64, first: u64, rate: u64, join: u64)
+fn accept(line: &mut Tail, named: &mut Named, client: u64, first: u64, rate: u64, join: u64)
     requires { length line.old + 106 ≤ 224 }
     ensures line { line.new ≡ codes "accept" ++ spaced client ++ codes " first" ++ spaced first ++ codes " rate" ++ spaced rate ++ codes " join" ++ spaced join ++ line.old }
     ensures few { length line.new ≤ length line.old + 106 }
@@ -151,38 +132,25 @@ fn accept(line: &mut Tail, client: u64, first: u64, rate: u64, join: u64)
     line.named(b" join", join);
     line.named(b" rate", rate);
     line.named(b" first", first);
-    line.named(b"accept", client);
+    named.of_client(line, b"accept", client);
 }
 
-fn update(line: &mut Tail, client: u64, rate: u64, join: u64)
+fn update(line: &mut Tail, named: &mut Named, client: u64, rate: u64, join: u64)
     requires { length line.old + 80 ≤ 224 }
     ensures line { line.new ≡ codes "update" ++ spaced client ++ codes " rate" ++ spaced rate ++ codes " join" ++ spaced join ++ line.old }
     ensures few { length line.new ≤ length line.old + 80 }
 {
     line.named(b" join", join);
     line.named(b" rate", rate);
-    line.named(b"update", client);
+    named.of_client(line, b"update", client);
 }
 
 // A packet that is sent, under its number and its retransmission's.
-fn sent(line: &mut Tail, name: &[u8], client: u64, n: u64, seq: u16)
+fn sent(line: &mut Tail, named: &mut Named, name: &[u8], client: u64, n: u64, seq: u16)
     requires { length name.now + length line.old + 63 ≤ 224 }
     ensures line { line.new ≡ name.now ++ spaced client ++ spaced n ++ spaced seq ++ line.old }
     ensures few { length line.new ≤ length name.now + length line.old + 63 }
 {
     line.spaced(u64::from(seq));
-    line.numbered(name, client, n);
-}
-
-// The same, where the client's digits are at hand.
-fn sent_to(line: &mut Tail, name: &[u8], to: &Piece, n: u64, seq: u16)
-    requires few { length to.now ≤ 21 }
-    requires room { length name.now + length line.old + 63 ≤ 224 }
-    ensures line { line.new ≡ name.now ++ to.now ++ spaced n ++ spaced seq ++ line.old }
-    ensures few { length line.new ≤ length name.now + length line.old + 63 }
-{
-    line.spaced(u64::from(seq));
-    line.spaced(n);
-    line.piece(to);
-    line.word(name);
+    named.numbered(line, name, client, n);
 }

@@ -4,7 +4,8 @@ ghost use Rattle.rams_model.specs.Texts.{spaced, note_line, send_line};
 ghost use Rattle.book_text.specs.{send_front};
 
 use crate::line::append_with_hex;
-use crate::note::{words, words_to};
+use crate::named::Named;
+use crate::note::words;
 use crate::piece::Piece;
 use crate::tail::Tail;
 use ram_io::NoMemory;
@@ -50,6 +51,7 @@ fn write_sending(lines: &mut Tail, front: &Piece, to: &Piece)
     requires front { length front.now ≤ 42 }
     requires to { length to.now ≤ 21 }
     ensures lines { lines.new ≡ codes "\n" ++ (front.now ++ (codes "send" ++ (to.now ++ codes " "))) }
+    ensures few { length lines.new ≤ 69 }
 {
     lines.clear();
     lines.byte(b' ');
@@ -65,30 +67,26 @@ struct Sending {
     event: u64,
     id: u16,
     client: u64,
-    to: Piece,
     lines: Tail,
-    ghost spelled: { to ≡ spaced client },
-    ghost few: { length to ≤ 21 },
     ghost begun: { lines ≡ send_front event id client },
+    ghost few: { length lines ≤ 69 },
 }
 
 impl Sending {
-    fn new(front: &Front, client: u64) -> Sending {
-        let to = Piece::spaced(client);
+    fn new(front: &Front, named: &mut Named, client: u64) -> Sending {
         let mut lines = Tail::new();
-        write_sending(&mut lines, &front.piece, &to);
+        write_sending(&mut lines, &front.piece, named.spell(client));
         Sending {
             event: front.event,
             id: front.id,
             client,
-            to,
             lines,
         }
     }
 
     /// Turns to a client at an event of a channel; where it was there already, nothing is written.
     #[inline]
-    fn turn_to(&mut self, front: &Front, client: u64)
+    fn turn_to(&mut self, front: &Front, named: &mut Named, client: u64)
         ensures event { self.new.event ≡ front.now.event }
         ensures id { self.new.id ≡ front.now.id }
         ensures client { self.new.client ≡ client }
@@ -97,8 +95,7 @@ impl Sending {
             self.event = front.event;
             self.id = front.id;
             self.client = client;
-            self.to = Piece::spaced(client);
-            write_sending(&mut self.lines, &front.piece, &self.to);
+            write_sending(&mut self.lines, &front.piece, named.spell(client));
         }
     }
 
@@ -108,6 +105,7 @@ impl Sending {
         &mut self,
         text: &mut Vec<u8>,
         front: &Front,
+        named: &mut Named,
         note: &Note,
         bytes: &[u8],
     ) -> Result<(), NoMemory>
@@ -119,7 +117,7 @@ impl Sending {
         ensures room { vec_capacity text.old ≤ vec_capacity text.new }
     {
         let kept = self.lines.len();
-        words_to(&mut self.lines, note, self.client, &self.to);
+        words(&mut self.lines, note, named);
         self.lines.piece(&front.piece);
         let appended = append_with_hex(text, &self.lines, bytes);
         self.lines.keep(kept);
@@ -127,12 +125,13 @@ impl Sending {
     }
 }
 
-/// What writes the lines of notes. The numbers that a line begins with, and the client of the last
-/// datagram, it keeps in digits, since those of the next lines are mostly the same. What it wrote
-/// before changes nothing of what it writes.
+/// What writes the lines of notes. The numbers that a line begins with, and the client that it names,
+/// are kept in digits, since those of the next lines are mostly the same. What it wrote before changes
+/// nothing of what it writes.
 #[derive(Drop)]
 pub struct Pen {
     front: Front,
+    named: Named,
     sending: Sending,
     lines: Tail,
 }
@@ -147,9 +146,11 @@ impl Pen {
     /// A pen that wrote nothing yet.
     pub fn new() -> Pen {
         let front = Front::new(0, 0);
-        let sending = Sending::new(&front, 0);
+        let mut named = Named::new(0);
+        let sending = Sending::new(&front, &mut named, 0);
         Pen {
             front,
+            named,
             sending,
             lines: Tail::new(),
         }
@@ -172,7 +173,7 @@ impl Pen {
         self.front.turn_to(event, id);
         self.lines.clear();
         self.lines.byte(b'\n');
-        words(&mut self.lines, note);
+        words(&mut self.lines, note, &mut self.named);
         self.lines.piece(&self.front.piece);
         self.lines.append_to(text)
     }
@@ -194,7 +195,8 @@ impl Pen {
         ensures room { vec_capacity text.old ≤ vec_capacity text.new }
     {
         self.front.turn_to(event, id);
-        self.sending.turn_to(&self.front, client);
-        self.sending.append(text, &self.front, note, bytes)
+        self.sending.turn_to(&self.front, &mut self.named, client);
+        self.sending
+            .append(text, &self.front, &mut self.named, note, bytes)
     }
 }
