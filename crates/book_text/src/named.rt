@@ -25,6 +25,13 @@ impl Named {
         }
     }
 
+    #[cold]
+    fn turn_to(&mut self, client: u64)
+        ensures { self.new.client ≡ client }
+    {
+        *self = Named::new(client);
+    }
+
     /// A space and the client's digits; where it was named last, nothing is spelled.
     #[inline]
     pub(crate) fn spell(&mut self, client: u64) -> &Piece
@@ -32,13 +39,13 @@ impl Named {
         ensures few { length result.now ≤ 21 }
     {
         if self.client != client {
-            *self = Named::new(client);
+            self.turn_to(client);
         }
         &self.piece
     }
 
-    /// A word and a client, in front of a line.
-    #[inline]
+    /// A word and a client, in front of a line. (Where it is inlined, the word's length is known.)
+    #[inline(always)]
     pub(crate) fn of_client(&mut self, line: &mut Tail, word: &[u8], client: u64)
         requires { length word.now + length line.old + 21 ≤ 224 }
         ensures line { line.new ≡ of_client word.now client ++ line.old }
@@ -49,7 +56,7 @@ impl Named {
     }
 
     /// A word, a client and a number, in front of a line.
-    #[inline]
+    #[inline(always)]
     pub(crate) fn numbered(&mut self, line: &mut Tail, word: &[u8], client: u64, n: u64)
         requires { length word.now + length line.old + 42 ≤ 224 }
         ensures line { line.new ≡ of_number word.now client n ++ line.old }

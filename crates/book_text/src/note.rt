@@ -146,6 +146,7 @@ fn update(line: &mut Tail, named: &mut Named, client: u64, rate: u64, join: u64)
 }
 
 // A packet that is sent, under its number and its retransmission's.
+#[inline(always)]
 fn sent(line: &mut Tail, named: &mut Named, name: &[u8], client: u64, n: u64, seq: u16)
     requires { length name.now + length line.old + 63 ≤ 224 }
     ensures line { line.new ≡ name.now ++ spaced client ++ spaced n ++ spaced seq ++ line.old }

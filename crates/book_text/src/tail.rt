@@ -99,7 +99,7 @@ impl Tail {
     }
 
     /// A piece in front.
-    #[inline]
+    #[inline(always)]
     pub(crate) fn piece(&mut self, piece: &Piece)
         requires { length piece.now + length self.old ≤ 224 }
         ensures { self.new ≡ piece.now ++ self.old }
