@@ -38,7 +38,7 @@ impl Parts {
             cache: Cache::new(alloc, config)?,
             budget: Budget::new(channel.share, channel.reserve, channel.swell),
             queue: Queue::new(alloc)?,
-            table: Table::new(alloc, channel.clients)?,
+            table: Table::new(alloc, channel.clients, channel.idle)?,
         })
     }
 }

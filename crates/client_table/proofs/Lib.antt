@@ -8,3 +8,6 @@ pub mod ChangedAll
 pub mod Placing
 pub mod Opened
 pub mod Bounded
+pub mod Timing
+pub mod Ranged
+pub mod InTime

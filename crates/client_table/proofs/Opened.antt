@@ -270,7 +270,7 @@ module _ (change : Burst → Burst → Type 0) (at now : ℕ → Option Entry) (
       (λ t c. (c.0, all_changed es is.1.1 c.1))
       (λ f c. (unchanged (at e.1) (now e.1) is.0 f (others e.1 f), all_changed es is.1.1 c)) changed
 
--- ---- changes that open and close no burst, and by which no idle count passes a bound
+-- ---- changes that open and close no burst
 module _ (R : Entry → Entry → Type 0) (at now : ℕ → Option Entry) where
   module _ (keeps : (x y : Entry) → R x y → is_some y.burst ≡ is_some x.burst) where
     slot_open : (o n : Option Entry) → IsSlotChanged R o n → has_burst n ≡ has_burst o
@@ -282,30 +282,12 @@ module _ (R : Entry → Entry → Type 0) (at now : ℕ → Option Entry) where
     same_open [] changed = refl
     same_open (e ∷ es) changed = kept_step (is_open_at at e) (is_open_at now e) e _ _ (sym (slot_open (at e.1) (now e.1) changed.0)) (same_open es changed.1)
 
-  module _ (a b : ℕ) (within : (x y : Entry) → R x y → x.idle ≤ a → y.idle ≤ b) where
-    slot_idle : (client : ℕ) (o n : Option Entry) (known known_now : List (ℕ × Entry)) → IsSlotChanged R o n
-        → (AllByRecursion (λ e. e.1.idle ≤ a) known → AllByRecursion (λ e. e.1.idle ≤ b) known_now) → AllByRecursion (λ e. e.1.idle ≤ a) (before client o known) → AllByRecursion (λ e. e.1.idle ≤ b) (before client n known_now)
-    slot_idle client None n known known_now changed rest all = absurd changed
-    slot_idle client (Some x) None known known_now changed rest all = absurd changed
-    slot_idle client (Some x) (Some y) known known_now changed rest all = (within x y changed all.0, rest all.1)
-
-    pub same_idle : (es : List (ℕ × ℕ)) → AreSlotsChanged (λ _. R) at now es → AllByRecursion (λ e. e.1.idle ≤ a) (joined at es) → AllByRecursion (λ e. e.1.idle ≤ b) (joined now es)
-    same_idle [] changed all = tt
-    same_idle (e ∷ es) changed all = slot_idle e.0 (at e.1) (now e.1) (joined at es) (joined now es) changed.0 (same_idle es changed.1) all
-
 burst_keeps : (change : Burst → Burst → Type 0) (o : Option Burst) (x y : Entry) → x.burst ≡ o → IsBurstChangedBy change o x y → is_some y.burst ≡ is_some x.burst
 burst_keeps change None x y is changed = ap (λ (e : Entry). is_some e.burst) changed
 burst_keeps change (Some b) x y is changed = ap (λ (e : Entry). is_some e.burst) changed.1 ∙ sym (ap is_some is)
 
 pub bursts_keep : (change : Burst → Burst → Type 0) (x y : Entry) → IsBurstChanged change x y → is_some y.burst ≡ is_some x.burst
 bursts_keep change x y changed = burst_keeps change x.burst x y refl changed
-
-burst_within : (change : Burst → Burst → Type 0) (a : ℕ) (o : Option Burst) (x y : Entry) → IsBurstChangedBy change o x y → x.idle ≤ a → y.idle ≤ a
-burst_within change a None x y changed le = subst (λ (e : Entry). e.idle ≤ a) (sym changed) le
-burst_within change a (Some b) x y changed le = subst (λ (e : Entry). e.idle ≤ a) (sym changed.1) le
-
-pub bursts_within : (change : Burst → Burst → Type 0) (a : ℕ) (x y : Entry) → IsBurstChanged change x y → x.idle ≤ a → y.idle ≤ a
-bursts_within change a x y changed le = burst_within change a x.burst x y changed le
 
 pub burst_made : (change : Burst → Burst → Type 0) (o : Option Burst) (x : Entry) (b c : Burst) → o ≡ Some b → change b c → IsBurstChangedBy change o x (record x { burst = Some c })
 burst_made change None x b c is called = cc

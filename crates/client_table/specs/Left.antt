@@ -1,10 +1,14 @@
 -- Clients that are still to come.
 use Rattle.std.specs.Prelude.{ℕ, List}
+use Rattle.std.specs.Map.{keys_of}
 use Rattle.std.specs.Slice.Iter.{iter_rest}
 use Rattle.client_table.specs.declared.entry.Entry.{Entry}
 use Rattle.client_table.specs.declared.walk.KnownClients.{KnownClients}
 use Rattle.client_table.specs.declared.walk.OpenBursts.{OpenBursts}
+use Rattle.client_table.specs.declared.walk.DueClients.{DueClients}
+use Rattle.client_table.specs.declared.walk.DueClients.TheVariants.{All, At}
 use Rattle.client_table.specs.Joined.{entry_at, joined}
+use Rattle.client_table.specs.Timed.{clients_in}
 
 -- the known clients that are left, each with what is kept of it
 abbrev pub clients_left : KnownClients → List (ℕ × Entry)
@@ -13,3 +17,8 @@ clients_left w = joined (entry_at w.tick w.entries.now.slots) w.index
 -- those with an open burst
 abbrev pub bursts_left : OpenBursts → List (ℕ × Entry)
 bursts_left w = joined (entry_at w.tick w.entries.now.slots) (iter_rest w.left)
+
+-- those that may be due
+abbrev pub due_left : DueClients → List ℕ
+due_left (All clients) = keys_of clients
+due_left (At pairs) = clients_in pairs

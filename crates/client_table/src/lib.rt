@@ -4,6 +4,7 @@
 #![tactic(auto)]
 
 mod bursts;
+mod due;
 mod entry;
 mod keys;
 mod stored;
@@ -14,4 +15,4 @@ pub use entry::{AdmitFault, Burst, Entry};
 pub use ram_io::NoMemory;
 pub use rams_model::Info;
 pub use table::Table;
-pub use walk::{KnownClients, OpenBursts};
+pub use walk::{DueClients, KnownClients, OpenBursts};

@@ -12,18 +12,22 @@ pub(crate) struct Stored {
     pub seq: u16,
     /// The table's tick, modulo 2^32, in which the idle count was 0.
     pub since: u32,
+    /// The tick at which its client stands in `Due`.
+    pub due: u64,
     pub burst: Option<Burst>,
 }
 
 impl Stored {
-    /// An entry as it is stored in this tick.
-    pub(crate) fn new(entry: Entry, tick: u32) -> Stored
-        ensures { shown tick result ≡ entry }
+    /// An entry as it is stored in this tick, of a client that stands at `due`.
+    pub(crate) fn new(entry: Entry, tick: u32, due: u64) -> Stored
+        ensures entry { shown tick result ≡ entry }
+        ensures due { result.due ≡ due }
     {
         Stored {
             ssrc: entry.ssrc,
             seq: entry.seq,
             since: tick.wrapping_sub(entry.idle),
+            due,
             burst: entry.burst,
         }
     }

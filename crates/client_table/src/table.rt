@@ -1,9 +1,10 @@
 //! The table of the known clients.
 use crate::bursts::{close_client, mark};
+use crate::due::Due;
 use crate::entry::{AdmitFault, Burst, Entry};
 use crate::keys::Keys;
 use crate::stored::Stored;
-use crate::walk::{KnownClients, OpenBursts};
+use crate::walk::{DueClients, KnownClients, OpenBursts};
 use ram_io::NoMemory;
 use slab::Slab;
 use std::alloc::Global;
@@ -12,31 +13,31 @@ use std::marker::Model;
 use std::ops::Bound;
 
 /// The known clients. The entries stand in a slab, and an index by rising client has each one's key;
-/// a hash map has them too, and another index has those with an open burst. Idle counts aren't stored but told from the tick.
+/// a hash map has them too, another index has those with an open burst, and an ordered set has all by the
+/// tick in which each can first have been idle for the limit. Idle counts aren't stored but told from the tick.
 #[derive(Drop)]
 pub struct Table {
     most: u32,
     /// The ticks so far, modulo 2^32.
     tick: u32,
-    /// No idle count is above it.
-    idle_most: u32,
     index: BTreeMap<u64, usize>,
     keys: Keys,
+    due: Due,
     entries: Slab<Stored>,
     bursts: Vec<(u64, usize)>,
 }
 
 impl Model for Table {
     ghost use Rattle.std.specs.Prelude.{◌≡◌, ◌≤◌, ◌<◌, ◌^◌, length, filter, vec_capacity};
-    ghost use Rattle.std.specs.List.{AllByRecursion};
     ghost use Rattle.std.specs.Ordering.{nat_cmp};
     ghost use Rattle.client_table.specs.Clients.{Clients};
 
     ghost Value = { Clients };
 
     ghost use Rattle.std.specs.BTreeMap.{IsOrdered};
-    ghost use Rattle.client_table.specs.Joined.{seen, entry_at, joined, AreJoined, is_open_at};
+    ghost use Rattle.client_table.specs.Joined.{seen, entry_at, AreJoined, is_open_at};
     ghost use Rattle.client_table.specs.Hashed.{Tells};
+    ghost use Rattle.client_table.specs.Timed.{times_at, AreInTime, AreLater};
 
     ghost view = { λ t. seen t.most (entry_at t.tick t.entries.slots) t.index.entries };
 
@@ -47,30 +48,33 @@ impl Model for Table {
       small : t.most < 2 ^ 32;
       opened : t.bursts.items ≡ filter (is_open_at (entry_at t.tick t.entries.slots)) t.index.entries;
       room : t.most < vec_capacity t.bursts;
-      idle : AllByRecursion (λ e. e.1.idle ≤ t.idle_most) (joined (entry_at t.tick t.entries.slots) t.index.entries);
       told : Tells t.keys t.index;
+      times : AreInTime t.due (times_at t.tick t.entries.slots) t.index.entries;
+      later : AreLater t.due;
     } };
 }
 
 impl Table {
-    ghost use Rattle.std.specs.Prelude.{◌≡◌, ◌≤◌, ◌↔◌, Some, None, Err, All, length, IfSome, IfOk, OnOk, OnErr, MatchOption};
-    ghost use Rattle.std.specs.List.{AllByRecursion};
+    ghost use Rattle.std.specs.Prelude.{◌≡◌, ◌≤◌, ◌↔◌, ◌+◌, ℕ, Some, None, Err, All, Contains, length, IfSome, IfOk, OnOk, OnErr, MatchOption};
+    ghost use Rattle.std.specs.List.Sorted.{IsStrictlySortedBy};
+    ghost use Rattle.std.specs.Ordering.{nat_cmp};
     ghost use Rattle.client_table.specs.Clients.{Clients, nobody, clients_of, AreRising, entry_of, new_entry, with_client, with_entry, without, opened_of, next_of, IsLeastAbove};
-    ghost use Rattle.client_table.specs.Left.{clients_left, bursts_left};
+    ghost use Rattle.client_table.specs.Left.{clients_left, bursts_left, due_left};
     ghost use Rattle.client_table.specs.Changes.{AreAll, AreChanged, aged, IsBurstChanged};
     ghost use Rattle.client_table.specs.declared.entry.Entry.{Entry};
     ghost use Rattle.client_table.specs.declared.entry.AdmitFault.TheVariants.{Full};
 
     /// A table in which nobody is known, for at most so many clients. It takes the room of their entries.
-    pub fn new(alloc: Global, clients: u32) -> Result<Table, NoMemory>
+    /// It looks out for those that have been idle for `idle` ticks.
+    pub fn new(alloc: Global, clients: u32, idle: u32) -> Result<Table, NoMemory>
         ensures { IfOk result (λ table. table ≡ nobody clients) }
     {
         Ok(Table {
             most: clients,
             tick: 0,
-            idle_most: 0,
             index: BTreeMap::new(alloc),
             keys: Keys::new(alloc, clients as usize)?,
+            due: Due::new(alloc, idle),
             entries: Slab::with_capacity(alloc, clients as usize)?,
             bursts: Vec::with_capacity(alloc, clients as usize + 1)?,
         })
@@ -84,14 +88,16 @@ impl Table {
         entry_in(&self.entries, self.tick, key)
     }
 
-    /// Another entry for a client, where it is known; the others keep theirs. It takes no memory.
+    /// Another entry for a client, where it is known; the others keep theirs. It takes no memory, but where
+    /// it raises the idle count, and needs none.
     pub fn set(&mut self, client: u64, entry: Entry)
         ensures { self.new ≡ with_entry self.old client entry }
     {
         self.change(client, |_| entry);
     }
 
-    /// Changes what is kept of a client, where it is known; the others keep theirs. It takes no memory.
+    /// Changes what is kept of a client, where it is known; the others keep theirs. It takes no memory, but
+    /// where it raises the idle count, and needs none.
     pub fn change<F: Fn(Entry) -> Entry>(&mut self, client: u64, change: F)
         requires { IfSome (entry_of self.old client) (F.pre change) }
         ensures { MatchOption (entry_of self.old client) (self.new ≡ self.old) (λ e. (d : Entry) × F.post change e d × (self.new ≡ with_entry self.old client d)) }
@@ -99,12 +105,13 @@ impl Table {
         let Some(key) = self.keys.find(&self.index, client) else {
             return;
         };
-        let Some(entry) = entry_in(&self.entries, self.tick, key) else {
+        let Some(stored) = stored_in(&self.entries, key) else {
             return;
         };
+        let entry = stored.entry(self.tick);
         let changed = change(entry);
-        put(&mut self.entries, key, Stored::new(changed, self.tick));
-        self.idle_most = self.idle_most.max(changed.idle);
+        let due = self.due.settle(client, stored.due, changed.idle);
+        put(&mut self.entries, key, Stored::new(changed, self.tick, due));
         let was_open = entry.burst.is_some();
         let is_open = changed.burst.is_some();
         mark(&mut self.bursts, client, key, was_open, is_open);
@@ -132,8 +139,10 @@ impl Table {
         let key = self.entries.vacant_key();
         self.index.insert(client, key)?;
         self.keys.add(client, key);
+        let entry = Entry::new(ssrc, seq0);
+        let due = self.due.place(client, entry.idle);
         self.entries
-            .insert_reserved(Stored::new(Entry::new(ssrc, seq0), self.tick));
+            .insert_reserved(Stored::new(entry, self.tick, due));
         Ok(())
     }
 
@@ -145,7 +154,9 @@ impl Table {
         let key = self.index.remove(&client)?;
         self.keys.remove(client);
         close_client(&mut self.bursts, client);
-        take_out(&mut self.entries, self.tick, key)
+        let stored = take_out(&mut self.entries, key)?;
+        self.due.remove(client, stored.due);
+        Some(stored.entry(self.tick))
     }
 
     /// The least known client above another, or of all where none is given; `None` where there is none.
@@ -192,37 +203,32 @@ impl Table {
         change_each(&self.bursts, &mut self.entries, self.tick, change);
     }
 
-    /// Each known client is idle for a tick more, modulo 2^32. Nobody is looked at.
+    /// Each known client is idle for a tick more, modulo 2^32. Only those are looked at that could have
+    /// been idle for the limit now.
     pub fn age(&mut self)
         ensures { AreChanged (λ _ e d. d ≡ aged e) self.old self.new }
     {
         self.tick = self.tick.wrapping_add(1);
-        self.idle_most = self.idle_most.saturating_add(1);
+        self.due.go_on();
+        look_again(
+            &mut self.due,
+            &self.keys,
+            &self.index,
+            &mut self.entries,
+            self.tick,
+        );
     }
 
-    /// A count that no idle count is above. It isn't the greatest of them: it falls in `measure_idle` alone.
-    pub fn idle_most(&self) -> u32
-        ensures { AllByRecursion (λ e. e.1.idle ≤ result) self.now.known }
+    /// The known clients, by rising number, that may have been idle for `idle` ticks in the next one: none
+    /// that will have been is missing. Where `idle` isn't what the table looks out for it is all.
+    pub fn due_next(&self, idle: u32) -> DueClients<'_>
+        ensures rising { IsStrictlySortedBy nat_cmp (due_left result) }
+        ensures all { (client : ℕ) (e : Entry) → entry_of self.now client ≡ Some e → e.idle + 1 ≡ idle → Contains (due_left result) client }
     {
-        self.idle_most
-    }
-
-    /// Looks for the greatest idle count, from which `idle_most` counts on. Nothing that is known changes.
-    pub fn measure_idle(&mut self)
-        ensures { self.new ≡ self.old }
-    {
-        self.idle_most = self.greatest_idle();
-    }
-
-    // The greatest idle count.
-    fn greatest_idle(&self) -> u32
-        ensures { AllByRecursion (λ e. e.1.idle ≤ result) self.now.known }
-    {
-        let mut most = 0;
-        for (_, entry) in self.iter() {
-            most = entry.idle.max(most);
+        match self.due.next(idle) {
+            Some(tick) => DueClients::At(self.due.at(tick)),
+            None => DueClients::All(self.index.iter()),
         }
-        most
     }
 
     /// How many clients are known.
@@ -235,13 +241,13 @@ impl Table {
     }
 }
 
-ghost use Rattle.std.specs.Prelude.{◌≡◌, ℕ, IsSome, IsSomeAnd, Some, None, find, slice_set};
+ghost use Rattle.std.specs.Prelude.{◌≡◌, ◌≢◌, ℕ, true, IsSome, IsSomeAnd, Some, None, find, slice_set};
 ghost use Rattle.std.specs.Ordering.{nat_cmp};
 ghost use Rattle.std.specs.Map.{lookup};
 ghost use Rattle.std.specs.BTreeMap.{is_at, keys};
 ghost use Rattle.std.specs.BTreeMap.Range.{is_from_start};
 ghost use Rattle.slab.specs.Slab.{Updates};
-ghost use Rattle.client_table.specs.{slot_at, entry_at, shown, IsFree, AreReady, AreSlotsChanged, IsBurstChanged};
+ghost use Rattle.client_table.specs.{slot_at, entry_at, IsFree, AreJoined, AreReady, AreSlotsChanged, IsBurstChanged, Tells, times_at, waiting, AreInTime, AreLater, IsInTime, MovesOnly};
 
 // The entry of a key, as it is in this tick.
 fn entry_in(entries: &Slab<Stored>, tick: u32, key: usize) -> Option<Entry>
@@ -249,6 +255,13 @@ fn entry_in(entries: &Slab<Stored>, tick: u32, key: usize) -> Option<Entry>
 {
     let stored = entries.get(key)?;
     Some(stored.entry(tick))
+}
+
+// What is stored under a key.
+fn stored_in(entries: &Slab<Stored>, key: usize) -> Option<Stored>
+    ensures { result ≡ slot_at entries.now.slots key }
+{
+    entries.get(key).copied()
 }
 
 // Another entry under a key that has one.
@@ -261,13 +274,60 @@ fn put(entries: &mut Slab<Stored>, key: usize, stored: Stored)
     }
 }
 
-// The entry of a key goes: what it was in this tick.
-fn take_out(entries: &mut Slab<Stored>, tick: u32, key: usize) -> Option<Entry>
-    ensures value { result ≡ entry_at tick entries.old.slots key }
+// The entry of a key goes: what was stored.
+fn take_out(entries: &mut Slab<Stored>, key: usize) -> Option<Stored>
+    ensures value { result ≡ slot_at entries.old.slots key }
     ensures updates { Updates entries.old entries.new key None }
 {
-    let stored = entries.try_remove(key)?;
-    Some(stored.entry(tick))
+    entries.try_remove(key)
+}
+
+// Each client whose tick has come stands where it can be due now.
+fn look_again(
+    due: &mut Due,
+    keys: &Keys,
+    index: &BTreeMap<u64, usize>,
+    entries: &mut Slab<Stored>,
+    tick: u32,
+)
+    requires told { Tells keys.now index.now }
+    requires joins { AreJoined (entry_at tick entries.old.slots) index.now.entries }
+    requires times { AreInTime due.old (times_at tick entries.old.slots) index.now.entries }
+    ensures times { AreInTime due.new (times_at tick entries.new.slots) index.now.entries }
+    ensures later { AreLater due.new }
+    ensures shown { (key : ℕ) → entry_at tick entries.new.slots key ≡ entry_at tick entries.old.slots key }
+{
+    while let Some(client) = due.take() {
+        place_anew(due, keys, index, entries, tick, client);
+    }
+}
+
+// A client that stands nowhere stands where it can be due, where it is known.
+fn place_anew(
+    due: &mut Due,
+    keys: &Keys,
+    index: &BTreeMap<u64, usize>,
+    entries: &mut Slab<Stored>,
+    tick: u32,
+    client: u64,
+)
+    requires told { Tells keys.now index.now }
+    requires joins { AreJoined (entry_at tick entries.old.slots) index.now.entries }
+    ensures moves { MovesOnly client due.old due.new }
+    ensures there { due.new.whole ≡ true → (key : ℕ) → lookup (is_at (nat_cmp client)) index.now.entries ≡ Some key → IsSomeAnd (times_at tick entries.new.slots key) (λ t. IsInTime due.new client t.0 t.1) }
+    ensures others { (key : ℕ) → lookup (is_at (nat_cmp client)) index.now.entries ≢ Some key → slot_at entries.new.slots key ≡ slot_at entries.old.slots key }
+    ensures shown { (key : ℕ) → entry_at tick entries.new.slots key ≡ entry_at tick entries.old.slots key }
+    ensures waiting { waiting due.new ≡ waiting due.old }
+{
+    let Some(key) = keys.find(index, client) else {
+        return;
+    };
+    let Some(stored) = stored_in(entries, key) else {
+        return;
+    };
+    let idle = stored.entry(tick).idle;
+    let due = due.place(client, idle);
+    put(entries, key, Stored { due, ..stored });
 }
 
 // Changes the bursts of these clients, each of which has one.
@@ -280,16 +340,22 @@ fn change_each<F: Fn(Burst) -> Burst>(
     requires { AreReady (λ _ e. IsSomeAnd e.burst (F.pre change)) (entry_at tick entries.old.slots) bursts.now }
     ensures changed { AreSlotsChanged (λ _. IsBurstChanged (F.post change)) (entry_at tick entries.old.slots) (entry_at tick entries.new.slots) bursts.now }
     ensures others { (key : ℕ) → IsFree key bursts.now → slot_at entries.new.slots key ≡ slot_at entries.old.slots key }
+    ensures times { (key : ℕ) → times_at tick entries.new.slots key ≡ times_at tick entries.old.slots key }
 {
     for (_, key) in bursts {
-        let Some(entry) = entry_in(entries, tick, *key) else {
+        let Some(stored) = stored_in(entries, *key) else {
             continue;
         };
+        let entry = stored.entry(tick);
         let Some(burst) = entry.burst else {
             continue;
         };
         let burst = Some(change(burst));
-        put(entries, *key, Stored::new(Entry { burst, ..entry }, tick));
+        put(
+            entries,
+            *key,
+            Stored::new(Entry { burst, ..entry }, tick, stored.due),
+        );
     }
 }
 

@@ -6,7 +6,7 @@ ghost use Rattle.std.specs.Slice.Iter.{iter_rest};
 use crate::entry::Entry;
 use crate::stored::Stored;
 use slab::Slab;
-use std::collections::btree_map;
+use std::collections::{btree_map, btree_set};
 use std::slice;
 
 /// The known clients by rising number, each with what is kept of it.
@@ -58,5 +58,38 @@ impl<'a> Iterator for OpenBursts<'a> {
         let (client, key) = self.left.next()?;
         let stored = self.entries.get(*key)?;
         Some((*client, stored.entry(self.tick)))
+    }
+}
+
+/// Known clients by rising number.
+#[derive(Drop)]
+pub enum DueClients<'a> {
+    /// All.
+    All(btree_map::Iter<'a, u64, usize>),
+    /// Those that stand at one tick.
+    At(btree_set::Range<'a, (u64, u64)>),
+}
+
+impl<'a> Iterator for DueClients<'a> {
+    ghost use Rattle.std.specs.Iterator.{YieldsFirst, item_count};
+    ghost use Rattle.client_table.specs.{due_left};
+
+    type Item = u64;
+
+    ghost next_gives = { YieldsFirst due_left };
+
+    ghost remaining = { item_count due_left };
+
+    fn next(&mut self) -> Option<u64> {
+        match self {
+            DueClients::All(left) => {
+                let (client, _) = left.next()?;
+                Some(*client)
+            }
+            DueClients::At(left) => {
+                let (_, client) = left.next()?;
+                Some(*client)
+            }
+        }
     }
 }

@@ -5,6 +5,9 @@ use std::alloc::Global;
 use std::process::Abort;
 use std::test::Fail;
 
+// The ticks after which an idle client may be due.
+const LIMIT: u32 = 3;
+
 // Most clients of a table, and those that fill it.
 type Full = (u32, &'static [u32]);
 
@@ -49,7 +52,7 @@ fn admit(rt: &impl Abort, alloc: Global, table: &mut Table, client: u32) -> Resu
 
 // A table of at most so many clients, in which these are known.
 fn table_of(rt: &impl Abort, alloc: Global, most: u32, clients: &[u32]) -> Result<Table, Fail> {
-    let mut table = Table::new(alloc, most)?;
+    let mut table = Table::new(alloc, most, LIMIT)?;
     for client in clients {
         same(rt, &admit(rt, alloc, &mut table, *client), &Ok(()), client);
     }
@@ -252,11 +255,63 @@ fn changed_entries(rt: HostRuntime) -> Result<(), Fail> {
     table.change(2, |entry| Entry { idle: 0, ..entry });
     table.age();
     table.change_bursts(|burst| Burst { kept: 0, ..burst });
-    table.measure_idle();
     for (client, idle) in [(2u32, 1), (5, 2), (9, 2)] {
         let entry = table.find(u64::from(client));
         same(&rt, &entry, &Some(later_entry(client, idle)), &client);
     }
-    same(&rt, &(table.count(), table.idle_most()), &(3, 2), &"counts");
+    same(&rt, &table.count(), &3, &"count");
+    Ok(())
+}
+
+// The ticks so far, and the clients that may be due in the next one.
+type Due = (u32, &'static [u64]);
+
+// Client 2 is heard in tick 2, and client 9 leaves in tick 4.
+const DUE: &[Due] = &[
+    (0, &[]),
+    (1, &[]),
+    (2, &[2, 5, 9]),
+    (3, &[]),
+    (4, &[2]),
+    (5, &[5]),
+    (6, &[]),
+    (7, &[2]),
+];
+
+fn expect_due(rt: &impl Abort, table: &Table, ticks: u32, clients: &[u64]) {
+    let mut due = table.due_next(LIMIT);
+    for client in clients {
+        same(rt, &due.next(), &Some(*client), &(ticks, *client));
+    }
+    same(rt, &due.next(), &None, &ticks);
+}
+
+// A client is looked at where it would be due had nobody heard it, and after that where it can be due
+// next.
+#[test]
+fn due_clients(rt: HostRuntime) -> Result<(), Fail> {
+    let mut table = opened_table(&rt, rt.alloc(), &[5], &[], 7)?;
+    for (ticks, clients) in DUE {
+        expect_due(&rt, &table, *ticks, clients);
+        table.age();
+        if *ticks == 1 {
+            table.change(2, |entry| Entry { idle: 0, ..entry });
+        }
+        if *ticks == 3 {
+            table.remove(9);
+        }
+    }
+    Ok(())
+}
+
+// A table that looks out for another limit gives all its clients.
+#[test]
+fn all_clients_due(rt: HostRuntime) -> Result<(), Fail> {
+    let table = table_of(&rt, rt.alloc(), 3, &CLIENTS)?;
+    let mut due = table.due_next(LIMIT + 1);
+    for client in CLIENTS {
+        same(&rt, &due.next(), &Some(u64::from(client)), &client);
+    }
+    same(&rt, &due.next(), &None, &"all");
     Ok(())
 }

@@ -21,3 +21,4 @@ pub mod Kept
 pub mod Sending
 pub mod Sized
 pub mod Sizing
+pub mod DueClients

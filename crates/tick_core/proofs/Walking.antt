@@ -51,19 +51,6 @@ served_open s held (e ∷ es) d =
 pub served_start : (s : Settings) (held : List Held) (left : List (ℕ × Entry)) (t : Clients) (d : Drafted) → left ≡ opened_of t → with_all_served s held left d ≡ with_all_served s held t.known d
 served_start s held left t d same = ap (λ (l : List (ℕ × Entry)). with_all_served s held l d) same ∙ served_open s held t.known d
 
--- the same of the clients that are forgotten
-pub forgotten_start : (s : Settings) (ws : List Wanted) (left es : List (ℕ × Entry)) (d : Drafted) → left ≡ es → with_all_forgotten s ws left d ≡ with_all_forgotten s ws es d
-forgotten_start s ws left es d same = ap (λ (l : List (ℕ × Entry)). with_all_forgotten s ws l d) same
-
-pub forgotten_turn : (s : Settings) (ws : List Wanted) (e : ℕ × Entry) (es rest : List (ℕ × Entry)) (d d2 end : Drafted) → es ≡ e ∷ rest → d2 ≡ with_forgotten s ws e.0 e.1 d
-    → with_all_forgotten s ws es d ≡ end → with_all_forgotten s ws rest d2 ≡ end
-unfolding with_all_forgotten
-forgotten_turn s ws e es rest d d2 end split made so_far = ap (with_all_forgotten s ws rest) made ∙ (ap (λ (l : List (ℕ × Entry)). with_all_forgotten s ws l d) (sym split) ∙ so_far)
-
-pub forgotten_end : (s : Settings) (ws : List Wanted) (es : List (ℕ × Entry)) (d end : Drafted) → es ≡ [] → with_all_forgotten s ws es d ≡ end → d ≡ end
-unfolding with_all_forgotten
-forgotten_end s ws es d end none so_far = ap (λ (l : List (ℕ × Entry)). with_all_forgotten s ws l d) (sym none) ∙ so_far
-
 -- the first of those that are left is found in the table
 pub first_found : (t : Clients) (e : ℕ × Entry) (es rest : List (ℕ × Entry)) → es ≡ e ∷ rest → All (λ d. entry_of t d.0 ≡ Some d.1) es → entry_of t e.0 ≡ Some e.1
 first_found t e es rest split found = All-head (λ d. entry_of t d.0 ≡ Some d.1) e rest (All-same (λ d. entry_of t d.0 ≡ Some d.1) (e ∷ rest) es (sym split) found)
@@ -147,16 +134,3 @@ all_end allowed left es none leads =
 
 pub none_true : (s : Settings) (held : List Held) (t : Clients) (allowed : ℕ → Option Allowance) → ((k : ℕ) → allowed k ≡ None) → AreTrue s held t allowed
 none_true s held t allowed none = λ k a has. let clash : Some a ≡ None = sym has ∙ none k in absurd cc
-
--- ---- who is forgotten
--- where nobody was idle for long nobody is
-none_idle : (b : Bool) (most n idle : ℕ) → n ≤ most → most + 1 < idle → eqb (cond b 0 (n + 1)) idle ≡ false
-none_idle true most n idle le lt = ne_eqb 0 idle (λ same. omega (arith, lt, same))
-none_idle false most n idle le lt = ne_eqb (n + 1) idle (λ same. omega (arith, le, lt, same))
-
-pub none_forgotten : (s : Settings) (ws : List Wanted) (most : ℕ) (es : List (ℕ × Entry)) (d : Drafted) → AllByRecursion (λ e. e.1.idle ≤ most) es → most + 1 < s.channel.idle → d ≡ with_all_forgotten s ws es d
-unfolding with_all_forgotten
-none_forgotten s ws most [] d within lt = refl
-none_forgotten s ws most (e ∷ es) d within lt =
-    let stays : with_forgotten s ws e.0 e.1 d ≡ d = cond-false (eqb (idle_after ws e.0 e.1) s.channel.idle) (with_note d (Forgot e.0)) d (none_idle (is_some e.1.burst || ltb 0 (count_of e.0 ws)) most e.1.idle s.channel.idle within.0 lt) in
-    none_forgotten s ws most es d within.1 lt ∙ sym (ap (with_all_forgotten s ws es) stays)

@@ -14,7 +14,7 @@ pub use Rattle.tick_core.specs.Runs.{AreInOrder, IsSmall, IsNext, AreOfBursts}
 unfoldable pub use Rattle.tick_core.specs.Repairs.{after_repair, allowance_for, with_taken, fits, waiting, with_repair, with_wanted, IsSpent, with_all_wanted, clients_of, Rise, or_changed, all_allowances}
 pub use Rattle.tick_core.specs.Repairs.{Repaired}
 unfoldable pub use Rattle.tick_core.specs.Allowances.{in_place, told_by, AreOfKnown}
-unfoldable pub use Rattle.tick_core.specs.Forgetting.{idle_after, with_forgotten, with_all_forgotten}
+unfoldable pub use Rattle.tick_core.specs.Forgetting.{idle_after, with_forgotten, with_forgotten_if, with_due_forgotten, with_all_forgotten}
 unfoldable pub use Rattle.tick_core.specs.Plans.{begun_left, drafted_runs, drafted_repairs, drafted_tick, planned_answer, planned_flags, ends_wait, is_over}
 pub use Rattle.tick_core.specs.Plans.{IsPlanOf, IsPlanFor}
 unfoldable pub use Rattle.tick_core.specs.Committed.{opened_for_tick, counted_on, entry_begun, IsSmallIfOpen, IsSmallIfKnown, AreSmall, burst_ended, entry_ended, burst_sent, entry_sent, IsNextSmall, IsNextSmallIfKnown, entry_closed, entry_awake, changed_by, changed, amount_of, amount_for, committing, with_sending, with_closed, with_committed, with_all_committed, MayCommit, MayCommitAll}

@@ -198,7 +198,6 @@ pub fn commit_tick(parts: &mut Parts, plan: &TickPlan)
         &plan.answer.notes,
         &plan.answer.orders,
     );
-    let channel = parts.config.channel();
-    end_entries(&mut parts.table, channel.depth, channel.idle);
+    end_entries(&mut parts.table, parts.config.channel().depth);
     parts.queue.settle(&plan.done);
 }

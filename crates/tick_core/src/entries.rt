@@ -93,13 +93,9 @@ pub fn begin_entries(table: &mut Table)
     table.change_bursts(|burst| opened_for_tick(burst));
 }
 
-/// What is kept of all clients as a tick ends. Where a client may have been idle for as many ticks as
-/// after which it is forgotten, it is seen how long all have been.
-pub fn end_entries(table: &mut Table, depth: u64, idle: u32)
+/// What is kept of all clients as a tick ends.
+pub fn end_entries(table: &mut Table, depth: u64)
     ensures { AreAllChanged (λ _. entry_ended depth) table.old table.new }
 {
     table.change_bursts(|burst| ended_burst(depth, burst));
-    if table.idle_most() >= idle {
-        table.measure_idle();
-    }
 }

@@ -1,6 +1,7 @@
 //! The clients that are forgotten.
 ghost use Rattle.std.specs.Prelude.{◌≡◌, ◌==◌, IfOk};
-ghost use Rattle.tick_core.specs.{idle_after, with_forgotten, with_all_forgotten};
+ghost use Rattle.client_table.specs.{entry_of, AreRising};
+ghost use Rattle.tick_core.specs.{idle_after, with_forgotten_if, with_all_forgotten};
 
 use crate::draft::Draft;
 use channel_config::Config;
@@ -30,37 +31,38 @@ fn is_idle(config: &Config, queue: &Queue, client: u64, entry: &Entry) -> bool
     u64::from(entry.idle) + 1 == idle && idle_after(queue, client, entry) == idle
 }
 
-/// Notes that a client is forgotten, where it has been idle for so many ticks.
+/// Notes that a client is forgotten, where it is known and has been idle for so many ticks.
 fn forget_client(
     config: &Config,
     queue: &Queue,
+    table: &Table,
     client: u64,
-    entry: &Entry,
     draft: &mut Draft,
 ) -> Result<(), NoMemory>
-    ensures { IfOk result (λ _. draft.new ≡ with_forgotten config.now queue.now client entry.now draft.old) }
+    ensures { IfOk result (λ _. draft.new ≡ with_forgotten_if config.now queue.now client (entry_of table.now client) draft.old) }
 {
-    if is_idle(config, queue, client, entry) {
+    let Some(entry) = table.find(client) else {
+        return Ok(());
+    };
+    if is_idle(config, queue, client, &entry) {
         draft.note(Note::Forgot { client })?;
     }
     Ok(())
 }
 
-/// Notes who is forgotten, by rising number. Nobody is looked at before one may have been idle for so
-/// many ticks.
+/// Notes who is forgotten, by rising number. Those alone are looked at who may have been idle for so many
+/// ticks.
 pub fn forget_clients(
     config: &Config,
     queue: &Queue,
     table: &Table,
     draft: &mut Draft,
 ) -> Result<(), NoMemory>
+    requires { AreRising table.now }
     ensures { IfOk result (λ _. draft.new ≡ with_all_forgotten config.now queue.now table.now.known draft.old) }
 {
-    if u64::from(table.idle_most()) + 1 < u64::from(config.channel().idle) {
-        return Ok(());
-    }
-    for (client, entry) in table.iter() {
-        forget_client(config, queue, client, &entry, draft)?;
+    for client in table.due_next(config.channel().idle) {
+        forget_client(config, queue, table, client, draft)?;
     }
     Ok(())
 }

@@ -34,6 +34,6 @@ returns c = record {
       c.commit_notes.ensures
       ∙ sized_as_named p.config p.cache.held c.deref.result.now _ (committing c.begin_entries.new.table c.open_tick.new.self) (lists_are_sized p events c.args.plan.now _ _ stands is notes_are orders_are) in
       made_parts p events c.args.plan.now c.deref.result.now c.deref-3.result.now c.begin_entries.new.table c.commit_notes.new.table c.end_entries.new.table c.open_tick.new.self c.commit_notes.new.budget
-      c.settle.new.self _ stands is notes_are done_are (ap (λ (x : Channel). x.depth) c.channel-channel.ensures.value) c.begin_entries.ensures c.open_tick.ensures carried c.end_entries.ensures c.settle.ensures;
+      c.settle.new.self _ stands is notes_are done_are (ap (λ (x : Channel). x.depth) c.channel.ensures.value) c.begin_entries.ensures c.open_tick.ensures carried c.end_entries.ensures c.settle.ensures;
   settings = refl;
 }

@@ -1,14 +1,13 @@
-use Rattle.std.proofs.Common.{◌≡◌, ◌≤◌, List, Option, Some, is_some, refl, arith, ap, sym, ◌∙◌, subst}
+use Rattle.std.proofs.Common.{◌≡◌, List, Option, Some, is_some, refl, arith, ap, sym, ◌∙◌, subst}
 use Rattle.std.specs.Prelude.{filter}
-use Rattle.std.specs.List.{AllByRecursion}
 use Rattle.client_table.specs.declared.entry.Entry.{Entry}
 use Rattle.client_table.specs.declared.stored.Stored.{Stored}
-use Rattle.client_table.specs.{new_entry, entry_at, seen, joined, has_burst, is_open_at, AreJoined}
+use Rattle.client_table.specs.{new_entry, entry_at, seen, has_burst, is_open_at, AreJoined, times_at, AreInTime}
 use Rattle.slab.specs.Slab.{Slab, Updates}
-use Rattle.client_table.proofs.Bounded.{each_inserted}
-use Rattle.client_table.proofs.Changed.{free_key, insert_kept, joined_insert, shown_elsewhere, none_shown, came}
+use Rattle.client_table.proofs.Changed.{free_key, insert_kept, shown_elsewhere, none_shown, came}
+use Rattle.client_table.proofs.InTime.{time_put, in_time_admitted}
 use Rattle.client_table.proofs.Opened.{inserted_open}
-use Rattle.client_table.proofs.Shown.{shown_count, shown_most, shown_admitted, unknown_key, unknown_joined, not_full, one_more}
+use Rattle.client_table.proofs.Shown.{shown_count, shown_most, shown_admitted, unknown_key, not_full, one_more}
 use Rattle.client_table.proofs.table.Table.admit.Goals as goal
 
 pub returns-then-len-self-clause-full : goal.returns-then-len-self-clause-full
@@ -45,15 +44,14 @@ invariant_of-self-2 c =
     let same : slots ≡ c.self.inside.entries.slots = ap (λ (s : Slab Stored). s.slots) c.reserve.ensures.rest_kept in
     let joins : AreJoined at es = subst (λ (all : List (Option Stored)). AreJoined (entry_at tick all) es) (sym same) c.self.invariant.entries in
     let put : c.insert_reserved.result ≡ key = c.insert_reserved.ensures.key ∙ sym c.vacant_key-key.ensures.value in
-    let updates : Updates c.reserve.new.self c.insert_reserved.new.self key (Some c.new-2.result) = rw put at c.insert_reserved.ensures.updates in
+    let updates : Updates c.reserve.new.self c.insert_reserved.new.self key (Some c.new.result) = rw put at c.insert_reserved.ensures.updates in
     let elsewhere = shown_elsewhere tick key slots later updates.others in
-    let here : now key ≡ Some (new_entry c.args.ssrc c.args.seq0) = came tick key later c.new-2.result _ updates.changed (c.new-2.ensures ∙ c.new.ensures) in
+    let here : now key ≡ Some (new_entry c.args.ssrc c.args.seq0) = came tick key later c.new.result _ updates.changed (c.new.ensures.entry ∙ c.new-entry.ensures) in
     let vacant = none_shown tick key slots c.vacant_key-key.ensures.vacant in
     let free = free_key at key vacant es joins in
     let shows = ap (λ (all : List (Option Stored)). seen c.self.inside.most (entry_at tick all) es) same ∙ c.self.view_is in
     let opened : c.self.inside.bursts.items ≡ filter (is_open_at at) es = subst (λ (all : List (Option Stored)). c.self.inside.bursts.items ≡ filter (is_open_at (entry_at tick all)) es) (sym same) c.self.invariant.opened in
-    let idle : AllByRecursion (λ e. e.1.idle ≤ c.self.inside.idle_most) (joined at es) = subst (λ (all : List (Option Stored)). AllByRecursion (λ e. e.1.idle ≤ c.self.inside.idle_most) (joined (entry_at tick all) es)) (sym same) c.self.invariant.idle in
-    let unknown = unknown_joined c.self.inside.most at es _ shows client c.requires.unknown in
+    let times : AreInTime c.self.inside.due (times_at tick slots) es = subst (λ (all : List (Option Stored)). AreInTime c.self.inside.due (times_at tick all) es) (sym same) c.self.invariant.times in
     record {
       rising = c.insert.ensures.ordered;
       entries = rw c.in_ok-insert.ensures.entries (insert_kept at now key elsewhere client _ here es joins free);
@@ -61,9 +59,10 @@ invariant_of-self-2 c =
       small = c.self.invariant.small;
       opened = rw c.in_ok-insert.ensures.entries (opened ∙ inserted_open at now key elsewhere client es (ap has_burst here) free (unknown_key c.self.inside.most at es _ shows joins client c.requires.unknown));
       room = c.self.invariant.room;
-      idle = rw c.in_ok-insert.ensures.entries (subst (AllByRecursion (λ e. e.1.idle ≤ c.self.inside.idle_most)) (sym (joined_insert at now key elsewhere client _ here es joins free unknown))
-          (each_inserted (λ (e : Entry). e.idle ≤ c.self.inside.idle_most) client _ (joined at es) (omega arith) idle));
       told = c.add.ensures c.self.inside.index c.insert.new.self c.in_ok-insert.ensures.updates c.self.invariant.told;
+      times = in_time_admitted c.self.inside.due c.place-due.new.self client tick slots later c.place-due.ensures.moves key updates.others c.self.inside.index c.insert.new.self c.in_ok-insert.ensures.updates joins vacant
+          (λ whole. time_put client tick _ _ c.place-due.new.self _ c.new.result updates.changed c.new.ensures.due (ap (λ (e : Entry). e.idle) c.new.ensures.entry) (c.place-due.ensures.there whole)) times;
+      later = c.place-due.ensures.later c.self.invariant.later;
     }
 
 pub returns-clause-ok : goal.returns-clause-ok
@@ -77,10 +76,10 @@ returns-clause-ok c =
     let same : slots ≡ c.self.inside.entries.slots = ap (λ (s : Slab Stored). s.slots) c.reserve.ensures.rest_kept in
     let joins : AreJoined at es = subst (λ (all : List (Option Stored)). AreJoined (entry_at tick all) es) (sym same) c.self.invariant.entries in
     let put : c.insert_reserved.result ≡ key = c.insert_reserved.ensures.key ∙ sym c.vacant_key-key.ensures.value in
-    let updates : Updates c.reserve.new.self c.insert_reserved.new.self key (Some c.new-2.result) = rw put at c.insert_reserved.ensures.updates in
+    let updates : Updates c.reserve.new.self c.insert_reserved.new.self key (Some c.new.result) = rw put at c.insert_reserved.ensures.updates in
     let shows = ap (λ (all : List (Option Stored)). seen c.self.inside.most (entry_at tick all) es) same ∙ c.self.view_is in
     shown_admitted c.self.inside.most at es _ shows joins (entry_at tick later) key (shown_elsewhere tick key slots later updates.others) c.args.client (new_entry c.args.ssrc c.args.seq0) _
-    (came tick key later c.new-2.result _ updates.changed (c.new-2.ensures ∙ c.new.ensures)) (none_shown tick key slots c.vacant_key-key.ensures.vacant) c.requires.unknown c.in_ok-insert.ensures.entries
+    (came tick key later c.new.result _ updates.changed (c.new.ensures.entry ∙ c.new-entry.ensures)) (none_shown tick key slots c.vacant_key-key.ensures.vacant) c.requires.unknown c.in_ok-insert.ensures.entries
 
 pub returns-clause-full : goal.returns-clause-full
 returns-clause-full c =

@@ -1,11 +1,11 @@
-use Rattle.std.proofs.Common.{◌≤◌, IfSome, length, refl, ap, sym, ◌∙◌, subst, arith}
-use Rattle.std.specs.List.{AllByRecursion}
-use Rattle.std.specs.Option.{option_and_then}
+use Rattle.std.proofs.Common.{◌≡◌, IfSome, Some, length, refl, ap, sym, ◌∙◌, subst, arith}
+use Rattle.std.specs.Option.{option_map, option_and_then}
 use Rattle.std.specs.BTreeMap.{is_at}
 use Rattle.std.specs.Ordering.{nat_cmp}
-use Rattle.client_table.specs.{entry_at, entry_of, joined, has_burst, is_open_at, Rise, marked}
-use Rattle.client_table.proofs.Bounded.{each_set, each_weaker}
-use Rattle.client_table.proofs.Changed.{set_kept, none_and_some, found_some, shown_some, put_elsewhere, put_here, joined_set}
+use Rattle.client_table.specs.declared.entry.Entry.{Entry}
+use Rattle.client_table.specs.{shown, entry_at, entry_of, has_burst, is_open_at, Rise, marked}
+use Rattle.client_table.proofs.Changed.{set_kept, none_and_some, found_some, shown_some, put_elsewhere, put_others, put_here}
+use Rattle.client_table.proofs.InTime.{slot_written, time_of, time_put, in_time_put}
 use Rattle.client_table.proofs.Opened.{rise_kept, length_kept, set_marked}
 use Rattle.client_table.proofs.Shown.{shown_entry, shown_written, no_change, one_change}
 use Rattle.client_table.proofs.table.Table.change.Given.{F-pre}
@@ -17,17 +17,27 @@ returns-in_default g c =
     let unknown = sym (shown_entry c.self.inside.most at c.self.inside.index.entries _ c.self.view_is c.self.invariant.entries c.args.client) ∙ ap (option_and_then at) (sym c.in_default.ensures) in
     no_change _ _ (entry_of c.args.self.now c.args.client) unknown refl
 
-pub returns-in_default-entry_in : goal.returns-in_default-entry_in
-returns-in_default-entry_in g c =
-    let at = entry_at c.self.inside.tick c.self.inside.entries.slots in
-    absurd (none_and_some (at c.in-Some.key) (sym c.in_default-entry_in.ensures)
+pub returns-in_default-stored_in : goal.returns-in_default-stored_in
+returns-in_default-stored_in g c =
+    let tick = c.self.inside.tick in
+    let at = entry_at tick c.self.inside.entries.slots in
+    absurd (none_and_some (at c.in-Some.key) (sym (ap (option_map (shown tick)) c.in_default-stored_in.ensures))
     (found_some at (is_at (nat_cmp c.args.client)) c.in-Some.key c.self.inside.index.entries c.self.invariant.entries (sym c.in-Some.ensures)))
 
 pub change-changed-requires : goal.change-changed-requires
 change-changed-requires g c =
-    let at = entry_at c.self.inside.tick c.self.inside.entries.slots in
-    let known = sym (shown_entry c.self.inside.most at c.self.inside.index.entries _ c.self.view_is c.self.invariant.entries c.args.client) ∙ (ap (option_and_then at) (sym c.in-Some.ensures) ∙ sym c.in-Some-entry_in.ensures) in
+    let tick = c.self.inside.tick in
+    let at = entry_at tick c.self.inside.entries.slots in
+    let here : Some c.entry-entry.result ≡ at c.in-Some.key = ap Some c.entry-entry.ensures ∙ ap (option_map (shown tick)) c.in-Some-stored_in.ensures in
+    let known = sym (shown_entry c.self.inside.most at c.self.inside.index.entries _ c.self.view_is c.self.invariant.entries c.args.client) ∙ (ap (option_and_then at) (sym c.in-Some.ensures) ∙ sym here) in
     subst (λ o. IfSome o (F-pre g c.args.change)) known c.requires
+
+pub settle-due-requires : goal.settle-due-requires
+settle-due-requires g c whole =
+    let tick = c.self.inside.tick in (
+      (shown tick c.in-Some-stored_in.stored).idle,
+      time_of c.args.client tick c.self.inside.due _ c.in-Some-stored_in.stored c.in-Some-stored_in.ensures (c.self.invariant.times whole c.args.client c.in-Some.key (sym c.in-Some.ensures)),
+    )
 
 pub put-requires : goal.put-requires
 put-requires g c =
@@ -58,19 +68,21 @@ invariant_of-self g c =
     let joins = c.self.invariant.entries in
     let found = sym c.in-Some.ensures in
     let elsewhere = put_elsewhere tick slots c.put.new.entries.slots key c.new.result c.put.ensures in
-    let here = put_here tick slots c.put.new.entries.slots key c.new.result c.put.ensures c.change-changed.result (found_some at test key es joins found) c.new.ensures in
+    let here = put_here tick slots c.put.new.entries.slots key c.new.result c.put.ensures c.change-changed.result (found_some at test key es joins found) c.new.ensures.entry in
+    let wrote = slot_written slots c.put.new.entries.slots key c.new.result c.put.ensures (shown_some tick key slots (found_some at test key es joins found)) in
+    let was : Some c.entry-entry.result ≡ at key = ap Some c.entry-entry.ensures ∙ ap (option_map (shown tick)) c.in-Some-stored_in.ensures in
     record {
       rising = c.self.invariant.rising;
       entries = set_kept at now key elsewhere test c.change-changed.result here es joins found;
       few = c.self.invariant.few;
       small = c.self.invariant.small;
       opened = c.mark.ensures.items ∙ (ap (marked c.is_some-was_open.result c.is_some-is_open.result client key) c.self.invariant.opened
-          ∙ set_marked at now key elsewhere client _ _ es (c.is_some-was_open.ensures ∙ ap has_burst c.in-Some-entry_in.ensures) (c.is_some-is_open.ensures ∙ sym (ap has_burst here)) c.self.invariant.rising joins found);
+          ∙ set_marked at now key elsewhere client _ _ es (c.is_some-was_open.ensures ∙ ap has_burst was) (c.is_some-is_open.ensures ∙ sym (ap has_burst here)) c.self.invariant.rising joins found);
       room = omega (arith, c.self.invariant.room, c.mark.ensures.room);
-      idle = subst (AllByRecursion (λ e. e.1.idle ≤ c.max-self-inside.result)) (sym (joined_set at now key elsewhere test c.change-changed.result here es joins found))
-          (each_set (λ e. e.idle ≤ c.max-self-inside.result) test c.change-changed.result (joined at es) (omega (arith, c.max-self-inside.ensures))
-          (each_weaker (λ e. e.idle ≤ c.self.inside.idle_most) (λ e. e.idle ≤ c.max-self-inside.result) (λ e le. omega (arith, le, c.max-self-inside.ensures)) (joined at es) c.self.invariant.idle));
       told = c.self.invariant.told;
+      times = in_time_put c.self.inside.due c.settle-due.new.self client tick slots c.put.new.entries.slots c.settle-due.ensures.moves key (put_others tick slots c.put.new.entries.slots key c.new.result c.put.ensures) es joins found
+          (λ whole. time_put client tick _ _ c.settle-due.new.self _ c.new.result wrote c.new.ensures.due (ap (λ (e : Entry). e.idle) c.new.ensures.entry) (c.settle-due.ensures.there whole)) c.self.invariant.times;
+      later = c.settle-due.ensures.later c.self.invariant.later;
     }
 
 pub returns : goal.returns
@@ -81,8 +93,9 @@ returns g c =
     let key = c.in-Some.key in
     let at = entry_at tick slots in
     let some = found_some at (is_at (nat_cmp c.args.client)) key es c.self.invariant.entries (sym c.in-Some.ensures) in
-    let known = sym (shown_entry c.self.inside.most at es _ c.self.view_is c.self.invariant.entries c.args.client) ∙ (ap (option_and_then at) (sym c.in-Some.ensures) ∙ sym c.in-Some-entry_in.ensures) in
+    let here : Some c.entry-entry.result ≡ at key = ap Some c.entry-entry.ensures ∙ ap (option_map (shown tick)) c.in-Some-stored_in.ensures in
+    let known = sym (shown_entry c.self.inside.most at es _ c.self.view_is c.self.invariant.entries c.args.client) ∙ (ap (option_and_then at) (sym c.in-Some.ensures) ∙ sym here) in
     let written = shown_written c.self.inside.most at es _ c.self.view_is c.self.invariant.entries (entry_at tick c.put.new.entries.slots) key
     (put_elsewhere tick slots c.put.new.entries.slots key c.new.result c.put.ensures) c.args.client c.change-changed.result
-    (put_here tick slots c.put.new.entries.slots key c.new.result c.put.ensures c.change-changed.result some c.new.ensures) c.in-Some.ensures in
-    one_change _ _ (entry_of c.args.self.now c.args.client) c.in-Some-entry_in.entry known (c.change-changed.result, c.change-changed.ensures, written)
+    (put_here tick slots c.put.new.entries.slots key c.new.result c.put.ensures c.change-changed.result some c.new.ensures.entry) c.in-Some.ensures in
+    one_change _ _ (entry_of c.args.self.now c.args.client) c.entry-entry.result known (c.change-changed.result, c.change-changed.ensures, written)

@@ -1,10 +1,11 @@
 use Rattle.std.proofs.Common.{◌≡◌, IsSomeAnd, IfSome, sym, ◌∙◌, subst}
 use Rattle.std.specs.Prelude.{filter}
 use Rattle.client_table.specs.declared.entry.Entry.{Entry}
-use Rattle.client_table.specs.{entry_at, is_open_at, IsFree, AreReady, AreSlotsChanged, IsBurstChanged}
+use Rattle.client_table.specs.{entry_at, is_open_at, IsFree, AreReady, AreSlotsChanged, IsBurstChanged, times_at}
 use Rattle.client_table.proofs.Changed.{entries_same}
 use Rattle.client_table.proofs.ChangedAll.{shown_ready, shown_changed, still_joined}
-use Rattle.client_table.proofs.Opened.{ready_open, closed_free, all_changed, same_open, same_idle, bursts_keep, bursts_within}
+use Rattle.client_table.proofs.Opened.{ready_open, closed_free, all_changed, same_open, bursts_keep}
+use Rattle.client_table.proofs.InTime.{in_time_same}
 use Rattle.client_table.proofs.table.Table.change_bursts.Given.{F-pre, F-post}
 use Rattle.client_table.proofs.table.Table.change_bursts.Goals as goal
 
@@ -38,7 +39,8 @@ invariant_of-self g c =
       small = c.self.invariant.small;
       opened = c.self.invariant.opened ∙ same_open R at now (bursts_keep (F-post g c.args.change)) es changed;
       room = c.self.invariant.room;
-      idle = same_idle R at now c.self.inside.idle_most c.self.inside.idle_most (bursts_within (F-post g c.args.change) c.self.inside.idle_most) es changed c.self.invariant.idle;
+      times = in_time_same c.self.inside.due (times_at tick slots) (times_at tick c.change_each.new.entries.slots) es c.change_each.ensures.times c.self.invariant.times;
+      later = c.self.invariant.later;
     }
 
 pub returns : goal.returns

@@ -1,12 +1,10 @@
-use Rattle.std.proofs.Common.{◌≤◌, arith, ap, sym, ◌∙◌, subst}
-use Rattle.std.specs.List.{AllByRecursion}
-use Rattle.std.specs.Option.{option_and_then}
+use Rattle.std.proofs.Common.{Some, arith, ap, sym, ◌∙◌, subst}
+use Rattle.std.specs.Option.{option_map, option_and_then}
 use Rattle.std.specs.BTreeMap.{is_at}
 use Rattle.std.specs.Ordering.{nat_cmp}
-use Rattle.client_table.specs.declared.entry.Entry.{Entry}
-use Rattle.client_table.specs.{entry_at, joined, is_open_at, Rise, closed_at}
-use Rattle.client_table.proofs.Bounded.{each_removed}
-use Rattle.client_table.proofs.Changed.{remove_kept, joined_remove, shown_elsewhere}
+use Rattle.client_table.specs.{shown, entry_at, is_open_at, Rise, closed_at}
+use Rattle.client_table.proofs.Changed.{remove_kept, none_and_some, found_some, shown_elsewhere}
+use Rattle.client_table.proofs.InTime.{in_time_removed}
 use Rattle.client_table.proofs.Opened.{rise_kept, removed_open}
 use Rattle.client_table.proofs.Shown.{shown_entry, shown_absent, shown_removed}
 use Rattle.client_table.proofs.table.Table.remove.Goals as goal
@@ -46,16 +44,37 @@ invariant_of-self-2 c =
       small = c.self.invariant.small;
       opened = rw c.remove.ensures.entries (c.close_client.ensures.items ∙ (ap (closed_at c.args.client) c.self.invariant.opened ∙ removed_open at now key elsewhere c.args.client es c.self.invariant.rising joins found));
       room = omega (arith, c.self.invariant.room, c.close_client.ensures.room);
-      idle = rw c.remove.ensures.entries (subst (AllByRecursion (λ e. e.1.idle ≤ c.self.inside.idle_most)) (sym (joined_remove at now key elsewhere test es joins found))
-          (each_removed (λ (e : Entry). e.idle ≤ c.self.inside.idle_most) test (joined at es) c.self.invariant.idle));
       told = c.remove-2.ensures c.self.inside.index c.remove.new.self c.remove.ensures.updates c.self.invariant.told;
+      times = in_time_removed c.self.inside.due c.remove-3.new.self c.args.client tick slots c.take_out.new.entries.slots c.remove-3.ensures.moves key c.take_out.ensures.updates.others c.self.inside.index c.remove.new.self c.remove.ensures.updates joins found
+          c.self.invariant.times;
+      later = c.remove-3.ensures.later c.self.invariant.later;
     }
+
+-- its slot has an entry
+pub invariant_of-self-in_err-stored : goal.invariant_of-self-in_err-stored
+invariant_of-self-in_err-stored c =
+    let at = entry_at c.self.inside.tick c.self.inside.entries.slots in
+    absurd (none_and_some (at c.in_ok-key.key) (ap (option_map (shown c.self.inside.tick)) (sym c.in_err-stored.ensures.value))
+    (found_some at (is_at (nat_cmp c.args.client)) c.in_ok-key.key c.self.inside.index.entries c.self.invariant.entries (sym c.in_ok-key.ensures.value)))
+
+pub returns-in_err-stored-clause-value : goal.returns-in_err-stored-clause-value
+returns-in_err-stored-clause-value c =
+    let at = entry_at c.self.inside.tick c.self.inside.entries.slots in
+    absurd (none_and_some (at c.in_ok-key.key) (ap (option_map (shown c.self.inside.tick)) (sym c.in_err-stored.ensures.value))
+    (found_some at (is_at (nat_cmp c.args.client)) c.in_ok-key.key c.self.inside.index.entries c.self.invariant.entries (sym c.in_ok-key.ensures.value)))
+
+pub returns-in_err-stored-clause-table : goal.returns-in_err-stored-clause-table
+returns-in_err-stored-clause-table c =
+    let at = entry_at c.self.inside.tick c.self.inside.entries.slots in
+    absurd (none_and_some (at c.in_ok-key.key) (ap (option_map (shown c.self.inside.tick)) (sym c.in_err-stored.ensures.value))
+    (found_some at (is_at (nat_cmp c.args.client)) c.in_ok-key.key c.self.inside.index.entries c.self.invariant.entries (sym c.in_ok-key.ensures.value)))
 
 pub returns-clause-value : goal.returns-clause-value
 returns-clause-value c =
     let at = entry_at c.self.inside.tick c.self.inside.entries.slots in
+    let tick = c.self.inside.tick in
     let entry = shown_entry c.self.inside.most at c.self.inside.index.entries _ c.self.view_is c.self.invariant.entries c.args.client in
-    c.take_out.ensures.value ∙ (ap (option_and_then at) c.in_ok-key.ensures.value ∙ entry)
+    ap Some c.entry.ensures ∙ (ap (option_map (shown tick)) c.in_ok-stored.ensures.value ∙ (ap (option_and_then at) c.in_ok-key.ensures.value ∙ entry))
 
 pub returns-clause-table : goal.returns-clause-table
 returns-clause-table c =
