@@ -4,6 +4,7 @@
 //! in a later tick (RFC 4588). A channel has at most 4,096 of them, and each client at most 256.
 #![tactic(auto)]
 
+mod backlog;
 mod block;
 mod index;
 mod queue;
