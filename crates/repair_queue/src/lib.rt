@@ -6,7 +6,9 @@
 
 mod backlog;
 mod block;
+mod counts;
 mod index;
+mod marks;
 mod queue;
 mod span;
 mod wanted;

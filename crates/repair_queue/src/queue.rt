@@ -133,6 +133,7 @@ impl Queue {
         }
         self.index.drop_client(self.pending.as_slice(), client);
         self.pending.drop_client(client);
+        self.index.mend(self.pending.as_slice());
     }
 }
 

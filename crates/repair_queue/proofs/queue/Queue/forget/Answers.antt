@@ -10,11 +10,15 @@ returns-then-count-eq0 c =
     let none = ap (count_of c.args.client) (sym c.as_slice.ensures) ∙ (sym c.count.ensures ∙ c.if-count-eq0.true) in
     subst (λ (l : List Wanted). l ≡ without c.args.client l) c.self.view_is (sym (without_none c.args.client ws none))
 
+pub mend-requires-clause-few : goal.mend-requires-clause-few
+mend-requires-clause-few c =
+    rw (c.as_slice-3.ensures, c.drop_client-2.ensures) (limits_without c.args.client c.self.inside.pending c.self.invariant.limits).in_all
+
 pub invariant_of-self : goal.invariant_of-self
 invariant_of-self c =
     let ws = c.self.inside.pending in
     rw c.drop_client-2.ensures (record {
       limits = limits_without c.args.client ws c.self.invariant.limits;
-      indexed = subst (λ (l : List Wanted). Indexes c.drop_client.new.self (without c.args.client l)) c.as_slice-2.ensures c.drop_client.ensures;
+      indexed = subst (Indexes c.mend.new.self) (c.as_slice-3.ensures ∙ c.drop_client-2.ensures) c.mend.ensures;
       spanned = each_filtered _ (λ w. not (is_of c.args.client w)) ws c.self.invariant.spanned;
     })
