@@ -8,15 +8,15 @@ use ram_io::NoMemory;
 use std::alloc::Global;
 use std::marker::Model;
 
-// So many places of repairs that went may stand in front before the pending ones are moved down.
+// Where so many places are free in front, the pending repairs move down.
 const MOST_GONE: usize = 1024;
 
-/// The pending repairs, the oldest first. The oldest go without a move of those behind them: their places
-/// stay in front, until there are 1,024.
+/// The pending repairs, the oldest first. Those that go leave their places free in front, so nothing
+/// behind them moves; once 1,024 places are free, all that is pending moves down.
 #[derive(Drop)]
 pub(crate) struct Backlog {
     places: Vec<Wanted>,
-    /// Where the pending ones begin.
+    /// Where the pending ones begin: so many places are free.
     from: usize,
 }
 
@@ -36,7 +36,7 @@ impl Model for Backlog {
 }
 
 impl Backlog {
-    /// No repairs, with room for 4,096 and the places of those that go.
+    /// No repairs, with room for 4,096 and the free places.
     pub(crate) fn new(alloc: Global) -> Result<Backlog, NoMemory>
         ensures { IfOk result (λ backlog. backlog ≡ []) }
     {
@@ -61,7 +61,7 @@ impl Backlog {
         self.places.push_reserved(w);
     }
 
-    /// The repairs whose flag is set go. Those behind the flags stay, where they are.
+    /// The repairs whose flag is set go. Those behind the flags stay.
     pub(crate) fn drop_marked(&mut self, done: &[bool])
         requires { length done.now ≤ length self.old }
         ensures { self.new ≡ unmarked self.old done.now }
