@@ -57,3 +57,8 @@ take_none false = refl
 pub written_twice : (b : Bool) (x y z : Option Block) → cond b x (cond b y z) ≡ cond b x z
 written_twice true x y z = refl
 written_twice false x y z = refl
+
+-- a mark of a chosen block
+pub mark_chosen : (b : Bool) (x y : Option Block) (place : ℕ) → mark_in (cond b x y) place ≡ cond b (mark_in x place) (mark_in y place)
+mark_chosen true x y place = refl
+mark_chosen false x y place = refl

@@ -1,19 +1,17 @@
 -- Dropping what is marked, in place.
-use Rattle.std.proofs.Common.{◌≡◌, ℕ, zero, suc, ◌+◌, ◌-◌, ◌<◌, ◌≤◌, ◌||◌, Bool, true, false, cond, List, [], ◌∷◌, ◌++◌, length, take, drop, get_or, set, refl, ap, sym, ◌∙◌, arith, length-set, length-drop, take_all, append-nil}
-use Rattle.std.proofs.Math.Seq.{paste}
-use Rattle.std.specs.List.{list_any, copy_within}
-use Rattle.std.proofs.lemmas.List.Edits.{take-paste}
+use Rattle.std.proofs.Common.{◌≡◌, ℕ, zero, suc, ◌+◌, ◌-◌, ◌<◌, ◌≤◌, ◌||◌, Bool, true, false, cond, List, [], ◌∷◌, ◌++◌, length, take, drop, get_or, set, refl, ap, sym, ◌∙◌, arith, length-set, append-nil}
+use Rattle.std.specs.List.{list_any}
 use Rattle.repair_queue.proofs.Pending.{unmarked_none}
-use Rattle.std.proofs.lemmas.List.{take_more, take_more_set, drop_more, drop-drop, drop-set-lt, length-take-le, get_or_default}
-use Rattle.std.proofs.lemmas.Grind.{drop_more_same}
+use Rattle.std.proofs.lemmas.List.{take_more, drop_more, drop_all, drop_at, drop-drop, drop-set, take-set-le, take-take, get_or-take, length-take-le, nil_from_length}
 use Rattle.rams_model.specs.Service.{Wanted, wanted}
 use Rattle.repair_queue.specs.{unmarked}
 
--- The unmarked ones of the first i stand in front, and from there on all is as it was.
-pub record MarkedInPlace (ws now : List Wanted) (done : List Bool) (kept i : ℕ) : Type 0 where
-  pub front : take kept now ≡ unmarked (take i ws) (take i done)
-  pub rest : drop i now ≡ drop i ws
-  pub behind : kept ≤ i
+-- The unmarked ones from i on stand from `start` on, and in front of i all is as it was.
+pub record MovedUp (ws now : List Wanted) (done : List Bool) (start i : ℕ) : Type 0 where
+  pub front : take i now ≡ take i ws
+  pub rest : drop start now ≡ unmarked (drop i ws) (drop i done)
+  pub order : i ≤ start
+  pub within : start ≤ length done
   pub long : length now ≡ length ws
   pub flags : length done ≤ length ws
 
@@ -32,32 +30,63 @@ unmarked_more ws done i w is_done short short_flags at flag =
     let long : length (take i done) ≡ length (take i ws) = length-take-le i done (omega arith) ∙ sym (length-take-le i ws (omega arith)) in
     rw (take_more ws i w short, take_more done i false short_flags, at, flag) (unmarked_push (take i ws) (take i done) w is_done long)
 
--- a repair that stands in a place of the rest
-same_place : (ws now : List Wanted) (i : ℕ) (w : Wanted) → drop i now ≡ drop i ws → i < length ws → length now ≡ length ws → get_or now i w ≡ get_or ws i w
-same_place ws now i w rest short long =
-    let was = drop_more ws i w short in
-    let is = drop_more now i w (omega arith) in
-    cc
+unmarked_all : (ws : List Wanted) → unmarked ws [] ≡ ws
+unmarked_all [] = refl
+unmarked_all (w ∷ ws) = refl
 
-pub marked_more_done : (ws now : List Wanted) (done : List Bool) (kept i : ℕ) → MarkedInPlace ws now done kept i → i < length done → get_or done i false ≡ true → MarkedInPlace ws now done kept (i + 1)
-marked_more_done ws now done kept i so_far short flag = record {
-  front = so_far.front ∙ (sym (append-nil _) ∙ sym (unmarked_more ws done i (get_or ws i (wanted 0 0)) true (omega arith) short (get_or_default ws i _ _ (omega arith)) flag));
-  rest = drop_more_same now ws i so_far.rest;
-  behind = omega arith;
+-- no flag was looked at yet
+pub moved_none : (ws : List Wanted) (done : List Bool) → length done ≤ length ws → MovedUp ws ws done (length done) (length done)
+moved_none ws done flags = record {
+  front = refl;
+  rest = sym (ap (unmarked (drop (length done) ws)) (drop_all (length done) done (omega arith)) ∙ unmarked_all (drop (length done) ws));
+  order = omega arith;
+  within = omega arith;
+  long = refl;
+  flags = flags;
+}
+
+unmarked_from : (ws : List Wanted) (done : List Bool) (i : ℕ) (w : Wanted) → i < length ws → i < length done → unmarked (drop i ws) (drop i done) ≡ unmarked (get_or ws i w ∷ drop (i + 1) ws) (get_or done i false ∷ drop (i + 1) done)
+unmarked_from ws done i w short short_flags = rw (drop_more ws i w short, drop_more done i false short_flags) refl
+
+take_fewer : (ws now : List Wanted) (i : ℕ) → take (i + 1) now ≡ take (i + 1) ws → take i now ≡ take i ws
+take_fewer ws now i same = sym (take-take i (i + 1) now (omega arith)) ∙ (ap (take i) same ∙ take-take i (i + 1) ws (omega arith))
+
+pub moved_more_done : (ws now : List Wanted) (done : List Bool) (start i : ℕ) → MovedUp ws now done start (i + 1) → get_or done i false ≡ true → MovedUp ws now done start i
+moved_more_done ws now done start i so_far flag = record {
+  front = take_fewer ws now i so_far.front;
+  rest = so_far.rest ∙ sym (unmarked_from ws done i (wanted 0 0) (omega arith) (omega arith) ∙ ap (λ (b : Bool). unmarked (get_or ws i (wanted 0 0) ∷ drop (i + 1) ws) (b ∷ drop (i + 1) done)) flag);
+  order = omega (arith, so_far.order);
+  within = so_far.within;
   long = so_far.long;
   flags = so_far.flags;
 }
 
-pub marked_more_kept : (ws now : List Wanted) (done : List Bool) (kept i : ℕ) (w : Wanted) → MarkedInPlace ws now done kept i → i < length done → get_or done i false ≡ false → w ≡ get_or now i w → MarkedInPlace ws (set now kept w) done (kept + 1) (i + 1)
-marked_more_kept ws now done kept i w so_far short flag at =
-    let stands : get_or ws i w ≡ w = sym (at ∙ same_place ws now i w so_far.rest (omega arith) so_far.long) in
+-- a repair in front stands where it stood
+same_place : (ws now : List Wanted) (i : ℕ) (w : Wanted) → take (i + 1) now ≡ take (i + 1) ws → i < length ws → get_or now i w ≡ get_or ws i w
+same_place ws now i w front short =
+    sym (get_or-take (i + 1) now i w (omega arith)) ∙ (ap (λ (l : List Wanted). get_or l i w) front ∙ get_or-take (i + 1) ws i w (omega arith))
+
+pub moved_more_kept : (ws now : List Wanted) (done : List Bool) (start i : ℕ) (w : Wanted) → MovedUp ws now done start (i + 1) → get_or done i false ≡ false → w ≡ get_or now i w → MovedUp ws (set now (start - 1) w) done (start - 1) i
+moved_more_kept ws now done start i w so_far flag at =
+    let stands : w ≡ get_or ws i w = at ∙ same_place ws now i w so_far.front (omega (arith, so_far.order, so_far.within, so_far.flags)) in
+    let next : start - 1 + 1 ≡ start = omega (arith, so_far.order) in
     record {
-      front = take_more_set now kept w (omega arith) ∙ (ap (λ (vs : List Wanted). vs ++ w ∷ []) so_far.front ∙ sym (unmarked_more ws done i w false (omega arith) (omega arith) stands flag));
-      rest = drop-set-lt (i + 1) now kept w (omega arith) ∙ drop_more_same now ws i so_far.rest;
-      behind = omega arith;
-      long = length-set now kept w ∙ so_far.long;
+      front = take-set-le i now (start - 1) w (omega (arith, so_far.order)) ∙ take_fewer ws now i so_far.front;
+      rest = drop-set now (start - 1) w (omega (arith, so_far.order, so_far.within, so_far.flags, so_far.long))
+          ∙ (ap (λ (l : List Wanted). w ∷ l) (ap (λ (n : ℕ). drop n now) next ∙ so_far.rest)
+          ∙ sym (unmarked_from ws done i w (omega (arith, so_far.order, so_far.within, so_far.flags)) (omega (arith, so_far.order, so_far.within))
+          ∙ (ap (λ (b : Bool). unmarked (get_or ws i w ∷ drop (i + 1) ws) (b ∷ drop (i + 1) done)) flag ∙ ap (λ (v : Wanted). v ∷ unmarked (drop (i + 1) ws) (drop (i + 1) done)) (sym stands))));
+      order = omega (arith, so_far.order);
+      within = omega (arith, so_far.within);
+      long = length-set now (start - 1) w ∙ so_far.long;
       flags = so_far.flags;
     }
+
+-- the places behind the first, after the ones behind those were written
+pub drop_written : (xs written post : List Wanted) (from n : ℕ) → from ≤ length xs → length post ≡ 0 → drop (from + n) (take from xs ++ (written ++ post)) ≡ drop n written
+drop_written xs written post from n within none =
+    sym (drop-drop n from (take from xs ++ (written ++ post)))
+    ∙ ap (drop n) (drop_at (take from xs) (written ++ post) from (length-take-le from xs within) ∙ (ap (λ (l : List Wanted). written ++ l) (nil_from_length post none) ∙ append-nil written))
 
 -- flags that are unset say no more than missing ones
 pub unmarked_short : (ws : List Wanted) (done : List Bool) (end : ℕ) → list_any (λ is_done. is_done) (drop end done) ≡ false → unmarked ws (take end done) ≡ unmarked ws done
@@ -93,13 +122,3 @@ any_split (false ∷ flags) (suc n) front back = any_split flags n front back
 pub unset_block : (done : List Bool) (start n end : ℕ) → start + n ≡ end → list_any (λ is_done. is_done) (take n (drop start done)) ≡ false → list_any (λ is_done. is_done) (drop end done) ≡ false → list_any (λ is_done. is_done) (drop start done) ≡ false
 unset_block done start n end ends block unset =
     any_split (drop start done) n block (ap (list_any (λ is_done. is_done)) (drop-drop n start done ∙ ap (λ (m : ℕ). drop m done) ends) ∙ unset)
-
--- all is in place
-pub marked_all : (ws now : List Wanted) (done : List Bool) (kept n rest : ℕ) → MarkedInPlace ws now done kept n → n ≡ length done → rest ≡ length now - n → take (kept + rest) (copy_within now n (length now) kept) ≡ unmarked ws done
-marked_all ws now done kept n rest so_far all is =
-    let long : rest ≤ length (drop n now) = omega (arith, length-drop n now) in
-    ap (λ (m : ℕ). take (kept + rest) (paste now kept (drop n now) m)) (sym is)
-    ∙ (take-paste now kept (drop n now) rest (omega (arith, so_far.behind, so_far.long, so_far.flags)) long
-    ∙ (ap (λ (l : List Wanted). take kept now ++ l) (take_all rest (drop n now) (omega (arith, length-drop n now)))
-    ∙ (ap (λ (l : List Wanted). l ++ drop n now) so_far.front ∙ (ap (λ (l : List Wanted). unmarked (take n ws) (take n done) ++ l) so_far.rest
-    ∙ (ap (λ (m : ℕ). unmarked (take m ws) (take m done) ++ drop m ws) all ∙ unmarked_rest ws done so_far.flags)))))

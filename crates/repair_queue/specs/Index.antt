@@ -6,8 +6,10 @@ use Rattle.std.specs.List.{list_any}
 use Rattle.std.specs.HashMap.{HashMap, get}
 use Rattle.rams_model.specs.Service.{Wanted, is_wanted}
 use Rattle.repair_queue.specs.declared.block.Block.{Block}
+use Rattle.repair_queue.specs.declared.counts.Counts.{Counts}
 use Rattle.repair_queue.specs.declared.index.Index.{Index}
 use Rattle.repair_queue.specs.declared.index.Run.{Run}
+use Rattle.repair_queue.specs.declared.marks.Marks.{Marks}
 use Rattle.repair_queue.specs.Queue.{count_of}
 
 -- a client and a number are the same
@@ -23,13 +25,25 @@ abbrev pub mark_in : Option Block → ℕ → Bool
 mark_in None place = false
 mark_in (Some block) place = mark_of block place
 
+-- whether the map has the mark of a client's number
+abbrev pub marked_in : {R : Type 0} → HashMap (ℕ × ℕ) Block R → ℕ → ℕ → Bool
+marked_in blocks client n = mark_in (get same_pair blocks (client, n / 64)) (n % 64)
+
+-- whether a place of a block has a mark: the block at hand, or else the map's
+abbrev pub mark_at : Marks → ℕ × ℕ → ℕ → Bool
+mark_at marks key place = cond (same_pair marks.key key) (mark_of marks.block place) (mark_in (get same_pair marks.others key) place)
+
 -- whether the number of the client has a mark
-abbrev pub marked : {R : Type 0} → HashMap (ℕ × ℕ) Block R → ℕ → ℕ → Bool
-marked blocks client n = mark_in (get same_pair blocks (client, n / 64)) (n % 64)
+abbrev pub marked : Marks → ℕ → ℕ → Bool
+marked marks client n = mark_at marks (client, n / 64) (n % 64)
 
 -- how often the map counts a client
-abbrev pub counted : {R : Type 0} → HashMap ℕ ℕ R → ℕ → ℕ
-counted counts client = unwrap_or (get nat_eq counts client) 0
+abbrev pub counted_in : {R : Type 0} → HashMap ℕ ℕ R → ℕ → ℕ
+counted_in counts client = unwrap_or (get nat_eq counts client) 0
+
+-- how often a client is counted: the count at hand, or else the map's
+abbrev pub counted : Counts → ℕ → ℕ
+counted counts client = cond (nat_eq counts.client client) counts.count (counted_in counts.others client)
 
 -- The pairs of a whole index are those that are pending, and its counts are each client's. One that isn't whole says nothing.
 pub record Indexes (index : Index) (ws : List Wanted) : Type 0 where

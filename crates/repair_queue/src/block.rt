@@ -7,7 +7,7 @@ ghost use Rattle.repair_queue.specs.{mark_of};
 pub(crate) const BLOCK: usize = 64;
 
 /// Which of 64 places have a mark.
-#[derive(Drop)]
+#[derive(Clone, Copy)]
 pub(crate) struct Block {
     marks: [bool; BLOCK],
 }
@@ -23,13 +23,20 @@ impl Block {
         block
     }
 
-    // No marks.
-    fn new() -> Block
+    /// No marks.
+    pub(crate) fn new() -> Block
         ensures { (other : ℕ) → mark_of result other ≡ false }
     {
         Block {
             marks: [false; BLOCK],
         }
+    }
+
+    /// Whether there are no marks.
+    pub(crate) fn is_empty(&self) -> bool
+        ensures { result ≡ true → (other : ℕ) → mark_of self.now other ≡ false }
+    {
+        !is_any_set(&self.marks)
     }
 
     /// Whether the place has a mark.
@@ -51,14 +58,12 @@ impl Block {
         is_new
     }
 
-    /// The place has no mark any more. Whether another has one.
-    pub(crate) fn unmark(&mut self, place: usize) -> bool
+    /// The place has no mark any more.
+    pub(crate) fn unmark(&mut self, place: usize)
         requires { place < 64 }
-        ensures left { result ≡ false → (other : ℕ) → mark_of self.new other ≡ false }
-        ensures marks { (other : ℕ) → mark_of self.new other ≡ (if place == other then false else mark_of self.old other) }
+        ensures { (other : ℕ) → mark_of self.new other ≡ (if place == other then false else mark_of self.old other) }
     {
         self.marks[place] = false;
-        is_any_set(&self.marks)
     }
 }
 

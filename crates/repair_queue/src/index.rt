@@ -4,29 +4,22 @@ ghost use Rattle.std.specs.List.{list_any};
 ghost use Rattle.rams_model.specs.Service.{Wanted as Repair, wanted, is_wanted};
 ghost use Rattle.repair_queue.specs.{count_of, asked_of, answered, unmarked, without, AreOnce, Indexes, Owes, counted, marked};
 
-use crate::block::{BLOCK, Block};
+use crate::counts::Counts;
+use crate::marks::Marks;
 use crate::wanted::{Asked, MOST_OF_CLIENT, MOST_PENDING, Wanted};
 use ram_io::NoMemory;
 use std::alloc::Global;
-use std::collections::HashMap;
-
-// The marks of the clients' numbers: the number n of a client is the place n % 64 of its block n / 64.
-// A block has at least one mark.
-type Blocks = HashMap<(u64, u64), Block>;
 
 /// The pending pairs of client and number, and how many pairs each client has. An index that was
 /// refused memory is no longer whole: the pending repairs are walked in its place.
 #[derive(Drop)]
 pub(crate) struct Index {
-    pairs: Blocks,
-    counts: HashMap<u64, u32>,
+    pairs: Marks,
+    counts: Counts,
     whole: bool,
 }
 
-// So many numbers share a block.
-const NUMBERS: u64 = BLOCK as u64;
-
-// A block has room at first for so many of the pairs: lost packets come in bursts.
+// A block of marks has room at first for so many of the pairs: lost packets come in bursts.
 const PAIRS_OF_BLOCK: usize = 4;
 
 // Pairs of one client that went one after another, and that its count has still in it.
@@ -42,8 +35,8 @@ impl Index {
         ensures { IfOk result (λ index. Indexes index []) }
     {
         Ok(Index {
-            pairs: HashMap::with_capacity(alloc, room / PAIRS_OF_BLOCK)?,
-            counts: HashMap::with_capacity(alloc, room)?,
+            pairs: Marks::new(alloc, room / PAIRS_OF_BLOCK)?,
+            counts: Counts::new(alloc, room)?,
             whole: true,
         })
     }
@@ -54,7 +47,7 @@ impl Index {
         ensures { result ≡ list_any (is_wanted client n) pending.now }
     {
         if self.whole {
-            has_pair(&self.pairs, client, n)
+            self.pairs.has(client, n)
         } else {
             is_pending(pending, client, n)
         }
@@ -67,7 +60,7 @@ impl Index {
         ensures { result ≡ count_of client pending.now }
     {
         if self.whole {
-            self.counts.get(&client).copied().unwrap_or(0)
+            self.counts.get(client)
         } else {
             count_pending(pending, client)
         }
@@ -114,11 +107,11 @@ impl Index {
         ensures answer { IfOk result (λ asked. (ws : List Repair) → self.old.whole ≡ true → Indexes self.old ws → length ws < 4096 → asked ≡ asked_of ws client n) }
         ensures indexed { IfOk result (λ asked. (ws : List Repair) → self.old.whole ≡ true → Indexes self.old ws → Indexes self.new (answered asked ws client n)) }
     {
-        if !put_pair(&mut self.pairs, client, n)? {
+        if !self.pairs.put(client, n)? {
             return Ok(Asked::Already);
         }
-        if !count_one(&mut self.counts, client)? {
-            take_pair(&mut self.pairs, client, n);
+        if !self.counts.add_one(client)? {
+            self.pairs.take(client, n)?;
             return Ok(Asked::ClientFull);
         }
         Ok(Asked::Queued)
@@ -142,17 +135,29 @@ impl Index {
         ensures removed { (front back : List Repair) → AreOnce (front ++ w ∷ back) → Owes self.old (front ++ w ∷ back) run → Owes self.new (front ++ back) result }
         ensures len { result.len ≤ run.len + 1 }
     {
-        take_pair(&mut self.pairs, w.client, w.n);
+        self.take_mark(w.client, w.n);
         if w.client == run.client {
             return Run {
                 client: run.client,
                 len: run.len + 1,
             };
         }
-        take_run(&mut self.counts, run);
+        self.counts.take(run.client, run.len);
         Run {
             client: w.client,
             len: 1,
+        }
+    }
+
+    // The pair isn't marked any more. Where there is no memory to have its block at hand, the index isn't
+    // whole.
+    fn take_mark(&mut self, client: u64, n: u64)
+        ensures whole { self.new.whole ≡ true → self.old.whole ≡ true }
+        ensures marks { self.new.whole ≡ true → (k m : ℕ) → marked self.new.pairs k m ≡ (not (client == k && n == m) && marked self.old.pairs k m) }
+        ensures counts { self.new.counts ≡ self.old.counts }
+    {
+        if self.pairs.take(client, n).is_err() {
+            self.whole = false;
         }
     }
 
@@ -195,7 +200,7 @@ impl Index {
             }
             run = self.remove(run, pending[i]);
         }
-        take_run(&mut self.counts, run);
+        self.counts.take(run.client, run.len);
     }
 
     /// The pairs of a client go.
@@ -212,7 +217,7 @@ impl Index {
             }
             run = self.remove(run, *w);
         }
-        take_run(&mut self.counts, run);
+        self.counts.take(run.client, run.len);
     }
 }
 
@@ -235,73 +240,4 @@ fn count_pending(pending: &[Wanted], client: u64) -> u32
         }
     }
     count
-}
-
-// Counts one more of the client, where fewer than 256 are counted. Whether there were fewer.
-fn count_one(counts: &mut HashMap<u64, u32>, client: u64) -> Result<bool, NoMemory>
-    ensures fewer { IfOk result (λ fewer. fewer ≡ nat_lt (counted counts.old client) 256) }
-    ensures counts { IfOk result (λ fewer. (other : ℕ) → counted counts.new other ≡ counted counts.old other + (if fewer && client == other then 1 else 0)) }
-{
-    if let Some(count) = counts.get_mut(&client) {
-        if *count >= MOST_OF_CLIENT {
-            return Ok(false);
-        }
-        *count += 1;
-        return Ok(true);
-    }
-    counts.insert(client, 1)?;
-    Ok(true)
-}
-
-// Whether a pair is there.
-fn has_pair(pairs: &Blocks, client: u64, n: u64) -> bool
-    ensures { result ≡ marked pairs.now client n }
-{
-    match pairs.get(&(client, n / NUMBERS)) {
-        Some(block) => block.has((n % NUMBERS) as usize),
-        None => false,
-    }
-}
-
-// Puts a pair in. Whether it wasn't there.
-fn put_pair(pairs: &mut Blocks, client: u64, n: u64) -> Result<bool, NoMemory>
-    ensures was { IfOk result (λ is_new. is_new ≡ not (marked pairs.old client n)) }
-    ensures marks { IfOk result (λ _. (k m : ℕ) → marked pairs.new k m ≡ (if client == k && n == m then true else marked pairs.old k m)) }
-{
-    let key = (client, n / NUMBERS);
-    let place = (n % NUMBERS) as usize;
-    if let Some(block) = pairs.get_mut(&key) {
-        return Ok(block.mark(place));
-    }
-    pairs.insert(key, Block::with(place))?;
-    Ok(true)
-}
-
-// Takes a pair out, where it is there.
-fn take_pair(pairs: &mut Blocks, client: u64, n: u64)
-    ensures { (k m : ℕ) → marked pairs.new k m ≡ (not (client == k && n == m) && marked pairs.old k m) }
-{
-    let key = (client, n / NUMBERS);
-    if let Some(block) = pairs.get_mut(&key) {
-        if block.unmark((n % NUMBERS) as usize) {
-            return;
-        }
-    }
-    let _ = pairs.remove(&key);
-}
-
-// The client's count goes down by the length of the run.
-fn take_run(counts: &mut HashMap<u64, u32>, run: Run)
-    ensures { (other : ℕ) → counted counts.new other ≡ counted counts.old other - (if run.client == other then run.len else 0) }
-{
-    if run.len == 0 {
-        return;
-    }
-    if let Some(count) = counts.get_mut(&run.client) {
-        if *count > run.len {
-            *count -= run.len;
-            return;
-        }
-    }
-    let _ = counts.remove(&run.client);
 }

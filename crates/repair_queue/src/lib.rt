@@ -4,8 +4,11 @@
 //! in a later tick (RFC 4588). A channel has at most 4,096 of them, and each client at most 256.
 #![tactic(auto)]
 
+mod backlog;
 mod block;
+mod counts;
 mod index;
+mod marks;
 mod queue;
 mod span;
 mod wanted;

@@ -1,4 +1,5 @@
 //! The queue of pending repairs.
+use crate::backlog::Backlog;
 use crate::block::{BLOCK, is_any_set};
 use crate::index::Index;
 use crate::span::Span;
@@ -11,26 +12,25 @@ use std::marker::Model;
 /// them.
 #[derive(Drop)]
 pub struct Queue {
-    pending: Vec<Wanted>,
+    pending: Backlog,
     index: Index,
     span: Span,
 }
 
 impl Model for Queue {
-    ghost use Rattle.std.specs.Prelude.{◌≤◌, List, vec_capacity};
+    ghost use Rattle.std.specs.Prelude.{List};
     ghost use Rattle.rams_model.specs.Service.{Wanted as Repair};
 
     ghost Value = { List Repair };
 
     ghost use Rattle.repair_queue.specs.{IsWithinLimits, Indexes, Spans};
 
-    ghost view = { λ q. q.pending.items };
+    ghost view = { λ q. q.pending };
 
     ghost invariant = { λ q. record {
-      limits : IsWithinLimits q.pending.items;
-      indexed : Indexes q.index q.pending.items;
-      spanned : Spans q.span q.pending.items;
-      room : 4096 ≤ vec_capacity q.pending;
+      limits : IsWithinLimits q.pending;
+      indexed : Indexes q.index q.pending;
+      spanned : Spans q.span q.pending;
     } };
 }
 
@@ -44,7 +44,7 @@ impl Queue {
         ensures { IfOk result (λ queue. queue ≡ []) }
     {
         Ok(Queue {
-            pending: Vec::with_capacity(alloc, MOST_PENDING)?,
+            pending: Backlog::new(alloc)?,
             index: Index::new(alloc, MOST_PENDING)?,
             span: Span::new(),
         })
@@ -58,10 +58,10 @@ impl Queue {
         ensures pending { self.new ≡ answered result self.old client n }
     {
         let span = self.span_before();
-        match self.index.claim(&self.pending, client, n) {
+        match self.index.claim(self.pending.as_slice(), client, n) {
             Asked::Queued => {
                 self.span = span.with(n);
-                self.pending.push_reserved(Wanted { client, n });
+                self.pending.push(Wanted { client, n });
                 Asked::Queued
             }
             refused => refused,
@@ -72,7 +72,7 @@ impl Queue {
     fn span_before(&self) -> Span
         ensures { Spans result self.now }
     {
-        if self.pending.is_empty() {
+        if self.pending.as_slice().is_empty() {
             Span::new()
         } else {
             self.span
@@ -84,7 +84,7 @@ impl Queue {
         ensures value { result.now ≡ self.now }
         ensures limits { IsWithinLimits self.now }
     {
-        &self.pending
+        self.pending.as_slice()
     }
 
     /// Whether each pending number is at least `lo` and below `hi`. It looks at none of them, and where
@@ -99,7 +99,7 @@ impl Queue {
     pub fn has(&self, client: u64) -> bool
         ensures { result ≡ nat_lt 0 (count_of client self.now) }
     {
-        !self.pending.is_empty() && self.index.count(&self.pending, client) > 0
+        !self.pending.as_slice().is_empty() && self.index.count(self.pending.as_slice(), client) > 0
     }
 
     /// The repairs whose flag is set are no longer pending; the others keep their order. There is one
@@ -119,20 +119,21 @@ impl Queue {
         requires { length done.now ≤ length self.old }
         ensures { self.new ≡ unmarked self.old done.now }
     {
-        self.index.drop_marked(&self.pending, done);
-        drop_marked(&mut self.pending, done);
-        self.index.mend(&self.pending);
+        self.index.drop_marked(self.pending.as_slice(), done);
+        self.pending.drop_marked(done);
+        self.index.mend(self.pending.as_slice());
     }
 
     /// Nothing is pending for this client any more; the repairs of the others keep their order.
     pub fn forget(&mut self, client: u64)
         ensures { self.new ≡ without client self.old }
     {
-        if self.index.count(&self.pending, client) == 0 {
+        if self.index.count(self.pending.as_slice(), client) == 0 {
             return;
         }
-        self.index.drop_client(&self.pending, client);
-        drop_client(&mut self.pending, client);
+        self.index.drop_client(self.pending.as_slice(), client);
+        self.pending.drop_client(client);
+        self.index.mend(self.pending.as_slice());
     }
 }
 
@@ -168,40 +169,4 @@ fn end_of_blocks(done: &[bool]) -> usize
         end -= BLOCK;
     }
     end
-}
-
-// Moves the unmarked ones to the front, and drops the rest. Those behind the flags move as a whole.
-fn drop_marked(pending: &mut Vec<Wanted>, done: &[bool])
-    requires { length done.now ≤ vec_len pending.old }
-    ensures items { pending.new.items ≡ unmarked pending.old.items done.now }
-    ensures capacity { vec_capacity pending.new ≡ vec_capacity pending.old }
-{
-    let mut kept = 0;
-    for (i, is_done) in done.iter().enumerate() {
-        if *is_done {
-            continue;
-        }
-        pending[kept] = pending[i];
-        kept += 1;
-    }
-    let rest = pending.len() - done.len();
-    pending.copy_within(done.len().., kept);
-    pending.truncate(kept + rest);
-}
-
-// Moves the other clients' repairs to the front, and drops the rest.
-fn drop_client(pending: &mut Vec<Wanted>, client: u64)
-    ensures items { pending.new.items ≡ without client pending.old.items }
-    ensures capacity { vec_capacity pending.new ≡ vec_capacity pending.old }
-{
-    let mut kept = 0;
-    for i in 0..pending.len() {
-        let w = pending[i];
-        if w.client == client {
-            continue;
-        }
-        pending[kept] = w;
-        kept += 1;
-    }
-    pending.truncate(kept);
 }

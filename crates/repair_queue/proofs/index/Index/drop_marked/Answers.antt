@@ -44,5 +44,5 @@ returns c =
     let owes = subst (λ (l : List Wanted). Owes c.loop-i.self l c.loop-i.run) (ap (λ (n : ℕ). unmarked (take n ws) (take n done) ++ drop n ws) all ∙ unmarked_rest ws done c.requires.within) c.loop-i.invariant.owes in
     record {
       pairs = owes.pairs;
-      counts = λ whole k. omega (arith, owes.counts whole k, c.take_run.ensures k);
+      counts = λ whole k. omega (arith, owes.counts whole k, c.take.ensures k);
     }

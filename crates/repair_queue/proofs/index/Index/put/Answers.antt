@@ -8,12 +8,12 @@ pub returns-then-not-branch-2-clause-indexed : goal.returns-then-not-branch-2-cl
 returns-then-not-branch-2-clause-indexed c = λ ws whole is.
     let new : list_any (is_wanted c.args.client c.args.n) ws ≡ false = sym (is.pairs whole c.args.client c.args.n) ∙ grind arith in
     record {
-      pairs = λ w k m. pair_back c.args.client c.args.n k m ws _ _ _ _ refl new (is.pairs whole k m) (c.in_ok-put_pair.ensures.marks k m) (c.take_pair.ensures k m);
-      counts = λ w k. grind (arith, c.in_ok-count_one.ensures.counts k, is.counts whole k);
+      pairs = λ w k m. pair_back c.args.client c.args.n k m ws _ _ _ _ refl new (is.pairs whole k m) (c.in_ok-put.ensures.marks k m) (c.in_ok-take.ensures k m);
+      counts = λ w k. grind (arith, c.in_ok-add_one.ensures.counts k, is.counts whole k);
     }
 
 pub returns-clause-indexed : goal.returns-clause-indexed
 returns-clause-indexed c = λ ws whole is. record {
-  pairs = λ w k m. pair_more c.args.client c.args.n k m ws _ _ _ refl (is.pairs whole k m) (c.in_ok-put_pair.ensures.marks k m);
-  counts = λ w k. grind (arith, c.in_ok-count_one.ensures.counts k, is.counts whole k, count_more c.args.client c.args.n k ws);
+  pairs = λ w k m. pair_more c.args.client c.args.n k m ws _ _ _ refl (is.pairs whole k m) (c.in_ok-put.ensures.marks k m);
+  counts = λ w k. grind (arith, c.in_ok-add_one.ensures.counts k, is.counts whole k, count_more c.args.client c.args.n k ws);
 }

@@ -3,11 +3,11 @@ use Rattle.std.proofs.lemmas.Bool.Decides.{nat_tests}
 use Rattle.std.proofs.lemmas.List.Filters.{FiltersInPlace-more_no, FiltersInPlace-more_set}
 use Rattle.rams_model.specs.Service.{Wanted}
 use Rattle.repair_queue.specs.{is_of}
-use Rattle.repair_queue.proofs.queue.drop_client.Goals as goal
+use Rattle.repair_queue.proofs.backlog.drop_client.Goals as goal
 
 pub loop-i-preserved-then-w-client : goal.loop-i-preserved-then-w-client
 loop-i-preserved-then-w-client c =
-    let short : c.loop-i.i < length c.loop-i.pending.items = omega (arith, c.loop-i-test.true, c.len-i-end.ensures, c.loop-i.invariant.moved.long) in
+    let short : c.loop-i.i < length c.loop-i.places.items = omega (arith, c.loop-i-test.true, c.len-i-end.ensures, c.loop-i.invariant.moved.long) in
     let client : c.index-w.result.now.client ≡ c.args.client = sym (ap (λ (w : Wanted). w.client) c.w.view_is) ∙ c.if-w-client.true in
     let passes : not (is_of c.args.client c.index-w.result.now) ≡ false = grind (arith, nat_tests, client) in
     record {
@@ -17,7 +17,7 @@ loop-i-preserved-then-w-client c =
 
 pub loop-i-preserved : goal.loop-i-preserved
 loop-i-preserved c =
-    let short : c.loop-i.i < length c.loop-i.pending.items = omega (arith, c.loop-i-test.true, c.len-i-end.ensures, c.loop-i.invariant.moved.long) in
+    let short : c.loop-i.i < length c.loop-i.places.items = omega (arith, c.loop-i-test.true, c.len-i-end.ensures, c.loop-i.invariant.moved.long) in
     let client : c.w.inside.client ≡ c.index-w.result.now.client = ap (λ (w : Wanted). w.client) c.w.view_is in
     let passes : not (is_of c.args.client c.index-w.result.now) ≡ true = grind (arith, nat_tests, client, c.if-w-client.false) in
     record {

@@ -6,7 +6,7 @@ use Rattle.std.specs.declared.option.Option.TheVariants.{None, Some}
 use Rattle.repair_queue.specs.declared.block.Block.{Block}
 use Rattle.repair_queue.specs.{same_pair}
 use Rattle.repair_queue.proofs.Blocks.{marks_written, stood, put_none}
-use Rattle.repair_queue.proofs.index.put_pair.Goals as goal
+use Rattle.repair_queue.proofs.marks.put_pair.Goals as goal
 
 pub returns-in-Some-clause-marks : goal.returns-in-Some-clause-marks
 returns-in-Some-clause-marks c = λ k m.
