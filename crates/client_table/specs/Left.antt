@@ -6,7 +6,8 @@ use Rattle.client_table.specs.declared.entry.Entry.{Entry}
 use Rattle.client_table.specs.declared.walk.KnownClients.{KnownClients}
 use Rattle.client_table.specs.declared.walk.OpenBursts.{OpenBursts}
 use Rattle.client_table.specs.declared.walk.DueClients.{DueClients}
-use Rattle.client_table.specs.declared.walk.DueClients.TheVariants.{All, At}
+use Rattle.client_table.specs.declared.walk.DueLeft.{DueLeft}
+use Rattle.client_table.specs.declared.walk.DueLeft.TheVariants.{All, At}
 use Rattle.client_table.specs.Joined.{entry_at, joined}
 use Rattle.client_table.specs.Timed.{clients_in}
 
@@ -19,6 +20,9 @@ abbrev pub bursts_left : OpenBursts → List (ℕ × Entry)
 bursts_left w = joined (entry_at w.tick w.entries.now.slots) (iter_rest w.left)
 
 -- those that may be due
+abbrev pub left_of : DueLeft → List ℕ
+left_of (All clients) = keys_of clients
+left_of (At pairs) = clients_in pairs
+
 abbrev pub due_left : DueClients → List ℕ
-due_left (All clients) = keys_of clients
-due_left (At pairs) = clients_in pairs
+due_left w = left_of w.left

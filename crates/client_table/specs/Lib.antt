@@ -9,7 +9,7 @@ unfoldable pub use Rattle.client_table.specs.Clients.{nobody, clients_of, AreRis
 unfoldable pub use Rattle.client_table.specs.Joined.{shown, slot_at, entry_at, before, joined, seen, IsFree, AreJoined, AreReady, IsSlotChanged, AreSlotsChanged, has_burst, is_open_at}
 unfoldable pub use Rattle.client_table.specs.Bursts.{Rise, opened_at, closed_at, marked, client_at}
 pub use Rattle.client_table.specs.Bursts.{IsPlace, IsGap}
-unfoldable pub use Rattle.client_table.specs.Left.{clients_left, bursts_left, due_left}
+unfoldable pub use Rattle.client_table.specs.Left.{clients_left, bursts_left, left_of, due_left}
 unfoldable pub use Rattle.client_table.specs.Changes.{AreAll, IsChanged, aged, IsBurstChangedBy, IsBurstChanged}
 pub use Rattle.client_table.specs.Changes.{AreChanged}
 unfoldable pub use Rattle.client_table.specs.Hashed.{Tells}

@@ -10,12 +10,12 @@ use std::alloc::Global;
 use std::collections::btree_set::{BTreeSet, Range};
 use std::ops::Bound;
 
-// The last tick before that one may stand.
+// In ticks before this one the tick after the next one is a number too.
 const LAST: u64 = u64::MAX - 1;
 
-/// The known clients by the tick in which each is looked at: at the latest where it can first have been
-/// idle for `limit` ticks. One that is served isn't moved; it is moved when its tick comes. Where it was
-/// refused memory it is no longer whole, and all clients are looked at.
+/// The known clients by the tick in which each is looked at, which is no later than where it can first have
+/// been idle for `limit` ticks. One that is served keeps its tick, and is moved when that has come. Where
+/// this was refused memory it is no longer whole, and all clients are looked at in its place.
 #[derive(Drop)]
 pub(crate) struct Due {
     limit: u32,
@@ -115,16 +115,16 @@ impl Due {
         ensures there { self.new.whole ≡ true → IsInTime self.new client result idle }
         ensures later { AreLater self.old → AreLater self.new }
     {
-        if idle >= self.limit || self.is_before(tick, idle) {
+        if idle >= self.limit || self.is_in_time(tick, idle) {
             return tick;
         }
         self.remove(client, tick);
         self.place(client, idle)
     }
 
-    // Whether one of this idle count may be looked at as late as in this tick.
-    fn is_before(&self, tick: u64, idle: u32) -> bool
-        ensures { result ≡ true → tick + idle < self.now.ticks + self.now.limit + 1 }
+    // Whether a tick is no later than where one of this idle count can first have been idle for the limit.
+    fn is_in_time(&self, tick: u64, idle: u32) -> bool
+        ensures { result ≡ true → tick + idle ≤ self.now.ticks + self.now.limit }
     {
         let left = tick.saturating_sub(self.ticks);
         left <= u64::from(self.limit) && u64::from(idle) <= u64::from(self.limit) - left

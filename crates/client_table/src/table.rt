@@ -4,7 +4,7 @@ use crate::due::Due;
 use crate::entry::{AdmitFault, Burst, Entry};
 use crate::keys::Keys;
 use crate::stored::Stored;
-use crate::walk::{DueClients, KnownClients, OpenBursts};
+use crate::walk::{DueClients, DueLeft, KnownClients, OpenBursts};
 use ram_io::NoMemory;
 use slab::Slab;
 use std::alloc::Global;
@@ -88,16 +88,16 @@ impl Table {
         entry_in(&self.entries, self.tick, key)
     }
 
-    /// Another entry for a client, where it is known; the others keep theirs. It takes no memory, but where
-    /// it raises the idle count, and needs none.
+    /// Another entry for a client, where it is known; the others keep theirs. It takes memory only
+    /// where it raises the idle count, and doesn't fail for want of it.
     pub fn set(&mut self, client: u64, entry: Entry)
         ensures { self.new ≡ with_entry self.old client entry }
     {
         self.change(client, |_| entry);
     }
 
-    /// Changes what is kept of a client, where it is known; the others keep theirs. It takes no memory, but
-    /// where it raises the idle count, and needs none.
+    /// Changes what is kept of a client, where it is known; the others keep theirs. It takes memory
+    /// only where it raises the idle count, and doesn't fail for want of it.
     pub fn change<F: Fn(Entry) -> Entry>(&mut self, client: u64, change: F)
         requires { IfSome (entry_of self.old client) (F.pre change) }
         ensures { MatchOption (entry_of self.old client) (self.new ≡ self.old) (λ e. (d : Entry) × F.post change e d × (self.new ≡ with_entry self.old client d)) }
@@ -226,8 +226,12 @@ impl Table {
         ensures all { (client : ℕ) (e : Entry) → entry_of self.now client ≡ Some e → e.idle + 1 ≡ idle → Contains (due_left result) client }
     {
         match self.due.next(idle) {
-            Some(tick) => DueClients::At(self.due.at(tick)),
-            None => DueClients::All(self.index.iter()),
+            Some(tick) => DueClients {
+                left: DueLeft::At(self.due.at(tick)),
+            },
+            None => DueClients {
+                left: DueLeft::All(self.index.iter()),
+            },
         }
     }
 

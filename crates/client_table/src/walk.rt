@@ -63,10 +63,16 @@ impl<'a> Iterator for OpenBursts<'a> {
 
 /// Known clients by rising number.
 #[derive(Drop)]
-pub enum DueClients<'a> {
-    /// All.
+pub struct DueClients<'a> {
+    pub(crate) left: DueLeft<'a>,
+}
+
+/// Where they stand.
+#[derive(Drop)]
+pub(crate) enum DueLeft<'a> {
+    /// In the index: all.
     All(btree_map::Iter<'a, u64, usize>),
-    /// Those that stand at one tick.
+    /// At one tick.
     At(btree_set::Range<'a, (u64, u64)>),
 }
 
@@ -81,12 +87,12 @@ impl<'a> Iterator for DueClients<'a> {
     ghost remaining = { item_count due_left };
 
     fn next(&mut self) -> Option<u64> {
-        match self {
-            DueClients::All(left) => {
+        match &mut self.left {
+            DueLeft::All(left) => {
                 let (client, _) = left.next()?;
                 Some(*client)
             }
-            DueClients::At(left) => {
+            DueLeft::At(left) => {
                 let (_, client) = left.next()?;
                 Some(*client)
             }
