@@ -30,6 +30,18 @@ const FORGOTTEN: &[Forgotten] = &[
     (8, &PAIRS),
 ];
 
+// Which places of a full queue go at once, one settlement after the other, from the first of these up to
+// the second; and the first two that are pending then.
+type Gone = (&'static [(usize, usize)], [(u64, u64); 2]);
+
+const GONE: &[Gone] = &[
+    (&[(0, 1023)], [(4, 65801), (5, 65546)]),
+    (&[(0, 1023), (0, 1)], [(5, 65546), (5, 65547)]),
+    (&[(1, 1024), (1, 2)], [(1, 65546), (5, 65547)]),
+    (&[(0, 700), (1, 701)], [(3, 65734), (6, 65667)]),
+    (&[(0, 4094)], [(16, 65800), (16, 65801)]),
+];
+
 fn ask(rt: &impl Abort, queue: &mut Queue, client: u64, n: u64, answer: Asked) {
     same(rt, &queue.ask(client, n), &answer, &(n, client));
 }
@@ -119,6 +131,43 @@ fn expect_settled(rt: &impl Abort, alloc: Global, rows: &[Settled]) -> Result<()
 #[test]
 fn settled_repairs_go(rt: HostRuntime) -> Result<(), Fail> {
     expect_settled(&rt, rt.alloc(), SETTLED)
+}
+
+// The repairs at these places go.
+fn settle_places(
+    rt: &impl Abort,
+    alloc: Global,
+    queue: &mut Queue,
+    places: (usize, usize),
+) -> Result<(), Fail> {
+    let mut done = Vec::new(alloc);
+    for place in 0..queue.pending().len() {
+        done.push(places.0 <= place && place < places.1)?;
+    }
+    assert!(rt; queue.pending().len() == done.len());
+    queue.settle(&done);
+    Ok(())
+}
+
+// What goes from a full queue leaves the others in their order, and room for as many behind them.
+fn expect_gone(rt: &impl Abort, alloc: Global, rows: &[Gone]) -> Result<(), Fail> {
+    for (gone, first) in rows {
+        let mut queue = full_queue(rt, alloc)?;
+        for places in *gone {
+            settle_places(rt, alloc, &mut queue, *places)?;
+        }
+        ask(rt, &mut queue, 17, 65546, Asked::Queued);
+        let pairs = pending(alloc, &queue)?;
+        same(rt, &pairs.get(0), &Some(&first[0]), gone);
+        same(rt, &pairs.get(1), &Some(&first[1]), gone);
+        same(rt, &pairs.last(), &Some(&(17, 65546)), gone);
+    }
+    Ok(())
+}
+
+#[test]
+fn repairs_go_from_a_full_queue(rt: HostRuntime) -> Result<(), Fail> {
+    expect_gone(&rt, rt.alloc(), GONE)
 }
 
 fn expect_forgotten(rt: &impl Abort, alloc: Global, rows: &[Forgotten]) -> Result<(), Fail> {
