@@ -9,8 +9,8 @@ use rams_model::{Answer, Cause, Held, Info, Note, Order};
 use std::alloc::Global;
 use std::marker::Model;
 
-// For so many packets there is room once one is sent.
-const RUN: usize = 32;
+// Once a packet is sent there is room for as many of its size as the channel has left, up to so many.
+const MOST_AT_ONCE: u64 = 256;
 
 /// The notes and orders of a tick so far, and the bytes that the channel's budget has left.
 #[derive(Drop)]
@@ -62,7 +62,7 @@ impl Draft {
     {
         let packet = held.packet.clone()?;
         if self.orders.is_empty() {
-            self.make_room()?;
+            self.make_room(held.wire)?;
         }
         self.notes.push(note)?;
         self.orders.push(Order::Rtx {
@@ -75,12 +75,14 @@ impl Draft {
         Ok(())
     }
 
-    // Takes room for a run at once.
-    fn make_room(&mut self) -> Result<(), NoMemory>
+    // Takes room at once for what packets of `wire` bytes may follow.
+    fn make_room(&mut self, wire: u32) -> Result<(), NoMemory>
         ensures { IfOk result (λ _. self.new ≡ self.old) }
     {
-        self.notes.reserve(RUN)?;
-        self.orders.reserve(RUN)?;
+        let packets = self.left / u64::from(wire.max(1));
+        let room = packets.min(MOST_AT_ONCE) as usize;
+        self.notes.reserve(room)?;
+        self.orders.reserve(room)?;
         Ok(())
     }
 
