@@ -1,14 +1,14 @@
 //! An answer with its copy.
-ghost use Rattle.std.specs.Prelude.{◌≡◌, ◌+◌, ◌^◌, ◌<◌, List, ◌∷◌, IfOk, OnOk, OnErr};
+ghost use Rattle.std.specs.Prelude.{◌≡◌, ◌+◌, ◌^◌, ◌<◌, ◌≤◌, List, [], ◌∷◌, length, vec_len, vec_capacity, IfOk, OnOk, OnErr};
 ghost use Rattle.rams_model.specs.declared.event.Event.{Event};
 ghost use Rattle.rams_model.specs.declared.event.Event.TheVariants.{Live, Feedback, Tick};
-ghost use Rattle.session_core.specs.{StandsFor};
+ghost use Rattle.session_core.specs.{StandsFor, TellsAlone};
 ghost use Rattle.channel_book.specs.{IsTwice};
 
 use crate::copies::{Room, copy_answer, copy_one};
 use ram_io::NoMemory;
 use rams_model::{Answer, Event};
-use session_core::Core;
+use session_core::{Core, most_notes_for};
 use std::alloc::Global;
 
 /// The most bytes of a datagram whose copy there can be memory for.
@@ -63,7 +63,28 @@ fn fitted(mut answer: Answer) -> Answer
     answer
 }
 
-/// A datagram has at most five notes for each byte and four more, and no order but a RAMS-I.
+/// The answer, once more in the room. One of a single note that sends nothing needs no memory, twice.
+fn twice_in(alloc: Global, room: Room, answer: Answer) -> Twice
+    requires empty { (room.notes.items ≡ []) × (room.orders.items ≡ []) }
+    requires counts { (vec_len room.notes ≡ 0) × (vec_len room.orders ≡ 0) }
+    requires room { (length answer.notes ≤ vec_capacity room.notes) × (length answer.orders ≤ vec_capacity room.orders) }
+    requires told { TellsAlone answer }
+    ensures { (result.kept ≡ answer) × (result.given ≡ answer) }
+{
+    if answer.notes.as_slice().len() == 1 && answer.orders.is_empty() {
+        return Twice {
+            kept: copy_one(alloc, &answer),
+            given: copy_one(alloc, &answer),
+        };
+    }
+    let given = room.copy(&answer);
+    Twice {
+        kept: fitted(answer),
+        given,
+    }
+}
+
+/// A datagram has no more notes than its length allows, and no order but a RAMS-I.
 fn feedback_twice(
     alloc: Global,
     core: &mut Core,
@@ -80,12 +101,9 @@ fn feedback_twice(
     if bytes.len() > LONGEST_DATAGRAM {
         return Err(NoMemory);
     }
-    let room = Room::new(alloc, 5 * bytes.len() + 4, 1)?;
-    let given = fitted(core.feedback(alloc, client, bytes)?);
-    Ok(Twice {
-        kept: room.copy(&given),
-        given,
-    })
+    let room = Room::new(alloc, most_notes_for(bytes.len()), 1)?;
+    let answer = core.feedback(alloc, client, bytes)?;
+    Ok(twice_in(alloc, room, answer))
 }
 
 /// A tick is planned, the plan's answer copied, and the plan done.

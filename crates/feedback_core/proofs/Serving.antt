@@ -1,6 +1,6 @@
 -- A datagram that frames, from its beginning to its end.
-use Rattle.std.proofs.Common.{◌≡◌, ℕ, ◌+◌, ◌≤◌, Bool, true, not, List, [], ◌∷◌, length, Option, Some, None, Result, Ok, Err, refl, ap, sym, ◌∙◌, subst, arith}
-use Rattle.std.specs.Prelude.{◌*◌, IfOk, is_some, IsSome, option_map, option_to_list}
+use Rattle.std.proofs.Common.{◌≡◌, ℕ, ◌≤◌, Bool, true, not, List, [], ◌∷◌, length, Option, Some, None, Result, Ok, Err, refl, ap, sym, ◌∙◌, subst, arith}
+use Rattle.std.specs.Prelude.{IfOk, is_some, IsSome, option_map, option_to_list}
 use Rattle.std.proofs.lemmas.Bool.{or_left}
 use Rattle.rams_model.specs.declared.event.Event.{Event}
 use Rattle.rams_model.specs.declared.event.Event.TheVariants.{Feedback}
@@ -115,7 +115,7 @@ unasked p new events k bytes ps given st fe none ne ge =
     )
 
 -- no more notes, and what is answered where there is memory
-pub few_within : {F : Type 0} (r : Result Answered F) (most bytes : ℕ) → most ≤ 5 * bytes → IfOk r (λ a. (length a.notes ≤ most) × (length a.orders ≤ 1))
-    → IfOk r (λ a. (length a.notes ≤ 5 * bytes + 4) × (length a.orders ≤ 1))
-few_within (Ok a) most bytes le few = (omega (arith, le, few.0), few.1)
-few_within (Err f) most bytes le few = tt
+pub few_within : {F : Type 0} (r : Result Answered F) (most bound : ℕ) → most ≤ bound → IfOk r (λ a. (length a.notes ≤ most) × (length a.orders ≤ 1))
+    → IfOk r (λ a. (length a.notes ≤ bound) × (length a.orders ≤ 1))
+few_within (Ok a) most bound le few = (omega (arith, le, few.0), few.1)
+few_within (Err f) most bound le few = tt

@@ -15,7 +15,7 @@ unfoldable pub use Rattle.feedback_core.specs.Ready.{rate_for}
 pub use Rattle.feedback_core.specs.Ready.{IsHeldRun, IsReady, IsSafeBurst, IsSafe, AreOfOne, IsAnswered}
 unfoldable pub use Rattle.feedback_core.specs.Saying.{only, end_notes, said_notes, said_orders}
 pub use Rattle.feedback_core.specs.Saying.{IsSaid, AreNoted}
-unfoldable pub use Rattle.feedback_core.specs.Counting.{most_of_nack, most_of, most_notes, most_of_message}
+unfoldable pub use Rattle.feedback_core.specs.Counting.{most_of_nack, most_of, most_notes, most_of_message, most_notes_for}
 unfoldable pub use Rattle.feedback_core.specs.Framing.{shown_message, answered_of, turn_of, due_after}
 unfoldable pub use Rattle.feedback_core.specs.Pages.{or_info, last_of, info_for, IsFresh}
 pub use Rattle.feedback_core.specs.Pages.{IsPage, IsTurned}

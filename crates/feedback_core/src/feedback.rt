@@ -1,12 +1,12 @@
 //! The answer to a datagram.
-ghost use Rattle.std.specs.Prelude.{◌≡◌, ◌+◌, ◌*◌, ◌<◌, ◌≤◌, ◌^◌, ℕ, List, ◌∷◌, length, IfOk, OnErr, Ok, OnOk};
+ghost use Rattle.std.specs.Prelude.{◌≡◌, ◌<◌, ◌≤◌, ◌^◌, ℕ, List, ◌∷◌, length, IfOk, OnErr, Ok, OnOk};
 ghost use Rattle.rams_model.specs.declared.event.Event.{Event};
 ghost use Rattle.rams_model.specs.declared.event.Event.TheVariants.{Feedback};
 ghost use Rattle.rams_model.specs.Service.{answer};
 ghost use Rattle.rams_model.specs.Formats.{framed};
 ghost use Rattle.rtcp_frame.specs.{packets_left};
 ghost use Rattle.channel_parts.specs.{StandsFor};
-ghost use Rattle.feedback_core.specs.{most_notes, woken, has_place, with_place, TellsAlone};
+ghost use Rattle.feedback_core.specs.{most_notes, most_notes_for, woken, has_place, with_place, TellsAlone};
 ghost use Rattle.client_table.specs.{entry_of};
 
 use crate::answering::answer_packets;
@@ -42,7 +42,7 @@ pub fn answer_feedback(
         (a ≡ answer parts.old.config events (Feedback client datagram.now)) × StandsFor parts.new (Feedback client datagram.now ∷ events)) }
     ensures settings { parts.new.config ≡ parts.old.config }
     ensures same { OnErr result (parts.new ≡ parts.old) }
-    ensures few { IfOk result (λ a. (length a.notes ≤ 5 * length datagram.now + 4) × (length a.orders ≤ 1)) }
+    ensures few { IfOk result (λ a. (length a.notes ≤ most_notes_for (length datagram.now)) × (length a.orders ≤ 1)) }
     ensures told { IfOk result TellsAlone }
 {
     match packets(datagram) {

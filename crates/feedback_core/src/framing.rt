@@ -95,13 +95,13 @@ pub(crate) fn most_notes(packets: Packets<'_>) -> usize
     most
 }
 
-// The most of one packet: a word of a NACK names 17 numbers at most.
+// The most of one packet: a word of a NACK names 17 numbers at most, and stands behind two SSRCs.
 fn most_of(packet: &Packet<'_>) -> usize
     requires { most_of (shown_packet packet.now) < 2 ^ 63 }
     ensures { result ≡ most_of (shown_packet packet.now) }
 {
     if packet.kind == RTPFB && packet.count == FMT_NACK {
-        17 * (packet.body.len() / 4) + 1
+        17 * (packet.body.len().saturating_sub(8) / 4) + 1
     } else {
         2
     }

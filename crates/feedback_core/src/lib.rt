@@ -6,6 +6,7 @@
 
 mod answering;
 mod bye;
+mod counting;
 mod desk;
 mod feedback;
 mod framing;
@@ -20,6 +21,7 @@ mod said;
 mod visitor;
 
 pub use channel_parts::Parts;
+pub use counting::most_notes_for;
 pub use feedback::answer_feedback;
 pub use ram_io::NoMemory;
 pub use rams_model::Answer;

@@ -29,12 +29,12 @@ impl Model for Core {
 }
 
 impl Core {
-    ghost use Rattle.std.specs.Prelude.{◌≡◌, ◌+◌, ◌*◌, ◌^◌, ◌<◌, List, [], ◌∷◌, length, IfOk, OnOk, OnErr};
+    ghost use Rattle.std.specs.Prelude.{◌≡◌, ◌+◌, ◌^◌, ◌<◌, List, [], ◌∷◌, length, IfOk, OnOk, OnErr};
     ghost use Rattle.rams_model.specs.declared.event.Event.{Event};
     ghost use Rattle.rams_model.specs.declared.event.Event.TheVariants.{Live, Feedback, Tick};
     ghost use Rattle.rams_model.specs.Packets.{lo, hi};
     ghost use Rattle.rams_model.specs.Service.{hold, history_of, answer};
-    ghost use Rattle.session_core.specs.{StandsFor, IsPlanOf, SendsShort, HasAtMost, IsCountable, JoinTimesAreKept, TellsAlone};
+    ghost use Rattle.session_core.specs.{StandsFor, IsPlanOf, SendsShort, HasAtMost, IsCountable, JoinTimesAreKept, TellsAlone, most_notes_for};
 
     /// The core of a channel to which nothing came yet. It takes the room for the channel's live
     /// packets, for 4,096 repairs and for as many clients as it may have.
@@ -94,7 +94,7 @@ impl Core {
         ensures stands { (events : List Event) → StandsFor self.old events →
             IfOk result (λ a. (a ≡ answer self.old.settings events (Feedback client bytes.now))
             × StandsFor self.new (Feedback client bytes.now ∷ events)) }
-        ensures few { IfOk result (HasAtMost (5 * length bytes.now + 4) 1) }
+        ensures few { IfOk result (HasAtMost (most_notes_for (length bytes.now)) 1) }
         ensures told { IfOk result TellsAlone }
         ensures short { IfOk result SendsShort }
         ensures settings { self.new.settings ≡ self.old.settings }
