@@ -1,5 +1,5 @@
 -- Dropping what is marked, in place.
-use Rattle.std.proofs.Common.{◌≡◌, ℕ, zero, suc, ◌+◌, ◌-◌, ◌<◌, ◌≤◌, ◌||◌, Bool, true, false, cond, List, [], ◌∷◌, ◌++◌, length, take, drop, get_or, set, refl, ap, sym, ◌∙◌, arith, length-set, append-nil}
+use Rattle.std.proofs.Common.{◌≡◌, ℕ, zero, suc, ◌+◌, ◌-◌, ◌<◌, ◌≤◌, Bool, true, false, cond, List, [], ◌∷◌, ◌++◌, length, take, drop, get_or, set, refl, ap, sym, ◌∙◌, arith, length-set, append-nil}
 use Rattle.std.specs.List.{list_any}
 use Rattle.repair_queue.proofs.Pending.{unmarked_none}
 use Rattle.std.proofs.lemmas.List.{take_more, drop_more, drop_all, drop_at, drop-drop, drop-set, take-set-le, take-take, get_or-take, length-take-le, nil_from_length}
@@ -104,13 +104,6 @@ unmarked_rest [] (d ∷ done) within = absurd (omega arith)
 unmarked_rest (w ∷ ws) [] within = refl
 unmarked_rest (w ∷ ws) (true ∷ done) within = unmarked_rest ws done (omega arith)
 unmarked_rest (w ∷ ws) (false ∷ done) within = ap (λ (vs : List Wanted). w ∷ vs) (unmarked_rest ws done (omega arith))
-
--- the last flag that isn't set
-pub unset_more : (done : List Bool) (end : ℕ) → 0 < end → end ≤ length done → get_or done (end - 1) false ≡ false → list_any (λ is_done. is_done) (drop end done) ≡ false → list_any (λ is_done. is_done) (drop (end - 1) done) ≡ false
-unset_more done end some within flag unset =
-    let next : end - 1 + 1 ≡ end = omega arith in
-    ap (list_any (λ is_done. is_done)) (drop_more done (end - 1) false (omega arith))
-    ∙ (ap (λ (b : Bool). b || list_any (λ is_done. is_done) (drop (end - 1 + 1) done)) flag ∙ (ap (λ (n : ℕ). list_any (λ is_done. is_done) (drop n done)) next ∙ unset))
 
 any_split : (flags : List Bool) (n : ℕ) → list_any (λ is_done. is_done) (take n flags) ≡ false → list_any (λ is_done. is_done) (drop n flags) ≡ false → list_any (λ is_done. is_done) flags ≡ false
 any_split [] n front back = refl

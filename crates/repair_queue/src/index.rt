@@ -1,8 +1,8 @@
 //! What makes an ask quick: which pairs are pending, and how many of each client.
-ghost use Rattle.std.specs.Prelude.{◌≡◌, ℕ, ◌+◌, ◌-◌, ◌<◌, ◌≤◌, nat_lt, ◌==◌, ◌&&◌, ◌||◌, not, true, if◌then◌else◌, List, [], ◌∷◌, ◌++◌, length, IfOk};
+ghost use Rattle.std.specs.Prelude.{◌≡◌, ℕ, ◌+◌, ◌<◌, ◌≤◌, ◌==◌, ◌&&◌, not, true, List, [], ◌∷◌, ◌++◌, length, IfOk};
 ghost use Rattle.std.specs.List.{list_any};
 ghost use Rattle.rams_model.specs.Service.{Wanted as Repair, wanted, is_wanted};
-ghost use Rattle.repair_queue.specs.{count_of, asked_of, answered, unmarked, without, AreOnce, Indexes, Owes, counted, marked};
+ghost use Rattle.repair_queue.specs.{count_of, asked_of, answered, unmarked, without, AreOnce, Indexes, Owes, marked};
 
 use crate::counts::Counts;
 use crate::marks::Marks;

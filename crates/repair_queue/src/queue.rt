@@ -137,9 +137,8 @@ impl Queue {
     }
 }
 
-ghost use Rattle.std.specs.Prelude.{◌≡◌, ◌≤◌, false, length, drop, vec_len, vec_capacity};
+ghost use Rattle.std.specs.Prelude.{◌≡◌, ◌≤◌, false, length, drop};
 ghost use Rattle.std.specs.List.{list_any};
-ghost use Rattle.repair_queue.specs.{unmarked, without};
 
 // One above the place of the last flag that is set; 0 where none is.
 fn end_of_set(done: &[bool]) -> usize
