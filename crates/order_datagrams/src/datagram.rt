@@ -12,10 +12,9 @@ use rtp_record::Rtp;
 use rtx_payload::append_rtx;
 use std::alloc::Global;
 
-/// The datagram of an order. The packet of a retransmission reads as one, as each does that a
-/// channel holds.
+/// The datagram of an order; empty where the packet of a retransmission doesn't read as one, as each
+/// does that a channel holds.
 pub fn render_order(alloc: Global, config: &Config, order: &Order) -> Result<Vec<u8>, NoMemory>
-    requires { Renders order.now }
     ensures { IfOk result (λ bytes. bytes.items ≡ datagram config.now order.now) }
 {
     let mut text = Vec::new(alloc);
@@ -24,10 +23,10 @@ pub fn render_order(alloc: Global, config: &Config, order: &Order) -> Result<Vec
 }
 
 /// `render_order`, behind what is there: a retransmission packet (RFC 4588, 4), or a RAMS-I (RFC
-/// 6285, 7.3). An error changes nothing, and comes only where the vector lacks the room.
+/// 6285, 7.3); nothing where a packet doesn't read as one. An error changes nothing, and comes only
+/// where the vector lacks the room.
 #[tactic(auto, unfolding(rams_model::specs::Service::Orders::datagram))]
 pub fn append_order(text: &mut Vec<u8>, config: &Config, order: &Order) -> Result<(), NoMemory>
-    requires { Renders order.now }
     ensures text { OnOk result (text.new.items ≡ text.old.items ++ datagram config.now order.now) }
     ensures same { IsRetransmission order.now → OnErr result (text.new.items ≡ text.old.items) }
     ensures full { IsRetransmission order.now
@@ -42,14 +41,13 @@ pub fn append_order(text: &mut Vec<u8>, config: &Config, order: &Order) -> Resul
     }
 }
 
-/// The retransmission of a packet, which reads as one.
+/// The retransmission of a packet, where it reads as one.
 fn append_retransmission(
     text: &mut Vec<u8>,
     packet: &[u8],
     rtx: u8,
     seq: u16,
 ) -> Result<(), NoMemory>
-    requires reads { IsOk (packet_at packet.now) }
     requires kind { rtx < 128 }
     ensures text { OnOk result (text.new.items ≡ text.old.items ++ sent_again rtx seq (packet_at packet.now)) }
     ensures same { OnErr result (text.new.items ≡ text.old.items) }
@@ -58,7 +56,7 @@ fn append_retransmission(
 {
     match Rtp::read(packet) {
         Ok(original) => append_rtx(text, &original, rtx, seq),
-        Err(_) => unreachable!(),
+        Err(_) => Ok(()),
     }
 }
 

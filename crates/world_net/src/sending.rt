@@ -6,9 +6,9 @@ ghost use Rattle.world_net.specs.{sent_of};
 
 use crate::parcel::Parcel;
 use bytes::Bytes;
-use order_datagrams::{Config, append_order, renders};
+use order_datagrams::{Config, append_order};
 use ram_io::NoMemory;
-use rams_model::Order;
+use rams_model::{Order, RTX_OVERHEAD};
 use std::alloc::Global;
 
 /// Adds the datagrams of orders. They stand behind one another in one block, which they share.
@@ -40,10 +40,10 @@ fn write_orders(
     ensures text { IfOk result (λ text. text.items ≡ flat_map (datagram config.now) orders.now) }
     ensures lengths { OnOk result (lengths.new.items ≡ lengths.old.items ++ map (λ o. length (datagram config.now o)) orders.now) }
 {
-    let mut text = Vec::new(alloc);
+    let mut text = Vec::with_capacity(alloc, room_for(orders))?;
     for order in orders.iter() {
         let start = text.len();
-        append_datagram(&mut text, config, order)?;
+        append_order(&mut text, config, order)?;
         lengths.push(text.len() - start)?;
     }
     // It is kept as long as the world.
@@ -51,14 +51,18 @@ fn write_orders(
     Ok(text)
 }
 
-// Adds the bytes that an order sends; none where its packet doesn't read, as each does that a channel
-// holds.
-#[tactic(auto, unfolding(rams_model::specs::Service::Orders::datagram))]
-fn append_datagram(text: &mut Vec<u8>, config: &Config, order: &Order) -> Result<(), NoMemory>
-    ensures { OnOk result (text.new.items ≡ text.old.items ++ datagram config.now order.now) }
-{
-    if !renders(order) {
-        return Ok(());
+// For so many bytes there is room at first: the packets of the orders, each with what a retransmission
+// takes more. A RAMS-I is about as long.
+fn room_for(orders: &[Order]) -> usize {
+    let mut room: usize = 0;
+    for order in orders {
+        let packet = match order {
+            Order::Rtx { packet, .. } => packet.len(),
+            Order::Info { .. } => 0,
+        };
+        room = room
+            .saturating_add(packet)
+            .saturating_add(RTX_OVERHEAD as usize);
     }
-    append_order(text, config, order)
+    room
 }
