@@ -22,6 +22,6 @@ abbrev pub most_of_message : Message → ℕ
 most_of_message (Nack f) = most_of_nack f.fci.now
 most_of_message message = 2
 
--- of a datagram of so many bytes: the words of a NACK stand behind 12 bytes, and in each word some packet may begin, which has two notes where it is no NACK
+-- of a datagram of so many bytes: the words of a NACK stand behind 12 bytes, in whose place three other packets have two notes each
 abbrev pub most_notes_for : ℕ → ℕ
 most_notes_for bytes = if nat_lt bytes 12 then bytes / 2 + 1 else 17 * ((bytes - 12) / 4) + 6
