@@ -1,8 +1,9 @@
 //! Captures, written as traces.
-use crate::fixtures::{Words, bytes_of, joined};
+use crate::fixtures::{Words, bytes_of, joined, same};
 use capture_loop::{Status, Stop, write_capture};
 use ram_io::{MemSink, MemSource, Open};
 use std::alloc::Global;
+use std::process::Abort;
 use std::str;
 use std::test::Fail;
 
@@ -195,26 +196,35 @@ fn written(
     sink_fails: &[u64],
 ) -> Result<(Result<Status, Stop>, Vec<u8>), Fail> {
     let mut source = MemSource::new(bytes, piece.max(1), source_fails.to_vec(alloc)?);
-    let sink = MemSink::new(alloc, 1_000_000, 1_000, sink_fails.to_vec(alloc)?);
+    let sink = MemSink::new(alloc, 6_000_000, 1_000, sink_fails.to_vec(alloc)?);
     let mut sink = sink.ok().ok_or("memory")?;
-    let ended = write_capture(alloc, 5000, &mut source, &mut sink, &Open);
+    let ended = ended(alloc, &mut source, &mut sink);
     Ok((ended, sink.held().to_vec(alloc)?))
+}
+
+fn ended(alloc: Global, source: &mut MemSource, sink: &mut MemSink) -> Result<Status, Stop> {
+    write_capture(alloc, 5000, source, sink, &Open)
+}
+
+// What is written in pieces of this size ends so.
+fn expect_pieces(rt: &impl Abort, alloc: Global, row: &Row, piece: usize) -> Result<(), Fail> {
+    let (ended, text) = written(alloc, source_of(alloc, row)?, piece, &[], &[])?;
+    let want = joined(alloc, row.text, "\n")?;
+    same(rt, &ended, &Ok(row.status), row.name);
+    same(
+        rt,
+        &str::from_utf8(&text)?,
+        &str::from_utf8(&want)?,
+        row.name,
+    );
+    Ok(())
 }
 
 #[test]
 fn captures_are_written(rt: HostRuntime) -> Result<(), Fail> {
-    let alloc = rt.alloc();
     for row in ROWS {
-        let want = joined(alloc, row.text, "\n")?;
         for piece in [1, 2, 3, 7, 4_096] {
-            let (ended, text) = written(alloc, source_of(alloc, row)?, piece, &[], &[])?;
-            assert_eq!(rt; ended, Ok(row.status), "{}", row.name);
-            assert_eq!(rt;
-                str::from_utf8(&text)?,
-                str::from_utf8(&want)?,
-                "{}",
-                row.name
-            );
+            expect_pieces(&rt, rt.alloc(), row, piece)?;
         }
     }
     Ok(())
@@ -232,15 +242,21 @@ const FAULTS: &[Fault] = &[
     ("both", &[3], &[0], Stop::Read, 0),
 ];
 
+fn expect_fault(rt: &impl Abort, alloc: Global, fault: &Fault) -> Result<(), Fail> {
+    let (name, source_fails, sink_fails, stop, lines) = *fault;
+    let bytes = source_of(alloc, &PLAIN)?;
+    let (ended, text) = written(alloc, bytes, 100, source_fails, sink_fails)?;
+    let front = PLAIN.text.get(..lines).ok_or("lines")?;
+    let want = joined(alloc, front, "\n")?;
+    same(rt, &ended, &Err(stop), name);
+    same(rt, &str::from_utf8(&text)?, &str::from_utf8(&want)?, name);
+    Ok(())
+}
+
 #[test]
 fn faults_leave_what_was_read(rt: HostRuntime) -> Result<(), Fail> {
-    let alloc = rt.alloc();
-    for (name, source_fails, sink_fails, stop, lines) in FAULTS {
-        let bytes = source_of(alloc, &PLAIN)?;
-        let (ended, text) = written(alloc, bytes, 100, source_fails, sink_fails)?;
-        let want = joined(alloc, &PLAIN.text[..*lines], "\n")?;
-        assert_eq!(rt; ended, Err(*stop), "{name}");
-        assert_eq!(rt; str::from_utf8(&text)?, str::from_utf8(&want)?, "{name}");
+    for fault in FAULTS {
+        expect_fault(&rt, rt.alloc(), fault)?;
     }
     Ok(())
 }
@@ -258,21 +274,23 @@ const LENGTHS: &[(u32, usize, Status)] = &[
     (10_001, 1_000_003, Status::TooLong),
 ];
 
+// A head, and two records with so many seconds between them.
+fn two_records(alloc: Global, seconds: u32) -> Result<Vec<u8>, Fail> {
+    let mut bytes = joined(alloc, &[HEAD, SEVEN, "end"], "\n")?;
+    bytes.extend_from_slice(&bytes_of(alloc, &[FILE])?)?;
+    empty_at(0, &mut bytes)?;
+    empty_at(seconds, &mut bytes)?;
+    Ok(bytes)
+}
+
 #[test]
 fn a_trace_has_room_for_a_million_events(rt: HostRuntime) -> Result<(), Fail> {
-    let alloc = rt.alloc();
     for (seconds, lines, status) in LENGTHS {
-        let mut bytes = joined(alloc, &[HEAD, SEVEN, "end"], "\n")?;
-        bytes.extend_from_slice(&bytes_of(alloc, &[FILE])?)?;
-        empty_at(0, &mut bytes)?;
-        empty_at(*seconds, &mut bytes)?;
-        let mut source = MemSource::new(bytes, 4_096, Vec::new(alloc));
-        let sink = MemSink::new(alloc, 6_000_000, 100_000, Vec::new(alloc));
-        let mut sink = sink.ok().ok_or("memory")?;
-        let ended = write_capture(alloc, 5000, &mut source, &mut sink, &Open);
-        assert_eq!(rt; ended, Ok(*status), "{seconds}");
-        let count = sink.held().iter().filter(|b| **b == b'\n').count();
-        assert_eq!(rt; count, *lines, "{seconds}");
+        let bytes = two_records(rt.alloc(), *seconds)?;
+        let (ended, text) = written(rt.alloc(), bytes, 4_096, &[], &[])?;
+        same(&rt, &ended, &Ok(*status), "a million events");
+        let count = text.iter().filter(|b| **b == b'\n').count();
+        same(&rt, &count, lines, "a million events");
     }
     Ok(())
 }

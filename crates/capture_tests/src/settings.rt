@@ -66,26 +66,36 @@ const WHOLE: Calls<'static> = Calls {
     fails: &[],
 };
 
-/// How the command ends over a source of these bytes, and the sink with what it wrote.
+/// Does what the command says.
+fn status_of(
+    alloc: Global,
+    command: Command,
+    source: &mut MemSource,
+    sink: &mut MemSink,
+) -> Result<Status, Stop> {
+    match command {
+        Command::Sdp => write_settings(alloc, source, sink),
+        Command::Describe { port } => {
+            write_description(alloc, port.clamp(1, 65_000), source, sink)
+        }
+    }
+}
+
+/// How the command ends over a source of these bytes, and what it wrote.
 fn ran(
     alloc: Global,
     command: Command,
     input: &[u8],
     takes: Calls<'_>,
     puts: Calls<'_>,
-) -> Result<(Result<Status, Stop>, MemSink), Fail> {
+) -> Result<(Result<Status, Stop>, Vec<u8>), Fail> {
     let fails = takes.fails.to_vec(alloc)?;
     let mut source = MemSource::new(input.to_vec(alloc)?, takes.most.max(1), fails);
     let fails = puts.fails.to_vec(alloc)?;
     let sink = MemSink::new(alloc, 10_000, puts.most.max(1), fails);
     let mut sink = sink.ok().ok_or("memory")?;
-    let ended = match command {
-        Command::Sdp => write_settings(alloc, &mut source, &mut sink),
-        Command::Describe { port } => {
-            write_description(alloc, port.clamp(1, 65_000), &mut source, &mut sink)
-        }
-    };
-    Ok((ended, sink))
+    let ended = status_of(alloc, command, &mut source, &mut sink);
+    Ok((ended, sink.held().to_vec(alloc)?))
 }
 
 /// The command ends so and writes this, in whatever pieces the source gives its bytes.
@@ -99,12 +109,8 @@ fn ends(
 ) -> Result<(), Fail> {
     for most in [1, 2, 3, 7, 4_096] {
         let takes = Calls { most, fails: &[] };
-        let (ended, sink) = ran(alloc, command, input, takes, WHOLE)?;
-        assert_eq!(rt;
-            str::from_utf8(sink.held())?,
-            text,
-            "pieces of {most} bytes"
-        );
+        let (ended, written) = ran(alloc, command, input, takes, WHOLE)?;
+        same(rt, &str::from_utf8(&written)?, &text, "pieces");
         same(rt, &ended, &Ok(status), text);
     }
     Ok(())
@@ -130,16 +136,36 @@ fn input_of(alloc: Global, description: &[u8]) -> Result<Vec<u8>, AllocError> {
     Ok(input)
 }
 
+/// A head, a channel, and the channel with the settings of the description.
+const SETTINGS: &[(&str, &str, &str)] = &[(HEAD, CHANNEL, SET), (HEAD_2, CHANNEL_2, SET_2)];
+
+/// The channel gets the settings of the description whose lines have this end.
+fn gets_settings(
+    rt: &impl Abort,
+    alloc: Global,
+    head: &str,
+    channel: &str,
+    set: &str,
+    end: &str,
+) -> Result<(), Fail> {
+    let mut input = text_of(alloc, &[head, channel, END])?;
+    input.extend_from_slice(&described(alloc, REPAIRS, end)?)?;
+    let text = text_of(alloc, &[head, set, END])?;
+    ends(
+        rt,
+        alloc,
+        Command::Sdp,
+        &input,
+        Status::Done,
+        str::from_utf8(&text)?,
+    )
+}
+
 #[test]
 fn a_channel_gets_its_settings(rt: HostRuntime) -> Result<(), Fail> {
-    let alloc = rt.alloc();
-    for (head, channel, set) in [(HEAD, CHANNEL, SET), (HEAD_2, CHANNEL_2, SET_2)] {
+    for (head, channel, set) in SETTINGS {
         for end in ["\n", "\r\n"] {
-            let mut input = text_of(alloc, &[head, channel, END])?;
-            input.extend_from_slice(&described(alloc, REPAIRS, end)?)?;
-            let text = text_of(alloc, &[head, set, END])?;
-            let text = str::from_utf8(&text)?;
-            ends(&rt, alloc, Command::Sdp, &input, Status::Done, text)?;
+            gets_settings(&rt, rt.alloc(), head, channel, set, end)?;
         }
     }
     Ok(())
@@ -174,16 +200,20 @@ const REPAIRS_REFUSED: &[(&[&str], &str)] = &[
     ),
 ];
 
+/// The description is refused with this line.
+fn refuses(rt: &impl Abort, alloc: Global, description: &[u8], text: &str) -> Result<(), Fail> {
+    let input = input_of(alloc, description)?;
+    ends(rt, alloc, Command::Sdp, &input, Status::BadSdp, text)
+}
+
 #[test]
 fn a_description_is_refused(rt: HostRuntime) -> Result<(), Fail> {
     let alloc = rt.alloc();
     for (description, text) in REFUSED {
-        let input = input_of(alloc, description.as_bytes())?;
-        ends(&rt, alloc, Command::Sdp, &input, Status::BadSdp, text)?;
+        refuses(&rt, alloc, description.as_bytes(), text)?;
     }
     for (repairs, text) in REPAIRS_REFUSED {
-        let input = input_of(alloc, &described(alloc, repairs, "\n")?)?;
-        ends(&rt, alloc, Command::Sdp, &input, Status::BadSdp, text)?;
+        refuses(&rt, alloc, &described(alloc, repairs, "\n")?, text)?;
     }
     Ok(())
 }
@@ -213,25 +243,55 @@ const HEADS_REFUSED: &[(&[&str], &str)] = &[
     (&[HEAD, CHANNEL, "v=0\n"], "refused 3 form\n"),
 ];
 
-#[test]
-fn a_head_is_refused(rt: HostRuntime) -> Result<(), Fail> {
-    let alloc = rt.alloc();
-    for (lines, text) in HEADS_REFUSED {
-        let input = text_of(alloc, lines)?;
-        for command in [Command::Sdp, DESCRIBE] {
-            ends(&rt, alloc, command, &input, Status::BadTrace, text)?;
-        }
+/// The head is refused with this line, whatever the command.
+fn refuses_head(rt: &impl Abort, alloc: Global, lines: &[&str], text: &str) -> Result<(), Fail> {
+    let input = text_of(alloc, lines)?;
+    for command in [Command::Sdp, DESCRIBE] {
+        ends(rt, alloc, command, &input, Status::BadTrace, text)?;
     }
-    // A line of 4,097 bytes has no form, whatever stands in it.
+    Ok(())
+}
+
+/// A line of 4,097 bytes has no form, whatever stands in it.
+fn refuses_long_line(rt: &impl Abort, alloc: Global) -> Result<(), Fail> {
     let mut input = text_of(alloc, &[HEAD])?;
     input.extend_from_slice(&vec![in alloc; b'x'; 4_097]?)?;
+    let text = "refused 2 form\n";
+    ends(rt, alloc, DESCRIBE, &input, Status::BadTrace, text)
+}
+
+#[test]
+fn a_head_is_refused(rt: HostRuntime) -> Result<(), Fail> {
+    for (lines, text) in HEADS_REFUSED {
+        refuses_head(&rt, rt.alloc(), lines, text)?;
+    }
+    refuses_long_line(&rt, rt.alloc())
+}
+
+/// The channel is described so, with these lines behind the head.
+fn is_described(rt: &impl Abort, alloc: Global, want: &[u8], behind: &str) -> Result<(), Fail> {
+    let input = text_of(alloc, &[HEAD, CHANNEL, END, behind])?;
     ends(
-        &rt,
+        rt,
         alloc,
         DESCRIBE,
         &input,
-        Status::BadTrace,
-        "refused 2 form\n",
+        Status::Done,
+        str::from_utf8(want)?,
+    )
+}
+
+/// And `sdp` turns the description back.
+fn is_turned_back(rt: &impl Abort, alloc: Global, description: &[u8]) -> Result<(), Fail> {
+    let input = input_of(alloc, description)?;
+    let back = text_of(alloc, &[HEAD, CHANNEL, END])?;
+    ends(
+        rt,
+        alloc,
+        Command::Sdp,
+        &input,
+        Status::Done,
+        str::from_utf8(&back)?,
     )
 }
 
@@ -239,42 +299,60 @@ fn a_head_is_refused(rt: HostRuntime) -> Result<(), Fail> {
 fn a_channel_is_described(rt: HostRuntime) -> Result<(), Fail> {
     let alloc = rt.alloc();
     let want = joined(alloc, DESCRIPTION, "\r\n")?;
-    let text = str::from_utf8(&want)?;
     // What stands behind `end` isn't looked at.
     for behind in ["", "tick\nx"] {
-        let input = text_of(alloc, &[HEAD, CHANNEL, END, behind])?;
-        ends(&rt, alloc, DESCRIBE, &input, Status::Done, text)?;
+        is_described(&rt, alloc, &want, behind)?;
     }
-    // And `sdp` turns it back.
-    let input = input_of(alloc, &want)?;
-    let back = text_of(alloc, &[HEAD, CHANNEL, END])?;
-    let back = str::from_utf8(&back)?;
-    ends(&rt, alloc, Command::Sdp, &input, Status::Done, back)
+    is_turned_back(&rt, alloc, &want)
 }
 
-/// Whichever call of the source fails, nothing is written.
+/// The head, and the description behind it.
+fn whole_input(alloc: Global) -> Result<Vec<u8>, AllocError> {
+    input_of(alloc, &described(alloc, REPAIRS, "\n")?)
+}
+
+/// How the command ends where this call of the source fails, and how many bytes are written.
+fn source_fails(
+    alloc: Global,
+    command: Command,
+    call: u64,
+) -> Result<(Result<Status, Stop>, usize), Fail> {
+    let takes = Calls {
+        most: 7,
+        fails: &[call],
+    };
+    let (ended, written) = ran(alloc, command, &whole_input(alloc)?, takes, WHOLE)?;
+    Ok((ended, written.len()))
+}
+
+/// Whichever of so many calls of the source fails, nothing is written; a call behind them isn't made.
+fn expect_calls(rt: &impl Abort, alloc: Global, command: Command, calls: u64) -> Result<(), Fail> {
+    for call in 0..calls {
+        let got = source_fails(alloc, command, call)?;
+        same(rt, &got, &(Err(Stop::Read), 0), "a call of the source");
+    }
+    let (ended, _) = source_fails(alloc, command, calls)?;
+    same(rt, &ended, &Ok(Status::Done), "no call that is made");
+    Ok(())
+}
+
 #[test]
 fn a_source_fails(rt: HostRuntime) -> Result<(), Fail> {
     let alloc = rt.alloc();
-    let head = text_of(alloc, &[HEAD, CHANNEL, END])?;
-    let input = input_of(alloc, &described(alloc, REPAIRS, "\n")?)?;
     // The end of input is a call too. `describe` makes none behind the head.
-    let cases = [
-        (Command::Sdp, input.len().div_ceil(7) as u64 + 1),
-        (DESCRIBE, head.len().div_ceil(7) as u64),
-    ];
-    for (command, calls) in cases {
-        for call in 0..calls {
-            let fails = &[call];
-            let (ended, sink) = ran(alloc, command, &input, Calls { most: 7, fails }, WHOLE)?;
-            same(&rt, &ended, &Err(Stop::Read), "a call of the source");
-            assert!(rt; sink.held().is_empty());
-        }
-        let fails = &[calls];
-        let (ended, _) = ran(alloc, command, &input, Calls { most: 7, fails }, WHOLE)?;
-        same(&rt, &ended, &Ok(Status::Done), "no call that is made");
-    }
-    Ok(())
+    let input = whole_input(alloc)?.len();
+    expect_calls(&rt, alloc, Command::Sdp, input.div_ceil(7) as u64 + 1)?;
+    let head = text_of(alloc, &[HEAD, CHANNEL, END])?.len();
+    expect_calls(&rt, alloc, DESCRIBE, head.div_ceil(7) as u64)
+}
+
+/// How `sdp` ends where this call of the sink fails, and what is written.
+fn sink_fails(alloc: Global, call: u64) -> Result<(Result<Status, Stop>, Vec<u8>), Fail> {
+    let puts = Calls {
+        most: 10,
+        fails: &[call],
+    };
+    ran(alloc, Command::Sdp, &whole_input(alloc)?, WHOLE, puts)
 }
 
 /// Whichever call of the sink fails, it has got a front of the text.
@@ -282,37 +360,38 @@ fn a_source_fails(rt: HostRuntime) -> Result<(), Fail> {
 fn a_sink_fails(rt: HostRuntime) -> Result<(), Fail> {
     let alloc = rt.alloc();
     let text = text_of(alloc, &[HEAD, SET, END])?;
-    let input = input_of(alloc, &described(alloc, REPAIRS, "\n")?)?;
     for call in 0..(text.len() as u64).div_ceil(10) {
-        let fails = &[call];
-        let (ended, sink) = ran(
-            alloc,
-            Command::Sdp,
-            &input,
-            WHOLE,
-            Calls { most: 10, fails },
-        )?;
+        let (ended, written) = sink_fails(alloc, call)?;
         same(&rt, &ended, &Err(Stop::Write), "a call of the sink");
-        assert!(rt; text.starts_with(sink.held()));
-        assert_eq!(rt; sink.held().len() as u64, 10 * call);
+        same(&rt, &(written.len() as u64), &(10 * call), "its bytes");
+        assert!(rt; text.starts_with(&written));
     }
     Ok(())
+}
+
+/// The lines of a description of which the second has 4,100,002 bytes.
+fn long_description(alloc: Global) -> Result<Vec<u8>, AllocError> {
+    let mut description = b"v=0\na=".to_vec(alloc)?;
+    description.extend_from_slice(&vec![in alloc; b'x'; 4_100_000]?)?;
+    input_of(alloc, &description)
 }
 
 /// Of a description 4,098,001 bytes are looked at: a source that fails behind them isn't asked.
 #[test]
 fn a_description_is_too_long(rt: HostRuntime) -> Result<(), Fail> {
-    let alloc = rt.alloc();
-    let mut description = b"v=0\na=".to_vec(alloc)?;
-    description.extend_from_slice(&vec![in alloc; b'x'; 4_100_000]?)?;
-    let input = input_of(alloc, &description)?;
     // The first 1,000 pieces and the one that has byte 4,098,001.
     let takes = Calls {
         most: 4_096,
         fails: &[1_001],
     };
-    let (ended, sink) = ran(alloc, Command::Sdp, &input, takes, WHOLE)?;
-    assert_eq!(rt; str::from_utf8(sink.held())?, "refused-sdp form 2\n");
+    let input = long_description(rt.alloc())?;
+    let (ended, written) = ran(rt.alloc(), Command::Sdp, &input, takes, WHOLE)?;
+    same(
+        &rt,
+        &written.as_slice(),
+        &b"refused-sdp form 2\n".as_slice(),
+        "a long description",
+    );
     same(&rt, &ended, &Ok(Status::BadSdp), "a long description");
     Ok(())
 }

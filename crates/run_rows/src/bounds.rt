@@ -1,12 +1,11 @@
 //! Settings and numbers at their bounds: as many clients and packets as a channel may have.
-use crate::row::{ACCESS_POINT, BOOK, Row, check, check_rows, opening_with};
+use crate::row::{ACCESS_POINT, BOOK, Row, opening_with};
 use std::alloc::{AllocError, Global};
 use std::fmt::Write;
-use std::test::Fail;
 
 /// Channel 65,535, client 2^48 - 1, packets 65,535 and 0 of the source, and the same numbers of
 /// retransmissions.
-const ROWS: [Row; 1] = [Row {
+pub const ROWS: &[Row] = &[Row {
     name: "the greatest numbers",
     changes: &[
         ("channel 7", "channel 65535"),
@@ -33,11 +32,6 @@ const ROWS: [Row; 1] = [Row {
     ],
 }];
 
-#[test]
-fn greatest_numbers(rt: HostRuntime) -> Result<(), Fail> {
-    check_rows(&rt, rt.alloc(), &ROWS)
-}
-
 /// The lines of 1,025 clients, each of which asks for packet 10, and the book's lines of them.
 fn asking_clients(alloc: Global) -> Result<(String, String), AllocError> {
     let mut lines = String::new(alloc);
@@ -52,9 +46,7 @@ fn asking_clients(alloc: Global) -> Result<(String, String), AllocError> {
 }
 
 /// A channel knows 1,024 clients. One more isn't taken by a request either; one of them is.
-#[test]
-fn most_clients(rt: HostRuntime) -> Result<(), Fail> {
-    let alloc = rt.alloc();
+pub fn most_clients(alloc: Global) -> Result<(String, String), AllocError> {
     let opening = opening_with(alloc, &[("clients 4", "clients 1024")])?;
     let (asking, told) = asking_clients(alloc)?;
     let trace = format!(in alloc;
@@ -71,7 +63,7 @@ end
 done 1028
 "
     )?;
-    check(&rt, alloc, "most clients", &trace, &book)
+    Ok((trace, book))
 }
 
 /// The lines of packets 0 to 32,768, and the book's lines of them.
@@ -86,9 +78,7 @@ fn packets(alloc: Global) -> Result<(String, String), AllocError> {
 }
 
 /// A ring holds 32,768 packets. Of one more than that, the first isn't held any longer.
-#[test]
-fn most_packets(rt: HostRuntime) -> Result<(), Fail> {
-    let alloc = rt.alloc();
+pub fn most_packets(alloc: Global) -> Result<(String, String), AllocError> {
     let opening = opening_with(alloc, &[("ring 64", "ring 32768")])?;
     let (lines, told) = packets(alloc)?;
     let trace = format!(in alloc;
@@ -97,5 +87,5 @@ fn most_packets(rt: HostRuntime) -> Result<(), Fail> {
     let book = format!(in alloc;
         "{BOOK}{told}32770 7 unheld 5 0\n32770 7 queued 5 65537\ndone 32770\n"
     )?;
-    check(&rt, alloc, "most packets", &trace, &book)
+    Ok((trace, book))
 }

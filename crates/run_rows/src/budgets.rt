@@ -1,8 +1,7 @@
 //! What bursts, a client and a channel may send in a tick, and how many clients a channel knows.
-use crate::row::{ACCESS_POINT, REQUEST, REQUEST_OF_6, Row, check_rows};
-use std::test::Fail;
+use crate::row::{ACCESS_POINT, REQUEST, REQUEST_OF_6, Row};
 
-const ROWS: [Row; 5] = [
+pub const ROWS: &[Row] = &[
     // Two bursts of 4,000 bytes a tick and a reserve of 1,500 make 9,500.
     Row {
         name: "share is just enough",
@@ -95,14 +94,9 @@ const ROWS: [Row; 5] = [
     },
 ];
 
-#[test]
-fn shares_and_clients(rt: HostRuntime) -> Result<(), Fail> {
-    check_rows(&rt, rt.alloc(), &ROWS)
-}
-
 /// Five packets of 1,500 bytes on the wire, and a burst of 2,999 bytes a tick that keeps up to
 /// 1,499 of what it leaves: 2,999, 4,498 and 4,497 bytes in its first ticks.
-const DEPTHS: [Row; 4] = [
+pub const DEPTHS: &[Row] = &[
     Row {
         name: "a burst keeps what it leaves",
         changes: &[
@@ -232,14 +226,9 @@ const DEPTHS: [Row; 4] = [
     },
 ];
 
-#[test]
-fn depths(rt: HostRuntime) -> Result<(), Fail> {
-    check_rows(&rt, rt.alloc(), &DEPTHS)
-}
-
 /// A packet of 1,500 bytes on the wire for three clients, and a share of 3,100: with the 1,400 that
 /// the channel keeps of a tick before there are 4,500.
-const SWELLS: [Row; 2] = [
+pub const SWELLS: &[Row] = &[
     Row {
         name: "a channel keeps what it leaves",
         changes: &[
@@ -304,8 +293,3 @@ const SWELLS: [Row; 2] = [
         ],
     },
 ];
-
-#[test]
-fn swells(rt: HostRuntime) -> Result<(), Fail> {
-    check_rows(&rt, rt.alloc(), &SWELLS)
-}

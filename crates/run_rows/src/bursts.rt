@@ -1,6 +1,5 @@
 //! Bursts from their request to their end, and the time at which they catch up (RFC 6285).
-use crate::row::{ACCESS_POINT, REQUEST, Row, check_rows};
-use std::test::Fail;
+use crate::row::{ACCESS_POINT, REQUEST, Row};
 
 /// Three packets of 1,500 bytes on the wire, the second of them the access point, and a rate of
 /// 1,500 bytes a tick: 3,000 bytes behind the second are caught up by 1 byte a tick.
@@ -34,7 +33,7 @@ pub const ONE_PACKET_PER_TICK: Row = Row {
     ],
 };
 
-const ROWS: [Row; 3] = [
+pub const ROWS: &[Row] = &[
     ONE_PACKET_PER_TICK,
     // Four packets are held, 65,548 to 65,551: the burst's first went.
     Row {
@@ -80,11 +79,6 @@ const ROWS: [Row; 3] = [
     },
 ];
 
-#[test]
-fn bursts(rt: HostRuntime) -> Result<(), Fail> {
-    check_rows(&rt, rt.alloc(), &ROWS)
-}
-
 /// A ring of four packets, each with 142 bytes on the wire, and one packet a tick is declared.
 const SMALL_RING: &[(&str, &str)] = &[
     ("ring 64", "ring 4"),
@@ -94,7 +88,7 @@ const SMALL_RING: &[(&str, &str)] = &[
 ];
 
 /// The join time that a burst was told is kept while the source sends what it declares.
-const JOIN_TIMES: [Row; 4] = [
+pub const JOIN_TIMES: &[Row] = &[
     Row {
         name: "caught up in three ticks",
         changes: &[
@@ -196,8 +190,3 @@ const JOIN_TIMES: [Row; 4] = [
         ],
     },
 ];
-
-#[test]
-fn join_times(rt: HostRuntime) -> Result<(), Fail> {
-    check_rows(&rt, rt.alloc(), &JOIN_TIMES)
-}

@@ -1,7 +1,8 @@
 //! Sources and sinks that fail, or that move few bytes a call, and input that is cut.
 use crate::bursts::ONE_PACKET_PER_TICK;
 use crate::row::{
-    ACCESS_POINT, BOOK, Calls, OPENING, REQUEST, Row, WHOLE, book_of, check, ran, trace_of,
+    ACCESS_POINT, BOOK, Calls, OPENING, REQUEST, RUN, Row, WHOLE, book_of, check, ran, same,
+    trace_of,
 };
 use crate::stops::STOP_ACROSS_THE_WRAP;
 use rams_replay::Status;
@@ -19,30 +20,24 @@ fn front(
     puts: Calls<'_>,
 ) -> Result<(Status, usize), Fail> {
     let trace = trace_of(alloc, row)?;
-    let (status, sink) = ran(rt, alloc, trace.as_bytes(), takes, puts)?;
-    let book = book_of(alloc, row)?;
-    assert!(rt; book.as_bytes().starts_with(sink.held()));
-    Ok((status, sink.held().len()))
+    let (status, text) = ran(alloc, RUN, trace.as_bytes(), takes, puts)?;
+    let book = book_of(alloc, RUN, row)?;
+    assert!(rt; book.as_bytes().starts_with(&text));
+    Ok((status, text.len()))
 }
 
 /// A source gives a byte a call, and fails at each of its calls in turn. Until the opening is read
 /// the book has its first line at most.
 #[test]
 fn a_source_fails_at_each_byte(rt: HostRuntime) -> Result<(), Fail> {
-    let alloc = rt.alloc();
-    let calls = trace_of(alloc, &STOP_ACROSS_THE_WRAP)?.len();
+    let calls = trace_of(rt.alloc(), &STOP_ACROSS_THE_WRAP)?.len();
     for call in 0..calls {
-        let fails = [call as u64];
-        let takes = Calls {
-            most: 1,
-            fails: &fails,
-        };
-        let (status, length) = front(&rt, alloc, &STOP_ACROSS_THE_WRAP, takes, WHOLE)?;
-        assert_eq!(rt; status, Status::ReadFault, "call {call}");
-        assert!(rt;
-            OPENING.len() <= call || length <= BOOK.len(),
-            "call {call}"
-        );
+        let fails = &[call as u64];
+        let takes = Calls { most: 1, fails };
+        let got = front(&rt, rt.alloc(), &STOP_ACROSS_THE_WRAP, takes, WHOLE)?;
+        same(&rt, &got.0, &Status::ReadFault, &call);
+        let is_short = OPENING.len() <= call || got.1 <= BOOK.len();
+        same(&rt, &is_short, &true, &call);
     }
     Ok(())
 }
@@ -50,30 +45,25 @@ fn a_source_fails_at_each_byte(rt: HostRuntime) -> Result<(), Fail> {
 /// The first call of a source gives the whole trace. The second would fail, and isn't made.
 #[test]
 fn no_more_is_taken_than_needed(rt: HostRuntime) -> Result<(), Fail> {
-    let alloc = rt.alloc();
-    let whole = book_of(alloc, &STOP_ACROSS_THE_WRAP)?.len();
+    let whole = book_of(rt.alloc(), RUN, &STOP_ACROSS_THE_WRAP)?.len();
     let takes = Calls {
         most: 4_096,
         fails: &[1],
     };
-    let got = front(&rt, alloc, &STOP_ACROSS_THE_WRAP, takes, WHOLE)?;
-    assert_eq!(rt; got, (Status::Done, whole));
+    let got = front(&rt, rt.alloc(), &STOP_ACROSS_THE_WRAP, takes, WHOLE)?;
+    same(&rt, &got, &(Status::Done, whole), &"the second call");
     Ok(())
 }
 
 /// A sink takes a byte a call, and fails at each of its calls in turn.
 #[test]
 fn a_sink_fails_at_each_byte(rt: HostRuntime) -> Result<(), Fail> {
-    let alloc = rt.alloc();
-    let whole = book_of(alloc, &STOP_ACROSS_THE_WRAP)?.len();
+    let whole = book_of(rt.alloc(), RUN, &STOP_ACROSS_THE_WRAP)?.len();
     for call in 0..whole {
-        let fails = [call as u64];
-        let puts = Calls {
-            most: 1,
-            fails: &fails,
-        };
-        let got = front(&rt, alloc, &STOP_ACROSS_THE_WRAP, WHOLE, puts)?;
-        assert_eq!(rt; got, (Status::WriteFault, call));
+        let fails = &[call as u64];
+        let puts = Calls { most: 1, fails };
+        let got = front(&rt, rt.alloc(), &STOP_ACROSS_THE_WRAP, WHOLE, puts)?;
+        same(&rt, &got, &(Status::WriteFault, call), &call);
     }
     Ok(())
 }
@@ -82,18 +72,17 @@ fn a_sink_fails_at_each_byte(rt: HostRuntime) -> Result<(), Fail> {
 /// The second is.
 #[test]
 fn a_sink_fails_at_each_call(rt: HostRuntime) -> Result<(), Fail> {
-    let alloc = rt.alloc();
     for call in 0..100 {
-        let fails = [call];
+        let fails = &[call];
         let puts = Calls {
             most: 100_000,
-            fails: &fails,
+            fails,
         };
-        let (status, _) = front(&rt, alloc, &ONE_PACKET_PER_TICK, WHOLE, puts)?;
+        let (status, _) = front(&rt, rt.alloc(), &ONE_PACKET_PER_TICK, WHOLE, puts)?;
         if 1 < call && status == Status::Done {
             break;
         }
-        assert_eq!(rt; status, Status::WriteFault, "call {call}");
+        same(&rt, &status, &Status::WriteFault, &call);
     }
     Ok(())
 }
@@ -101,31 +90,34 @@ fn a_sink_fails_at_each_call(rt: HostRuntime) -> Result<(), Fail> {
 /// The book doesn't depend on how many bytes a call of the source gives, or one of the sink takes.
 #[test]
 fn pieces_of_any_size(rt: HostRuntime) -> Result<(), Fail> {
-    let alloc = rt.alloc();
-    let whole = book_of(alloc, &ONE_PACKET_PER_TICK)?.len();
+    let whole = book_of(rt.alloc(), RUN, &ONE_PACKET_PER_TICK)?.len();
     for most in [1, 2, 3, 7, 4_096] {
         let pieces = Calls { most, fails: &[] };
-        let got = front(&rt, alloc, &ONE_PACKET_PER_TICK, pieces, pieces)?;
-        assert_eq!(rt; got, (Status::Done, whole), "{most} bytes");
+        let got = front(&rt, rt.alloc(), &ONE_PACKET_PER_TICK, pieces, pieces)?;
+        same(&rt, &got, &(Status::Done, whole), &most);
     }
     Ok(())
 }
 
-/// A trace is cut behind each of its bytes. It may lack its last line feed, and nothing else.
+/// How the run of a front of a trace ends. It may lack its last line feed, and nothing else.
+fn expect_cut(rt: &impl Abort, alloc: Global, front: &[u8]) -> Result<(), Fail> {
+    let (status, _) = ran(alloc, RUN, front, WHOLE, WHOLE)?;
+    let wanted = if front.ends_with(b"end") {
+        Status::Done
+    } else {
+        Status::BadTrace
+    };
+    same(rt, &status, &wanted, &front.len());
+    Ok(())
+}
+
+/// A trace is cut behind each of its bytes.
 #[test]
 fn cut_traces(rt: HostRuntime) -> Result<(), Fail> {
-    let alloc = rt.alloc();
-    let trace = trace_of(alloc, &STOP_ACROSS_THE_WRAP)?;
+    let trace = trace_of(rt.alloc(), &STOP_ACROSS_THE_WRAP)?;
     let bytes = trace.as_bytes();
     for length in 0..bytes.len() {
-        let (status, _) = ran(&rt, alloc, &bytes[..length], WHOLE, WHOLE)?;
-        let whole = bytes[..length].ends_with(b"end");
-        let wanted = if whole {
-            Status::Done
-        } else {
-            Status::BadTrace
-        };
-        assert_eq!(rt; status, wanted, "{length} bytes");
+        expect_cut(&rt, rt.alloc(), &bytes[..length])?;
     }
     Ok(())
 }
@@ -146,25 +138,26 @@ fn fault_of(length: usize) -> Option<&'static str> {
 
 /// The first bytes of a compound datagram are refused whole, or have no request, and change
 /// nothing.
+fn expect_cut_datagram(rt: &impl Abort, alloc: Global, length: usize) -> Result<(), Fail> {
+    let cut = match COMPOUND.get(..length.saturating_mul(2)) {
+        Some("") | None => "-",
+        Some(digits) => digits,
+    };
+    let trace = format!(in alloc; "{OPENING}{ACCESS_POINT}\nfb 7 5 {cut}\n{REQUEST}\ntick\nend\n")?;
+    let answer = match fault_of(length) {
+        Some(fault) => format!(in alloc; "2 7 bad-feedback 5 {fault}\n")?,
+        None => String::new(alloc),
+    };
+    let book = format!(in alloc;
+        "{BOOK}1 7 took 65546\n{answer}3 7 accept 5 first 65546 rate 4000 join 1\n4 7 burst 5 65546 500\ndone 4\n"
+    )?;
+    check(rt, alloc, RUN, cut, &trace, &book)
+}
+
 #[test]
 fn cut_datagrams(rt: HostRuntime) -> Result<(), Fail> {
-    let alloc = rt.alloc();
     for length in 0..COMPOUND.len() / 2 {
-        let cut = match COMPOUND.get(..2 * length) {
-            Some("") | None => "-",
-            Some(digits) => digits,
-        };
-        let trace = format!(in alloc;
-            "{OPENING}{ACCESS_POINT}\nfb 7 5 {cut}\n{REQUEST}\ntick\nend\n"
-        )?;
-        let answer = match fault_of(length) {
-            Some(fault) => format!(in alloc; "2 7 bad-feedback 5 {fault}\n")?,
-            None => String::new(alloc),
-        };
-        let book = format!(in alloc;
-            "{BOOK}1 7 took 65546\n{answer}3 7 accept 5 first 65546 rate 4000 join 1\n4 7 burst 5 65546 500\ndone 4\n"
-        )?;
-        check(&rt, alloc, cut, &trace, &book)?;
+        expect_cut_datagram(&rt, rt.alloc(), length)?;
     }
     Ok(())
 }

@@ -1,8 +1,8 @@
 //! Traces of the commands `run` and `meet` and their books, worked out by hand, as tables; and runs of the
 //! other commands.
 //!
-//! `row` says what a row is, and runs it. Each of the other modules has the rows of one subject:
-//! tables of data, and where a trace is long the few functions that write it out.
+//! `row` says what a row is, and runs it; `tables` names all rows, and runs them. Each of the other modules
+//! has the rows of one subject: tables of data, and where a trace is long the few functions that write it out.
 #![tactic(auto)]
 
 #[cfg(test)]
@@ -35,6 +35,8 @@ mod settings;
 mod stops;
 #[cfg(test)]
 mod summaries;
+#[cfg(test)]
+mod tables;
 #[cfg(test)]
 mod threads;
 #[cfg(test)]

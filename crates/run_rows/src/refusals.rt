@@ -1,10 +1,10 @@
 //! Lines that a trace may not have, or not there.
-use crate::row::{BOOK, OPENING, Row, check, check_rows, opening_with};
+use crate::row::{BOOK, OPENING, RUN, Row, check, opening_with};
 use std::alloc::Global;
 use std::process::Abort;
 use std::test::Fail;
 
-const ROWS: [Row; 8] = [
+pub const ROWS: &[Row] = &[
     Row {
         name: "half a byte",
         changes: &[],
@@ -58,10 +58,58 @@ const ROWS: [Row; 8] = [
     },
 ];
 
-#[test]
-fn refused_traces(rt: HostRuntime) -> Result<(), Fail> {
-    check_rows(&rt, rt.alloc(), &ROWS)
-}
+/// Heads, and why each is refused.
+const HEADS: &[(&str, &str)] = &[
+    ("", "order"),
+    ("rams-trace 3 tick 10 link 1500\n", "form"),
+    ("rams-trace 1 tick 0 link 1500\n", "range"),
+    ("rams-trace 1 tick 1001 link 1500\n", "range"),
+    ("rams-trace 1 tick 10 link 1499\n", "range"),
+    ("tick\n", "order"),
+    ("end\n", "order"),
+];
+
+/// A setting of the channel, what stands in its place, and why that is refused.
+const SETTINGS: &[(&str, &str, &str)] = &[
+    ("share 10000", "share 5499", "rule-3"),
+    ("share 10000", "share 100001", "rule-4"),
+    ("rtx 99", "rtx 33", "rule-1"),
+    ("declared 100", "declared 2501", "rule-2"),
+    ("channel 7", "channel 65536", "range"),
+    ("ring 64", "ring 0", "range"),
+    ("ring 64", "ring 32769", "range"),
+    ("window 0", "window 65", "range"),
+    ("minwire 42", "minwire 41", "range"),
+    ("clients 4", "clients 1025", "range"),
+    ("ring 64", "ring two", "form"),
+    ("access marker", "access all", "form"),
+];
+
+/// Lines behind the opening, which is lines 1 and 2, and why each is refused.
+const LINES: &[(&str, &str)] = &[
+    ("hello", "form"),
+    ("", "form"),
+    ("tick ", "form"),
+    ("live 7  8021000a0000000011223344", "form"),
+    ("live 7 8021000A0000000011223344", "form"),
+    ("live 07 80", "form"),
+    ("tuned 7", "form"),
+    ("channel", "form"),
+    ("tune 7 5", "form"),
+    ("rams-trace 1 tick 0 link 1500", "order"),
+    ("live 0 80", "range"),
+    ("live 65536 80", "range"),
+    // a number has at most 15 digits
+    ("live 999999999999999 80", "range"),
+    ("live 1000000000000000 80", "form"),
+    ("fb 7 281474976710656 80", "range"),
+    // what a receiver does
+    ("tune 7 5 0000c001", "order"),
+    ("give 0", "order"),
+    ("mcast 7 5 65546", "order"),
+    ("ask 7 5", "order"),
+    ("drop 7 5", "order"),
+];
 
 /// A trace is refused at a line, for this reason.
 fn refuses(
@@ -72,78 +120,20 @@ fn refuses(
     word: &str,
 ) -> Result<(), Fail> {
     let book = format!(in alloc; "{BOOK}refused {number} {word}\n")?;
-    check(rt, alloc, trace, trace, &book)
+    check(rt, alloc, RUN, trace, trace, &book)
 }
 
 #[test]
-fn refused_heads(rt: HostRuntime) -> Result<(), Fail> {
+fn refused_traces(rt: HostRuntime) -> Result<(), Fail> {
     let alloc = rt.alloc();
-    for (trace, word) in [
-        ("", "order"),
-        ("rams-trace 3 tick 10 link 1500\n", "form"),
-        ("rams-trace 1 tick 0 link 1500\n", "range"),
-        ("rams-trace 1 tick 1001 link 1500\n", "range"),
-        ("rams-trace 1 tick 10 link 1499\n", "range"),
-        ("tick\n", "order"),
-        ("end\n", "order"),
-    ] {
+    for (trace, word) in HEADS {
         refuses(&rt, alloc, trace, 1, word)?;
     }
-    Ok(())
-}
-
-/// Channels, each with one setting changed.
-#[test]
-fn refused_channels(rt: HostRuntime) -> Result<(), Fail> {
-    let alloc = rt.alloc();
-    for (from, to, word) in [
-        ("share 10000", "share 5499", "rule-3"),
-        ("share 10000", "share 100001", "rule-4"),
-        ("rtx 99", "rtx 33", "rule-1"),
-        ("declared 100", "declared 2501", "rule-2"),
-        ("channel 7", "channel 65536", "range"),
-        ("ring 64", "ring 0", "range"),
-        ("ring 64", "ring 32769", "range"),
-        ("window 0", "window 65", "range"),
-        ("minwire 42", "minwire 41", "range"),
-        ("clients 4", "clients 1025", "range"),
-        ("ring 64", "ring two", "form"),
-        ("access marker", "access all", "form"),
-    ] {
-        let trace = opening_with(alloc, &[(from, to)])?;
+    for (from, to, word) in SETTINGS {
+        let trace = opening_with(alloc, &[(*from, *to)])?;
         refuses(&rt, alloc, &trace, 2, word)?;
     }
-    Ok(())
-}
-
-/// Lines behind the opening, which is lines 1 and 2.
-#[test]
-fn refused_lines(rt: HostRuntime) -> Result<(), Fail> {
-    let alloc = rt.alloc();
-    for (line, word) in [
-        ("hello", "form"),
-        ("", "form"),
-        ("tick ", "form"),
-        ("live 7  8021000a0000000011223344", "form"),
-        ("live 7 8021000A0000000011223344", "form"),
-        ("live 07 80", "form"),
-        ("tuned 7", "form"),
-        ("channel", "form"),
-        ("tune 7 5", "form"),
-        ("rams-trace 1 tick 0 link 1500", "order"),
-        ("live 0 80", "range"),
-        ("live 65536 80", "range"),
-        // a number has at most 15 digits
-        ("live 999999999999999 80", "range"),
-        ("live 1000000000000000 80", "form"),
-        ("fb 7 281474976710656 80", "range"),
-        // what a receiver does
-        ("tune 7 5 0000c001", "order"),
-        ("give 0", "order"),
-        ("mcast 7 5 65546", "order"),
-        ("ask 7 5", "order"),
-        ("drop 7 5", "order"),
-    ] {
+    for (line, word) in LINES {
         let trace = format!(in alloc; "{OPENING}{line}\n")?;
         refuses(&rt, alloc, &trace, 3, word)?;
     }

@@ -1,8 +1,7 @@
 //! Requests for a burst (RFC 6285, RAMS-R) and other feedback, and what each is answered.
-use crate::row::{ACCESS_POINT, REQUEST, Row, check_rows};
-use std::test::Fail;
+use crate::row::{ACCESS_POINT, REQUEST, Row};
 
-const ROWS: [Row; 8] = [
+pub const ROWS: &[Row] = &[
     Row {
         name: "no eligible access point",
         changes: &[],
@@ -155,13 +154,8 @@ const ROWS: [Row; 8] = [
     },
 ];
 
-#[test]
-fn requests(rt: HostRuntime) -> Result<(), Fail> {
-    check_rows(&rt, rt.alloc(), &ROWS)
-}
-
 /// Access points of ages 200 ms and 100 ms, and a request that says how much is to be buffered.
-const BUFFER_FILL: [Row; 4] = [
+pub const BUFFER_FILL: &[Row] = &[
     Row {
         name: "at least 150 ms",
         changes: &[],
@@ -239,8 +233,3 @@ const BUFFER_FILL: [Row; 4] = [
         ],
     },
 ];
-
-#[test]
-fn buffer_fill(rt: HostRuntime) -> Result<(), Fail> {
-    check_rows(&rt, rt.alloc(), &BUFFER_FILL)
-}

@@ -2,6 +2,7 @@
 use ram_io::{MemSink, MemSource, Open};
 use rams_replay::{Octets, Status, plain};
 use std::alloc::{AllocError, Global};
+use std::fmt::Debug;
 use std::process::Abort;
 use std::str;
 use std::test::Fail;
@@ -104,12 +105,7 @@ pub fn trace_of(alloc: Global, row: &Row) -> Result<String, AllocError> {
 }
 
 /// The text of a row's book, as far as the row speaks of it.
-pub fn book_of(alloc: Global, row: &Row) -> Result<String, AllocError> {
-    book_by(alloc, RUN, row)
-}
-
-/// The same of this command.
-fn book_by(alloc: Global, command: Command, row: &Row) -> Result<String, AllocError> {
+pub fn book_of(alloc: Global, command: Command, row: &Row) -> Result<String, AllocError> {
     let lines = text_of(alloc, row.book)?;
     let first = command.first;
     spelled(alloc, &format!(in alloc; "{first}{lines}")?)
@@ -128,39 +124,67 @@ pub const WHOLE: Calls<'static> = Calls {
     fails: &[],
 };
 
-/// How the command `run` ends over a source of this trace, and the sink with what it wrote.
-pub fn ran(
-    rt: &impl Abort,
-    alloc: Global,
-    trace: &[u8],
-    takes: Calls<'_>,
-    puts: Calls<'_>,
-) -> Result<(Status, MemSink), Fail> {
-    ran_by(rt, alloc, RUN, trace, takes, puts)
+/// Calls that move 100 bytes at most, and don't fail.
+pub const PIECES: Calls<'static> = Calls {
+    most: 100,
+    fails: &[],
+};
+
+/// The words of a command line.
+pub fn octets_of(alloc: Global, words: &[&str]) -> Result<Vec<Octets>, AllocError> {
+    let mut octets = Vec::new(alloc);
+    for word in words {
+        octets.push(Octets::of(word.as_bytes().to_vec(alloc)?))?;
+    }
+    Ok(octets)
 }
 
-/// The same of this command.
-pub fn ran_by(
-    rt: &impl Abort,
+/// The call of the commands that wait for nobody. It stands alone, as its contract is long.
+fn status_of(
+    alloc: Global,
+    words: &[Octets],
+    source: &mut MemSource,
+    sink: &mut MemSink,
+) -> Status {
+    plain(alloc, words, source, sink, &Open)
+}
+
+/// How these words end over a source of this input, and what is written to a sink with so much room.
+pub fn written(
+    alloc: Global,
+    words: &[&str],
+    input: Vec<u8>,
+    takes: Calls<'_>,
+    puts: Calls<'_>,
+    room: usize,
+) -> Result<(Status, Vec<u8>), Fail> {
+    let words = octets_of(alloc, words)?;
+    let mut source = MemSource::new(input, takes.most.max(1), takes.fails.to_vec(alloc)?);
+    let sink = MemSink::new(alloc, room, puts.most.max(1), puts.fails.to_vec(alloc)?);
+    let mut sink = sink.ok().ok_or("memory")?;
+    let status = status_of(alloc, &words, &mut source, &mut sink);
+    Ok((status, sink.held().to_vec(alloc)?))
+}
+
+/// How the command ends over a source of this trace, and what it writes.
+pub fn ran(
     alloc: Global,
     command: Command,
     trace: &[u8],
     takes: Calls<'_>,
     puts: Calls<'_>,
-) -> Result<(Status, MemSink), Fail> {
-    let fails = takes.fails.to_vec(alloc)?;
-    let mut source = MemSource::new(trace.to_vec(alloc)?, takes.most.max(1), fails);
-    let fails = puts.fails.to_vec(alloc)?;
-    let sink = MemSink::new(alloc, 10_000_000, puts.most.max(1), fails);
-    let mut sink = sink.ok().ok_or("memory")?;
-    let mut words = Vec::new(alloc);
-    words.push(Octets::of(command.word.as_bytes().to_vec(alloc)?))?;
-    let status = plain(alloc, &words, &mut source, &mut sink, &Open);
-    Ok((status, sink))
+) -> Result<(Status, Vec<u8>), Fail> {
+    let input = trace.to_vec(alloc)?;
+    written(alloc, &[command.word], input, takes, puts, 10_000_000)
+}
+
+/// The value is the one that is wanted of this.
+pub fn same<T: Debug + PartialEq, C: Debug>(rt: &impl Abort, got: &T, want: &T, of: &C) {
+    assert_eq!(rt; *got, *want, "{of:?}");
 }
 
 /// How a run ends that writes this book.
-fn status_of(book: &str) -> Status {
+fn end_of(book: &str) -> Status {
     if book.contains("\nrefused ") {
         Status::BadTrace
     } else {
@@ -180,54 +204,30 @@ fn compare(rt: &impl Abort, name: &str, book: &str, wanted: &str) {
         if is_datagram(line) && !next.is_some_and(is_datagram) {
             continue;
         }
-        assert_eq!(rt; Some(line), next, "{name}");
+        same(rt, &Some(line), &next, &name);
         next = wanted.next();
     }
-    assert_eq!(rt; next, None, "{name}");
+    same(rt, &None, &next, &name);
 }
 
 /// The run of a trace writes this book, but for datagrams that aren't wanted, and ends as it says.
 pub fn check(
     rt: &impl Abort,
     alloc: Global,
-    name: &str,
-    trace: &str,
-    book: &str,
-) -> Result<(), Fail> {
-    check_by(rt, alloc, RUN, name, trace, book)
-}
-
-/// The same of this command.
-pub fn check_by(
-    rt: &impl Abort,
-    alloc: Global,
     command: Command,
     name: &str,
     trace: &str,
     book: &str,
 ) -> Result<(), Fail> {
-    let (status, sink) = ran_by(rt, alloc, command, trace.as_bytes(), WHOLE, WHOLE)?;
-    compare(rt, name, str::from_utf8(sink.held())?, book);
-    assert_eq!(rt; status, status_of(book), "{name}");
+    let (status, text) = ran(alloc, command, trace.as_bytes(), WHOLE, WHOLE)?;
+    compare(rt, name, str::from_utf8(&text)?, book);
+    same(rt, &status, &end_of(book), &name);
     Ok(())
 }
 
-/// Each row's trace has its book.
-pub fn check_rows(rt: &impl Abort, alloc: Global, rows: &[Row]) -> Result<(), Fail> {
-    check_rows_by(rt, alloc, RUN, rows)
-}
-
-/// The same of this command.
-pub fn check_rows_by(
-    rt: &impl Abort,
-    alloc: Global,
-    command: Command,
-    rows: &[Row],
-) -> Result<(), Fail> {
-    for row in rows {
-        let trace = trace_of(alloc, row)?;
-        let book = book_by(alloc, command, row)?;
-        check_by(rt, alloc, command, row.name, &trace, &book)?;
-    }
-    Ok(())
+/// A row's trace has its book.
+pub fn check_row(rt: &impl Abort, alloc: Global, command: Command, row: &Row) -> Result<(), Fail> {
+    let trace = trace_of(alloc, row)?;
+    let book = book_of(alloc, command, row)?;
+    check(rt, alloc, command, row.name, &trace, &book)
 }

@@ -1,9 +1,7 @@
 //! The commands `sdp`, `describe` and `pcap`: their words, and a run of each.
-use crate::row::OPENING;
-use ram_io::{MemSink, MemSource, Open};
-use rams_replay::{Octets, Status, plain};
+use crate::row::{OPENING, PIECES, same, written};
+use rams_replay::Status;
 use std::alloc::Global;
-use std::process::Abort;
 use std::str;
 use std::test::Fail;
 
@@ -39,7 +37,7 @@ refused-capture 0 short
 ";
 
 /// The words, what stands behind the opening, how the command ends, and with what text.
-const ROWS: [(&[&str], &str, Status, &str); 17] = [
+const ROWS: &[(&[&str], &str, Status, &str)] = &[
     (&["sdp"], OFFER, Status::Done, SET),
     (&["sdp"], "end\n", Status::BadSdp, "refused-sdp version\n"),
     (&["sdp"], "tick\n", Status::BadTrace, "refused 3 order\n"),
@@ -74,31 +72,18 @@ const ROWS: [(&[&str], &str, Status, &str); 17] = [
     (&["pcap", "65001"], "end\n", Status::Words, ""),
 ];
 
-/// How the command of these words ends over the opening and these lines, and the sink with what it wrote.
-fn ran(
-    rt: &impl Abort,
-    alloc: Global,
-    words: &[&str],
-    lines: &str,
-) -> Result<(Status, MemSink), Fail> {
-    let mut octets = Vec::new(alloc);
-    for word in words {
-        octets.push(Octets::of(word.as_bytes().to_vec(alloc)?))?;
-    }
+/// How the command of these words ends over the opening and these lines, and what it writes.
+fn ran(alloc: Global, words: &[&str], lines: &str) -> Result<(Status, Vec<u8>), Fail> {
     let input = format!(in alloc; "{OPENING}{lines}")?;
-    let mut source = MemSource::new(input.into_bytes(), 100, Vec::new(alloc));
-    let sink = MemSink::new(alloc, 1_000, 100, Vec::new(alloc));
-    let mut sink = sink.ok().ok_or("memory")?;
-    let status = plain(alloc, &octets, &mut source, &mut sink, &Open);
-    Ok((status, sink))
+    written(alloc, words, input.into_bytes(), PIECES, PIECES, 1_000)
 }
 
 #[test]
 fn settings_and_descriptions_are_written(rt: HostRuntime) -> Result<(), Fail> {
     for (words, lines, status, text) in ROWS {
-        let (got, sink) = ran(&rt, rt.alloc(), words, lines)?;
-        assert_eq!(rt; got, status, "{words:?}");
-        assert_eq!(rt; str::from_utf8(sink.held())?, text, "{words:?}");
+        let (got, written) = ran(rt.alloc(), words, lines)?;
+        same(&rt, &got, status, words);
+        same(&rt, &str::from_utf8(&written)?, text, words);
     }
     Ok(())
 }

@@ -3,5 +3,5 @@
 mod gates;
 mod meetings;
 mod refusals;
-mod run;
+pub mod run;
 mod texts;

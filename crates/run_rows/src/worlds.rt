@@ -1,8 +1,9 @@
 //! Worlds of set-tops: traces of the command `meet` and their books.
-use crate::row::{ACCESS_POINT, Calls, MEET, OPENING, Row, WHOLE, check_by, check_rows_by, ran_by};
+use crate::row::{ACCESS_POINT, Calls, MEET, OPENING, Row, WHOLE, ran, same};
 use rams_replay::Status;
 use std::alloc::{AllocError, Global};
 use std::fmt::Write;
+use std::process::Abort;
 use std::test::Fail;
 
 /// Packets 10 to 15 of the source; client 5 is tuned, and its request comes to the server. The request
@@ -36,7 +37,7 @@ const BURST_BOOK: &str = "9 7 info 5 taken
 10 7 burst 5 65551 505";
 
 /// A set-top loses the third and the fourth packet of its burst, joins, asks for them and leaves.
-const HANDOVER: Row = Row {
+pub const HANDOVERS: &[Row] = &[Row {
     name: "handover",
     changes: &[],
     lines: &[
@@ -79,10 +80,10 @@ const HANDOVER: Row = Row {
         "30 7 no-receiver 5",
         "done 30",
     ],
-};
+}];
 
 /// Which packet a set-top plays from.
-const FIRSTS: [Row; 2] = [
+pub const FIRSTS: &[Row] = &[
     Row {
         name: "no burst without its RAMS-I",
         changes: &[],
@@ -118,7 +119,7 @@ const FIRSTS: [Row; 2] = [
 ];
 
 /// What isn't delivered, each for the first reason that is true.
-const REFUSALS: [Row; 4] = [
+pub const REFUSALS: &[Row] = &[
     Row {
         name: "no datagram",
         changes: &[],
@@ -169,7 +170,7 @@ const REFUSALS: [Row; 4] = [
 ];
 
 /// Lines that are refused.
-const REFUSED: [Row; 3] = [
+pub const REFUSED: &[Row] = &[
     Row {
         name: "form",
         changes: &[],
@@ -194,7 +195,7 @@ const REFUSED: [Row; 3] = [
 ];
 
 /// A packet of number next + 16,384 is beyond what a set-top keeps; the one below it isn't.
-fn far_ahead(alloc: Global) -> Result<(String, String), AllocError> {
+pub fn far_ahead(alloc: Global) -> Result<(String, String), AllocError> {
     let mut trace = format!(in alloc; "{OPENING}{ACCESS_POINT}\n")?;
     trace.push_str("tune 7 5 0000c001\ngive 0\ngive 1\ntick\ngive 2\n")?;
     let mut book = String::from_str(alloc, MEET.first)?;
@@ -235,67 +236,61 @@ fn events(alloc: Global, count: u32, end: &str) -> Result<(String, String), Allo
     Ok((trace, book))
 }
 
-/// The rows of set-tops.
-#[test]
-fn worlds(rt: HostRuntime) -> Result<(), Fail> {
-    let alloc = rt.alloc();
-    check_rows_by(&rt, alloc, MEET, &[HANDOVER])?;
-    check_rows_by(&rt, alloc, MEET, &FIRSTS)?;
-    check_rows_by(&rt, alloc, MEET, &REFUSALS)?;
-    check_rows_by(&rt, alloc, MEET, &REFUSED)?;
-    let (trace, book) = far_ahead(alloc)?;
-    check_by(&rt, alloc, MEET, "beyond", &trace, &book)?;
-    Ok(())
-}
+/// So many events, how the book ends, and how the command does. 100,000 are served, and none after them.
+const LENGTHS: &[(u32, &str, Status)] = &[
+    (100_000, "done 100000\n", Status::Done),
+    (100_001, "too-long\n", Status::TooLong),
+];
 
-/// 100,000 events are served, and none after them.
 #[test]
 fn most_events_of_a_world(rt: HostRuntime) -> Result<(), Fail> {
-    let alloc = rt.alloc();
-    for (count, end, status) in [
-        (100_000, "done 100000\n", Status::Done),
-        (100_001, "too-long\n", Status::TooLong),
-    ] {
-        let (trace, book) = events(alloc, count, end)?;
-        let (got, sink) = ran_by(&rt, alloc, MEET, trace.as_bytes(), WHOLE, WHOLE)?;
-        assert_eq!(rt; got, status);
-        assert!(rt; sink.held() == book.as_bytes(), "{count} events");
+    for (count, end, status) in LENGTHS {
+        let (trace, book) = events(rt.alloc(), *count, end)?;
+        let (got, text) = ran(rt.alloc(), MEET, trace.as_bytes(), WHOLE, WHOLE)?;
+        same(&rt, &got, status, count);
+        same(&rt, &(text.as_slice() == book.as_bytes()), &true, count);
     }
     Ok(())
 }
 
-/// A source that fails leaves a front of the book of the lines that were read, a sink that fails a front
-/// of the book.
+/// Two deliveries of nothing, and their book.
+const NOTHING: &str = "give 99\ngive 98\nend\n";
+
+const NOTHING_BOOK: &str = "rams-world 1\n1 no-datagram 99\n2 no-datagram 98\ndone 2\n";
+
+/// How the command ends over the opening and these, and how many bytes of the book are written, and no others.
+fn front(
+    rt: &impl Abort,
+    alloc: Global,
+    takes: Calls<'_>,
+    puts: Calls<'_>,
+) -> Result<(Status, usize), Fail> {
+    let trace = format!(in alloc; "{OPENING}{NOTHING}")?;
+    let (status, text) = ran(alloc, MEET, trace.as_bytes(), takes, puts)?;
+    assert!(rt; NOTHING_BOOK.as_bytes().starts_with(&text));
+    Ok((status, text.len()))
+}
+
+/// A source that fails leaves a front of the book of the lines that were read.
 #[test]
 fn worlds_are_cut_off(rt: HostRuntime) -> Result<(), Fail> {
-    let alloc = rt.alloc();
-    let trace = format!(in alloc; "{OPENING}give 99\ngive 98\nend\n")?;
-    let book = "rams-world 1\n1 no-datagram 99\n2 no-datagram 98\ndone 2\n";
-    let head = OPENING.len();
-    for call in 0..trace.len() {
-        let fails = [call as u64];
-        let takes = Calls {
-            most: 1,
-            fails: &fails,
-        };
-        let (status, sink) = ran_by(&rt, alloc, MEET, trace.as_bytes(), takes, WHOLE)?;
-        assert_eq!(rt; status, Status::ReadFault, "{call}");
-        assert!(rt; book.as_bytes().starts_with(sink.held()), "{call}");
-        assert!(rt;
-            head <= call || sink.held().len() <= MEET.first.len(),
-            "{call}"
-        );
+    for call in 0..OPENING.len() + NOTHING.len() {
+        let fails = &[call as u64];
+        let (status, length) = front(&rt, rt.alloc(), Calls { most: 1, fails }, WHOLE)?;
+        same(&rt, &status, &Status::ReadFault, &call);
+        let is_short = OPENING.len() <= call || length <= MEET.first.len();
+        same(&rt, &is_short, &true, &call);
     }
-    for call in 0..book.len() {
-        let fails = [call as u64];
-        let puts = Calls {
-            most: 1,
-            fails: &fails,
-        };
-        let (status, sink) = ran_by(&rt, alloc, MEET, trace.as_bytes(), WHOLE, puts)?;
-        assert_eq!(rt; status, Status::WriteFault, "{call}");
-        assert!(rt; book.as_bytes().starts_with(sink.held()), "{call}");
-        assert_eq!(rt; sink.held().len(), call);
+    Ok(())
+}
+
+/// A sink that fails leaves a front of the book.
+#[test]
+fn books_of_worlds_are_cut_off(rt: HostRuntime) -> Result<(), Fail> {
+    for call in 0..NOTHING_BOOK.len() {
+        let fails = &[call as u64];
+        let got = front(&rt, rt.alloc(), WHOLE, Calls { most: 1, fails })?;
+        same(&rt, &got, &(Status::WriteFault, call), &call);
     }
     Ok(())
 }

@@ -1,7 +1,8 @@
 //! Lists that wait for each other inside the top call: none of them is served before the other begins.
 use super::gates::{Point, Sign, Stop, Stops};
-use super::run::{sink_of, source_of, status_of};
+use super::run::ran;
 use super::texts::EARLY_AND_ALREADY;
+use crate::row::same;
 use rams_replay::Status;
 use std::alloc::Global;
 use std::process::Abort;
@@ -68,11 +69,9 @@ fn expect_held(
     stops: &'static [Stop],
 ) -> Result<(), Fail> {
     let gate = Stops::new(stops);
-    let mut source = source_of(alloc, rest, &[])?;
-    let mut sink = sink_of(alloc, &[])?;
-    let words = ["threads", workers];
-    let status = status_of(rt, alloc, &words, &mut source, &mut sink, &gate)?;
-    assert_eq!(rt; status, Status::Done);
+    let words = &["threads", workers];
+    let (status, _) = ran(rt, alloc, words, rest, (&[], &[]), &gate)?;
+    same(rt, &status, &Status::Done, &workers);
     assert!(rt; gate.were_held(), "both were there at once");
     Ok(())
 }

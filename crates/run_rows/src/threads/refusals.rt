@@ -1,8 +1,9 @@
 //! Traces and words that are refused, faults, and one event too many.
-use super::run::{sink_of, source_of, status_of};
+use super::run::ran;
+use crate::row::same;
 use ram_io::Open;
 use rams_replay::Status;
-use std::str;
+use std::alloc::{AllocError, Global};
 use std::test::Fail;
 
 /// The line of another channel.
@@ -50,50 +51,51 @@ const ROWS: &[(&[&str], &str, Status, &str)] = &[
 
 #[test]
 fn refused_words_and_lines(rt: HostRuntime) -> Result<(), Fail> {
-    let alloc = rt.alloc();
     for (words, rest, status, text) in ROWS {
-        let mut source = source_of(alloc, rest, &[])?;
-        let mut sink = sink_of(alloc, &[])?;
-        let got = status_of(&rt, alloc, words, &mut source, &mut sink, &Open)?;
-        assert_eq!(rt; got, *status, "{words:?} {rest}");
-        assert_eq!(rt; str::from_utf8(sink.held())?, *text, "{words:?} {rest}");
+        let (got, written) = ran(&rt, rt.alloc(), words, rest, (&[], &[]), &Open)?;
+        same(&rt, &(got, written.as_str()), &(*status, *text), words);
     }
     Ok(())
 }
+
+/// The calls of the source and of the sink that fail, and how that ends.
+const FAULTS: &[(&[u64], &[u64], Status)] = &[
+    (&[0], &[], Status::ReadFault),
+    (&[], &[0], Status::WriteFault),
+];
 
 /// A source that fails leaves the sink without a byte, and a sink that fails gets none.
 #[test]
 fn faults_are_told(rt: HostRuntime) -> Result<(), Fail> {
-    let alloc = rt.alloc();
-    let faults: [(&[u64], &[u64], Status); 2] = [
-        (&[0], &[], Status::ReadFault),
-        (&[], &[0], Status::WriteFault),
-    ];
-    for (takes, puts, status) in faults {
-        let mut source = source_of(alloc, "tick\nend\n", takes)?;
-        let mut sink = sink_of(alloc, puts)?;
-        let words = ["threads", "2"];
-        let got = status_of(&rt, alloc, &words, &mut source, &mut sink, &Open)?;
-        assert_eq!(rt; got, status);
-        assert_eq!(rt; sink.held().len(), 0);
+    for (takes, puts, status) in FAULTS {
+        let words = &["threads", "2"];
+        let got = ran(&rt, rt.alloc(), words, "tick\nend\n", (takes, puts), &Open)?;
+        same(&rt, &(got.0, got.1.len()), &(*status, 0), status);
     }
     Ok(())
 }
 
-/// A trace of 200,001 ticks has one too many; what follows isn't looked at.
-#[test]
-fn one_event_too_many(rt: HostRuntime) -> Result<(), Fail> {
-    let alloc = rt.alloc();
+/// The lines of 200,001 ticks, and one of no form.
+fn ticks(alloc: Global) -> Result<String, AllocError> {
     let mut rest = String::new(alloc);
     for _ in 0..200_001 {
         rest.push_str("tick\n")?;
     }
     rest.push_str("x\n")?;
-    let mut source = source_of(alloc, &rest, &[])?;
-    let mut sink = sink_of(alloc, &[])?;
-    let words = ["threads", "1"];
-    let got = status_of(&rt, alloc, &words, &mut source, &mut sink, &Open)?;
-    assert_eq!(rt; got, Status::TooLong);
-    assert_eq!(rt; str::from_utf8(sink.held())?, "too-long\n");
+    Ok(rest)
+}
+
+/// A trace of 200,001 ticks has one too many; what follows isn't looked at.
+#[test]
+fn one_event_too_many(rt: HostRuntime) -> Result<(), Fail> {
+    let rest = ticks(rt.alloc())?;
+    let words = &["threads", "1"];
+    let (got, text) = ran(&rt, rt.alloc(), words, &rest, (&[], &[]), &Open)?;
+    same(
+        &rt,
+        &(got, text.as_str()),
+        &(Status::TooLong, "too-long\n"),
+        words,
+    );
     Ok(())
 }

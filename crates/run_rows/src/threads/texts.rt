@@ -1,11 +1,10 @@
 //! What is written of whole traces.
-use super::run::{sink_of, source_of, status_of};
-use crate::row::OPENING;
+use super::run::ran;
+use crate::row::{OPENING, same};
 use ram_io::Open;
 use rams_replay::Status;
 use std::alloc::Global;
 use std::process::Abort;
-use std::str;
 use std::sync::Wait;
 use std::test::Fail;
 use std::thread::Threads;
@@ -47,11 +46,20 @@ fn written(
     words: &[&str],
     rest: &str,
 ) -> Result<String, Fail> {
-    let mut source = source_of(alloc, rest, &[])?;
-    let mut sink = sink_of(alloc, &[])?;
-    let status = status_of(rt, alloc, words, &mut source, &mut sink, &Open)?;
-    assert_eq!(rt; status, Status::Done, "{words:?}");
-    Ok(String::from_str(alloc, str::from_utf8(sink.held())?)?)
+    let (status, text) = ran(rt, alloc, words, rest, (&[], &[]), &Open)?;
+    same(rt, &status, &Status::Done, &words);
+    Ok(text)
+}
+
+/// Lines that came are these, each kind in its order.
+fn expect_lines(rt: &impl Abort, alloc: Global, came: &str, rest: &str) -> Result<(), Fail> {
+    for begin in ["live", "fb", "tick", "end"] {
+        let wanted = lines_of(alloc, rest, begin)?;
+        let got = lines_of(alloc, came, begin)?;
+        same(rt, &got.as_str(), &wanted.as_str(), &begin);
+    }
+    same(rt, &came.len(), &rest.len(), &"no other line");
+    Ok(())
 }
 
 /// What so many workers write of a trace: a trace with the same lines, each list's in their order, and the
@@ -65,14 +73,10 @@ fn expect_its_book(
     let text = written(rt, alloc, &["threads", workers], rest)?;
     let (trace, _) = text.split_once("rams-book 1\n").ok_or("a book")?;
     let came = trace.strip_prefix(OPENING).ok_or("the same opening")?;
-    for begin in ["live", "fb", "tick", "end"] {
-        let wanted = lines_of(alloc, rest, begin)?;
-        assert_eq!(rt; lines_of(alloc, came, begin)?.as_str(), wanted.as_str());
-    }
-    assert_eq!(rt; came.len(), rest.len(), "no other line");
+    expect_lines(rt, alloc, came, rest)?;
     let book = written(rt, alloc, &["run"], came)?;
     let both = format!(in alloc; "{trace}{book}")?;
-    assert_eq!(rt; text.as_str(), both.as_str());
+    same(rt, &text.as_str(), &both.as_str(), &workers);
     Ok(())
 }
 
@@ -92,6 +96,6 @@ fn one_list_is_its_trace(rt: HostRuntime) -> Result<(), Fail> {
     let text = written(&rt, rt.alloc(), &["threads", "2"], ONE_LIST)?;
     let book = "rams-book 1\n1 7 took 65546\n2 7 took 65547\ndone 2\n";
     let wanted = format!(in rt.alloc(); "{OPENING}{ONE_LIST}{book}")?;
-    assert_eq!(rt; text.as_str(), wanted.as_str());
+    same(&rt, &text.as_str(), &wanted.as_str(), &"one list");
     Ok(())
 }
