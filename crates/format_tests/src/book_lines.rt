@@ -234,46 +234,46 @@ const REFUSALS: &[(LineFault, &str)] = &[
     (LineFault::Rule(3), "refused 4 rule-3\n"),
 ];
 
-/// Each row's value is written as its line, behind `a` and a line feed.
-fn expect_lines<T, F: Fn(Vec<u8>, &T) -> Result<Vec<u8>, Fail>>(
-    rt: &impl Abort,
-    alloc: Global,
-    rows: &[(T, &str)],
-    write: F,
-) -> Result<(), Fail>
-    requires { F.IsAlwaysCallable write }
-{
-    for (value, line) in rows {
-        let text = write(b"a\n".to_vec(alloc)?, value)?;
-        same(rt, &text.strip_prefix(b"a\n"), &Some(line.as_bytes()), line);
-    }
-    Ok(())
+/// The line stands behind `a` and a line feed.
+fn expect_line(rt: &impl Abort, text: &[u8], line: &str) {
+    same(
+        rt,
+        &text.strip_prefix(b"a\n"),
+        &Some(line.as_bytes()),
+        &line,
+    );
 }
 
-fn note_line(mut text: Vec<u8>, note: &Note) -> Result<Vec<u8>, Fail> {
+fn note_line(alloc: Global, note: &Note) -> Result<Vec<u8>, Fail> {
+    let mut text = b"a\n".to_vec(alloc)?;
     Pen::new().append_note(&mut text, 4, 7, note)?;
     Ok(text)
 }
 
-fn send_line(mut text: Vec<u8>, bytes: &&[u8]) -> Result<Vec<u8>, Fail> {
+fn send_line(alloc: Global, bytes: &[u8]) -> Result<Vec<u8>, Fail> {
+    let mut text = b"a\n".to_vec(alloc)?;
     append_send(&mut text, 4, 7, 5, bytes)?;
     Ok(text)
 }
 
-fn refused_line(mut text: Vec<u8>, fault: &LineFault) -> Result<Vec<u8>, Fail> {
-    append_refused(&mut text, 4, *fault)?;
+fn refused_line(alloc: Global, fault: LineFault) -> Result<Vec<u8>, Fail> {
+    let mut text = b"a\n".to_vec(alloc)?;
+    append_refused(&mut text, 4, fault)?;
     Ok(text)
 }
 
 #[test]
-fn notes_are_lines(rt: HostRuntime) -> Result<(), Fail> {
-    expect_lines(&rt, rt.alloc(), NOTES, note_line)
-}
-
-#[test]
-fn datagrams_and_refusals_are_lines(rt: HostRuntime) -> Result<(), Fail> {
-    expect_lines(&rt, rt.alloc(), SENDS, send_line)?;
-    expect_lines(&rt, rt.alloc(), REFUSALS, refused_line)
+fn notes_datagrams_and_refusals_are_lines(rt: HostRuntime) -> Result<(), Fail> {
+    for (note, line) in NOTES {
+        expect_line(&rt, &note_line(rt.alloc(), note)?, line);
+    }
+    for (bytes, line) in SENDS {
+        expect_line(&rt, &send_line(rt.alloc(), bytes)?, line);
+    }
+    for (fault, line) in REFUSALS {
+        expect_line(&rt, &refused_line(rt.alloc(), *fault)?, line);
+    }
+    Ok(())
 }
 
 /// The greatest client.

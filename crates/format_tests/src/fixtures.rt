@@ -43,39 +43,6 @@ pub fn holds<C: Debug>(rt: &impl Abort, is_so: bool, of: &C) {
     assert!(rt; is_so, "{of:?}");
 }
 
-/// Each row's bytes are read as its text.
-pub fn expect_texts<F: Fn(Global, &[u8]) -> Result<String, Fail>>(
-    rt: &impl Abort,
-    alloc: Global,
-    rows: &[Reading],
-    read: F,
-) -> Result<(), Fail>
-    requires { F.IsAlwaysCallable read }
-{
-    for (name, words, want) in rows {
-        let bytes = bytes_of(alloc, words)?;
-        let got = read(alloc, &bytes)?;
-        same(rt, &got.as_str(), want, name);
-    }
-    Ok(())
-}
-
-/// Each row's bytes belong to its value, as the call finds.
-pub fn expect_values<T, F: Fn(Global, &[u8], &T) -> Result<bool, Fail>>(
-    rt: &impl Abort,
-    alloc: Global,
-    rows: &[(&str, Words, T)],
-    belongs: F,
-) -> Result<(), Fail>
-    requires { F.IsAlwaysCallable belongs }
-{
-    for (name, words, value) in rows {
-        let bytes = bytes_of(alloc, words)?;
-        holds(rt, belongs(alloc, &bytes, value)?, name);
-    }
-    Ok(())
-}
-
 /// The feedback control information of a feedback packet (RFC 4585, 6.1).
 pub fn fci_of(packet: &[u8]) -> &[u8] {
     packet.get(12..).unwrap_or(&[])

@@ -20,6 +20,8 @@ mod nacks;
 #[cfg(test)]
 mod rams_messages;
 #[cfg(test)]
+mod readings;
+#[cfg(test)]
 mod retransmissions;
 #[cfg(test)]
 mod rtcp_packets;

@@ -1,5 +1,5 @@
 //! Feedback messages and generic NACKs, byte for byte (RFC 4585, 6.1 and 6.2.1).
-use crate::fixtures::{CLIENT, MEDIA, Reading, Words, expect_texts, expect_values, is_twice};
+use crate::fixtures::{CLIENT, MEDIA, Reading, Words, bytes_of, holds, is_twice};
 use rtcp_feedback::{append_nack, feedback, nack_numbers, write_nack};
 use rtcp_frame::Packet;
 use std::alloc::Global;
@@ -7,7 +7,7 @@ use std::fmt::Write;
 use std::test::Fail;
 
 /// The numbers of feedback control information, or the fault.
-fn numbers(alloc: Global, fci: &[u8]) -> Result<String, Fail> {
+pub fn numbers(alloc: Global, fci: &[u8]) -> Result<String, Fail> {
     let mut text = String::new(alloc);
     match nack_numbers(fci) {
         Err(fault) => write!(text, "{fault:?}")?,
@@ -21,7 +21,7 @@ fn numbers(alloc: Global, fci: &[u8]) -> Result<String, Fail> {
 }
 
 /// Words of a sequence number and the bits of those behind it, and what they name.
-const WORDS: &[Reading] = &[
+pub const WORDS: &[Reading] = &[
     ("no bytes", &[], "Empty"),
     ("three bytes", &["000c00"], "Length"),
     ("no bit", &["000c0000"], "12 "),
@@ -40,11 +40,6 @@ const WORDS: &[Reading] = &[
         "12 14 7 7 8 ",
     ),
 ];
-
-#[test]
-fn words_name_numbers(rt: HostRuntime) -> Result<(), Fail> {
-    expect_texts(&rt, rt.alloc(), WORDS, numbers)
-}
 
 /// NACKs, and their numbers.
 const NACKS: &[(&str, Words, &[u16])] = &[
@@ -84,7 +79,7 @@ const NACKS: &[(&str, Words, &[u16])] = &[
 ];
 
 /// The packet is the NACK of these numbers, alone and behind others.
-fn is_nack(alloc: Global, packet: &[u8], numbers: &&[u16]) -> Result<bool, Fail> {
+fn is_nack(alloc: Global, packet: &[u8], numbers: &[u16]) -> Result<bool, Fail> {
     if numbers.is_empty() || numbers.len() > 8_000 {
         return Err(Fail::from("numbers"));
     }
@@ -95,11 +90,15 @@ fn is_nack(alloc: Global, packet: &[u8], numbers: &&[u16]) -> Result<bool, Fail>
 
 #[test]
 fn nacks_are_written(rt: HostRuntime) -> Result<(), Fail> {
-    expect_values(&rt, rt.alloc(), NACKS, is_nack)
+    for (name, words, numbers) in NACKS {
+        let packet = bytes_of(rt.alloc(), words)?;
+        holds(&rt, is_nack(rt.alloc(), &packet, numbers)?, name);
+    }
+    Ok(())
 }
 
 /// The packet type and the body of packets of format 6, and what is read of them.
-const MESSAGES: &[Reading] = &[
+pub const MESSAGES: &[Reading] = &[
     (
         "RTPFB",
         &[
@@ -125,7 +124,7 @@ const MESSAGES: &[Reading] = &[
 ];
 
 /// The sources, the format and the information of a packet of format 6: its type, then its body.
-fn message(alloc: Global, bytes: &[u8]) -> Result<String, Fail> {
+pub fn message(alloc: Global, bytes: &[u8]) -> Result<String, Fail> {
     let (kind, body) = bytes.split_first().ok_or("no type")?;
     let packet = Packet {
         kind: *kind,
@@ -136,9 +135,4 @@ fn message(alloc: Global, bytes: &[u8]) -> Result<String, Fail> {
         None => String::from_str(alloc, "none")?,
         Some(f) => format!(in alloc; "{:08x} {:08x} {} {:?}", f.sender, f.media, f.fmt, f.fci)?,
     })
-}
-
-#[test]
-fn feedback_has_two_sources(rt: HostRuntime) -> Result<(), Fail> {
-    expect_texts(&rt, rt.alloc(), MESSAGES, message)
 }

@@ -1,5 +1,5 @@
 //! RAMS messages, byte for byte, and each fault at its edge (RFC 6285, 7).
-use crate::fixtures::{CLIENT, MEDIA, Words, expect_values, fci_of, is_twice, same};
+use crate::fixtures::{CLIENT, MEDIA, Words, bytes_of, fci_of, holds, is_twice, same};
 use rams_tlv::{
     Info, Request, Stop, TlvFault, append_info, append_request, append_stop, names, read_info,
     read_request, read_stop, write_info, write_request, write_stop,
@@ -127,16 +127,13 @@ const REQUESTS: &[(&str, Words, Result<Request<'static>, TlvFault>)] = &[
     ("a RAMS-I", &["02000000"], Err(TlvFault::Form)),
 ];
 
-/// What is read of a request.
-type Read<'a> = Result<Request<'a>, TlvFault>;
-
-fn reads(_alloc: Global, fci: &[u8], want: &Read<'_>) -> Result<bool, Fail> {
-    Ok(read_request(fci) == *want)
-}
-
 #[test]
 fn requests_are_read(rt: HostRuntime) -> Result<(), Fail> {
-    expect_values(&rt, rt.alloc(), REQUESTS, reads)
+    for (name, words, want) in REQUESTS {
+        let fci = bytes_of(rt.alloc(), words)?;
+        same(&rt, &read_request(&fci), want, name);
+    }
+    Ok(())
 }
 
 /// Requests, and whether they are of the source.
@@ -234,7 +231,11 @@ fn is_request(alloc: Global, packet: &[u8], request: &Request<'_>) -> Result<boo
 
 #[test]
 fn requests_are_written(rt: HostRuntime) -> Result<(), Fail> {
-    expect_values(&rt, rt.alloc(), WRITTEN, is_request)
+    for (name, words, value) in WRITTEN {
+        let packet = bytes_of(rt.alloc(), words)?;
+        holds(&rt, is_request(rt.alloc(), &packet, value)?, name);
+    }
+    Ok(())
 }
 
 const NO_INFO: Info = Info {
@@ -301,7 +302,10 @@ const LONG_JOIN: [u8; 16] = [2, 0, 0, 200, 0x21, 0, 0, 8, 0, 0, 0, 0, 0, 0, 0, 1
 
 #[test]
 fn information_goes_there_and_back(rt: HostRuntime) -> Result<(), Fail> {
-    expect_values(&rt, rt.alloc(), INFOS, is_info)?;
+    for (name, words, value) in INFOS {
+        let packet = bytes_of(rt.alloc(), words)?;
+        holds(&rt, is_info(rt.alloc(), &packet, value)?, name);
+    }
     same(
         &rt,
         &read_info(&LONG_JOIN),
@@ -350,7 +354,10 @@ fn is_stop(alloc: Global, packet: &[u8], stop: &Stop) -> Result<bool, Fail> {
 
 #[test]
 fn terminations_go_there_and_back(rt: HostRuntime) -> Result<(), Fail> {
-    expect_values(&rt, rt.alloc(), STOPS, is_stop)?;
+    for (name, words, value) in STOPS {
+        let packet = bytes_of(rt.alloc(), words)?;
+        holds(&rt, is_stop(rt.alloc(), &packet, value)?, name);
+    }
     same(
         &rt,
         &read_stop(&[4, 0, 0, 0]),

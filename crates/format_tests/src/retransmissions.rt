@@ -1,5 +1,5 @@
 //! Worked retransmissions, and what is restored of them (RFC 4588, 4).
-use crate::fixtures::{Reading, Words, bytes_of, expect_texts, expect_values, is_twice};
+use crate::fixtures::{Reading, Words, bytes_of, holds, is_twice};
 use rtx_payload::{Rtp, append_rtx, restore, restoring_gives_the_original, write_rtx};
 use std::alloc::Global;
 use std::test::Fail;
@@ -45,19 +45,18 @@ const ROWS: &[(&str, Words, Words)] = &[
     ),
 ];
 
-/// The packet is sent again as these words, alone and behind others.
-fn goes_again(alloc: Global, packet: &[u8], words: &Words) -> Result<bool, Fail> {
+/// The packet is sent again as these bytes, alone and behind others.
+fn goes_again(alloc: Global, packet: &[u8], again: &[u8]) -> Result<bool, Fail> {
     let original = Rtp::read(packet).ok().ok_or("a packet")?;
     let mut text = write_rtx(alloc, &original, 99, 500)?;
     append_rtx(&mut text, &original, 99, 500)?;
-    Ok(is_twice(&text, &bytes_of(alloc, words)?))
+    Ok(is_twice(&text, again))
 }
 
-/// The words bring the packet's number, and the packet without its padding.
-fn comes_back(alloc: Global, packet: &[u8], words: &Words) -> Result<bool, Fail> {
+/// The bytes bring the packet's number, and the packet without its padding.
+fn comes_back(alloc: Global, packet: &[u8], again: &[u8]) -> Result<bool, Fail> {
     let original = Rtp::read(packet).ok().ok_or("a packet")?;
-    let bytes = bytes_of(alloc, words)?;
-    let again = Rtp::read(&bytes).ok().ok_or("a retransmission")?;
+    let again = Rtp::read(again).ok().ok_or("a retransmission")?;
     let (number, restored) = restore(alloc, &again, 33).ok().ok_or("an original")?;
     Ok(number == original.sequence() && restored == original.strip(alloc)?)
 }
@@ -65,12 +64,17 @@ fn comes_back(alloc: Global, packet: &[u8], words: &Words) -> Result<bool, Fail>
 #[test]
 fn packets_go_there_and_back(rt: HostRuntime) -> Result<(), Fail> {
     restoring_gives_the_original();
-    expect_values(&rt, rt.alloc(), ROWS, goes_again)?;
-    expect_values(&rt, rt.alloc(), ROWS, comes_back)
+    for (name, words, again) in ROWS {
+        let packet = bytes_of(rt.alloc(), words)?;
+        let again = bytes_of(rt.alloc(), again)?;
+        holds(&rt, goes_again(rt.alloc(), &packet, &again)?, name);
+        holds(&rt, comes_back(rt.alloc(), &packet, &again)?, name);
+    }
+    Ok(())
 }
 
 /// Retransmissions, and why nothing is restored.
-const PAYLOADS: &[Reading] = &[
+pub const PAYLOADS: &[Reading] = &[
     (
         "one byte",
         &["806301f4", "00000000", "00000001", "07"],
@@ -99,13 +103,8 @@ const PAYLOADS: &[Reading] = &[
 ];
 
 /// Why nothing is restored of a retransmission.
-fn fault(alloc: Global, bytes: &[u8]) -> Result<String, Fail> {
+pub fn fault(alloc: Global, bytes: &[u8]) -> Result<String, Fail> {
     let packet = Rtp::read(bytes).ok().ok_or("a packet")?;
     let fault = restore(alloc, &packet, 33).err();
     Ok(format!(in alloc; "{fault:?}")?)
-}
-
-#[test]
-fn an_original_number_is_missing(rt: HostRuntime) -> Result<(), Fail> {
-    expect_texts(&rt, rt.alloc(), PAYLOADS, fault)
 }

@@ -1,5 +1,5 @@
 //! Datagrams of RTCP packets, byte for byte, and each fault at its edge (RFC 3550, 6).
-use crate::fixtures::{CLIENT, Reading, Words, bytes_of, expect_texts, same};
+use crate::fixtures::{CLIENT, Reading, Words, bytes_of, same};
 use rtcp_frame::{
     append_bye, append_rr, append_sdes, bye_names, packets, write_bye, write_rr, write_sdes,
 };
@@ -20,7 +20,7 @@ const COMPOUND: Words = &[
 ];
 
 /// Datagrams, and their packets.
-const DATAGRAMS: &[Reading] = &[
+pub const DATAGRAMS: &[Reading] = &[
     ("nothing", &[], "Empty"),
     ("three bytes", &["80c900"], "Short"),
     (
@@ -145,7 +145,7 @@ const DATAGRAMS: &[Reading] = &[
 ];
 
 /// Type, count and length of the body of each packet, or the fault.
-fn framed(alloc: Global, datagram: &[u8]) -> Result<String, Fail> {
+pub fn framed(alloc: Global, datagram: &[u8]) -> Result<String, Fail> {
     let mut text = String::new(alloc);
     match packets(datagram) {
         Err(fault) => write!(text, "{fault:?}")?,
@@ -156,11 +156,6 @@ fn framed(alloc: Global, datagram: &[u8]) -> Result<String, Fail> {
         }
     }
     Ok(text)
-}
-
-#[test]
-fn datagrams_are_taken_apart(rt: HostRuntime) -> Result<(), Fail> {
-    expect_texts(&rt, rt.alloc(), DATAGRAMS, framed)
 }
 
 /// A receiver's packets, each written alone or behind the others.
@@ -199,7 +194,7 @@ fn receivers_packets_are_written(rt: HostRuntime) -> Result<(), Fail> {
 }
 
 /// Packets whose second and third word are 0xc001 and 0xc002, and whether they are BYEs of each.
-const BYES: &[Reading] = &[
+pub const BYES: &[Reading] = &[
     (
         "a BYE of one, and a reason",
         &[
@@ -239,14 +234,9 @@ const BYES: &[Reading] = &[
 ];
 
 /// Whether the first packet says goodbye for 0xc001, and whether for 0xc002.
-fn named(alloc: Global, datagram: &[u8]) -> Result<String, Fail> {
+pub fn named(alloc: Global, datagram: &[u8]) -> Result<String, Fail> {
     let mut all = packets(datagram).ok().ok_or("packets")?;
     let packet = all.next().ok_or("a packet")?;
     let named = (bye_names(&packet, 0xc001), bye_names(&packet, 0xc002));
     Ok(format!(in alloc; "{named:?}")?)
-}
-
-#[test]
-fn goodbyes_name_sources(rt: HostRuntime) -> Result<(), Fail> {
-    expect_texts(&rt, rt.alloc(), BYES, named)
 }

@@ -1,7 +1,8 @@
 //! A packet with every part, and each fault at its edge (RFC 3550, 5.1).
-use crate::fixtures::{Reading, Words, bytes_of, expect_texts, holds, is_twice, same};
+use crate::fixtures::{Reading, Words, bytes_of, holds, is_twice, same};
 use rtp_record::{Rtp, RtpFields, append_rtp, append_rtp_behind, write_rtp};
 use std::alloc::Global;
+use std::fmt::Write;
 use std::test::Fail;
 
 const PADDED: Words = &[
@@ -27,7 +28,7 @@ const STRIPPED: Words = &[
 ];
 
 /// A packet, and what its calls say.
-const PARTS: &[Reading] = &[(
+pub const PARTS: &[Reading] = &[(
     "every part",
     PADDED,
     "(true, 33, 10, 900, 287454020) \
@@ -36,7 +37,7 @@ const PARTS: &[Reading] = &[(
 
 /// Marker, payload type, sequence number, timestamp and SSRC of a packet; its contributing sources,
 /// its extension and its payload, and how long it is without padding.
-fn parts(alloc: Global, bytes: &[u8]) -> Result<String, Fail> {
+pub fn parts(alloc: Global, bytes: &[u8]) -> Result<String, Fail> {
     let packet = Rtp::read(bytes).ok().ok_or("a packet")?;
     let header = (
         packet.marker(),
@@ -52,26 +53,20 @@ fn parts(alloc: Global, bytes: &[u8]) -> Result<String, Fail> {
     Ok(format!(in alloc; "{header:?} {csrc} {extension} {payload} {len}")?)
 }
 
-#[test]
-fn every_part_is_read(rt: HostRuntime) -> Result<(), Fail> {
-    expect_texts(&rt, rt.alloc(), PARTS, parts)
+/// The packet without its padding: twice, and what its fields are written as.
+fn stripped(alloc: Global, padded: &[u8]) -> Result<(Vec<u8>, Vec<u8>), Fail> {
+    let packet = Rtp::read(padded).ok().ok_or("a packet")?;
+    let mut text = packet.strip(alloc)?;
+    packet.append_stripped(&mut text)?;
+    Ok((text, write_rtp(alloc, &packet.fields())?))
 }
 
 #[test]
 fn padding_is_left_out(rt: HostRuntime) -> Result<(), Fail> {
-    let alloc = rt.alloc();
-    let padded = bytes_of(alloc, PADDED)?;
-    let stripped = bytes_of(alloc, STRIPPED)?;
-    let packet = Rtp::read(&padded).ok().ok_or("a packet")?;
-    let mut text = packet.strip(alloc)?;
-    packet.append_stripped(&mut text)?;
-    holds(&rt, is_twice(&text, &stripped), &"strip");
-    same(
-        &rt,
-        &write_rtp(alloc, &packet.fields())?,
-        &stripped,
-        &"fields",
-    );
+    let want = bytes_of(rt.alloc(), STRIPPED)?;
+    let (text, fields) = stripped(rt.alloc(), &bytes_of(rt.alloc(), PADDED)?)?;
+    holds(&rt, is_twice(&text, &want), &"strip");
+    same(&rt, &fields, &want, &"fields");
     Ok(())
 }
 
@@ -99,22 +94,25 @@ const SPELLED: Words = &[
     "07", // payload
 ];
 
-#[test]
-fn packets_are_written_behind_what_is_there(rt: HostRuntime) -> Result<(), Fail> {
-    let mut text = b"front".to_vec(rt.alloc())?;
+/// Two packets behind a front, of which the second has the first's payload.
+fn written_behind(alloc: Global) -> Result<Vec<u8>, Fail> {
+    let mut text = b"front".to_vec(alloc)?;
     append_rtp(&mut text, &PLAIN)?;
     append_rtp_behind(&mut text, &BARE, PLAIN.payload)?;
+    Ok(text)
+}
+
+#[test]
+fn packets_are_written_behind_what_is_there(rt: HostRuntime) -> Result<(), Fail> {
+    let text = written_behind(rt.alloc())?;
     let written = text.strip_prefix(b"front").ok_or("the front")?;
-    holds(
-        &rt,
-        is_twice(written, &bytes_of(rt.alloc(), SPELLED)?),
-        &"behind",
-    );
+    let want = bytes_of(rt.alloc(), SPELLED)?;
+    holds(&rt, is_twice(written, &want), &"behind");
     Ok(())
 }
 
 /// Packets whose header is of zeros but for its first byte, and the fault.
-const PACKETS: &[Reading] = &[
+pub const PACKETS: &[Reading] = &[
     ("no bytes", &[], "Some(Short)"),
     (
         "eleven bytes",
@@ -210,12 +208,7 @@ const PACKETS: &[Reading] = &[
 ];
 
 /// Why bytes are no packet.
-fn fault(alloc: Global, bytes: &[u8]) -> Result<String, Fail> {
+pub fn fault(alloc: Global, bytes: &[u8]) -> Result<String, Fail> {
     let fault = Rtp::read(bytes).err();
     Ok(format!(in alloc; "{fault:?}")?)
-}
-
-#[test]
-fn each_fault_is_found(rt: HostRuntime) -> Result<(), Fail> {
-    expect_texts(&rt, rt.alloc(), PACKETS, fault)
 }

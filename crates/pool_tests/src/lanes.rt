@@ -1,5 +1,5 @@
 //! Channels that share a link.
-ghost use Rattle.std.specs.Prelude.{◌≡◌, ◌^◌, ◌<◌, All, IfOk, length};
+ghost use Rattle.std.specs.Prelude.{◌≡◌, ◌^◌, ◌<◌, ◌≤◌, All, IfOk, length};
 ghost use Rattle.link_pool.specs.{claimed};
 ghost use Rattle.pool_run.specs.{IsFresh};
 
@@ -7,10 +7,11 @@ use crate::fixtures::sends_two;
 use crate::gates::Meeting;
 use ledger_text::append_ledger;
 use pool_run::{Lane, Ledger, NoMemory, Pooled, run_pool};
-use ram_io::Open;
+use ram_io::{Gate, Open};
 use std::alloc::Global;
 use std::process::Abort;
 use std::test::Fail;
+use std::thread::Threads;
 
 fn one_lane(rt: &impl Abort, alloc: Global) -> Result<Vec<Lane>, Fail>
     ensures { IfOk result (λ lanes. All IsFresh lanes.items × (length lanes.items ≡ 1)) }
@@ -38,16 +39,25 @@ fn text_of(alloc: Global, ledger: &Ledger) -> Result<Vec<u8>, NoMemory>
     Ok(text)
 }
 
+/// The ledger of one channel, two ticks and this rate, as text.
+fn ledger_of_one(
+    rt: &(impl Threads + Sync + Abort),
+    alloc: Global,
+    rate: u64,
+) -> Result<Vec<u8>, Fail>
+    requires { rate ≤ 1000000000 }
+{
+    let pooled = run_pool(rt, alloc, one_lane(rt, alloc)?, 2, rate, &Open)?;
+    Ok(text_of(alloc, &pooled.ledger)?)
+}
+
 /// One channel: at 1,500 bytes in a tick both claims are paid, at 1,499 the second is late.
 #[test]
 fn late_by_one_byte(rt: HostRuntime) -> Result<(), Fail> {
-    let alloc = rt.alloc();
-    let pooled = run_pool(&rt, alloc, one_lane(&rt, alloc)?, 2, 1500, &Open)?;
-    let text = text_of(alloc, &pooled.ledger)?;
+    let text = ledger_of_one(&rt, rt.alloc(), 1500)?;
     let want = b"claim 7 0 1500 paid\nclaim 7 1500 1500 paid\npool 3000 3000\n";
     assert_eq!(&rt; text.as_slice(), &want[..], "both paid");
-    let pooled = run_pool(&rt, alloc, one_lane(&rt, alloc)?, 2, 1499, &Open)?;
-    let text = text_of(alloc, &pooled.ledger)?;
+    let text = ledger_of_one(&rt, rt.alloc(), 1499)?;
     let want = b"claim 7 0 1500 paid\nclaim 7 1500 1500 late\npool 3000 2998\n";
     assert_eq!(&rt; text.as_slice(), &want[..], "the second late");
     Ok(())
@@ -61,33 +71,40 @@ fn expect_two(rt: &impl Abort, alloc: Global, pooled: &Pooled) -> Result<(), Fai
     let want =
         b"claim 7 0 1500 paid\nclaim 7 1500 1500 paid\nclaim 7 3000 1500 late\nclaim 7 4500 1500 late\npool 6000 3000\n";
     assert_eq!(rt; text.as_slice(), &want[..], "whoever draws first");
+    expect_shares(rt, pooled);
+    Ok(())
+}
+
+/// A book of each channel, and two claims of each.
+fn expect_shares(rt: &impl Abort, pooled: &Pooled) {
     assert_eq!(rt; pooled.books.len(), 2, "a book each");
     for book in &pooled.books {
         assert_eq!(rt; book.entries().len(), 6, "with the channel's events");
     }
-    let mut of_first: u64 = 0;
-    for claim in &pooled.ledger.claims {
-        if claim.taker == 0 {
-            of_first = of_first.saturating_add(1);
-        }
-    }
-    assert_eq!(rt; of_first, 2, "two claims of each");
-    Ok(())
+    let of_first = pooled.ledger.claims.iter().filter(|claim| claim.taker == 0);
+    assert_eq!(rt; of_first.count(), 2, "two claims of each");
+}
+
+/// Two channels run, while a gate looks on.
+fn two_claim<G: Gate + Sync>(
+    rt: &(impl Threads + Sync + Abort),
+    alloc: Global,
+    gate: &G,
+) -> Result<(), Fail> {
+    let pooled = run_pool(rt, alloc, two_lanes(rt, alloc)?, 2, 1500, gate)?;
+    expect_two(rt, alloc, &pooled)
 }
 
 #[test]
 fn two_channels_claim(rt: HostRuntime) -> Result<(), Fail> {
-    let alloc = rt.alloc();
-    let pooled = run_pool(&rt, alloc, two_lanes(&rt, alloc)?, 2, 1500, &Open)?;
-    expect_two(&rt, alloc, &pooled)
+    two_claim(&rt, rt.alloc(), &Open)
 }
 
 /// Both lanes have the answer of their first tick before either claims for it.
 #[test]
 fn lanes_run_beside_each_other(rt: HostRuntime) -> Result<(), Fail> {
-    let alloc = rt.alloc();
     let gate = Meeting::new();
-    let pooled = run_pool(&rt, alloc, two_lanes(&rt, alloc)?, 2, 1500, &gate)?;
+    two_claim(&rt, rt.alloc(), &gate)?;
     assert!(&rt; gate.was_held(), "both were there at once");
-    expect_two(&rt, alloc, &pooled)
+    Ok(())
 }

@@ -2,6 +2,7 @@
 use pool_loop::{Open, Status, Stop, write_pool};
 use ram_io::{MemSink, MemSource};
 use std::alloc::{AllocError, Global};
+use std::fmt::Debug;
 use std::process::Abort;
 use std::str;
 use std::test::Fail;
@@ -71,21 +72,40 @@ fn add(
     text.push_str(&spelled(alloc, more, id, tick)?)
 }
 
-/// How a pool of this rate ends over a source of this trace whose calls of these numbers fail, and the
-/// sink with what it wrote.
+/// The call of a pool. It stands alone, as its contract is long.
+fn ends(
+    rt: &(impl Threads + Sync),
+    alloc: Global,
+    rate: u64,
+    source: &mut MemSource,
+    sink: &mut MemSink,
+) -> Result<Status, Stop> {
+    write_pool(rt, alloc, rate.clamp(1, 1_000_000_000), source, sink, &Open)
+}
+
+/// How a pool of this rate ends over a source of this trace whose calls of these numbers fail, and what
+/// it writes.
 fn pooled(
     rt: &(impl Threads + Sync),
     alloc: Global,
     rate: u64,
-    trace: &[u8],
+    trace: &str,
     fails: &[u64],
-) -> Result<(Result<Status, Stop>, MemSink), Fail> {
-    let mut source = MemSource::new(trace.to_vec(alloc)?, 1_000_000, fails.to_vec(alloc)?);
+) -> Result<(Result<Status, Stop>, String), Fail> {
+    let trace = trace.as_bytes().to_vec(alloc)?;
+    let mut source = MemSource::new(trace, 1_000_000, fails.to_vec(alloc)?);
     let sink = MemSink::new(alloc, 1_000_000, 1_000_000, Vec::new(alloc));
     let mut sink = sink.ok().ok_or("memory")?;
-    let rate = rate.clamp(1, 1_000_000_000);
-    let ended = write_pool(rt, alloc, rate, &mut source, &mut sink, &Open);
-    Ok((ended, sink))
+    let ended = ends(rt, alloc, rate, &mut source, &mut sink);
+    Ok((
+        ended,
+        String::from_str(alloc, str::from_utf8(sink.held())?)?,
+    ))
+}
+
+/// The value is the one that is wanted.
+fn same<T: Debug + PartialEq>(rt: &impl Abort, got: &T, want: &T, of: &str) {
+    assert_eq!(rt; *got, *want, "{of}");
 }
 
 /// The trace of one channel that asks for a burst.
@@ -115,25 +135,34 @@ fn expect(
     trace: &str,
     want: (Status, &str),
 ) -> Result<(), Fail> {
-    let (ended, sink) = pooled(rt, alloc, rate, trace.as_bytes(), &[])?;
-    let (status, text) = want;
-    assert_eq!(rt; ended, Ok(status), "how it ends");
-    assert_eq!(rt; str::from_utf8(sink.held())?, text, "what it writes");
+    let (ended, text) = pooled(rt, alloc, rate, trace, &[])?;
+    same(rt, &ended, &Ok(want.0), "how it ends");
+    same(rt, &text.as_str(), &want.1, "what it writes");
     Ok(())
 }
 
-/// A burst of two packets: at 1,500 bytes in a tick both are paid, at 1,499 the second is late.
+/// Rates, and the ledgers of a burst of two packets: at 1,500 bytes in a tick both are paid, at 1,499 the
+/// second is late.
+const LEDGERS: &[(u64, &str)] = &[
+    (
+        1500,
+        "claim 7 0 1500 paid\nclaim 7 1500 1500 paid\npool 3000 3000\n",
+    ),
+    (
+        1499,
+        "claim 7 0 1500 paid\nclaim 7 1500 1500 late\npool 3000 2998\n",
+    ),
+];
+
 #[test]
 fn a_burst_is_paid_or_late(rt: HostRuntime) -> Result<(), Fail> {
-    let alloc = rt.alloc();
-    let trace = one_burst(alloc)?;
-    let book = book_of_one(alloc)?;
-    let ledger = "claim 7 0 1500 paid\nclaim 7 1500 1500 paid\npool 3000 3000\n";
-    let paid = format!(in alloc; "{book}{ledger}")?;
-    expect(&rt, alloc, 1500, &trace, (Status::Done, &paid))?;
-    let ledger = "claim 7 0 1500 paid\nclaim 7 1500 1500 late\npool 3000 2998\n";
-    let late = format!(in alloc; "{book}{ledger}")?;
-    expect(&rt, alloc, 1499, &trace, (Status::Done, &late))
+    let trace = one_burst(rt.alloc())?;
+    for (rate, ledger) in LEDGERS {
+        let mut text = book_of_one(rt.alloc())?;
+        text.push_str(ledger)?;
+        expect(&rt, rt.alloc(), *rate, &trace, (Status::Done, &text))?;
+    }
+    Ok(())
 }
 
 /// The trace of two channels that each ask for a burst.
@@ -160,77 +189,89 @@ fn book_of_two(alloc: Global) -> Result<String, AllocError> {
     Ok(book)
 }
 
+/// The ledger behind the book of two channels.
+fn ledger_of_two(rt: &(impl Threads + Sync + Abort), alloc: Global) -> Result<String, Fail> {
+    let (ended, text) = pooled(rt, alloc, 1500, &two_bursts(alloc)?, &[])?;
+    same(rt, &ended, &Ok(Status::Done), "the end");
+    let book = book_of_two(alloc)?;
+    let ledger = text.strip_prefix(book.as_str()).ok_or("the book")?;
+    Ok(String::from_str(alloc, ledger)?)
+}
+
 /// Two channels claim two packets each: whichever draws first, the first two claims are paid.
 #[test]
 fn two_bursts_share_a_link(rt: HostRuntime) -> Result<(), Fail> {
-    let alloc = rt.alloc();
-    let trace = two_bursts(alloc)?;
-    let book = book_of_two(alloc)?;
-    let (ended, sink) = pooled(&rt, alloc, 1500, trace.as_bytes(), &[])?;
-    assert_eq!(&rt; ended, Ok(Status::Done), "the end");
-    let text = str::from_utf8(sink.held())?;
-    let ledger = text.strip_prefix(book.as_str()).ok_or("the book")?;
-    let of_8 = ledger.replace(alloc, "claim 8 ", "claim 7 ")?;
+    let ledger = ledger_of_two(&rt, rt.alloc())?;
+    let of_8 = ledger.replace(rt.alloc(), "claim 8 ", "claim 7 ")?;
     let want =
         "claim 7 0 1500 paid\nclaim 7 1500 1500 paid\nclaim 7 3000 1500 late\nclaim 7 4500 1500 late\npool 6000 3000\n";
-    assert_eq!(&rt; of_8.as_str(), want, "four claims");
-    let mut claims_of_8: u64 = 0;
-    for line in ledger.lines() {
-        if line.starts_with("claim 8 ") {
-            claims_of_8 = claims_of_8.saturating_add(1);
-        }
-    }
-    assert_eq!(&rt; claims_of_8, 2, "two of each");
+    same(&rt, &of_8.as_str(), &want, "four claims");
+    let claims_of_8 = ledger.lines().filter(|line| line.starts_with("claim 8 "));
+    same(&rt, &claims_of_8.count(), &2, "two of each");
     Ok(())
 }
 
-/// An event that names the number of no channel, between events of one that there is.
-#[test]
-fn an_event_of_no_channel_is_counted(rt: HostRuntime) -> Result<(), Fail> {
-    let alloc = rt.alloc();
+/// The head of one channel, and these lines.
+fn one_channel(alloc: Global, lines: &str) -> Result<String, AllocError> {
     let mut trace = String::from_str(alloc, HEAD)?;
     add(&mut trace, alloc, CHANNEL, "7", "")?;
-    trace.push_str("live 7 80\nlive 9 80\ntick\nlive 7 80\nend\n")?;
-    let want = "rams-book 1\n1 7 bad short\n2 9 no-channel\n4 7 bad short\ndone 4\npool 0 1500\n";
-    expect(&rt, alloc, 1500, &trace, (Status::Done, want))
+    trace.push_str(lines)?;
+    Ok(trace)
 }
 
-/// One line says where a trace is refused, and nothing else is written.
+/// Lines behind a head of one channel, how the pool ends, and what it writes: an event that names the
+/// number of no channel is counted, and one line says where a trace is refused.
+const LINES: &[(&str, Status, &str)] = &[
+    (
+        "live 7 80\nlive 9 80\ntick\nlive 7 80\nend\n",
+        Status::Done,
+        "rams-book 1\n1 7 bad short\n2 9 no-channel\n4 7 bad short\ndone 4\npool 0 1500\n",
+    ),
+    ("", Status::BadTrace, "refused 3 order\n"),
+    (
+        "tick\nlive 7 0\nend\n",
+        Status::BadTrace,
+        "refused 4 form\n",
+    ),
+];
+
+/// Traces that end before their channel, and the one line that is written.
+const HEADS: &[(&str, &str)] = &[("", "refused 1 order\n"), (HEAD, "refused 2 order\n")];
+
 #[test]
-fn refused_lines_are_told_alone(rt: HostRuntime) -> Result<(), Fail> {
-    let alloc = rt.alloc();
-    let bad = Status::BadTrace;
-    expect(&rt, alloc, 1500, "", (bad, "refused 1 order\n"))?;
-    expect(&rt, alloc, 1500, HEAD, (bad, "refused 2 order\n"))?;
-    let mut trace = String::from_str(alloc, HEAD)?;
-    add(&mut trace, alloc, CHANNEL, "7", "")?;
-    expect(&rt, alloc, 1500, &trace, (bad, "refused 3 order\n"))?;
-    trace.push_str("tick\nlive 7 0\nend\n")?;
-    expect(&rt, alloc, 1500, &trace, (bad, "refused 4 form\n"))
+fn lines_are_counted_or_refused(rt: HostRuntime) -> Result<(), Fail> {
+    for (lines, status, text) in LINES {
+        let trace = one_channel(rt.alloc(), lines)?;
+        expect(&rt, rt.alloc(), 1500, &trace, (*status, text))?;
+    }
+    for (trace, text) in HEADS {
+        expect(&rt, rt.alloc(), 1500, trace, (Status::BadTrace, text))?;
+    }
+    Ok(())
 }
 
 /// Event 200,001 ends the trace, whatever comes behind it.
 #[test]
 fn an_event_is_one_too_many(rt: HostRuntime) -> Result<(), Fail> {
-    let alloc = rt.alloc();
-    let mut trace = String::from_str(alloc, HEAD)?;
-    add(&mut trace, alloc, CHANNEL, "7", "")?;
+    let mut trace = one_channel(rt.alloc(), "")?;
     for _ in 0..200_001 {
         trace.push_str("live 9 -\n")?;
     }
-    let (ended, sink) = pooled(&rt, alloc, 1500, trace.as_bytes(), &[])?;
-    assert_eq!(&rt; ended, Ok(Status::TooLong), "the end");
-    assert_eq!(&rt; str::from_utf8(sink.held())?, "too-long\n", "the line");
-    Ok(())
+    expect(
+        &rt,
+        rt.alloc(),
+        1500,
+        &trace,
+        (Status::TooLong, "too-long\n"),
+    )
 }
 
 /// A source that fails leaves the sink as it was.
 #[test]
 fn nothing_is_written_of_half_a_trace(rt: HostRuntime) -> Result<(), Fail> {
-    let alloc = rt.alloc();
-    let trace = one_burst(alloc)?;
-    let (ended, sink) = pooled(&rt, alloc, 1500, trace.as_bytes(), &[0])?;
-    assert_eq!(&rt; ended, Err(Stop::Read), "the first take");
-    assert_eq!(&rt; sink.held().len(), 0, "nothing");
+    let trace = one_burst(rt.alloc())?;
+    let (ended, text) = pooled(&rt, rt.alloc(), 1500, &trace, &[0])?;
+    same(&rt, &ended, &Err(Stop::Read), "the first take");
+    same(&rt, &text.len(), &0, "nothing");
     Ok(())
 }

@@ -113,9 +113,9 @@ fn expect<S: Stepped>(
     for (given, notes, orders, info) in rows {
         let event = event_of(alloc, *given)?;
         let answer = stepped.step(alloc, &event)?;
-        same(rt, &text_of(alloc, &answer)?.as_str(), notes, given);
-        same(rt, &answer.orders.len(), orders, notes);
-        same(rt, &told(&answer), info, notes);
+        let text = text_of(alloc, &answer)?;
+        let got = (text.as_str(), answer.orders.len(), told(&answer));
+        same(rt, &got, &(*notes, *orders, *info), given);
     }
     Ok(())
 }
@@ -123,12 +123,19 @@ fn expect<S: Stepped>(
 /// A channel, and what comes to it from its first event on.
 pub type Case = (Channel, &'static [Row]);
 
+/// A new channel with these settings answers each row's event as it says.
+fn expect_case(rt: &impl Abort, alloc: Global, channel: Channel, rows: &[Row]) -> Result<(), Fail>
+    requires { length rows.now < 1000 }
+{
+    let mut core = new_core(alloc, channel)?;
+    expect(rt, alloc, &mut core, rows)
+}
+
 /// Each case's events are answered as its rows say.
 pub fn expect_all(rt: &impl Abort, alloc: Global, cases: &[Case]) -> Result<(), Fail> {
     for (channel, rows) in cases {
         assert!(rt; rows.len() < 1000);
-        let mut core = new_core(alloc, *channel)?;
-        expect(rt, alloc, &mut core, rows)?;
+        expect_case(rt, alloc, *channel, rows)?;
     }
     Ok(())
 }
