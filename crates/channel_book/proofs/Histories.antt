@@ -1,5 +1,5 @@
 -- Histories with one entry more, and beginnings of histories.
-use Rattle.std.proofs.Common.{◌≡◌, List, [], ◌∷◌, ◌++◌, refl}
+use Rattle.std.proofs.Common.{◌≡◌, ◌+◌, List, [], ◌∷◌, ◌++◌, length, refl, arith}
 use Rattle.rams_model.specs.declared.event.Event.{Event}
 use Rattle.rams_model.specs.Service.{Settings, answer}
 use Rattle.channel_book.specs.declared.entry.Entry.{Entry}
@@ -8,6 +8,11 @@ use Rattle.channel_book.specs.{LegalFrom, events_behind}
 pub events_snoc : (before : List Event) (entries : List Entry) (e : Entry) → events_behind before (entries ++ e ∷ []) ≡ e.event ∷ events_behind before entries
 events_snoc before [] e = refl
 events_snoc before (x ∷ later) e = events_snoc (x.event ∷ before) later e
+
+-- an event an entry
+pub as_many_behind : (before : List Event) (entries : List Entry) → length (events_behind before entries) ≡ length before + length entries
+as_many_behind before [] = omega arith
+as_many_behind before (x ∷ later) = omega (arith, as_many_behind (x.event ∷ before) later)
 
 pub legal_snoc : (s : Settings) (before : List Event) (entries : List Entry) (e : Entry) → LegalFrom s before entries
     → e.answer ≡ answer s (events_behind before entries) e.event → LegalFrom s before (entries ++ e ∷ [])

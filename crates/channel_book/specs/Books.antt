@@ -1,5 +1,5 @@
 -- What contracts see of a book, and what is true of each.
-use Rattle.std.specs.Prelude.{◌≡◌, List, [], length}
+use Rattle.std.specs.Prelude.{List, []}
 use Rattle.rams_model.specs.Service.{Settings}
 use Rattle.session_core.specs.{StandsFor}
 use Rattle.session_core.specs.Seen.{Seen}
@@ -13,5 +13,4 @@ pub record Kept : Type 0 where
 -- The entries are a legal history, and the core is the one to which their events lead.
 pub record Replays (core : Seen) (entries : List Entry) : Type 0 where
   pub stands : StandsFor core (events_behind [] entries)
-  pub counted : core.calls ≡ length entries
   pub legal : IsLegal core.settings entries

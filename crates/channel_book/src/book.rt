@@ -37,7 +37,7 @@ impl Book {
     /// The book of a channel to which nothing came yet. It keeps `alloc` for its entries, and takes no
     /// memory.
     pub fn new(alloc: Global, core: Core) -> Book
-        requires made { (core.calls ≡ 0) × StandsFor core [] }
+        requires made { StandsFor core [] }
         ensures settings { result.settings ≡ core.settings }
         ensures empty { result.entries ≡ [] }
     {
@@ -140,12 +140,10 @@ impl Book {
 }
 
 impl Stepped for Book {
-    ghost use Rattle.std.specs.Prelude.{◌≡◌, [], length};
+    ghost use Rattle.std.specs.Prelude.{◌≡◌, []};
     ghost use Rattle.channel_book.specs.{events_behind};
 
     ghost settings = { λ book. book.settings };
-
-    ghost calls = { λ book. length book.entries };
 
     ghost stands = { λ book events. events_behind [] book.entries ≡ events };
 

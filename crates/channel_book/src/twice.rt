@@ -1,8 +1,8 @@
 //! An answer with its copy.
-ghost use Rattle.std.specs.Prelude.{◌≡◌, ◌+◌, ◌^◌, ◌<◌, ◌≤◌, List, [], ◌∷◌, length, vec_len, vec_capacity, IfOk, OnOk, OnErr};
+ghost use Rattle.std.specs.Prelude.{◌≡◌, ◌^◌, ◌≤◌, List, [], ◌∷◌, length, vec_len, vec_capacity, IfOk, OnErr};
 ghost use Rattle.rams_model.specs.declared.event.Event.{Event};
 ghost use Rattle.rams_model.specs.declared.event.Event.TheVariants.{Live, Feedback, Tick};
-ghost use Rattle.session_core.specs.{StandsFor, TellsAlone};
+ghost use Rattle.session_core.specs.{StandsFor, StandsForFewer, TellsAlone};
 ghost use Rattle.channel_book.specs.{IsTwice};
 
 use crate::copies::{Room, copy_answer, copy_one};
@@ -24,11 +24,10 @@ pub(crate) struct Twice {
 /// Steps the core: its answer, twice. The memory of the copy is taken before the core changes, so that
 /// after want of memory it is as before.
 pub(crate) fn answer_twice(alloc: Global, core: &mut Core, event: &Event) -> Result<Twice, NoMemory>
-    requires calls { core.old.calls < 2 ^ 40 }
+    requires few { StandsForFewer core.old (2 ^ 40) }
     ensures stands { (events : List Event) → StandsFor core.old events →
         IfOk result (λ twice. IsTwice core.old.settings events event.now twice.kept twice.given × StandsFor core.new (event.now ∷ events)) }
     ensures settings { core.new.settings ≡ core.old.settings }
-    ensures calls { OnOk result (core.new.calls ≡ core.old.calls + 1) }
     ensures same { OnErr result (core.new ≡ core.old) }
 {
     match event {
@@ -40,11 +39,10 @@ pub(crate) fn answer_twice(alloc: Global, core: &mut Core, event: &Event) -> Res
 
 /// A live packet has one note and no order.
 fn live_twice(alloc: Global, core: &mut Core, bytes: &[u8]) -> Result<Twice, NoMemory>
-    requires calls { core.old.calls < 2 ^ 40 }
+    requires few { StandsForFewer core.old (2 ^ 40) }
     ensures stands { (events : List Event) → StandsFor core.old events →
         IfOk result (λ twice. IsTwice core.old.settings events (Live bytes.now) twice.kept twice.given × StandsFor core.new (Live bytes.now ∷ events)) }
     ensures settings { core.new.settings ≡ core.old.settings }
-    ensures calls { OnOk result (core.new.calls ≡ core.old.calls + 1) }
     ensures same { OnErr result (core.new ≡ core.old) }
 {
     let given = core.live(alloc, bytes)?;
@@ -91,11 +89,9 @@ fn feedback_twice(
     client: u64,
     bytes: &[u8],
 ) -> Result<Twice, NoMemory>
-    requires calls { core.old.calls < 2 ^ 40 }
     ensures stands { (events : List Event) → StandsFor core.old events →
         IfOk result (λ twice. IsTwice core.old.settings events (Feedback client bytes.now) twice.kept twice.given × StandsFor core.new (Feedback client bytes.now ∷ events)) }
     ensures settings { core.new.settings ≡ core.old.settings }
-    ensures calls { OnOk result (core.new.calls ≡ core.old.calls + 1) }
     ensures same { OnErr result (core.new ≡ core.old) }
 {
     if bytes.len() > LONGEST_DATAGRAM {
@@ -108,11 +104,9 @@ fn feedback_twice(
 
 /// A tick is planned, the plan's answer copied, and the plan done.
 fn tick_twice(alloc: Global, core: &mut Core) -> Result<Twice, NoMemory>
-    requires calls { core.old.calls < 2 ^ 40 }
     ensures stands { (events : List Event) → StandsFor core.old events →
         IfOk result (λ twice. IsTwice core.old.settings events Tick twice.kept twice.given × StandsFor core.new (Tick ∷ events)) }
     ensures settings { core.new.settings ≡ core.old.settings }
-    ensures calls { OnOk result (core.new.calls ≡ core.old.calls + 1) }
     ensures same { OnErr result (core.new ≡ core.old) }
 {
     let plan = core.plan_tick(alloc)?;

@@ -49,7 +49,7 @@ impl ChannelLock {
     /// on.
     pub fn new(alloc: Global, core: Core, seats: u32) -> Result<(ChannelLock, Vec<Pass>), NoMemory>
         requires seats { (0 < seats) × (seats ≤ 32) }
-        requires made { (core.calls ≡ 0) × StandsFor core [] }
+        requires made { StandsFor core [] }
         ensures lock { IfOk result (λ r. (r.0.settings ≡ core.settings) × (r.0.passes ≡ seats)) }
         ensures passes { IfOk result (λ r. r.1.items ≡ fresh r.0.lock core.settings seats) }
     {

@@ -3,7 +3,7 @@ use Rattle.std.proofs.Common.{◌≡◌, ◌<◌, ◌^◌, true, List, [], refl,
 use Rattle.std.proofs.lemmas.List.Elements.{All-nil}
 use Rattle.rams_model.specs.declared.channel.Channel.{Channel}
 use Rattle.rams_model.specs.Service.{Settings, arrivals, known, opened, is_among, bursts, Wanted, pending, channel_left, history_of}
-use Rattle.rams_model.specs.Packets.{Arrival}
+use Rattle.rams_model.specs.Packets.{Arrival, hi}
 use Rattle.channel_config.specs.{IsLawful}
 use Rattle.channel_cache.specs.{new_cache}
 use Rattle.channel_cache.specs.Seen as caches
@@ -15,10 +15,10 @@ use Rattle.channel_parts.specs.declared.parts.Parts.{Parts}
 use Rattle.channel_parts.specs.{StandsFor, new_parts}
 
 new_stands : (s : Settings) → IsLawful s → caches.StandsFor (new_cache s) [] → StandsFor (new_parts s) []
-unfolding history_of arrivals known opened bursts pending channel_left
-new_stands s lawful stands = record {
+unfolding history_of arrivals known opened bursts pending channel_left hi
+new_stands s lawful stands = let none : hi (new_parts s).cache.held ≡ 0 = refl in record {
   lawful = lawful;
-  packets = record { settings_are = refl; stands = stands; low = All-nil (λ (a : Arrival). a.sequence < 2 ^ 16); few = omega arith };
+  packets = record { settings_are = refl; stands = stands; low = All-nil (λ (a : Arrival). a.sequence < 2 ^ 16); small = omega (arith, none) };
   table = record { most = refl; clients = refl; entries = λ k e found. absurd cc; others = λ k f. refl };
   queue = record { pending_is = refl; known_is = All-nil (λ (w : Wanted). is_among w.client [] ≡ true) };
   budget = refl;

@@ -28,7 +28,6 @@ use Rattle.rams_model.proofs.OpenBurst.{holds_of}
 use Rattle.channel_parts.proofs.Bounding.{bounded}
 use Rattle.channel_parts.proofs.Lasting.{ticks_left}
 use Rattle.tick_laws.proofs.Idling.{idle_less}
-use Rattle.channel_parts.proofs.Small.{held_small}
 use Rattle.channel_parts.proofs.Tables.{at_is, has_entry, entry_among}
 
 -- the history of some events is a moment
@@ -48,7 +47,7 @@ held_packets_are_in_order p events st =
     record {
       same = same;
       follows = subst (λ (hs : List Held). Follows (lo hs) hs) (sym same) (held_follow p.config history);
-      small = subst (λ (hs : List Held). hi hs ≤ 2 ^ 62) (sym same) (held_small p.config history st.packets.low st.packets.few);
+      small = st.packets.small;
     }
 
 -- the entries

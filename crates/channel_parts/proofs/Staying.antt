@@ -48,7 +48,7 @@ cache_stays s old new cache same is = record {
   settings_are = is.settings_are;
   stands = subst (caches.StandsFor cache) (sym same) is.stands;
   low = subst HaveLowNumbers (sym same) is.low;
-  few = subst (λ (l : List Arrival). length l ≤ 2 ^ 40) (sym same) is.few;
+  small = is.small;
 }
 
 -- the pending repairs, of whom the queue speaks
@@ -152,17 +152,6 @@ few_arrive s (event ∷ events) =
     let heard = heard_of s.channel event in
     omega (arith, ap length (arrivals_of_event s heard (history_of s events)), few_heard heard (history_of s events), few_arrive s events)
 
--- how many live packets there are after one more
-live_counted : (s : Settings) (bytes : List ℕ) (packets : List Arrival) → length (arrivals_after s bytes packets) ≤ length packets + 1
-live_counted s bytes packets = counted (heard_live s.channel bytes)
-  where
-    counted : (h : Heard) → length (arrivals_heard packets h) ≤ length packets + 1
-    counted (live a) = omega arith
-    counted (dropped note) = omega arith
-    counted (feedback client ms) = omega arith
-    counted (unframed client fault) = omega arith
-    counted tick = omega arith
-
 -- So after a live packet the parts stand for it too, where the cache took it.
 pub live_packets_change_the_cache : LivePacketsChangeTheCache
 unfolding history_of
@@ -182,7 +171,7 @@ live_packets_change_the_cache p events bytes note cache are st taken =
         settings_are = taken.settings_are;
         stands = subst (caches.StandsFor cache) (sym brought) taken.stands;
         low = subst HaveLowNumbers (sym brought) (reads_low s bytes (arrivals old) are st.packets.low);
-        few = omega (arith, ap (λ (l : List Arrival). length l) brought, live_counted s bytes (arrivals old), taken.few);
+        small = taken.small;
       },
       live_table s note heard old p.table of' st.table,
       st.queue.pending_is ∙ sym (live_pending note heard old of'),

@@ -67,7 +67,7 @@ pub record IsTaken (p : Parts) (events : List Event) (bytes : List ℕ) (note : 
   pub noted : live_note_of p.config (arrivals (history_of p.config events)) bytes ≡ Some note
   pub stands : caches.StandsFor cache (arrivals_after p.config bytes (arrivals (history_of p.config events)))
   pub settings_are : cache.settings ≡ p.config
-  pub few : length (arrivals (history_of p.config events)) < 2 ^ 40
+  pub small : hi cache.held ≤ 2 ^ 62
 
 -- After a live packet that the cache took the parts stand for it too: nothing else of them changes.
 abbrev pub LivePacketsChangeTheCache : Type 0

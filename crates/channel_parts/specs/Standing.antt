@@ -1,7 +1,8 @@
 -- What the parts of a channel keep between events, and the history that they stand for.
-use Rattle.std.specs.Prelude.{◌≡◌, ℕ, ◌^◌, ◌≤◌, false, true, List, [], length, All, Some, None, option_map}
+use Rattle.std.specs.Prelude.{◌≡◌, ℕ, ◌^◌, ◌≤◌, false, true, List, [], All, Some, None, option_map}
 use Rattle.rams_model.specs.declared.event.Event.{Event}
 use Rattle.rams_model.specs.Service.{Settings, History, arrivals, known, is_among, sequence, ssrc, next, kept, open_burst, Wanted, pending, is_busy, idle, reserved, channel_left, history_of}
+use Rattle.rams_model.specs.Packets.{hi}
 use Rattle.rams_model.specs.Service.Bursts as model
 use Rattle.channel_config.specs.{IsLawful}
 use Rattle.channel_cache.specs.{new_cache}
@@ -43,12 +44,12 @@ abbrev pub IsBudget : Settings → History → Amounts → Type 0
 IsBudget s history budget =
     budget ≡ amounts s.channel.share s.channel.reserve s.channel.swell (reserved s history) (channel_left s history)
 
--- The cache has the live packets that passed the tests, whose sequence numbers have 16 bits: at most 2^40 of them.
+-- The cache has the live packets that passed the tests, whose sequence numbers have 16 bits. The numbers of those that it holds are at most 2^62.
 pub record IsCache (s : Settings) (history : History) (cache : caches.Seen) : Type 0 where
   pub settings_are : cache.settings ≡ s
   pub stands : caches.StandsFor cache (arrivals history)
   pub low : HaveLowNumbers (arrivals history)
-  pub few : length (arrivals history) ≤ 2 ^ 40
+  pub small : hi cache.held ≤ 2 ^ 62
 
 -- The parts stand for these events, the newest first: each is what their history says. The settings are lawful.
 pub record StandsFor (p : Parts) (events : List Event) : Type 0 where

@@ -20,14 +20,13 @@ answers_none : answers_in config [] ≡ []
 unfolding book
 answers_none = refl
 
-pub begins : (seed blocks : ℕ) (at : Place) (core : Seen) (tally : Tallied) → left at blocks ≡ made seed blocks → core.settings ≡ config → core.calls ≡ 0 → StandsFor core [] → tally ≡ tally_of []
+pub begins : (seed blocks : ℕ) (at : Place) (core : Seen) (tally : Tallied) → left at blocks ≡ made seed blocks → core.settings ≡ config → StandsFor core [] → tally ≡ tally_of []
     → IsRunning seed blocks 0 at core tally
-begins seed blocks at core tally all settings calls stands told = record {
+begins seed blocks at core tally all settings stands told = record {
   came = [];
   all = all;
   counted = refl;
   settings = settings;
-  calls = calls;
   stands = stands;
   told = told ∙ ap tally_of (sym answers_none);
 }
@@ -37,16 +36,14 @@ pub goes_on : (seed blocks events : ℕ) (at later : Place) (core now : Seen) (t
     → (r : IsRunning seed blocks events at core tally)
     → left at blocks ≡ event ∷ left later blocks
     → now.settings ≡ core.settings
-    → now.calls ≡ core.calls + 1
     → (a ≡ answer core.settings r.came event) × StandsFor now (event ∷ r.came)
     → ((answers : List Answered) → tally ≡ tally_of answers → more ≡ tally_of (a ∷ answers))
     → IsRunning seed blocks (events + 1) later now more
-goes_on seed blocks events at later core now tally more event a r next settings calls stands counts = record {
+goes_on seed blocks events at later core now tally more event a r next settings stands counts = record {
   came = event ∷ r.came;
   all = moved event r.came (left later blocks) ∙ ap (λ (l : List Event). reverse r.came ++ l) (sym next) ∙ r.all;
   counted = omega (arith, r.counted);
   settings = settings ∙ r.settings;
-  calls = omega (arith, calls, r.calls);
   stands = stands.1;
   told =
       counts (answers_in config r.came) r.told

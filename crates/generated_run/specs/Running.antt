@@ -20,6 +20,5 @@ pub record IsRunning (seed blocks events : ℕ) (at : Place) (core : Seen) (tall
   pub all : reverse came ++ left at blocks ≡ made seed blocks
   pub counted : events ≡ length came
   pub settings : core.settings ≡ config
-  pub calls : core.calls ≡ events
   pub stands : StandsFor core came
   pub told : tally ≡ tally_of (answers_in config came)

@@ -1,8 +1,8 @@
 //! What a core answers to one generated event.
-ghost use Rattle.std.specs.Prelude.{◌≡◌, ◌+◌, ◌^◌, ◌<◌, All, List, ◌∷◌, IfOk, OnOk, length};
+ghost use Rattle.std.specs.Prelude.{◌≡◌, ◌^◌, ◌<◌, All, List, ◌∷◌, IfOk, length};
 ghost use Rattle.rams_model.specs.declared.event.Event.{Event};
 ghost use Rattle.rams_model.specs.Service.{answer};
-ghost use Rattle.session_core.specs.{StandsFor};
+ghost use Rattle.session_core.specs.{StandsFor, StandsForFewer};
 ghost use Rattle.summary.specs.{IsShort};
 ghost use Rattle.trace_gen.specs.{event_on};
 ghost use Rattle.generated_run.specs.{IsBrief};
@@ -21,7 +21,7 @@ pub(crate) fn answer_to(
     kind: Kind,
     bytes: &[u8],
 ) -> Result<Answer, NoMemory>
-    requires calls { core.old.calls < 2 ^ 40 }
+    requires few { StandsForFewer core.old (2 ^ 40) }
     requires brief { IsBrief (event_on kind bytes.now) }
     ensures stands { (events : List Event) → StandsFor core.old events →
         IfOk result (λ a. (a ≡ answer core.old.settings events (event_on kind bytes.now))
@@ -30,7 +30,6 @@ pub(crate) fn answer_to(
     ensures orders { IfOk result (λ a. length a.orders < 2 ^ 32) }
     ensures short { IfOk result (λ a. All IsShort a.orders) }
     ensures settings { core.new.settings ≡ core.old.settings }
-    ensures calls { OnOk result (core.new.calls ≡ core.old.calls + 1) }
 {
     match kind {
         Kind::Live => core.live(alloc, bytes),

@@ -65,7 +65,7 @@ lanes_fresh most [] [] p short few = tt
 lanes_fresh most [] (l ∷ lanes) p short few = absurd p
 lanes_fresh most (c ∷ cs) [] p short few = absurd p
 lanes_fresh most (c ∷ cs) (l ∷ lanes) p short few = (
-  record { calls = p.0.calls; stands = p.0.stands; few = omega (arith, ap length p.0.events, short.0, length-reverse c.events.items, few) },
+  record { stands = p.0.stands; few = omega (arith, ap length p.0.events, short.0, length-reverse c.events.items, few) },
   lanes_fresh most cs lanes p.1 short.1 few,
 )
 

@@ -22,6 +22,5 @@ pooled_text routes books granted claims = first_line ++ (walk_text 1 routes book
 -- The lane has the channel's settings and events, and nothing came to its core.
 pub record IsLaneOf (c : Coming) (lane : Lane) : Type 0 where
   pub settings : lane.core.settings ≡ c.config
-  pub calls : lane.core.calls ≡ 0
   pub stands : StandsFor lane.core []
   pub events : lane.events.items ≡ c.events.items

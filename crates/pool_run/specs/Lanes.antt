@@ -16,7 +16,6 @@ use Rattle.pool_run.specs.Sizes.{sizes_of}
 
 -- Nothing came to the lane's channel yet, and it has at most 200,000 events.
 pub record IsFresh (lane : Lane) : Type 0 where
-  pub calls : lane.core.calls ≡ 0
   pub stands : StandsFor lane.core []
   pub few : length lane.events.items ≤ 200000
 

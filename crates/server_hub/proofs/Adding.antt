@@ -97,9 +97,9 @@ module _ (ids : List ℕ) (room claimed : ℕ) (v : Seen) (f : AreFields ids roo
       (of_faults v s true false true (lt-ltb (length v.channels) 64 few) (found false new)
       (le-leb (shares_of (settings_of v) + s.channel.share) v.link (omega (arith, f.claimed_is, f.lawful.channels.shares, share_is))))
 
-  pub added : (core : cores.Seen) → core.settings ≡ s → core.calls ≡ 0 → length v.channels < 64 → false ≡ list_any (λ k. eqb k c.id) names → c.share ≤ v.link - claimed
+  pub added : (core : cores.Seen) → core.settings ≡ s → cores.StandsFor core [] → length v.channels < 64 → false ≡ list_any (λ k. eqb k c.id) names → c.share ≤ v.link - claimed
       → s.tick ≡ hub.tick → (later : ℕ) → room ≤ later → AreFields (ids ++ c.id ∷ []) later (claimed + c.share) (record v { channels = v.channels ++ core ∷ [] })
-  added core settings calls few new fits tick later grows =
+  added core settings stands few new fits tick later grows =
       let all : all_settings (v.channels ++ core ∷ []) ≡ settings_of v ++ s ∷ [] = settings_more v.channels core ∙ ap (λ (x : Settings). settings_of v ++ x ∷ []) settings in
       let other : All (λ k. k ≢ s.channel.id) (ids_of (settings_of v)) =
       none_is_it s.channel.id (ids_of (settings_of v)) (has_is s.channel.id (settings_of v) ∙ found false new) in
@@ -112,8 +112,8 @@ module _ (ids : List ℕ) (room claimed : ℕ) (v : Seen) (f : AreFields ids roo
           channels = subst (FitLink v.tick v.link) (sym all)
               (fit_more v.tick v.link (settings_of v) s f.lawful.channels (omega (arith, length-map v.channels (λ core. core.settings))) other
               (omega (arith, f.claimed_is, f.lawful.channels.shares, share_is)) (tick ∙ ap (λ (x : Seen). x.tick) (sym hub_is)));
-          counted = All-append (λ (x : cores.Seen). x.calls ≤ v.calls) v.channels (core ∷ []) f.lawful.counted
-              (All-cons (λ (x : cores.Seen). x.calls ≤ v.calls) core [] (omega (arith, calls)) (λ k d less. absurd (omega (arith, less))));
+          counted = All-append (λ (x : cores.Seen). cores.StandsForFewer x (v.calls + 1)) v.channels (core ∷ []) f.lawful.counted
+              (All-cons (λ (x : cores.Seen). cores.StandsForFewer x (v.calls + 1)) core [] ([], stands, omega arith) (λ k d less. absurd (omega (arith, less))));
         };
         ids_are =
             ap (λ (x : Channel). ids ++ x.id ∷ []) c_is ∙ ap (λ (l : List ℕ). l ++ s.channel.id ∷ []) f.ids_are

@@ -10,7 +10,7 @@ use Rattle.rams_model.specs.declared.event.Event.TheVariants.{Tick}
 use Rattle.rams_model.specs.Service.{Answered, Settings}
 use Rattle.session_core.specs.Seen as cores
 use Rattle.server_hub.specs.declared.event.At.{At}
-use Rattle.server_hub.specs.{id_of, with_event, answer_to, channel_of, answer_of, after_event_of, answer_at, answers_to_tick, after_tick, all_settings, ids_of, Serves, AllServe, StepsAt, AllTick}
+use Rattle.server_hub.specs.{served, id_of, with_event, answer_to, channel_of, answer_of, after_event_of, answer_at, answers_to_tick, after_tick, all_settings, ids_of, Serves, AllServe, Steps, StepsAt, AllTick}
 use Rattle.server_hub.specs.Served.{Served}
 use Rattle.server_hub.proofs.Pairing.{partner, pair_set}
 
@@ -63,10 +63,20 @@ changed id e (b ∷ cs) (suc place) c is its once =
     let more = changed id e cs place c is its (rest_once (id_of b) (map id_of cs) once) in
     (ap (λ x. cond x (Some b) (channel_of id cs)) other ∙ more.0, ap (λ x. cond x (with_event e b) b ∷ after_event_of id e cs) other ∙ ap (λ (l : List Served). b ∷ l) more.1)
 
--- The channels keep their settings, and no core counts more than one more event.
+-- The channels keep their settings, and each core stands for at most one more event.
 pub record Keep (old new : List cores.Seen) : Type 0 where
   pub settings : all_settings new ≡ all_settings old
-  pub calls : (most : ℕ) → All (λ core. core.calls ≤ most) old → All (λ core. core.calls ≤ most + 1) new
+  pub fewer : (most : ℕ) → All (λ core. cores.StandsForFewer core most) old → All (λ core. cores.StandsForFewer core (most + 1)) new
+
+-- a core stands for fewer than more events too
+pub fewer_still : (v : cores.Seen) (m n : ℕ) → m ≤ n → cores.StandsForFewer v m → cores.StandsForFewer v n
+fewer_still v m n less f = (f.0, f.1, omega (arith, f.2, less))
+
+-- an event is one more
+one_more : (e : Event) (v w : cores.Seen) (a : Answered) → Steps e v w a → (most : ℕ) → cores.StandsForFewer v most → cores.StandsForFewer w (most + 1)
+one_more e v w a steps most f =
+    let after = (steps.stands (served v.settings f.0) (record { settings = refl; stands = f.1 })).1 in
+    (e ∷ f.0, after.stands, omega (arith, f.2))
 
 -- What an event of one channel makes of the cores, by the number of its channel.
 pub record StepsOf (e : Event) (id : ℕ) (old new : List cores.Seen) (a : Option Answered) : Type 0 where
@@ -79,7 +89,7 @@ steps_of_none e id vs none = record {
   stands = λ cs s.
       let without = untouched id e cs (subst (All (λ k. k ≢ id)) (same_ids vs cs s) none) in
       (sym (ap (option_map (answer_to e)) without.0), subst (AllServe vs) (sym without.1) s);
-  keep = record { settings = refl; calls = λ most each k d less. omega (arith, each k d less) };
+  keep = record { settings = refl; fewer = λ most each k d less. fewer_still (get_or vs k d) most (most + 1) (omega arith) (each k d less) };
 }
 
 -- the core at this place has it
@@ -103,11 +113,12 @@ steps_of_one e id place old new a steps is once = record {
         ap all_settings steps.changed
         ∙ map-set_same (λ (v : cores.Seen). v.settings) old place steps.later steps.core
         (steps.steps.settings ∙ ap (λ (v : cores.Seen). v.settings) (sym (get_or_from_slice_get old place steps.core steps.core steps.is_there)));
-    calls = λ most each.
-        let core : steps.core.calls ≤ most =
-        subst (λ (v : cores.Seen). v.calls ≤ most) (get_or_from_slice_get old place steps.core steps.core steps.is_there) (each place steps.core (slice_get_within old place steps.core steps.is_there)) in
-        subst (All (λ (v : cores.Seen). v.calls ≤ most + 1)) (sym steps.changed)
-        (All-set (λ (v : cores.Seen). v.calls ≤ most + 1) old place steps.later (omega (arith, steps.steps.calls)) (λ k d less. omega (arith, each k d less)));
+    fewer = λ most each.
+        let core : cores.StandsForFewer steps.core most =
+        subst (λ (v : cores.Seen). cores.StandsForFewer v most) (get_or_from_slice_get old place steps.core steps.core steps.is_there) (each place steps.core (slice_get_within old place steps.core steps.is_there)) in
+        subst (All (λ (v : cores.Seen). cores.StandsForFewer v (most + 1))) (sym steps.changed)
+        (All-set (λ (v : cores.Seen). cores.StandsForFewer v (most + 1)) old place steps.later (one_more e steps.core steps.later a steps.steps most core)
+        (λ k d less. fewer_still (get_or old k d) most (most + 1) (omega arith) (each k d less)));
   };
 }
 
@@ -139,15 +150,15 @@ ticks_settings [] [] [] t = refl
 ticks_settings (v ∷ vs) (w ∷ ws) (a ∷ all) t = cc (t.0.steps.settings, ticks_settings vs ws all t.1)
 ticks_settings vs ws all t = absurd t
 
-ticks_calls : (vs ws : List cores.Seen) (all : List At) → AllTick vs ws all → (most : ℕ) → All (λ core. core.calls ≤ most) vs → All (λ core. core.calls ≤ most + 1) ws
-ticks_calls [] [] [] t most each = λ k d less. absurd (omega (arith, less))
-ticks_calls (v ∷ vs) (w ∷ ws) (a ∷ all) t most each =
-    let few : w.calls ≤ most + 1 = omega (arith, t.0.steps.calls, each 0 v (omega arith)) in
-    All-cons (λ core. core.calls ≤ most + 1) w ws few (ticks_calls vs ws all t.1 most (λ k d less. each (suc k) d (omega (arith, less))))
-ticks_calls vs ws all t most each = absurd t
+ticks_fewer : (vs ws : List cores.Seen) (all : List At) → AllTick vs ws all → (most : ℕ) → All (λ core. cores.StandsForFewer core most) vs → All (λ core. cores.StandsForFewer core (most + 1)) ws
+ticks_fewer [] [] [] t most each = λ k d less. absurd (omega (arith, less))
+ticks_fewer (v ∷ vs) (w ∷ ws) (a ∷ all) t most each =
+    All-cons (λ core. cores.StandsForFewer core (most + 1)) w ws (one_more Tick v w a.answer t.0.steps most (each 0 v (omega arith)))
+    (ticks_fewer vs ws all t.1 most (λ k d less. each (suc k) d (omega (arith, less))))
+ticks_fewer vs ws all t most each = absurd t
 
 pub ticks_all : (old new : List cores.Seen) (answers : List At) → AllTick old new answers → TicksAll old new answers
 ticks_all old new answers t = record {
   stands = ticks_stand old new answers t;
-  keep = record { settings = ticks_settings old new answers t; calls = ticks_calls old new answers t };
+  keep = record { settings = ticks_settings old new answers t; fewer = ticks_fewer old new answers t };
 }

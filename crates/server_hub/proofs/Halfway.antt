@@ -1,6 +1,5 @@
 -- A tick of the first of some cores is done, and the others have their plans.
-use Rattle.std.proofs.Common.{◌≡◌, ℕ, suc, ◌+◌, ◌^◌, ◌<◌, List, [], ◌∷◌, ◌++◌, length, get_or, set, refl, sym, ◌∙◌, ap, subst, arith, append-nil, length-append}
-use Rattle.std.specs.Prelude.{All}
+use Rattle.std.proofs.Common.{◌≡◌, ℕ, suc, ◌+◌, ◌<◌, List, [], ◌∷◌, ◌++◌, length, get_or, set, refl, sym, ◌∙◌, ap, subst, arith, append-nil, length-append}
 use Rattle.std.proofs.Math.Seq.{get_or-append_seam, set-append_seam, append_snoc}
 use Rattle.session_core.specs.Seen as cores
 use Rattle.server_hub.specs.declared.event.At.{At}
@@ -44,7 +43,6 @@ one_more olds news all v w a t one = absurd t
 -- The next core has this plan, and then one more is done.
 pub record Next {P : Type 0} (IsPlan : cores.Seen → P → Type 0) (old new : List cores.Seen) (plans : List P) (answers : List At) (count : ℕ) (v : cores.Seen) (plan : P) : Type 0 where
   pub is_plan : IsPlan v plan
-  pub few : All (λ core. core.calls < 2 ^ 40) old → v.calls < 2 ^ 40
   pub more : (w : cores.Seen) (a : At) → Ticks v w a → Halfway IsPlan old (set new count w) plans (answers ++ a ∷ []) (count + 1)
 
 next_of : {P : Type 0} (IsPlan : cores.Seen → P → Type 0) (old new : List cores.Seen) (plan : P) (plans : List P) (answers : List At) (count : ℕ) (before done rest : List cores.Seen)
@@ -55,8 +53,6 @@ next_of IsPlan old new plan plans answers count before done (v ∷ rest) o n pla
     let is : get_or new count d ≡ v = ap (λ (l : List cores.Seen). get_or l count d) n ∙ ap (λ (k : ℕ). get_or (done ++ v ∷ rest) k d) (sym place) ∙ get_or-append_seam done v rest d in
     let next : Next IsPlan old new plans answers count v plan = record {
       is_plan = planned.0;
-      few = λ each. subst (λ (x : cores.Seen). x.calls < 2 ^ 40) (ap (λ (l : List cores.Seen). get_or l (length before) v) o ∙ get_or-append_seam before v rest v)
-          (each (length before) v (omega (arith, ap length o, length-append before (v ∷ rest))));
       more = λ w a ticks. record {
         before = before ++ v ∷ [];
         done = done ++ w ∷ [];

@@ -12,13 +12,17 @@ use Rattle.server_hub.specs.declared.event.At.{At}
 use Rattle.server_hub.specs.{id_of, channel_of, AreFields, FitLink, KeepsSettings, Serves, AllServe, all_settings, ids_of, shares_of, settings_of, has_id, StepsAt, AllTick}
 use Rattle.server_hub.specs.Served.{Served}
 use Rattle.server_hub.specs.Seen.{Seen}
-use Rattle.server_hub.proofs.Changing.{same_settings, same_ids, changed, untouched, Keep, StepsOf, steps_of_one, steps_of_none, TicksAll, ticks_all}
+use Rattle.server_hub.proofs.Changing.{same_settings, same_ids, changed, untouched, fewer_still, Keep, StepsOf, steps_of_one, steps_of_none, TicksAll, ticks_all}
 use Rattle.server_hub.proofs.Finding.{with_id, one_has, none_has, settings_found, Found}
 use Rattle.server_hub.proofs.Pairing.{partner}
 
 -- all cores were written over
 pub written : (len : ℕ) (channels old : List cores.Seen) → len ≡ length channels → take len (channels ++ drop (length channels) old) ≡ channels
 written len channels old is = ap (λ n. take n (channels ++ drop (length channels) old)) is ∙ take-append_seam channels (drop (length channels) old)
+
+-- as long as the hub counts few events, each of its cores stands for few
+pub all_few : (v : Seen) (n : ℕ) → All (λ core. cores.StandsForFewer core (v.calls + 1)) v.channels → v.calls < n → All (λ core. cores.StandsForFewer core n) v.channels
+all_few v n counted less = λ k d within. fewer_still (get_or v.channels k d) (v.calls + 1) n (omega (arith, less)) (counted k d within)
 
 -- the hub after an event
 abbrev pub stepped : Seen → List cores.Seen → Seen
@@ -32,7 +36,7 @@ kept ids room claimed v channels f k = record {
     link_least = f.lawful.link_least;
     link_most = f.lawful.link_most;
     channels = subst (FitLink v.tick v.link) (sym k.settings) f.lawful.channels;
-    counted = k.calls v.calls f.lawful.counted;
+    counted = k.fewer (v.calls + 1) f.lawful.counted;
   };
   ids_are = f.ids_are ∙ ap ids_of (sym k.settings);
   room_is = f.room_is;

@@ -56,8 +56,8 @@ pub record IsHub (v : Seen) : Type 0 where
   pub link_least : 1500 ≤ v.link
   pub link_most : v.link ≤ 1000000000
   pub channels : FitLink v.tick v.link (settings_of v)
-  -- no core counts more events than the hub
-  pub counted : All (λ core. core.calls ≤ v.calls) v.channels
+  -- each core stands for no more events than the hub counts
+  pub counted : All (λ core. cores.StandsForFewer core (v.calls + 1)) v.channels
 
 -- What is true of the fields of a hub: the numbers of its channels, the room for them, and the sum of their shares.
 pub record AreFields (ids : List ℕ) (room claimed : ℕ) (v : Seen) : Type 0 where

@@ -1,5 +1,5 @@
 -- What an event makes of the cores.
-use Rattle.std.specs.Prelude.{◌≡◌, ℕ, ◌+◌, List, [], ◌∷◌, Some, slice_get, slice_set}
+use Rattle.std.specs.Prelude.{◌≡◌, ℕ, List, [], ◌∷◌, Some, slice_get, slice_set}
 use Rattle.rams_model.specs.declared.event.Event.{Event}
 use Rattle.rams_model.specs.declared.event.Event.TheVariants.{Tick}
 use Rattle.rams_model.specs.Service.{Answered}
@@ -12,7 +12,6 @@ use Rattle.server_hub.specs.Seen.{Serves}
 pub record Steps (e : Event) (old new : cores.Seen) (a : Answered) : Type 0 where
   pub stands : (c : Served) → Serves old c → (a ≡ answer_to e c) × Serves new (with_event e c)
   pub settings : new.settings ≡ old.settings
-  pub calls : new.calls ≡ old.calls + 1
 
 -- It does so with the core at this place, and changes no other.
 pub record StepsAt (e : Event) (place : ℕ) (old new : List cores.Seen) (a : Answered) : Type 0 where

@@ -1,6 +1,7 @@
 //! An event of one channel.
 ghost use Rattle.std.specs.Prelude.{◌≡◌, ◌^◌, ◌<◌, All, IfOk, OnErr, length};
 ghost use Rattle.rams_model.specs.declared.event.Event.TheVariants.{Live, Feedback};
+ghost use Rattle.session_core.specs.{StandsForFewer};
 ghost use Rattle.server_hub.specs.{StepsAt};
 
 use ram_io::NoMemory;
@@ -16,7 +17,7 @@ pub(crate) fn live_at(
     bytes: &[u8],
 ) -> Result<Answer, NoMemory>
     requires place { place < length cores.old }
-    requires calls { All (λ core. core.calls < 2 ^ 40) cores.old }
+    requires few { All (λ core. StandsForFewer core (2 ^ 40)) cores.old }
     ensures steps { IfOk result (StepsAt (Live bytes.now) place cores.old cores.new) }
     ensures same { OnErr result (cores.new ≡ cores.old) }
 {
@@ -32,7 +33,6 @@ pub(crate) fn feedback_at(
     bytes: &[u8],
 ) -> Result<Answer, NoMemory>
     requires place { place < length cores.old }
-    requires calls { All (λ core. core.calls < 2 ^ 40) cores.old }
     ensures steps { IfOk result (StepsAt (Feedback client bytes.now) place cores.old cores.new) }
     ensures same { OnErr result (cores.new ≡ cores.old) }
 {

@@ -1,5 +1,5 @@
 //! A tick of all channels, planned for each before any of it is done.
-ghost use Rattle.std.specs.Prelude.{◌≡◌, ◌+◌, ◌^◌, ◌<◌, ◌≤◌, [], All, IfOk, OnErr, length};
+ghost use Rattle.std.specs.Prelude.{◌≡◌, ◌≤◌, [], IfOk, OnErr, length};
 ghost use Rattle.std.specs.Vec.{vec_capacity};
 ghost use Rattle.session_core.specs.{IsPlanOf};
 ghost use Rattle.server_hub.specs.{Pairwise, Ticks, AllTick};
@@ -11,7 +11,6 @@ use std::alloc::Global;
 
 /// A tick of each core, in their order: all are planned before one is committed.
 pub(crate) fn tick_all(alloc: Global, cores: &mut [Core]) -> Result<Vec<At>, NoMemory>
-    requires { All (λ core. core.calls < 2 ^ 40) cores.old }
     ensures ticks { IfOk result (λ answers. AllTick cores.old cores.new answers.items) }
     ensures same { OnErr result (cores.new ≡ cores.old) }
 {
@@ -34,7 +33,6 @@ fn plan_all(alloc: Global, cores: &[Core]) -> Result<Vec<TickPlan>, NoMemory>
 
 /// Does what was planned for each core, in their order. The answers have room for theirs.
 fn commit_all(cores: &mut [Core], plans: Vec<TickPlan>, answers: &mut Vec<At>)
-    requires calls { All (λ core. core.calls < 2 ^ 40) cores.old }
     requires plans { Pairwise IsPlanOf cores.old plans.items }
     requires none { answers.old.items ≡ [] }
     requires room { length cores.old ≤ vec_capacity answers.old }
@@ -49,7 +47,6 @@ fn commit_all(cores: &mut [Core], plans: Vec<TickPlan>, answers: &mut Vec<At>)
 
 /// Does what was planned for one core.
 fn commit(core: &mut Core, plan: TickPlan) -> At
-    requires calls { core.old.calls < 2 ^ 40 }
     requires plan { IsPlanOf core.old plan }
     ensures { Ticks core.old core.new result }
 {

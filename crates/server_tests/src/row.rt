@@ -95,7 +95,7 @@ pub fn text_of(alloc: Global, answer: &Answer) -> Result<String, Fail> {
 
 /// A channel to which nothing came.
 fn new_core(alloc: Global, channel: Channel) -> Result<Core, Fail>
-    ensures { IfOk result (λ core. core.calls ≡ 0) }
+    ensures { IfOk result (λ core. StandsFor core []) }
 {
     let config = Config::check(channel, 10)?;
     Ok(Core::new(alloc, &config)?)
@@ -108,7 +108,7 @@ fn expect<S: Stepped>(
     stepped: &mut S,
     rows: &[Row],
 ) -> Result<(), Fail>
-    requires { S.calls stepped.old + length rows.now < 2 ^ 40 }
+    requires { (events : List Event) × S.stands stepped.old events × (length events + length rows.now < 2 ^ 40) }
 {
     for (given, notes, orders, info) in rows {
         let event = event_of(alloc, *given)?;

@@ -1,5 +1,5 @@
 -- The bounds on what a tick's plan answers.
-use Rattle.std.proofs.Common.{◌≡◌, ℕ, List, refl, sym, subst}
+use Rattle.std.proofs.Common.{◌≡◌, List, refl, sym, subst}
 use Rattle.rams_model.specs.declared.event.Event.{Event}
 use Rattle.rams_model.specs.declared.event.Event.TheVariants.{Tick}
 use Rattle.channel_parts.specs.declared.parts.Parts.{Parts}
@@ -20,11 +20,11 @@ plan_bounded p events st plan is = record {
   short = subst SendsShort (sym is.answer_is) (sends_short p.config events Tick);
 }
 
-abbrev seen : Parts → ℕ → Seen
-seen p calls = record { settings = p.config; calls = calls; parts = p }
+abbrev seen : Parts → Seen
+seen p = record { settings = p.config; parts = p }
 
 -- the plan of a core
-pub core_bounded : (p : Parts) (calls : ℕ) (v : Seen) → IsCore p calls → seen p calls ≡ v → (plan : Planned) → IsPlanOf v plan → IsBounded plan
-core_bounded p calls v core is plan planned =
+pub core_bounded : (p : Parts) (v : Seen) → IsCore p → seen p ≡ v → (plan : Planned) → IsPlanOf v plan → IsBounded plan
+core_bounded p v core is plan planned =
     let of_core = subst (λ (w : Seen). IsPlanOf w plan) (sym is) planned in
-    plan_bounded p core.events core.stands plan (of_core.for_all core.events (record { settings_are = refl; parts_stand = core.stands; counted = core.counted }))
+    plan_bounded p core.events core.stands plan (of_core.for_all core.events (record { settings_are = refl; parts_stand = core.stands }))

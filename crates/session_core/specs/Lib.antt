@@ -1,7 +1,7 @@
 pub mod Seen
 pub mod Bounds
 pub mod JoinTimes
-unfoldable pub use Rattle.session_core.specs.Seen.{Planned}
+unfoldable pub use Rattle.session_core.specs.Seen.{Planned, StandsForFewer}
 pub use Rattle.session_core.specs.Seen.{IsCore, StandsFor, IsPlanOf}
 unfoldable pub use Rattle.session_core.specs.Bounds.{IsShort, SendsShort, HasAtMost, IsCountable}
 unfoldable pub use Rattle.session_core.specs.JoinTimes.{JoinTimesAreKept}

@@ -1,5 +1,5 @@
 -- What contracts see of a core, and the events that it stands for.
-use Rattle.std.specs.Prelude.{◌≡◌, ℕ, ◌^◌, ◌≤◌, List, length}
+use Rattle.std.specs.Prelude.{◌≡◌, ℕ, ◌<◌, List, length}
 use Rattle.rams_model.specs.declared.event.Event.{Event}
 use Rattle.rams_model.specs.Service.{Settings}
 use Rattle.channel_parts.specs.declared.parts.Parts.{Parts}
@@ -10,22 +10,21 @@ use Rattle.tick_core.specs.{IsPlanFor}
 -- what a core keeps
 pub record Seen : Type 0 where
   pub settings : Settings
-  -- how many events came
-  pub calls : ℕ
   pub parts : Parts
 
--- what is true of every core: some events stand behind its parts, no more than it counts
-pub record IsCore (p : Parts) (calls : ℕ) : Type 0 where
+-- what is true of every core: some events stand behind its parts
+pub record IsCore (p : Parts) : Type 0 where
   pub events : List Event
   pub stands : parts.StandsFor p events
-  pub counted : length events ≤ calls
-  pub few : calls ≤ 2 ^ 40
 
--- The core stands for these events, the newest first, no more than it counts: its parts are what their history says.
+-- The core stands for these events, the newest first: its parts are what their history says.
 pub record StandsFor (v : Seen) (events : List Event) : Type 0 where
   pub settings_are : v.settings ≡ v.parts.config
   pub parts_stand : parts.StandsFor v.parts events
-  pub counted : length events ≤ v.calls
+
+-- it stands for some events, fewer than so many
+abbrev pub StandsForFewer : Seen → ℕ → Type 0
+StandsForFewer v n = (events : List Event) × StandsFor v events × (length events < n)
 
 -- what is planned for a tick
 abbrev pub Planned : Type 0

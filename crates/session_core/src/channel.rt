@@ -10,11 +10,10 @@ use std::alloc::Global;
 use std::marker::Model;
 use tick_core::TickPlan;
 
-/// What a channel keeps between events, and how many came.
+/// What a channel keeps between events.
 #[derive(Drop)]
 pub struct Core {
     parts: Parts,
-    calls: u64,
 }
 
 impl Model for Core {
@@ -23,28 +22,27 @@ impl Model for Core {
 
     ghost Value = { Seen };
 
-    ghost view = { λ c. record { settings = c.parts.config; calls = c.calls; parts = c.parts } };
+    ghost view = { λ c. record { settings = c.parts.config; parts = c.parts } };
 
-    ghost invariant = { λ c. IsCore c.parts c.calls };
+    ghost invariant = { λ c. IsCore c.parts };
 }
 
 impl Core {
-    ghost use Rattle.std.specs.Prelude.{◌≡◌, ◌+◌, ◌^◌, ◌<◌, List, [], ◌∷◌, length, IfOk, OnOk, OnErr};
+    ghost use Rattle.std.specs.Prelude.{◌≡◌, ◌^◌, ◌<◌, List, [], ◌∷◌, length, IfOk, OnOk, OnErr};
     ghost use Rattle.rams_model.specs.declared.event.Event.{Event};
     ghost use Rattle.rams_model.specs.declared.event.Event.TheVariants.{Live, Feedback, Tick};
     ghost use Rattle.rams_model.specs.Packets.{lo, hi};
     ghost use Rattle.rams_model.specs.Service.{hold, history_of, answer};
-    ghost use Rattle.session_core.specs.{StandsFor, IsPlanOf, SendsShort, HasAtMost, IsCountable, JoinTimesAreKept, TellsAlone, most_notes_for};
+    ghost use Rattle.session_core.specs.{StandsFor, StandsForFewer, IsPlanOf, SendsShort, HasAtMost, IsCountable, JoinTimesAreKept, TellsAlone, most_notes_for};
 
     /// The core of a channel to which nothing came yet. It takes the room for the channel's live
     /// packets, for 4,096 repairs and for as many clients as it may have.
     pub fn new(alloc: Global, config: &Config) -> Result<Core, NoMemory>
-        ensures value { IfOk result (λ core. (core.settings ≡ config.now) × (core.calls ≡ 0)) }
+        ensures settings { IfOk result (λ core. core.settings ≡ config.now) }
         ensures stands { IfOk result (λ core. StandsFor core []) }
     {
         Ok(Core {
             parts: Parts::new(alloc, config)?,
-            calls: 0,
         })
     }
 
@@ -73,24 +71,20 @@ impl Core {
 
     /// A live packet, as it came (RFC 3550): what became of it. After want of memory all is as before.
     pub fn live(&mut self, alloc: Global, bytes: &[u8]) -> Result<Answer, NoMemory>
-        requires calls { self.old.calls < 2 ^ 40 }
+        requires few { StandsForFewer self.old (2 ^ 40) }
         ensures stands { (events : List Event) → StandsFor self.old events →
             IfOk result (λ a. (a ≡ answer self.old.settings events (Live bytes.now))
             × StandsFor self.new (Live bytes.now ∷ events)) }
         ensures one_note { IfOk result (λ a. (length a.notes ≡ 1) × (a.orders ≡ [])) }
         ensures settings { self.new.settings ≡ self.old.settings }
-        ensures calls { OnOk result (self.new.calls ≡ self.old.calls + 1) }
         ensures same { OnErr result (self.new ≡ self.old) }
     {
-        let answer = answer_live(alloc, &mut self.parts, bytes)?;
-        self.calls += 1;
-        Ok(answer)
+        answer_live(alloc, &mut self.parts, bytes)
     }
 
     /// A feedback datagram (RFC 4585) of a client, as it came: the answers to its messages, in their
     /// order. After want of memory all is as before.
     pub fn feedback(&mut self, alloc: Global, client: u64, bytes: &[u8]) -> Result<Answer, NoMemory>
-        requires calls { self.old.calls < 2 ^ 40 }
         ensures stands { (events : List Event) → StandsFor self.old events →
             IfOk result (λ a. (a ≡ answer self.old.settings events (Feedback client bytes.now))
             × StandsFor self.new (Feedback client bytes.now ∷ events)) }
@@ -98,18 +92,14 @@ impl Core {
         ensures told { IfOk result TellsAlone }
         ensures short { IfOk result SendsShort }
         ensures settings { self.new.settings ≡ self.old.settings }
-        ensures calls { OnOk result (self.new.calls ≡ self.old.calls + 1) }
         ensures same { OnErr result (self.new ≡ self.old) }
     {
-        let answer = answer_feedback(alloc, &mut self.parts, client, bytes)?;
-        self.calls += 1;
-        Ok(answer)
+        answer_feedback(alloc, &mut self.parts, client, bytes)
     }
 
     /// A tick: what the bursts and the repairs are sent (RFC 6285, 6.2; RFC 4588), which bursts end,
     /// and whom the channel forgets. After want of memory all is as before.
     pub fn tick(&mut self, alloc: Global) -> Result<Answer, NoMemory>
-        requires calls { self.old.calls < 2 ^ 40 }
         ensures stands { (events : List Event) → StandsFor self.old events →
             IfOk result (λ a. (a ≡ answer self.old.settings events Tick)
             × StandsFor self.new (Tick ∷ events)) }
@@ -118,7 +108,6 @@ impl Core {
         ensures few { IfOk result IsCountable }
         ensures short { IfOk result SendsShort }
         ensures settings { self.new.settings ≡ self.old.settings }
-        ensures calls { OnOk result (self.new.calls ≡ self.old.calls + 1) }
         ensures same { OnErr result (self.new ≡ self.old) }
     {
         let plan = self.plan_tick(alloc)?;
@@ -136,17 +125,14 @@ impl Core {
 
     /// Does what was planned for a tick, and answers it. It takes no memory.
     pub fn commit_tick(&mut self, plan: TickPlan) -> Answer
-        requires calls { self.old.calls < 2 ^ 40 }
         requires plan { IsPlanOf self.old plan }
         ensures stands { (events : List Event) → StandsFor self.old events →
             (result ≡ answer self.old.settings events Tick) × StandsFor self.new (Tick ∷ events) }
         ensures few { IsCountable result }
         ensures short { SendsShort result }
         ensures settings { self.new.settings ≡ self.old.settings }
-        ensures calls { self.new.calls ≡ self.old.calls + 1 }
     {
         tick_core::commit_tick(&mut self.parts, &plan);
-        self.calls += 1;
         plan.answer
     }
 }
@@ -155,8 +141,6 @@ impl Stepped for Core {
     ghost use Rattle.session_core.specs.{StandsFor};
 
     ghost settings = { λ core. core.settings };
-
-    ghost calls = { λ core. core.calls };
 
     ghost stands = { StandsFor };
 

@@ -17,7 +17,7 @@ pub(crate) fn answer_live(
     bytes: &[u8],
 ) -> Result<Answer, NoMemory>
     requires few { (events : List Event) × StandsFor parts.old events × (length events < 2 ^ 40) }
-    ensures stands { (events : List Event) → StandsFor parts.old events → length events < 2 ^ 40 →
+    ensures stands { (events : List Event) → StandsFor parts.old events →
         IfOk result (λ a. (a ≡ answer parts.old.config events (Live bytes.now))
         × StandsFor parts.new (Live bytes.now ∷ events)) }
     ensures one_note { IfOk result (λ a. (length a.notes ≡ 1) × (a.orders ≡ [])) }

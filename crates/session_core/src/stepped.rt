@@ -5,15 +5,12 @@ use std::alloc::Global;
 
 /// What takes the events of a channel, one at a time.
 pub trait Stepped {
-    ghost use Rattle.std.specs.Prelude.{◌≡◌, ℕ, ◌+◌, ◌^◌, ◌<◌, List, ◌∷◌, IfOk, OnOk, OnErr};
+    ghost use Rattle.std.specs.Prelude.{◌≡◌, ◌^◌, ◌<◌, List, ◌∷◌, length, IfOk, OnErr};
     ghost use Rattle.rams_model.specs.Service.{Settings, answer};
     ghost use Rattle.rams_model.specs.declared.event.Event.{Event};
 
     /// The settings of the channel.
     ghost settings: { Self → Settings };
-
-    /// How many events came.
-    ghost calls: { Self → ℕ };
 
     /// It stands for these events, the newest first.
     ghost stands: { Self → List Event → Type 0 };
@@ -21,10 +18,9 @@ pub trait Stepped {
     /// Takes an event: the answer is the lawful one after the events before it. After want of memory
     /// all is as before.
     fn step(&mut self, alloc: Global, event: &Event) -> Result<Answer, NoMemory>
-        requires calls { calls self.old < 2 ^ 40 }
+        requires few { (events : List Event) × stands self.old events × (length events < 2 ^ 40) }
         ensures stands { (events : List Event) → stands self.old events →
             IfOk result (λ a. (a ≡ answer (settings self.old) events event.now) × stands self.new (event.now ∷ events)) }
         ensures settings { settings self.new ≡ settings self.old }
-        ensures calls { OnOk result (calls self.new ≡ calls self.old + 1) }
         ensures same { OnErr result (self.new ≡ self.old) };
 }

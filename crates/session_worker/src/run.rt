@@ -36,7 +36,7 @@ pub fn run_lists<R: Threads + Wait + Sync, G: Gate + Sync>(
     workers: u32,
     gate: &G,
 ) -> Result<Worked, NoMemory>
-    requires made { (core.calls ≡ 0) × StandsFor core [] }
+    requires made { StandsFor core [] }
     requires lists { (0 < length lists.now) × (length lists.now ≤ 32) }
     requires short { All (λ l. length l.items ≤ 2 ^ 34) lists.now }
     requires workers { 0 < workers }

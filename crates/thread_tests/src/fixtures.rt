@@ -36,8 +36,7 @@ const CHANNEL: Channel = Channel {
 
 /// A channel to which nothing came, with ticks of 10 ms.
 pub fn new_core(alloc: Global) -> Result<Core, Fail>
-    ensures calls { IfOk result (λ core. core.calls ≡ 0) }
-    ensures stands { IfOk result (λ core. StandsFor core []) }
+    ensures { IfOk result (λ core. StandsFor core []) }
 {
     let config = Config::check(CHANNEL, 10)?;
     Ok(Core::new(alloc, &config)?)

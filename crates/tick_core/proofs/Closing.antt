@@ -11,7 +11,8 @@ use Rattle.rams_model.specs.declared.note.Note.{Note}
 use Rattle.rams_model.specs.declared.event.Event.TheVariants.{Tick}
 use Rattle.rams_model.specs.declared.note.Note.TheVariants.{Burst as BurstNote, Repair, Gone, End, Forgot}
 use Rattle.rams_model.specs.Service.{Settings, tick, heard_of, began, noted, History, arrivals, hold, known, is_among, sendings, ssrc, in_tick, open_burst, Wanted, pending, idle, channel_left, all_served, all_repaired, all_forgotten, after_tick, newest_notes, Answered, after_hearing, history_of}
-use Rattle.rams_model.specs.Packets.{hi}
+use Rattle.rams_model.specs.Packets.{Arrival, hi, stream_of}
+use Rattle.rams_model.specs.Packets.Source as sources
 use Rattle.rams_model.specs.Service.Bursts as model
 use Rattle.rams_model.proofs.Newest.{notes_behind}
 use Rattle.link_budget.specs.{amounts}
@@ -22,8 +23,8 @@ use Rattle.client_table.specs.{entry_of}
 use Rattle.client_table.specs.Clients.{Clients}
 use Rattle.repair_queue.specs.{unmarked}
 use Rattle.channel_parts.specs.declared.parts.Parts.{Parts}
-use Rattle.channel_parts.specs.{HaveLowNumbers, burst_kept, IsEntry, IsTable, StandsFor}
-use Rattle.channel_parts.proofs.Facts.{known_clients_are_idle_for_less, opened_are_the_known_with_bursts, only_known_clients_have_bursts, repairs_are_of_known_clients, held_numbers_are_small, events_reserve_nothing}
+use Rattle.channel_parts.specs.{burst_kept, IsEntry, IsTable, StandsFor}
+use Rattle.channel_parts.proofs.Facts.{known_clients_are_idle_for_less, opened_are_the_known_with_bursts, only_known_clients_have_bursts, repairs_are_of_known_clients, events_reserve_nothing}
 use Rattle.channel_parts.proofs.Ordered.{known_rise}
 use Rattle.channel_parts.proofs.Tables.{entry_among}
 use Rattle.channel_parts.proofs.Given.{held_is, moment}
@@ -196,7 +197,7 @@ carried_out p events plan c stands is change budget =
     let notes_are : taken.notes ≡ plan.answer.notes = sym (ap (λ (a : Answered). a.notes) is.answer_is ∙ taken.noted_are) in
     let same : arrivals end ≡ arrivals before = arrivals_by s held start end of_tick.adds in
     let small : hi (hold s end) ≤ 2 ^ 62 =
-    held_numbers_are_small s end (subst HaveLowNumbers (sym same) stands.packets.low) (omega (arith, ap length same, stands.packets.few)) in
+    subst (λ (hs : List Held). hi hs ≤ 2 ^ 62) (held_is p events stands ∙ ap (λ (l : List Arrival). sources.hold s.channel.window s.channel.ring (stream_of s.channel.window l)) (sym same)) stands.packets.small in
     let begins = mid_begins p events c stands change budget in
     subst (λ (notes : List Note). IsCarriedOut s held notes end c) notes_are
     (all_mid s stands.lawful held taken.notes start end c taken.leads (moment s (Tick ∷ events)) small begins)

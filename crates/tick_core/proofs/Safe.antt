@@ -1,8 +1,10 @@
 -- What the calls of a plan ask of the parts, which stand for some events.
-use Rattle.std.proofs.Common.{◌≡◌, ℕ, List, Option, Some, None, refl, sym, subst, arith}
+use Rattle.std.proofs.Common.{◌≡◌, ℕ, ◌^◌, ◌≤◌, List, Option, Some, None, refl, sym, subst, arith}
 use Rattle.std.specs.Option.{option_map}
 use Rattle.rams_model.specs.declared.event.Event.{Event}
 use Rattle.rams_model.specs.Service.{Settings, open_burst, history_of}
+use Rattle.rams_model.specs.declared.held.Held.{Held}
+use Rattle.rams_model.specs.Packets.{hi}
 use Rattle.rams_model.specs.Service.Bursts as model
 use Rattle.rams_model.proofs.Holding.{held_follow}
 use Rattle.channel_config.specs.{IsLawful}
@@ -11,7 +13,7 @@ use Rattle.client_table.specs.declared.entry.Entry.{Entry}
 use Rattle.client_table.specs.{entry_of}
 use Rattle.channel_parts.specs.declared.parts.Parts.{Parts}
 use Rattle.channel_parts.specs.{burst_kept, StandsFor}
-use Rattle.channel_parts.proofs.Facts.{open_bursts_are_within_bounds, open_bursts_have_a_tick_left, held_numbers_are_small}
+use Rattle.channel_parts.proofs.Facts.{open_bursts_are_within_bounds, open_bursts_have_a_tick_left}
 use Rattle.channel_parts.proofs.Given.{held_is, moment}
 use Rattle.tick_core.specs.{AreInOrder, IsInTime, AreInTime, IsSmallIfOpen, IsSmallIfKnown, AreSmall}
 
@@ -20,7 +22,7 @@ in_order p events stands =
     let before = history_of p.config events in
     subst AreInOrder (sym (held_is p events stands)) (record {
       follows = held_follow p.config before;
-      small = omega (arith, held_numbers_are_small p.config before stands.packets.low stands.packets.few);
+      small = omega (arith, subst (λ (hs : List Held). hi hs ≤ 2 ^ 62) (held_is p events stands) stands.packets.small);
     })
 
 burst_in_time : (s : Settings) (k : ℕ) (events : List Event) (burst : Option Burst) (o : Option model.Burst) → IsLawful s → open_burst s k (history_of s events) ≡ o → burst ≡ option_map (burst_kept s) o → IsInTime s burst

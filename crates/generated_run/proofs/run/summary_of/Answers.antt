@@ -9,7 +9,7 @@ use Rattle.generated_run.proofs.run.summary_of.Goals as goal
 
 pub loop-events-init : goal.loop-events-init
 loop-events-init c = (
-  begins c.args.seed c.args.blocks c.new-at.result c.in_ok-core.core c.new-tally.result (c.new-at.ensures.all c.args.blocks) (c.in_ok-core.ensures.value.0 ∙ c.config_of.ensures) c.in_ok-core.ensures.value.1
+  begins c.args.seed c.args.blocks c.new-at.result c.in_ok-core.core c.new-tally.result (c.new-at.ensures.all c.args.blocks) (c.in_ok-core.ensures.settings ∙ c.config_of.ensures)
       c.in_ok-core.ensures.stands c.new-tally.ensures,
   ap (λ p. p.seed) c.new-at.ensures.value,
 )
@@ -28,6 +28,12 @@ answer_to-requires-clause-brief c =
     subst (λ (bytes : List ℕ). IsBrief (event_on c.in-Some.kind bytes)) (sym c.deref.ensures.value)
     (next_is_brief c.loop-events.at c.args.blocks (event_on c.in-Some.kind page) rest next)
 
+pub answer_to-requires-clause-few : goal.answer_to-requires-clause-few
+answer_to-requires-clause-few c =
+    let running = c.loop-events.invariant.0 in
+    let few = is_few c.args.seed c.args.blocks c.loop-events.events c.loop-events.at c.loop-events.core c.loop-events.tally running c.requires in
+    (running.came, running.stands, omega (arith, running.counted, few))
+
 pub add-requires-clause-answers : goal.add-requires-clause-answers
 add-requires-clause-answers c =
     let many = as_many c.args.seed c.args.blocks c.loop-events.events c.loop-events.at c.loop-events.core c.loop-events.tally c.loop-events.invariant.0 in
@@ -44,7 +50,7 @@ loop-events-preserved c =
     ∙ ap (λ (bytes : List ℕ). event_on c.in-Some.kind bytes ∷ rest) (sym c.deref.ensures.value) in
     let running = c.loop-events.invariant.0 in (
       goes_on c.args.seed c.args.blocks c.loop-events.events c.loop-events.at c.event_into.new.at c.loop-events.core c.answer_to.new.core c.loop-events.tally c.add-in-loop-events.new.self event c.in_ok-answer_to.field-0
-          running next c.in_ok-answer_to.ensures.settings c.in_ok-answer_to.ensures.calls (c.in_ok-answer_to.ensures.stands running.came running.stands) c.add-in-loop-events.ensures.counts,
+          running next c.in_ok-answer_to.ensures.settings (c.in_ok-answer_to.ensures.stands running.came running.stands) c.add-in-loop-events.ensures.counts,
       c.event_into.ensures.seed ∙ c.loop-events.invariant.1,
     )
 

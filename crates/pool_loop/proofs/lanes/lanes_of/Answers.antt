@@ -21,6 +21,6 @@ loop-coming-preserved c =
         done ++ coming ∷ [],
         append_assoc done (coming ∷ []) later ∙ (ap (λ (l : List Coming). done ++ l) (sym steps.0) ∙ i.paired.1),
         subst (Pairwise IsLaneOf (done ++ coming ∷ [])) (sym c.in_ok-push.ensures.items)
-            (pair_more IsLaneOf done c.loop-coming.lanes.items coming _ i.paired.2 (record { settings = core.value.0; calls = core.value.1; stands = core.stands; events = refl })),
+            (pair_more IsLaneOf done c.loop-coming.lanes.items coming _ i.paired.2 (record { settings = core.settings; stands = core.stands; events = refl })),
       );
     }

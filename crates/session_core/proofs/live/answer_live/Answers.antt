@@ -1,17 +1,19 @@
 use Rattle.std.proofs.Common.{◌<◌, ◌∙◌, arith}
 use Rattle.std.proofs.lemmas.List.Elements.{All-from_get_or}
 use Rattle.rams_model.specs.Service.{arrivals, history_of}
-use Rattle.session_core.proofs.Living.{live_stands}
+use Rattle.session_core.proofs.Living.{small_after, live_stands}
 use Rattle.session_core.proofs.live.answer_live.Goals as goal
 use Rattle.channel_parts.proofs.Staying.{few_arrive}
 
 pub returns-clause-stands : goal.returns-clause-stands
-returns-clause-stands c = λ events st few.
+returns-clause-stands c = λ events st.
     let bytes = c.args.bytes.now in
     let note = c.in_ok-note.note in
     let took = c.in_ok-note.ensures in
     let are = All-from_get_or (λ b. b < 256) bytes 0 (λ i within. let fits = c.type_inv.bytes i in omega arith) in
-    let all = live_stands c.args.parts.now bytes note c.live.new.self are took.stands took.settings events st few in
+    let p = c.args.parts.now in
+    let small = small_after p bytes note c.live.new.self are took.stands took.settings c.requires.few.0 c.requires.few.1 c.requires.few.2 in
+    let all = live_stands p bytes note c.live.new.self are took.stands took.settings small events st in
     (c.one.ensures ∙ all.0, all.1)
 
 pub live-requires : goal.live-requires

@@ -1,7 +1,8 @@
 -- The entry is added, and the book replays with it.
-use Rattle.std.proofs.Common.{[], ◌∷◌, ◌++◌, List, sym, ap, ◌∙◌, subst}
+use Rattle.std.proofs.Common.{[], ◌∷◌, ◌++◌, List, length, sym, ap, ◌∙◌, subst, arith}
 use Rattle.channel_book.specs.declared.entry.Entry.{Entry}
-use Rattle.channel_book.specs.{entry, events_behind, Replays}
+use Rattle.channel_book.specs.{Kept, entry, events_behind, Replays}
+use Rattle.channel_book.proofs.Histories.{as_many_behind}
 use Rattle.channel_book.proofs.Stepping.{step_replays}
 use Rattle.channel_book.proofs.book.Book.take.Goals as goal
 
@@ -14,7 +15,12 @@ invariant_of-self-2 c =
     let items = c.push_reserved.ensures.items ∙ ap (λ (l : List Entry). l ++ added ∷ []) c.in_ok-reserve.ensures.items in
     subst (Replays c.answer_twice.new.core) (sym items)
     (step_replays c.self.inside.core c.answer_twice.new.core old c.args.list c.args.event twice.kept twice.given c.self.invariant t.0 t.1
-    c.in_ok-twice.ensures.settings c.in_ok-twice.ensures.calls)
+    c.in_ok-twice.ensures.settings)
+
+pub answer_twice-requires : goal.answer_twice-requires
+answer_twice-requires c =
+    let old = c.self.inside.entries.items in
+    (events_behind [] old, c.self.invariant.stands, omega (arith, as_many_behind [] old, ap (λ (v : Kept). length v.entries) c.self.view_is, c.requires))
 
 pub returns-clause-legal : goal.returns-clause-legal
 returns-clause-legal c = (invariant_of-self-2 c).legal

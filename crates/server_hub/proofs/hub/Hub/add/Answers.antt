@@ -41,13 +41,13 @@ pub invariant_of-self-2 : goal.invariant_of-self-2
 invariant_of-self-2 c =
     rw (c.in_ok-push.ensures.items, c.in_ok-push-2.ensures.items, c.in_ok-reserve.ensures.items)
     (added _ _ _ _ c.self.invariant _ c.self.view_is _ c.deref.ensures.value c.args.config _ c.channel-channel.ensures.value
-    c.in_ok-core.core c.in_ok-core.ensures.value.0 c.in_ok-core.ensures.value.1 (omega (arith, c.len.ensures, c.self.inside.cores.ok.0)) c.if-contains.ensures.value
+    c.in_ok-core.core c.in_ok-core.ensures.settings c.in_ok-core.ensures.stands (omega (arith, c.len.ensures, c.self.inside.cores.ok.0)) c.if-contains.ensures.value
     c.if-channel-self.false c.requires _ c.push-2.ensures.capacity)
 
 pub returns-clause-stands : goal.returns-clause-stands
 returns-clause-stands c = λ channels s.
     rw (c.in_ok-push.ensures.items, c.in_ok-reserve.ensures.items)
-    (one_more_serves _ channels _ c.args.config (subst (λ (v : Seen). StandsFor v channels) (sym c.self.view_is) s) c.in_ok-core.ensures.value.0 c.in_ok-core.ensures.stands)
+    (one_more_serves _ channels _ c.args.config (subst (λ (v : Seen). StandsFor v channels) (sym c.self.view_is) s) c.in_ok-core.ensures.settings c.in_ok-core.ensures.stands)
 
 pub returns-clause-refused : goal.returns-clause-refused
 returns-clause-refused c =

@@ -2,7 +2,7 @@ use Rattle.std.proofs.Common.{sym, subst, arith}
 use Rattle.rams_model.specs.declared.event.Event.TheVariants.{Live}
 use Rattle.server_hub.specs.{StandsFor}
 use Rattle.server_hub.specs.Seen.{Seen}
-use Rattle.server_hub.proofs.Keeping.{written, kept, settings_kept, place_within, one_steps, one_is, none_steps, none_is}
+use Rattle.server_hub.proofs.Keeping.{written, kept, settings_kept, all_few, place_within, one_steps, one_is, none_steps, none_is}
 use Rattle.server_hub.proofs.hub.Hub.live.Goals as goal
 
 pub returns-in_default-clause-stands : goal.returns-in_default-clause-stands
@@ -14,6 +14,9 @@ returns-in_default-clause-there c = rw (← c.self.view_is) (sym (none_is _ _ _ 
 
 pub live_at-requires-clause-place : goal.live_at-requires-clause-place
 live_at-requires-clause-place c = omega (arith, place_within _ _ _ _ c.self.invariant _ c.deref.ensures.value c.args.id c.in-Some.place c.in-Some.ensures.there, c.deref_mut.ensures.len)
+
+pub live_at-requires-clause-few : goal.live_at-requires-clause-few
+live_at-requires-clause-few c = rw (c.deref_mut.ensures.value) (all_few _ (2 ^ 40) c.self.invariant.lawful.counted (rw (c.self.view_is) c.requires))
 
 pub invariant_of-self-2 : goal.invariant_of-self-2
 invariant_of-self-2 c =
