@@ -79,11 +79,11 @@ rise_above lo hi least total from [] rise = (omega arith, rise.1)
 rise_above lo hi least total from (p ∷ ps) rise = rise_step lo hi least total from p ps (nat_lt p.n from) refl rise (rise_above (p.n + 1) hi p.before total from ps rise.1)
 
 -- what is shown once the first marks have gone
-pub left_is : (capacity calls lo hi last total from lo' : ℕ) (ps ps' : List Point) → RiseIn lo hi 0 total ps → lo' ≡ min (max lo from) hi → ps' ≡ above from ps
-    → seen_of capacity calls lo' hi last total ps' ≡ left_from (seen_of capacity calls lo hi last total ps) from
-left_is capacity calls lo hi last total from lo' ps ps' rise is_lo is_points =
-    ap (λ (n : ℕ). seen_of capacity calls n hi last total ps') is_lo
-    ∙ ap (λ qs. record { capacity = capacity; calls = calls; lo = min (max lo from) hi; hi = hi; last = last; points = qs }) (ap (map (shown total)) is_points ∙ shown_above lo hi 0 total from ps rise)
+pub left_is : (capacity lo hi last total from lo' : ℕ) (ps ps' : List Point) → RiseIn lo hi 0 total ps → lo' ≡ min (max lo from) hi → ps' ≡ above from ps
+    → seen_of capacity lo' hi last total ps' ≡ left_from (seen_of capacity lo hi last total ps) from
+left_is capacity lo hi last total from lo' ps ps' rise is_lo is_points =
+    ap (λ (n : ℕ). seen_of capacity n hi last total ps') is_lo
+    ∙ ap (λ qs. record { capacity = capacity; lo = min (max lo from) hi; hi = hi; last = last; total = total; points = qs }) (ap (map (shown total)) is_points ∙ shown_above lo hi 0 total from ps rise)
 
 -- the packet itself, where it is an access point
 abbrev pub own : Bool → ℕ → ℕ → ℕ → List Point
@@ -94,15 +94,15 @@ shown_own true n ts total wire = let same : total + wire - total ≡ wire = omeg
 shown_own false n ts total wire = refl
 
 -- what is shown once a packet has come
-pub pushed_is : (capacity calls lo hi last total n ts wire lo' total' : ℕ) (access : Bool) (ps ps' : List Point) → RiseIn lo hi 0 total ps → lo' ≡ (if lo == hi then n else lo) → total' ≡ total + wire → ps' ≡ ps ++ own access n ts total
-    → seen_of capacity (calls + 1) lo' (n + 1) ts total' ps' ≡ pushed (seen_of capacity calls lo hi last total ps) n ts wire access
-pushed_is capacity calls lo hi last total n ts wire lo' total' access ps ps' rise is_lo is_total is_points =
+pub pushed_is : (capacity lo hi last total n ts wire lo' total' : ℕ) (access : Bool) (ps ps' : List Point) → RiseIn lo hi 0 total ps → lo' ≡ (if lo == hi then n else lo) → total' ≡ total + wire → ps' ≡ ps ++ own access n ts total
+    → seen_of capacity lo' (n + 1) ts total' ps' ≡ pushed (seen_of capacity lo hi last total ps) n ts wire access
+pushed_is capacity lo hi last total n ts wire lo' total' access ps ps' rise is_lo is_total is_points =
     let shows = map-append (shown (total + wire)) ps (own access n ts total)
     ∙ (ap (λ qs. qs ++ map (shown (total + wire)) (own access n ts total)) (shown_more lo hi 0 total wire ps rise)
     ∙ ap (λ qs. map (more_behind wire) (map (shown total) ps) ++ qs) (shown_own access n ts total wire)) in
-    ap (λ (m : ℕ). seen_of capacity (calls + 1) m (n + 1) ts total' ps') is_lo
-    ∙ (ap (λ (m : ℕ). seen_of capacity (calls + 1) (if lo == hi then n else lo) (n + 1) ts m ps') is_total
-    ∙ ap (λ qs. record { capacity = capacity; calls = calls + 1; lo = if lo == hi then n else lo; hi = n + 1; last = ts; points = qs }) (ap (map (shown (total + wire))) is_points ∙ shows))
+    ap (λ (m : ℕ). seen_of capacity m (n + 1) ts total' ps') is_lo
+    ∙ (ap (λ (m : ℕ). seen_of capacity (if lo == hi then n else lo) (n + 1) ts m ps') is_total
+    ∙ ap (λ qs. record { capacity = capacity; lo = if lo == hi then n else lo; hi = n + 1; last = ts; total = total + wire; points = qs }) (ap (map (shown (total + wire))) is_points ∙ shows))
 
 -- and the points rise still
 pub rise_own : (lo hi total n ts wire : ℕ) (b : Bool) (ps : List Point) → RiseIn lo hi 0 total ps → hi ≤ n → RiseIn lo (n + 1) 0 (total + wire) (ps ++ own b n ts total)

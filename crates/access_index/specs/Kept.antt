@@ -7,9 +7,9 @@ use Rattle.access_index.specs.Seen.{AccessPoint, Seen}
 abbrev pub shown : ℕ → Point → AccessPoint
 shown total p = record { n = p.n; ts = p.ts; behind = total - p.before }
 
-abbrev pub seen_of : ℕ → ℕ → ℕ → ℕ → ℕ → ℕ → List Point → Seen
-seen_of capacity calls lo hi last total points =
-    record { capacity = capacity; calls = calls; lo = lo; hi = hi; last = last; points = map (shown total) points }
+abbrev pub seen_of : ℕ → ℕ → ℕ → ℕ → ℕ → List Point → Seen
+seen_of capacity lo hi last total points =
+    record { capacity = capacity; lo = lo; hi = hi; last = last; total = total; points = map (shown total) points }
 
 -- the numbers rise, from `lo` on and below `hi`, and the bytes before the points rise, from `least` on up to `total`
 abbrev pub RiseIn : ℕ → ℕ → ℕ → ℕ → List Point → Type 0

@@ -15,19 +15,19 @@ pub record AccessPoint : Type 0 where
 pub record Seen : Type 0 where
   -- most marks
   pub capacity : ℕ
-  -- how many packets were pushed
-  pub calls : ℕ
   -- the number of the first mark, and one above that of the last; the same where there is none
   pub lo : ℕ
   pub hi : ℕ
   -- the timestamp of the last packet that was pushed
   pub last : ℕ
+  -- the wire sizes of all packets that were pushed
+  pub total : ℕ
   -- by rising number
   pub points : List AccessPoint
 
 -- no packet was pushed
 abbrev pub new_index : ℕ → Seen
-new_index capacity = record { capacity = capacity; calls = 0; lo = 0; hi = 0; last = 0; points = [] }
+new_index capacity = record { capacity = capacity; lo = 0; hi = 0; last = 0; total = 0; points = [] }
 
 -- more bytes behind a point
 abbrev pub more_behind : ℕ → AccessPoint → AccessPoint
@@ -38,10 +38,10 @@ abbrev pub pushed : Seen → ℕ → ℕ → ℕ → Bool → Seen
 pushed v n ts wire access =
     record {
       capacity = v.capacity;
-      calls = v.calls + 1;
       lo = if v.lo == v.hi then n else v.lo;
       hi = n + 1;
       last = ts;
+      total = v.total + wire;
       points = map (more_behind wire) v.points ++ (if access then record { n = n; ts = ts; behind = wire } ∷ [] else []);
     }
 

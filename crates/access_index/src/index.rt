@@ -1,5 +1,5 @@
 //! The index of one channel's access points.
-ghost use Rattle.std.specs.Prelude.{◌≡◌, ◌-◌, ◌*◌, ◌^◌, ◌<◌, ◌≤◌, List, [], ◌∷◌, ◌++◌, IfOk};
+ghost use Rattle.std.specs.Prelude.{◌≡◌, ◌+◌, ◌-◌, ◌*◌, ◌^◌, ◌<◌, ◌≤◌, List, [], ◌∷◌, ◌++◌, IfOk};
 ghost use Rattle.rams_model.specs.declared.channel.Channel.{Channel};
 ghost use Rattle.rams_model.specs.declared.held.Held.{Held};
 ghost use Rattle.rams_model.specs.Packets.{from_number, chosen};
@@ -9,7 +9,6 @@ use crate::Choice;
 use crate::point::{Ask, Point};
 use crate::points::Points;
 use ram_io::NoMemory;
-use rams_model::MOST_ON_WIRE;
 use std::alloc::Global;
 use std::marker::Model;
 
@@ -19,8 +18,6 @@ use std::marker::Model;
 pub struct Index {
     /// Most marks.
     capacity: u32,
-    /// How many packets were pushed.
-    calls: u64,
     /// The number of the first mark, and one above that of the last.
     lo: u64,
     hi: u64,
@@ -32,19 +29,18 @@ pub struct Index {
 }
 
 impl Model for Index {
-    ghost use Rattle.std.specs.Prelude.{◌*◌, ◌^◌, ◌≤◌};
+    ghost use Rattle.std.specs.Prelude.{◌^◌, ◌≤◌};
     ghost use Rattle.access_index.specs.Seen.{Seen};
     ghost use Rattle.access_index.specs.{seen_of, RiseIn};
 
     ghost Value = { Seen };
 
-    ghost view = { λ i. seen_of i.capacity i.calls i.lo i.hi i.last i.total i.points.items };
+    ghost view = { λ i. seen_of i.capacity i.lo i.hi i.last i.total i.points.items };
 
     ghost invariant = { λ i. record {
       rise : RiseIn i.lo i.hi 0 i.total i.points.items;
       small : i.hi ≤ 2 ^ 62;
-      bytes : i.total ≤ 1500 * i.calls;
-      few : i.calls ≤ 2 ^ 40;
+      few : i.total ≤ 2 ^ 60;
       room : i.capacity ≤ i.points.capacity;
     } };
 }
@@ -60,7 +56,6 @@ impl Index {
     {
         Ok(Index {
             capacity,
-            calls: 0,
             lo: 0,
             hi: 0,
             last: 0,
@@ -75,9 +70,8 @@ impl Index {
     pub fn push(&mut self, n: u64, ts: u32, wire: u32, access: bool)
         requires room { self.old.hi - self.old.lo < self.old.capacity }
         requires next { self.old.lo < self.old.hi → n ≡ self.old.hi }
-        requires wire { wire ≤ MOST_ON_WIRE }
         requires small { n < 2 ^ 62 }
-        requires few { self.old.calls < 2 ^ 40 }
+        requires few { self.old.total + wire ≤ 2 ^ 60 }
         ensures step { self.new ≡ pushed self.old n ts wire access }
         ensures stands { (marks : List Held) (h : Held) → h.n ≡ n → h.ts ≡ ts → h.wire ≡ wire → h.access ≡ access →
             StandsFor self.old marks → StandsFor self.new (marks ++ h ∷ []) }
@@ -94,7 +88,6 @@ impl Index {
         self.hi = n + 1;
         self.last = ts;
         self.total += u64::from(wire);
-        self.calls += 1;
     }
 
     /// The marks below `lo` go, whether some are left or none. It takes as long as access points go.

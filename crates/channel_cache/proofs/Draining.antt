@@ -69,9 +69,9 @@ is_next v w e intake out =
     }
 
 -- the window and the ring after that
-pub one_out : (v : Intake) (w : windows.Seen Held) (ring : rings.Seen) (pushes : ℕ) (e : ℕ × Held) → IsIntake v → 1 ≤ v.stock.ring.capacity → GoesOut v.window w e → ring ≡ pushed v.stock.ring e.1
-    → IsIntake (record { window = w; stock = record { ring = ring; pushes = pushes } })
-one_out v w ring pushes e intake some out step =
+pub one_out : (v : Intake) (w : windows.Seen Held) (ring : rings.Seen) (total : ℕ) (e : ℕ × Held) → IsIntake v → 1 ≤ v.stock.ring.capacity → GoesOut v.window w e → ring ≡ pushed v.stock.ring e.1
+    → IsIntake (record { window = w; stock = record { ring = ring; total = total } })
+one_out v w ring total e intake some out step =
     let next = is_next v w e intake out in
     let items = subst AreItems out.first intake.items in
     let ended : w.ended ≡ v.window.ended = ap (λ (x : windows.Seen Held). x.ended) out.rest in

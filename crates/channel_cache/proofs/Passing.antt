@@ -27,21 +27,21 @@ by_next v w h settled small whole by =
 pub by_same : (v : windows.Seen Held) (w : windows.Seen Held) (h : Held) → GoesBy v w h.n h → length w.kept ≡ length v.kept
 by_same v w h by = omega (arith, kept_more v (keeping v h.n h) h refl, ap length (by_out v w h by).first)
 
-pub by_settled : (v : Intake) (w : windows.Seen Held) (ring : rings.Seen) (pushes : ℕ) (h : Held) → IsSettled v → h.n < 2 ^ 62 → IsWhole h → 1 ≤ v.stock.ring.capacity → GoesBy v.window w h.n h → ring ≡ pushed v.stock.ring h
-    → IsSettled (record { window = w; stock = record { ring = ring; pushes = pushes } })
-by_settled v w ring pushes h settled small whole some by step =
+pub by_settled : (v : Intake) (w : windows.Seen Held) (ring : rings.Seen) (total : ℕ) (h : Held) → IsSettled v → h.n < 2 ^ 62 → IsWhole h → 1 ≤ v.stock.ring.capacity → GoesBy v.window w h.n h → ring ≡ pushed v.stock.ring h
+    → IsSettled (record { window = w; stock = record { ring = ring; total = total } })
+by_settled v w ring total h settled small whole some by step =
     let out = by_out v.window w h by in
     record {
-      lawful = one_out (record { window = keeping v.window h.n h; stock = v.stock }) w ring pushes (h.n, h) (by_intake v h settled small whole by.came) some out step;
+      lawful = one_out (record { window = keeping v.window h.n h; stock = v.stock }) w ring total (h.n, h) (by_intake v h settled small whole by.came) some out step;
       going = ap (λ (x : windows.Seen Held). x.ended) out.rest ∙ settled.going;
       settled = by.settled;
     }
 
 -- whichever packets came in time before it
-pub by_holds : (v : Intake) (w : windows.Seen Held) (ring : rings.Seen) (pushes : ℕ) (h : Held) (before : List Held) (s : Start Held) → GoesBy v.window w h.n h
+pub by_holds : (v : Intake) (w : windows.Seen Held) (ring : rings.Seen) (total : ℕ) (h : Held) (before : List Held) (s : Start Held) → GoesBy v.window w h.n h
     → WentBy v.window w h.n h s (released v.window.width v.window.ended s) → rings.StandsFor ring ((before ++ packets_of (released v.window.width v.window.ended s)) ++ h ∷ [])
-    → Holds (record { window = w; stock = record { ring = ring; pushes = pushes } }) before (start_after s h.n h Kept)
-by_holds v w ring pushes h before s by went holds =
+    → Holds (record { window = w; stock = record { ring = ring; total = total } }) before (start_after s h.n h Kept)
+by_holds v w ring total h before s by went holds =
     let out : List (ℕ × Held) = released v.window.width v.window.ended s in
     let e : ℕ × Held = (h.n, h) in
     let t : Start Held = start_after s h.n h Kept in

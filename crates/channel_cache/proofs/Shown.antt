@@ -1,5 +1,5 @@
 -- A cache stands for what its numbering and its packets in time stand for.
-use Rattle.std.proofs.Common.{◌≡◌, ℕ, zero, suc, ◌+◌, ◌-◌, List, [], ◌∷◌, ◌++◌, drop, Some, refl, sym, ap, ◌∙◌, subst, ◌<◌, ◌≤◌, ◌^◌, length, IfSome, Option, None, arith}
+use Rattle.std.proofs.Common.{◌≡◌, ℕ, zero, suc, ◌+◌, ◌-◌, ◌*◌, List, [], ◌∷◌, ◌++◌, drop, Some, refl, sym, ap, ◌∙◌, subst, ◌<◌, ◌≤◌, ◌^◌, length, IfSome, Option, None, arith}
 use Rattle.rams_model.specs.declared.channel.Channel.{Channel}
 use Rattle.rams_model.specs.declared.held.Held.{Held}
 use Rattle.rams_model.specs.declared.note.LiveNote.{LiveNote}
@@ -9,12 +9,12 @@ use Rattle.ext_seq.specs.{new_numbering, IsWithin}
 use Rattle.ext_seq.specs.Numbers as numbers
 use Rattle.packet_ring.specs.Seen as rings
 use Rattle.channel_cache.specs.declared.intake.Intake.{Intake}
-use Rattle.channel_cache.specs.{note_heard, arrivals_heard, live_note_of, arrivals_after, due, Waits, new_intake, Stand, new_cache, StandsFor, count, StandsForFewer}
+use Rattle.channel_cache.specs.{note_heard, arrivals_heard, live_note_of, arrivals_after, due, Waits, new_intake, Stand, new_cache, StandsFor, total_of, StandsForFewer}
 use Rattle.channel_cache.specs.Seen.{Seen}
 
 -- what a cache with these parts keeps
 abbrev pub seen_at : Settings → numbers.Seen → Intake → Seen
-seen_at s numbering intake = record { settings = s; numbering = numbering; window = intake.window; held = intake.stock.ring.held; counted = count intake }
+seen_at s numbering intake = record { settings = s; numbering = numbering; window = intake.window; held = intake.stock.ring.held; total = total_of intake }
 
 -- the parts are of these sizes
 pub record Fit (s : Settings) (intake : Intake) : Type 0 where
@@ -42,7 +42,7 @@ stand_of s numbering intake arrivals fit stood =
       };
     }
 
-pub stands_of : (s : Settings) (numbering : numbers.Seen) (intake : Intake) (arrivals : List Arrival) → Fit s intake → count intake ≤ length arrivals → Stand numbering intake arrivals → StandsFor (seen_at s numbering intake) arrivals
+pub stands_of : (s : Settings) (numbering : numbers.Seen) (intake : Intake) (arrivals : List Arrival) → Fit s intake → total_of intake ≤ 1500 * length arrivals → Stand numbering intake arrivals → StandsFor (seen_at s numbering intake) arrivals
 stands_of s numbering intake arrivals fit few stood =
     let width = s.channel.window in
     record {
@@ -50,7 +50,7 @@ stands_of s numbering intake arrivals fit few stood =
       waits = subst (λ (n : ℕ). Waits intake.window n (stream_of n arrivals).present) fit.width stood.brought.waits;
       held = holds_held intake.stock.ring width s.channel.ring (stream_of width arrivals) fit.ring
           (subst (λ (n : ℕ). rings.StandsFor intake.stock.ring ((stream_of n arrivals).ended ++ due n (stream_of n arrivals).present)) fit.width stood.brought.holds);
-      counted = few;
+      total = few;
     }
 
 -- what a live packet does to a cache, its note included
@@ -58,14 +58,14 @@ abbrev pub Does : Seen → Seen → List ℕ → LiveNote → Type 0
 Does v w bytes note = (arrivals : List Arrival) → StandsFor v arrivals → (live_note_of v.settings arrivals bytes ≡ Some note) × StandsFor w (arrivals_after v.settings bytes arrivals)
 
 -- one that passed the tests
-pub took : (s : Settings) (v w : numbers.Seen) (i j : Intake) (bytes : List ℕ) (a : Arrival) (note : LiveNote) → Fit s i → Fit s j → count j ≤ count i + 1 → heard_live s.channel bytes ≡ live a
+pub took : (s : Settings) (v w : numbers.Seen) (i j : Intake) (bytes : List ℕ) (a : Arrival) (note : LiveNote) → Fit s i → Fit s j → total_of j ≤ total_of i + 1500 → heard_live s.channel bytes ≡ live a
     → ((arrivals : List Arrival) → Stand v i arrivals → (note ≡ live_note i.window.width (stream_of i.window.width arrivals) a.sequence) × Stand w j (a ∷ arrivals))
     → Does (seen_at s v i) (seen_at s w j) bytes note
 took s v w i j bytes a note fit fit' more heard taken arrivals stood =
     let new = taken arrivals (stand_of s v i arrivals fit stood) in
     let same : note ≡ live_note s.channel.window (stream_of s.channel.window arrivals) a.sequence = subst (λ (n : ℕ). note ≡ live_note n (stream_of n arrivals) a.sequence) fit.width new.0 in (
       ap (note_heard s.channel.window arrivals) heard ∙ ap Some (sym same),
-      subst (λ (h : Heard). StandsFor (seen_at s w j) (arrivals_heard arrivals h)) (sym heard) (stands_of s w j (a ∷ arrivals) fit' (omega (arith, more, stood.counted)) new.1),
+      subst (λ (h : Heard). StandsFor (seen_at s w j) (arrivals_heard arrivals h)) (sym heard) (stands_of s w j (a ∷ arrivals) fit' (omega (arith, more, stood.total)) new.1),
     )
 
 -- one that was dropped
@@ -73,7 +73,7 @@ pub let_go : (s : Settings) (v : numbers.Seen) (i : Intake) (bytes : List ℕ) (
     → Does (seen_at s v i) (seen_at s v i) bytes note
 let_go s v i bytes note heard arrivals stood = (
   ap (note_heard s.channel.window arrivals) heard,
-  subst (λ (h : Heard). StandsFor (seen_at s v i) (arrivals_heard arrivals h)) (sym heard) (record { numbering = stood.numbering; waits = stood.waits; held = stood.held; counted = stood.counted }),
+  subst (λ (h : Heard). StandsFor (seen_at s v i) (arrivals_heard arrivals h)) (sym heard) (record { numbering = stood.numbering; waits = stood.waits; held = stood.held; total = stood.total }),
 )
 
 drop_none : (n : ℕ) → drop n (let none : List Held = [] in none) ≡ []
@@ -83,7 +83,7 @@ drop_none (suc n) = refl
 -- no packet came
 pub new_stands : (s : Settings) → numbers.StandsFor new_numbering s.channel.window [] → StandsFor (new_cache s) []
 unfolding stream_of hold source consecutive_end
-new_stands s numbering = record { numbering = numbering; waits = refl; held = sym (drop_none (0 - s.channel.ring)); counted = omega arith }
+new_stands s numbering = record { numbering = numbering; waits = refl; held = sym (drop_none (0 - s.channel.ring)); total = omega arith }
 
 -- how many packets it may stand for
 arrived_few : (s : Settings) (bytes : List ℕ) (packets : List Arrival) → length (arrivals_after s bytes packets) ≤ length packets + 1

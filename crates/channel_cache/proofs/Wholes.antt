@@ -22,6 +22,10 @@ stripped_bare p lawful short =
     } in
     record { packet = bare; read = read_so bare whole; unpadded = refl; short = short }
 
+-- a whole packet takes no more than 1,500 bytes on the wire
+pub whole_fits : (h : Held) → IsWhole h → h.wire ≤ 1500
+whole_fits h whole = omega (arith, whole.wire, whole.bare.short)
+
 AreWhole-drop : (d : ℕ) (hs : List Held) → AreWhole hs → AreWhole (drop d hs)
 AreWhole-drop zero hs all = all
 AreWhole-drop (suc d) [] all = tt

@@ -1,5 +1,5 @@
 -- What contracts see of a cache, and the live packets that it stands for.
-use Rattle.std.specs.Prelude.{◌≡◌, ℕ, ◌<◌, ◌≤◌, List, [], length}
+use Rattle.std.specs.Prelude.{◌≡◌, ℕ, ◌*◌, ◌<◌, ◌≤◌, List, [], length}
 use Rattle.rams_model.specs.declared.held.Held.{Held}
 use Rattle.rams_model.specs.Service.{Settings}
 use Rattle.rams_model.specs.Packets.{Arrival, stream_of, hold}
@@ -20,12 +20,12 @@ pub record Seen : Type 0 where
   pub window : windows.Seen Held
   -- the packets that are held, the oldest first
   pub held : List Held
-  -- how many packets wait or were held
-  pub counted : ℕ
+  -- the wire sizes of all packets that were held, and 1,500 bytes for each that waits
+  pub total : ℕ
 
 -- no packet came
 abbrev pub new_cache : Settings → Seen
-new_cache s = record { settings = s; numbering = new_numbering; window = new_window s.channel.window; held = []; counted = 0 }
+new_cache s = record { settings = s; numbering = new_numbering; window = new_window s.channel.window; held = []; total = 0 }
 
 -- the packets that are held, as a ring: at most so many, with consecutive numbers
 abbrev pub ring_of : Seen → rings.Seen
@@ -36,7 +36,7 @@ pub record StandsFor (v : Seen) (arrivals : List Arrival) : Type 0 where
   pub numbering : numbers.StandsFor v.numbering v.settings.channel.window arrivals
   pub waits : Waits v.window v.settings.channel.window (stream_of v.settings.channel.window arrivals).present
   pub held : v.held ≡ hold v.settings.channel.window v.settings.channel.ring (stream_of v.settings.channel.window arrivals)
-  pub counted : v.counted ≤ length arrivals
+  pub total : v.total ≤ 1500 * length arrivals
 
 -- It stands for some live packets, fewer than so many.
 pub record StandsForFewer (v : Seen) (most : ℕ) : Type 0 where

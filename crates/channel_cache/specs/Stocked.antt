@@ -10,16 +10,16 @@ use Rattle.channel_cache.specs.Whole.{AreWhole, AreAtLeast}
 -- what is held
 pub record Seen : Type 0 where
   pub ring : rings.Seen
-  -- how many packets were put in
-  pub pushes : ℕ
+  -- the wire sizes of all packets that were put in
+  pub total : ℕ
 
 -- nothing is held
 abbrev pub empty_stock : ℕ → Seen
-empty_stock capacity = record { ring = empty_ring capacity; pushes = 0 }
+empty_stock capacity = record { ring = empty_ring capacity; total = 0 }
 
 -- what is held after a packet was put in
 abbrev pub stocked : Seen → Held → Seen
-stocked v h = record { ring = pushed v.ring h; pushes = v.pushes + 1 }
+stocked v h = record { ring = pushed v.ring h; total = v.total + h.wire }
 
 -- the index stands for the packets of the ring, none of which is smaller than the least size
 pub record IsStock (ring : rings.Seen) (index : indexes.Seen) (least : ℕ) : Type 0 where

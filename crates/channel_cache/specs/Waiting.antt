@@ -1,5 +1,5 @@
 -- The packets of a channel that came in time: those that wait for others, and those that are held.
-use Rattle.std.specs.Prelude.{◌≡◌, ℕ, ◌+◌, ◌^◌, ◌<◌, ◌≤◌, false, List, [], ◌∷◌, ◌++◌, length, map, None}
+use Rattle.std.specs.Prelude.{◌≡◌, ℕ, ◌+◌, ◌*◌, ◌^◌, ◌<◌, ◌≤◌, false, List, [], ◌∷◌, ◌++◌, length, map, None}
 use Rattle.rams_model.specs.declared.held.Held.{Held}
 use Rattle.rams_model.specs.Packets.{hi}
 use Rattle.packet_ring.specs.Seen as rings
@@ -36,9 +36,9 @@ pub record IsIntake (v : Intake) : Type 0 where
   pub small : v.window.greatest < 2 ^ 62
   pub items : AreItems v.window.kept
 
--- how many packets wait or were held
-abbrev pub count : Intake → ℕ
-count v = v.stock.pushes + length v.window.kept
+-- the wire sizes of all packets that were held, and 1,500 bytes for each that waits
+abbrev pub total_of : Intake → ℕ
+total_of v = v.stock.total + 1500 * length v.window.kept
 
 -- Between two packets of a start: it goes on, and none of those that wait could go out.
 pub record IsSettled (v : Intake) : Type 0 where
@@ -46,12 +46,12 @@ pub record IsSettled (v : Intake) : Type 0 where
   pub going : v.window.ended ≡ false
   pub settled : first_free v.window ≡ None
 
--- As packets come the sizes stay, what is held ends no earlier, and so many packets more were counted at most.
+-- As packets come the sizes stay, what is held ends no earlier, and the bytes of so many packets were added at most.
 pub record Grows (old new : Intake) (more : ℕ) : Type 0 where
   pub width : new.window.width ≡ old.window.width
   pub capacity : new.stock.ring.capacity ≡ old.stock.ring.capacity
   pub end : hi old.stock.ring.held ≤ hi new.stock.ring.held
-  pub counted : count new ≤ count old + more
+  pub total : total_of new ≤ total_of old + 1500 * more
 
 -- for a packet that was dropped
 abbrev pub UnlessKept : Came → Type 0 → Type 0

@@ -3,7 +3,7 @@ ghost use Rattle.std.specs.Prelude.{◌≡◌, ℕ, ◌+◌, ◌^◌, ◌<◌, �
 ghost use Rattle.rams_model.specs.Packets.{chosen, lo, hi, Arrival, live_note, stream_of};
 ghost use Rattle.packet_ring.specs.{packet_of, IsRing};
 ghost use Rattle.access_index.specs.{choice_of};
-ghost use Rattle.channel_cache.specs.{arrival_of, live_note_of, arrivals_after, UnlessTaken, new_cache, ring_of, StandsFor, StandsForFewer, DiffersInKept, AreInStep, Stand, Grows, count, kept_other, IsBare, IsWhole, AreAtLeast};
+ghost use Rattle.channel_cache.specs.{arrival_of, live_note_of, arrivals_after, UnlessTaken, new_cache, ring_of, StandsFor, StandsForFewer, DiffersInKept, AreInStep, Stand, Grows, total_of, kept_other, IsBare, IsWhole, AreAtLeast};
 
 use crate::incoming::{Incoming, read_live};
 use crate::intake::Intake;
@@ -25,12 +25,12 @@ pub struct Cache {
 }
 
 impl Model for Cache {
-    ghost use Rattle.channel_cache.specs.{IsCache, count};
+    ghost use Rattle.channel_cache.specs.{IsCache, total_of};
     ghost use Rattle.channel_cache.specs.Seen.{Seen};
 
     ghost Value = { Seen };
 
-    ghost view = { λ c. record { settings = c.config; numbering = c.numbering; window = c.intake.window; held = c.intake.stock.ring.held; counted = count c.intake } };
+    ghost view = { λ c. record { settings = c.config; numbering = c.numbering; window = c.intake.window; held = c.intake.stock.ring.held; total = total_of c.intake } };
 
     ghost invariant = { λ c. IsCache c.config c.numbering c.intake };
 }
@@ -125,7 +125,7 @@ fn receive(numbering: &mut Numbering, intake: &mut Intake, incoming: Incoming) -
     requires bare { IsBare incoming.packet }
     requires low { incoming.sequence < 65536 }
     requires numbered { IfSome numbering.old.greatest (λ g. g < 2 ^ 61) }
-    requires counted { count intake.old < 2 ^ 40 }
+    requires few { total_of intake.old + 1500 ≤ 2 ^ 60 }
     ensures in_step { AreInStep numbering.new intake.new }
     ensures grows { Grows intake.old intake.new 1 }
     ensures kept { UnlessTaken result ((numbering.new ≡ kept_other numbering.old numbering.new) × (intake.new ≡ intake.old)) }

@@ -6,7 +6,7 @@ ghost use Rattle.packet_ring.specs.Seen as rings;
 ghost use Rattle.reorder_window.specs.{Start, came, start_after, begun, came_of, arrived, first_free, IsAwaited};
 ghost use Rattle.reorder_window.specs.declared.window.Came.TheVariants.{Kept};
 ghost use Rattle.reorder_window.specs.Seen as windows;
-ghost use Rattle.channel_cache.specs.{new_intake, packets_of, IsIntake, IsSettled, Grows, count, UnlessKept, Holds, IsWhole};
+ghost use Rattle.channel_cache.specs.{new_intake, packets_of, IsIntake, IsSettled, Grows, total_of, UnlessKept, Holds, IsWhole};
 
 use crate::stock::Stock;
 use ram_io::NoMemory;
@@ -52,7 +52,7 @@ impl Intake {
         requires settled { IsSettled self.old }
         requires small { held.n < 2 ^ 62 }
         requires whole { IsWhole held }
-        requires few { count self.old < 2 ^ 40 }
+        requires few { total_of self.old + 1500 ≤ 2 ^ 60 }
         ensures came { result ≡ came_of self.old.window held.n }
         ensures settled { IsSettled self.new }
         ensures grows { Grows self.old self.new 1 }
@@ -78,7 +78,7 @@ impl Intake {
         requires next { IsAwaited self.old.window held.n }
         requires small { held.n < 2 ^ 62 }
         requires whole { IsWhole held }
-        requires few { count self.old < 2 ^ 40 }
+        requires few { total_of self.old + 1500 ≤ 2 ^ 60 }
         ensures came { came_of self.old.window held.n ≡ Kept }
         ensures settled { IsSettled self.new }
         ensures grows { Grows self.old self.new 1 }
@@ -93,7 +93,7 @@ impl Intake {
     /// Ends the start, and holds all its packets.
     pub fn end_start(&mut self)
         requires intake { IsIntake self.old }
-        requires few { count self.old ≤ 2 ^ 40 }
+        requires few { total_of self.old ≤ 2 ^ 60 }
         ensures intake { IsIntake self.new }
         ensures grows { Grows self.old self.new 0 }
         ensures window { self.new.window ≡ record self.old.window { ended = true; kept = [] } }
@@ -106,7 +106,7 @@ impl Intake {
     // Holds all packets that need not wait any longer.
     fn drain(&mut self)
         requires intake { IsIntake self.old }
-        requires few { count self.old ≤ 2 ^ 40 }
+        requires few { total_of self.old ≤ 2 ^ 60 }
         ensures intake { IsIntake self.new }
         ensures settled { first_free self.new.window ≡ None }
         ensures grows { Grows self.old self.new 0 }

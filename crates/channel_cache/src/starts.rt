@@ -1,11 +1,11 @@
 //! Packets under their numbers, start by start.
-ghost use Rattle.std.specs.Prelude.{◌≡◌, ℕ, ◌^◌, ◌<◌, ◌≤◌, max, List, [], ◌∷◌, Option, length};
+ghost use Rattle.std.specs.Prelude.{◌≡◌, ℕ, ◌+◌, ◌^◌, ◌<◌, ◌≤◌, max, List, [], ◌∷◌, Option, length};
 ghost use Rattle.rams_model.specs.declared.held.Held.{Held};
 ghost use Rattle.rams_model.specs.declared.note.LiveNote.TheVariants as notes;
 ghost use Rattle.rams_model.specs.Packets.{hi, Stream, held_as, in_time, stream_after};
 ghost use Rattle.packet_ring.specs.Seen as rings;
 ghost use Rattle.reorder_window.specs.{note_of};
-ghost use Rattle.channel_cache.specs.{arrival_of, IsIntake, IsSettled, Grows, count, IsBare, Brings, UnlessTaken};
+ghost use Rattle.channel_cache.specs.{arrival_of, IsIntake, IsSettled, Grows, total_of, IsBare, Brings, UnlessTaken};
 
 use crate::incoming::Incoming;
 use crate::intake::Intake;
@@ -18,7 +18,7 @@ impl Intake {
         requires settled { IsSettled self.old }
         requires small { n < 2 ^ 62 }
         requires bare { IsBare incoming.packet }
-        requires few { count self.old < 2 ^ 40 }
+        requires few { total_of self.old + 1500 ≤ 2 ^ 60 }
         ensures settled { IsSettled self.new }
         ensures greatest { self.new.window.greatest ≡ max self.old.window.greatest n }
         ensures grows { Grows self.old self.new 1 }
@@ -36,7 +36,7 @@ impl Intake {
         requires above { hi self.old.stock.ring.held ≤ n }
         requires small { n < 2 ^ 62 }
         requires bare { IsBare incoming.packet }
-        requires few { count self.old < 2 ^ 40 }
+        requires few { total_of self.old + 1500 ≤ 2 ^ 60 }
         ensures settled { IsSettled self.new }
         ensures greatest { self.new.window.greatest ≡ n }
         ensures grows { Grows self.old self.new 1 }
@@ -53,7 +53,7 @@ impl Intake {
         requires above { self.old.window.greatest < n }
         requires small { n < 2 ^ 62 }
         requires bare { IsBare incoming.packet }
-        requires few { count self.old < 2 ^ 40 }
+        requires few { total_of self.old + 1500 ≤ 2 ^ 60 }
         ensures settled { IsSettled self.new }
         ensures greatest { self.new.window.greatest ≡ n }
         ensures grows { Grows self.old self.new 1 }

@@ -29,7 +29,7 @@ impl Model for Stock {
 
     ghost Value = { Seen };
 
-    ghost view = { λ s. record { ring = s.ring; pushes = s.index.calls } };
+    ghost view = { λ s. record { ring = s.ring; total = s.index.total } };
 
     ghost invariant = { λ s. IsStock s.ring s.index s.least_wire };
 }
@@ -53,7 +53,7 @@ impl Stock {
         requires above { hi self.old.ring.held ≤ held.n }
         requires small { held.n < 2 ^ 62 }
         requires whole { IsWhole held }
-        requires few { self.old.pushes < 2 ^ 40 }
+        requires few { self.old.total + held.wire ≤ 2 ^ 60 }
         ensures step { self.new ≡ stocked self.old held }
         ensures ring { IsRing self.new.ring }
         ensures stands { (source : List Held) → StandsFor self.old.ring source → StandsFor self.new.ring (source ++ held ∷ []) }

@@ -108,7 +108,6 @@ fn index_of(rt: &impl Abort, alloc: Global, packets: &[Packet]) -> Result<Index,
     let mut index = Index::new(alloc, 8)?;
     let mut n = 1000;
     for (ts, wire, access) in packets {
-        assert!(rt; *wire <= 1500);
         index.push(n, *ts, *wire, *access);
         n += 1;
     }

@@ -15,7 +15,6 @@ invariant_of-self c =
       rise = subst (λ (n : ℕ). RiseIn n i.hi 0 i.total c.drop_below.new.self.items) (sym lo)
           (subst (λ (ps : List Point). RiseIn (min (max i.lo c.args.lo) i.hi) i.hi 0 i.total ps) (sym (ap (λ r. r.items) c.drop_below.ensures)) (rise_above i.lo i.hi 0 i.total c.args.lo i.points.items c.self.invariant.rise));
       small = c.self.invariant.small;
-      bytes = c.self.invariant.bytes;
       few = c.self.invariant.few;
       room = omega (arith, c.self.invariant.room, ap (λ r. r.capacity) c.drop_below.ensures);
     }
@@ -24,7 +23,7 @@ pub returns-clause-step : goal.returns-clause-step
 returns-clause-step c =
     let i = c.self.inside in
     let lo = c.min-self-inside.ensures ∙ ap (λ (n : ℕ). min n i.hi) c.max.ensures in
-    left_is i.capacity i.calls i.lo i.hi i.last i.total c.args.lo c.min-self-inside.result i.points.items c.drop_below.new.self.items c.self.invariant.rise lo (ap (λ r. r.items) c.drop_below.ensures)
+    left_is i.capacity i.lo i.hi i.last i.total c.args.lo c.min-self-inside.result i.points.items c.drop_below.new.self.items c.self.invariant.rise lo (ap (λ r. r.items) c.drop_below.ensures)
     ∙ ap (λ v. left_from v c.args.lo) c.self.view_is
 
 pub returns-clause-stands : goal.returns-clause-stands

@@ -26,8 +26,7 @@ invariant_of-self c =
       rise = taken_rise old new c.if-self.self c.args.n c.args.ts c.args.wire c.from.result c.args.access c.self.invariant.rise first c.from.ensures
           (λ some. let lo : old.lo ≡ c.args.self.now.lo = ap (λ v. v.lo) c.self.view_is in let hi : old.hi ≡ c.args.self.now.hi = ap (λ v. v.hi) c.self.view_is in c.requires.next (omega (arith, some)) ∙ sym hi) taken;
       small = omega (arith, c.requires.small);
-      bytes = omega (arith, c.self.invariant.bytes, c.from.ensures, c.requires.wire, taken.total, taken.calls);
-      few = omega (arith, taken.calls, c.requires.few, ap (λ v. v.calls) c.self.view_is);
+      few = omega (arith, c.from.ensures, taken.total, c.requires.few, ap (λ v. v.total) c.self.view_is);
       room = omega (arith, taken.capacity, taken.room, c.self.invariant.room);
     }
 

@@ -27,7 +27,7 @@ returns-clause-stands c =
     let grows = c.receive.ensures.grows in
     subst (λ (v : Seen). Does v (seen_at old.config new.numbering new.intake) bytes c.receive.result) c.self.view_is
     (took old.config old.numbering new.numbering old.intake new.intake bytes a c.receive.result (record { width = c.self.invariant.width; ring = c.self.invariant.ring })
-    (record { width = grows.width ∙ c.self.invariant.width; ring = grows.capacity ∙ c.self.invariant.ring }) grows.counted heard c.receive.ensures.stands)
+    (record { width = grows.width ∙ c.self.invariant.width; ring = grows.capacity ∙ c.self.invariant.ring }) grows.total heard c.receive.ensures.stands)
 
 pub returns-clause-few : goal.returns-clause-few
 returns-clause-few c = λ most few. fewer_after c.args.self.now _ c.args.bytes.now c.receive.result most (returns-clause-stands c) few
@@ -36,5 +36,5 @@ pub receive-requires-clause-numbered : goal.receive-requires-clause-numbered
 receive-requires-clause-numbered c =
     subst (λ (v : Seen). IfSome v.numbering.greatest (λ n. n < 2 ^ 61)) (sym c.self.view_is) (numbers_have_room c.args.self.now c.requires)
 
-pub receive-requires-clause-counted : goal.receive-requires-clause-counted
-receive-requires-clause-counted c = omega (arith, ap (λ (v : Seen). v.counted) c.self.view_is, c.requires.stands.counted, c.requires.few)
+pub receive-requires-clause-few : goal.receive-requires-clause-few
+receive-requires-clause-few c = omega (arith, ap (λ (v : Seen). v.total) c.self.view_is, c.requires.stands.total, c.requires.few)
