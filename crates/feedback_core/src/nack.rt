@@ -1,6 +1,7 @@
 //! The answer to a generic NACK (RFC 4585, 6.2.1).
 ghost use Rattle.std.specs.Prelude.{◌≡◌, ◌+◌, ◌≤◌, length, vec_len, vec_capacity};
 ghost use Rattle.rams_model.specs.Service.{room, number_answer, after_numbers, after_nack, named};
+ghost use Rattle.rams_model.specs.Packets.{lo, hi};
 ghost use Rattle.rams_model.specs.Formats.{nack_numbers};
 ghost use Rattle.rtcp_feedback.specs.{numbers_left};
 ghost use Rattle.feedback_core.specs.{most_of_nack, IsReadyDesk, IsSameDesk, IsAnswered, IsHeardOn, AreNoted, Serves};
@@ -54,15 +55,19 @@ fn answer_numbers(desk: &mut Desk<'_>, sender: u32, numbers: NackIter<'_>)
         Serves desk.old (IsHeardOn desk.old sender) (λ before history. AreNoted s before history (after_numbers s desk.old.cache.now.held k (numbers_left numbers.entry) history)
         desk.new.queue.now desk.new.visitor desk.old.page.notes.items desk.new.page.notes.items) }
 {
+    let (from, to) = (desk.cache.lo(), desk.cache.hi());
     for low in numbers {
-        let note = answer_number(desk, sender, low);
+        let note = answer_number(desk, sender, from, to, low);
         desk.page.notes.push_reserved(note);
     }
 }
 
-// Answers a number. A repair that is queued makes its client known.
-fn answer_number(desk: &mut Desk<'_>, sender: u32, low: u16) -> Note
+// Answers a number of a packet that is held from `from` on and below `to`. A repair that is queued makes
+// its client known.
+fn answer_number(desk: &mut Desk<'_>, sender: u32, from: u64, to: u64, low: u16) -> Note
     requires ready { IsReadyDesk desk.old }
+    requires oldest { from ≡ lo desk.old.cache.now.held }
+    requires end { to ≡ hi desk.old.cache.now.held }
     ensures ready { IsReadyDesk desk.new }
     ensures same_queue { desk.new.queue.ghost_name ≡ desk.old.queue.ghost_name }
     ensures same { IsSameDesk desk.old desk.new }
@@ -71,7 +76,7 @@ fn answer_number(desk: &mut Desk<'_>, sender: u32, low: u16) -> Note
         Serves desk.old (IsHeardOn desk.old sender) (λ before history. IsAnswered s before history desk.new.queue.now desk.new.visitor result (number_answer room s desk.old.cache.now.held k history low)) }
 {
     let client = desk.visitor.client;
-    let Some(n) = resolve_in(desk.cache.lo(), desk.cache.hi(), low) else {
+    let Some(n) = resolve_in(from, to, low) else {
         return Note::Unheld { client, low };
     };
     if desk.visitor.is_early(n) {

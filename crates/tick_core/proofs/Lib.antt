@@ -16,6 +16,7 @@ pub mod Adding
 pub mod Midway
 pub mod Closing
 pub mod Carrying
+pub mod Within
 pub mod Spent
 pub mod Kept
 pub mod Sending

@@ -1,5 +1,5 @@
 -- What the repairs of clients may take, where only what was changed is written down.
-use Rattle.std.proofs.Common.{◌≡◌, ℕ, ◌<◌, true, cond, ⊎_elim, List, [], ◌∷◌, Option, Some, None, IsSome, refl, ap, sym, ◌∙◌, subst, arith, eqb}
+use Rattle.std.proofs.Common.{◌≡◌, ℕ, ◌<◌, true, cond, ⊎_elim, List, [], ◌∷◌, Option, Some, None, IsSome, IfSome, refl, ap, sym, ◌∙◌, subst, arith, eqb}
 use Rattle.std.specs.List.{AllByRecursion}
 use Rattle.std.specs.Option.{option_map}
 use Rattle.std.specs.Map.{keys_of, lookup}
@@ -67,6 +67,19 @@ is_known most changed k t a found = by_entry (entry_of t k) refl
     by_entry None same = let clash : None ≡ Some a = no_allowance most changed k t same ∙ found in absurd cc
     by_entry (Some e) same = refl
 
+-- what was put last for a client is its
+pub put_allowance : (most : ℕ) (changed now : ℕ → Option Allowance) (t : Clients) (b : Allowance) → AreOfKnown t now → ((j : ℕ) → now j ≡ cond (eqb b.client j) (Some b) (changed j))
+    → allowance_for b.client (all_allowances most t.known now) ≡ Some b
+put_allowance most changed now t b known puts =
+    sym (told_allowance most now b.client t b known (sym (puts b.client ∙ cond-true (eqb b.client b.client) (Some b) (changed b.client) (eq-eqb b.client b.client refl))))
+
+-- where the same is told of each, all are the same
+pub told_alike : (most : ℕ) (changed now : ℕ → Option Allowance) (es : List (ℕ × Entry)) → ((j : ℕ) → now j ≡ changed j) → all_allowances most es now ≡ all_allowances most es changed
+told_alike most changed now [] same = refl
+told_alike most changed now (e ∷ es) same =
+    ap (λ (o : Option Allowance). or_changed o (idle_allowance most e.0 e.1) ∷ all_allowances most es now) (same e.0)
+    ∙ ap (λ (l : List Allowance). or_changed (changed e.0) (idle_allowance most e.0 e.1) ∷ l) (told_alike most changed now es same)
+
 -- whose it is
 pub whose_allowance : (k : ℕ) (l : List Allowance) (a : Allowance) → allowance_for k l ≡ Some a → a.client ≡ k
 whose_allowance k [] a found = absurd cc
@@ -74,6 +87,11 @@ whose_allowance k (x ∷ l) a found =
     cond_both (eqb x.client k) (Some x) (allowance_for k l) (λ o. o ≡ Some a → a.client ≡ k)
     (λ t e. let there : x ≡ a = cc in sym (ap (λ (y : Allowance). y.client) there) ∙ eqb-true x.client k t)
     (λ f e. whose_allowance k l a e) found
+
+-- what a client may take is found again under its own number
+pub found_again : (k : ℕ) (l : List Allowance) (o : Option Allowance) → o ≡ allowance_for k l → IfSome o (λ a. allowance_for a.client l ≡ Some a)
+found_again k l None is = tt
+found_again k l (Some a) is = ap (λ (j : ℕ). allowance_for j l) (whose_allowance k l a (sym is)) ∙ sym is
 
 -- one more of which something is told
 pub known_still : (most : ℕ) (changed now : ℕ → Option Allowance) (k : ℕ) (t : Clients) (a b : Allowance) → AreOfKnown t changed → allowance_for k (all_allowances most t.known changed) ≡ Some a

@@ -1,10 +1,11 @@
 -- What the pending repairs come to in a tick.
-use Rattle.std.specs.Prelude.{ℕ, ◌<◌, ◌-◌, Bool, true, false, ◌&&◌, ◌==◌, nat_le, if◌then◌else◌, List, [], ◌∷◌, ◌++◌, Option, Some, None, find, map}
+use Rattle.std.specs.Prelude.{◌≡◌, ℕ, ◌<◌, ◌-◌, Bool, true, false, ◌&&◌, ◌==◌, nat_le, if◌then◌else◌, List, [], ◌∷◌, ◌++◌, Option, Some, None, IsSome, IfSome, find, map}
 use Rattle.std.specs.List.{AllByRecursion}
 use Rattle.rams_model.specs.declared.held.Held.{Held}
 use Rattle.rams_model.specs.declared.note.Note.TheVariants.{Repair, Gone}
 use Rattle.rams_model.specs.Packets.{following}
 use Rattle.rams_model.specs.Service.{Wanted}
+use Rattle.packet_ring.specs.{packet_of}
 use Rattle.tick_core.specs.declared.allowance.Allowance.{Allowance}
 use Rattle.client_table.specs.declared.entry.Entry.{Entry}
 use Rattle.tick_core.specs.Runs.{idle_allowance}
@@ -57,6 +58,14 @@ with_wanted w (Some h) r = with_repair w h (allowance_for w.client r.allowances)
 -- the channel has less left than any packet takes
 abbrev pub IsSpent : List Held → Repaired → Type 0
 IsSpent held r = AllByRecursion (λ h. r.draft.left < h.wire) held
+
+-- if its packet is held and its client known, it doesn't fit
+abbrev pub FitsNowhere : List Held → Wanted → Repaired → Type 0
+FitsNowhere held w r = IfSome (packet_of w.n held) (λ h. IfSome (allowance_for w.client r.allowances) (λ a. fits h a r.draft ≡ false))
+
+-- the packets of these repairs are held
+abbrev pub AreHeld : List Held → List Wanted → Type 0
+AreHeld held ws = AllByRecursion (λ w. IsSome (packet_of w.n held)) ws
 
 -- these repairs, one after another
 unfoldable pub with_all_wanted : List Held → List Wanted → Repaired → Repaired

@@ -7,6 +7,7 @@ mod commit;
 mod draft;
 mod entries;
 mod forgetting;
+mod holding;
 mod plan;
 mod repairs;
 mod runs;

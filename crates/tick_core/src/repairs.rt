@@ -1,13 +1,14 @@
 //! The pending repairs.
-ghost use Rattle.std.specs.Prelude.{◌≡◌, ◌≤◌, ◌&&◌, nat_le, nat_eq, false, [], ◌++◌, length, drop, replicate, Some, None, IfOk};
+ghost use Rattle.std.specs.Prelude.{◌≡◌, ◌<◌, ◌≤◌, ◌&&◌, nat_le, nat_eq, true, false, [], ◌++◌, length, drop, replicate, Some, None, IfSome, IfOk};
 ghost use Rattle.std.specs.HashMap.{get};
 ghost use Rattle.client_table.specs.{AreRising};
-ghost use Rattle.tick_core.specs.{IsSpent, AreOfKnown, all_allowances, allowance_for, after_repair, waiting, with_repair, with_wanted, with_all_wanted};
+ghost use Rattle.tick_core.specs.{IsSpent, FitsNowhere, AreOfKnown, all_allowances, allowance_for, after_repair, waiting, with_repair, with_wanted, with_all_wanted};
 ghost use Rattle.packet_ring.specs.{packet_of};
 
 use crate::allowance::Allowance;
 use crate::allowances::Allowances;
 use crate::draft::Draft;
+use crate::holding::Holding;
 use crate::runs::idle_allowance;
 use channel_cache::Cache;
 use client_table::Table;
@@ -28,18 +29,26 @@ pub struct Repairs<'a> {
     draft: Draft,
     /// What the repairs of clients may still take that have a burst, or were sent one.
     changed: Allowances,
+    /// What the client that was asked last may take. Its repairs mostly stand side by side, so they take
+    /// one look-up.
+    asked: Option<Allowance>,
     done: Vec<bool>,
 }
 
 impl<'a> Model for Repairs<'a> {
+    ghost use Rattle.std.specs.Prelude.{◌≡◌, Some, IfSome};
     ghost use Rattle.client_table.specs.Clients.{AreRising};
-    ghost use Rattle.tick_core.specs.{Repaired, all_allowances, told_by, AreOfKnown};
+    ghost use Rattle.tick_core.specs.{Repaired, all_allowances, allowance_for, told_by, AreOfKnown};
 
     ghost Value = { Repaired };
 
     ghost view = { λ r. record { draft = r.draft; allowances = all_allowances r.most r.table.now.known (told_by r.changed); done = r.done.items } };
 
-    ghost invariant = { λ r. record { rising : AreRising r.table.now; known : AreOfKnown r.table.now (told_by r.changed) } };
+    ghost invariant = { λ r. record {
+      rising : AreRising r.table.now;
+      known : AreOfKnown r.table.now (told_by r.changed);
+      asked : IfSome r.asked (λ a. allowance_for a.client (all_allowances r.most r.table.now.known (told_by r.changed)) ≡ Some a);
+    } };
 }
 
 impl<'a> Repairs<'a> {
@@ -60,6 +69,7 @@ impl<'a> Repairs<'a> {
             most,
             draft,
             changed: Allowances::new(allowances),
+            asked: None,
             done: Vec::new(alloc),
         }
     }
@@ -73,6 +83,30 @@ impl<'a> Repairs<'a> {
         }
         let entry = self.table.find(client)?;
         Some(idle_allowance(self.most, client, &entry))
+    }
+
+    /// What the repairs of a known client may take, kept for the next repairs of the same client.
+    fn ask(&mut self, client: u64) -> Option<Allowance>
+        ensures value { result ≡ allowance_for client self.old.allowances }
+        ensures same { self.new ≡ self.old }
+    {
+        if let Some(asked) = self.asked {
+            if asked.client == client {
+                return Some(asked);
+            }
+        }
+        self.asked = self.allowance(client);
+        self.asked
+    }
+
+    /// Whether the client was asked last, and may take less than so many bytes.
+    fn has_less(&self, client: u64, least: u64) -> bool
+        ensures { result ≡ true → IfSome (allowance_for client self.now.allowances) (λ a. a.may_take < least) }
+    {
+        match self.asked {
+            Some(asked) => asked.client == client && asked.may_take < least,
+            None => false,
+        }
     }
 
     /// The repair waits on.
@@ -107,21 +141,38 @@ impl<'a> Repairs<'a> {
         self.draft
             .send(Note::Repair { client, n, seq }, client, seq, held)?;
         self.done.push(true)?;
-        self.changed.put(taken(allowance, held))?;
+        let rest = taken(allowance, held);
+        self.changed.put(rest)?;
+        self.asked = Some(rest);
         Ok(())
     }
 
-    /// Sends one repair, or notes that its packet is gone, or lets it wait.
-    fn repair(&mut self, cache: &Cache, wanted: &Wanted) -> Result<(), NoMemory>
-        ensures { IfOk result (λ _. self.new ≡ with_wanted wanted.now (packet_of wanted.now.n cache.now.held) self.old) }
+    /// A repair that fits nowhere waits, unless its packet is gone.
+    fn pass(&mut self, holding: &Holding<'_>, wanted: &Wanted) -> Result<(), NoMemory>
+        requires { FitsNowhere holding.now wanted.now self.old }
+        ensures { IfOk result (λ _. self.new ≡ with_wanted wanted.now (packet_of wanted.now.n holding.now) self.old) }
     {
-        let Some(held) = cache.held(wanted.n) else {
+        if holding.has(wanted.n) {
+            self.wait()
+        } else {
+            self.drop_gone(wanted)
+        }
+    }
+
+    /// Sends one repair, or notes that its packet is gone, or lets it wait.
+    fn repair(&mut self, holding: &Holding<'_>, wanted: &Wanted) -> Result<(), NoMemory>
+        ensures { IfOk result (λ _. self.new ≡ with_wanted wanted.now (packet_of wanted.now.n holding.now) self.old) }
+    {
+        if self.has_less(wanted.client, holding.least_wire()) {
+            return self.pass(holding, wanted);
+        }
+        let Some(held) = holding.get(wanted.n) else {
             return self.drop_gone(wanted);
         };
         if u64::from(held.wire) > self.draft.left() {
             return self.wait();
         }
-        match self.allowance(wanted.client) {
+        match self.ask(wanted.client) {
             Some(allowance) => self.send(wanted, held, &allowance),
             None => self.wait(),
         }
@@ -131,27 +182,39 @@ impl<'a> Repairs<'a> {
     pub fn repair_all(&mut self, cache: &Cache, queue: &Queue) -> Result<(), NoMemory>
         ensures { IfOk result (λ _. self.new ≡ with_all_wanted cache.now.held queue.now self.old) }
     {
-        let least = u64::from(cache.least_wire());
+        self.repair_held(&Holding::new(cache), queue)
+    }
+
+    /// Sends the pending repairs, by what is held.
+    fn repair_held(&mut self, holding: &Holding<'_>, queue: &Queue) -> Result<(), NoMemory>
+        ensures { IfOk result (λ _. self.new ≡ with_all_wanted holding.now queue.now self.old) }
+    {
+        let least = holding.least_wire();
         for (i, wanted) in queue.pending().iter().enumerate() {
             if self.draft.left() < least {
-                return self.pass_rest(cache, queue, i);
+                return self.pass_rest(holding, queue, i);
             }
-            self.repair(cache, wanted)?;
+            self.repair(holding, wanted)?;
         }
         Ok(())
     }
 
     /// Nothing fits any more, from this place on: the others wait but for those whose packets are gone.
-    fn pass_rest(&mut self, cache: &Cache, queue: &Queue, from: usize) -> Result<(), NoMemory>
-        requires spent { IsSpent cache.now.held self.old }
+    fn pass_rest(
+        &mut self,
+        holding: &Holding<'_>,
+        queue: &Queue,
+        from: usize,
+    ) -> Result<(), NoMemory>
+        requires spent { IsSpent holding.now self.old }
         requires within { from ≤ length queue.now }
-        ensures { IfOk result (λ _. self.new ≡ with_all_wanted cache.now.held (drop from queue.now) self.old) }
+        ensures { IfOk result (λ _. self.new ≡ with_all_wanted holding.now (drop from queue.now) self.old) }
     {
         let rest = &queue.pending()[from..];
-        if queue.are_from(cache.lo(), cache.hi()) {
+        if holding.has_all(queue) {
             self.wait_all(rest.len())
         } else {
-            self.pass_over(cache, rest)
+            self.pass_over(holding, rest)
         }
     }
 
@@ -166,17 +229,12 @@ impl<'a> Repairs<'a> {
     }
 
     /// These repairs wait on but for those whose packets are gone.
-    fn pass_over(&mut self, cache: &Cache, pending: &[Wanted]) -> Result<(), NoMemory>
-        requires { IsSpent cache.now.held self.old }
-        ensures { IfOk result (λ _. self.new ≡ with_all_wanted cache.now.held pending.now self.old) }
+    fn pass_over(&mut self, holding: &Holding<'_>, pending: &[Wanted]) -> Result<(), NoMemory>
+        requires { IsSpent holding.now self.old }
+        ensures { IfOk result (λ _. self.new ≡ with_all_wanted holding.now pending.now self.old) }
     {
-        let (lo, hi) = (cache.lo(), cache.hi());
         for wanted in pending {
-            if lo <= wanted.n && wanted.n < hi {
-                self.wait()?;
-                continue;
-            }
-            self.drop_gone(wanted)?;
+            self.pass(holding, wanted)?;
         }
         Ok(())
     }

@@ -7,4 +7,5 @@ pub invariant_of-result : goal.invariant_of-result
 invariant_of-result c = record {
   rising = c.requires.rising;
   known = subst (λ (told : ℕ → Option Allowance). AreOfKnown c.args.table.now told) (sym c.new.ensures) c.requires.known;
+  asked = tt;
 }

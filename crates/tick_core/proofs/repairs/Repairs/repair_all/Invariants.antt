@@ -1,7 +1,0 @@
-use Rattle.std.proofs.Common.{◌≡◌, drop}
-use Rattle.tick_core.specs.{with_all_wanted}
-use Rattle.tick_core.proofs.repairs.Repairs.repair_all.Given as goal
-
--- Those that are left lead to the same end.
-abbrev pub invariant-loop-i : goal.invariant-loop-i
-invariant-loop-i l = with_all_wanted l.cache.held (drop l.i l.queue) l.self ≡ with_all_wanted l.cache.held l.queue l.fn.self

@@ -1,0 +1,83 @@
+//! What a channel holds, as a pass over its pending repairs asks for it.
+ghost use Rattle.std.specs.Prelude.{◌≡◌, true, is_some, option_copied};
+ghost use Rattle.packet_ring.specs.{packet_of};
+ghost use Rattle.channel_cache.specs.{AreAtLeast};
+ghost use Rattle.tick_core.specs.{AreHeld};
+
+use channel_cache::Cache;
+use rams_model::Held;
+use repair_queue::Queue;
+use std::marker::Model;
+
+/// The packets that a cache holds. What it says of all of them was asked once.
+#[derive(Drop)]
+pub struct Holding<'a> {
+    cache: &'a Cache,
+    /// The numbers from this on and below `end` are held.
+    oldest: u64,
+    end: u64,
+    /// No packet takes less on the wire.
+    least: u64,
+}
+
+impl<'a> Model for Holding<'a> {
+    ghost use Rattle.std.specs.Prelude.{◌≡◌, List};
+    ghost use Rattle.rams_model.specs.declared.held.Held.{Held};
+    ghost use Rattle.rams_model.specs.Packets.{lo, hi};
+    ghost use Rattle.packet_ring.specs.{IsRing};
+    ghost use Rattle.channel_cache.specs.{ring_of, AreAtLeast};
+
+    ghost Value = { List Held };
+
+    ghost view = { λ h. h.cache.now.held };
+
+    ghost invariant = { λ h. record {
+      ring : IsRing (ring_of h.cache.now);
+      low : h.oldest ≡ lo h.cache.now.held;
+      high : h.end ≡ hi h.cache.now.held;
+      large : AreAtLeast h.least h.cache.now.held;
+    } };
+}
+
+impl<'a> Holding<'a> {
+    /// What the cache holds.
+    pub fn new(cache: &'a Cache) -> Holding<'a>
+        ensures { result ≡ cache.now.held }
+    {
+        Holding {
+            cache,
+            oldest: cache.lo(),
+            end: cache.hi(),
+            least: u64::from(cache.least_wire()),
+        }
+    }
+
+    /// A size on the wire, in bytes, than which no packet is smaller.
+    pub fn least_wire(&self) -> u64
+        ensures { AreAtLeast result self.now }
+    {
+        self.least
+    }
+
+    /// The packet of a number.
+    pub fn get(&self, n: u64) -> Option<&Held>
+        ensures { option_copied result ≡ packet_of n self.now }
+    {
+        self.cache.held(n)
+    }
+
+    /// Whether the packet of a number is held.
+    pub fn has(&self, n: u64) -> bool
+        ensures { result ≡ is_some (packet_of n self.now) }
+    {
+        self.oldest <= n && n < self.end
+    }
+
+    /// Whether the packets of all pending repairs are held. It looks at none of them, and may say no
+    /// although they are.
+    pub fn has_all(&self, queue: &Queue) -> bool
+        ensures { result ≡ true → AreHeld self.now queue.now }
+    {
+        queue.are_from(self.oldest, self.end)
+    }
+}
