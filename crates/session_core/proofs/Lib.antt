@@ -1,5 +1,4 @@
 pub mod Living
-pub mod Sized
 pub mod Short
 pub mod Counting
 pub mod Planned

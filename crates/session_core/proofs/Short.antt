@@ -17,7 +17,7 @@ use Rattle.book_laws.proofs.HeldPackets as packets
 use Rattle.book_laws.proofs.HeldPackets.{small_held, all_small}
 use Rattle.book_laws.proofs.Quiet.Sizes.{ArriveSmall}
 use Rattle.session_core.specs.{IsShort, SendsShort}
-use Rattle.session_core.proofs.Sized.{held_sized}
+use Rattle.tick_core.proofs.Sized.{IsSized, all_sized}
 
 -- ---- the packets that are held
 
@@ -28,7 +28,7 @@ each_small (h ∷ hs) small = (small.0, each_small hs small.1)
 held_short : (s : Settings) (history : History) (h : Held) → ArriveSmall (arrivals history) → Contains (hold s history) h → length h.packet ≤ 1470
 held_short s history h small among =
     let each = All-from_recursion (λ (x : Held). x.wire ≤ 1500) (hold s history) (each_small (hold s history) (small_held s history small)) in
-    omega (arith, All-contains (λ (x : Held). x.wire ≤ 1500) (hold s history) h each among, held_sized s history h among)
+    omega (arith, All-contains (λ (x : Held). x.wire ≤ 1500) (hold s history) h each among, All-contains IsSized (hold s history) h (all_sized s history) among)
 
 -- ---- the orders
 

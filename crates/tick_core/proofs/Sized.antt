@@ -14,7 +14,7 @@ use Rattle.rams_model.specs.Packets.Source as sources
 use Rattle.packet_ring.specs.{packet_of}
 
 -- the packet has its wire size
-abbrev IsSized : Held → Type 0
+abbrev pub IsSized : Held → Type 0
 IsSized h = h.wire ≡ wire_size h.packet
 
 others : (h : Held) (hs : List Held) → All IsSized (h ∷ hs) → All IsSized hs
@@ -50,7 +50,8 @@ sized_end [] a = a
 sized_end (h ∷ hs) a =
     cond_both (sources.is_consecutive (h ∷ hs)) (h ∷ hs) (consecutive_end hs) (All IsSized) (λ t. a) (λ f. sized_end hs (others h hs a))
 
-all_sized : (s : Settings) (history : History) → All IsSized (hold s history)
+-- so has each that is held
+pub all_sized : (s : Settings) (history : History) → All IsSized (hold s history)
 unfolding source sources.hold
 all_sized s history =
     let stream = stream_of s.channel.window (arrivals history) in
