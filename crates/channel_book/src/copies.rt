@@ -26,17 +26,6 @@ pub(crate) fn copy_event(alloc: Global, event: &Event) -> Result<Event, NoMemory
     }
 }
 
-/// The events again, with bytes of their own.
-pub fn copy_events(alloc: Global, events: &[Event]) -> Result<Vec<Event>, NoMemory>
-    ensures { IfOk result (λ copies. copies.items ≡ events.now) }
-{
-    let mut copies = Vec::with_capacity(alloc, events.len())?;
-    for event in events {
-        copies.push(copy_event(alloc, event)?)?;
-    }
-    Ok(copies)
-}
-
 /// The order again. Its packet is shared.
 fn copy_order(order: &Order) -> Result<Order, NoMemory>
     ensures { IfOk result (λ copy. copy ≡ order.now) }

@@ -12,7 +12,6 @@ mod shared;
 mod twice;
 
 pub use book::Book;
-pub use copies::copy_events;
 pub use entry::Entry;
 pub use ram_io::NoMemory;
 pub use rams_model::{Answer, Event};

@@ -31,13 +31,14 @@ pub trait Shared {
 
     /// Takes an event: its place in the history, and the answer there. The history that the pass has
     /// seen then begins with what it had seen, and ends with this entry; of the pass's own calls it has
-    /// this one more. After want of memory it may have seen more, none of it its own. May wait.
+    /// this one more. After want of memory it may have seen more, none of it its own, and the event is
+    /// given up. May wait.
     fn step<R: Wait>(
         &self,
         rt: &R,
         alloc: Global,
         pass: &mut Self::Pass,
-        event: &Event,
+        event: Event,
     ) -> Result<(u64, Answer), NoMemory>
         requires made { made self.now pass.old }
         requires left { 0 < left pass.old }
@@ -45,29 +46,29 @@ pub trait Shared {
         ensures settings { settings pass.new ≡ settings pass.old }
         ensures list { list pass.new ≡ list pass.old }
         ensures left { left pass.old ≤ left pass.new + 1 }
-        ensures told { Tells (list pass.old) event.now (seen pass.old) result (seen pass.new) }
+        ensures told { Tells (list pass.old) event (seen pass.old) result (seen pass.new) }
         ensures legal { OnOk result (IsLegal (settings pass.new) (seen pass.new)) };
 
     /// Takes some events in one turn, one after another: the place of the first in the history, and the
     /// answers. The others stand behind the first, with nothing between. The history that the pass has
     /// seen then ends with these entries; of the pass's own calls it has these more. After want of memory
-    /// a front of the events was taken. May wait.
+    /// a front of the events was taken, and the rest is given up. May wait.
     fn step_all<R: Wait>(
         &self,
         rt: &R,
         alloc: Global,
         pass: &mut Self::Pass,
-        events: &[Event],
+        events: Vec<Event>,
     ) -> Result<(u64, Vec<Answer>), NoMemory>
         requires made { made self.now pass.old }
-        requires left { (0 < length events.now) × (length events.now ≤ left pass.old) }
+        requires left { (0 < length events.items) × (length events.items ≤ left pass.old) }
         ensures made { made self.now pass.new }
         ensures settings { settings pass.new ≡ settings pass.old }
         ensures list { list pass.new ≡ list pass.old }
-        ensures left { left pass.old ≤ left pass.new + length events.now }
+        ensures left { left pass.old ≤ left pass.new + length events.items }
         ensures told { MatchResult result
-            (λ r. HasAnsweredAll (list pass.old) events.now (seen pass.old) r.0 r.1.items (seen pass.new))
-            (λ _. HasAnsweredFront (list pass.old) events.now (seen pass.old) (seen pass.new)) }
-        ensures places { IfOk result (λ r. r.0 + length events.now ≤ 2 ^ 40) }
+            (λ r. HasAnsweredAll (list pass.old) events.items (seen pass.old) r.0 r.1.items (seen pass.new))
+            (λ _. HasAnsweredFront (list pass.old) events.items (seen pass.old) (seen pass.new)) }
+        ensures places { IfOk result (λ r. r.0 + length events.items ≤ 2 ^ 40) }
         ensures legal { OnOk result (IsLegal (settings pass.new) (seen pass.new)) };
 }

@@ -5,7 +5,7 @@ use crate::steps::{BOOK, TICKETS, draw, wait};
 use crate::turns::{About, InTurn, Learn, Tell, View};
 use crate::work::{work, work_all};
 use atomic_table::Table;
-use channel_book::{Answer, Book, Core, Event, NoMemory, copy_events};
+use channel_book::{Answer, Book, Core, Event, NoMemory};
 use rams_model::Octets;
 use std::alloc::Global;
 use std::marker::Model;
@@ -129,7 +129,7 @@ impl ChannelLock {
     }
 
     /// Draws a ticket, waits for its turn, steps the book and passes the turn on, whatever came of it.
-    fn ask<R: Wait>(
+    pub(crate) fn ask<R: Wait>(
         &self,
         rt: &R,
         alloc: Global,
@@ -153,31 +153,11 @@ impl ChannelLock {
 
     /// Events of the pass's list in one turn, one after another: the place of the first in the history,
     /// and the answers. The others stand behind the first, with nothing between. After want of memory a
-    /// front of them was taken. May wait.
-    pub fn take_all<R: Wait>(
-        &self,
-        rt: &R,
-        alloc: Global,
-        pass: &mut Pass,
-        events: &[Event],
-    ) -> Result<(u64, Vec<Answer>), NoMemory>
-        requires made { pass.old.lock ≡ self.now.lock }
-        requires left { (0 < length events.now) × (length events.now ≤ pass.old.left) }
-        ensures same { IsSamePass pass.old pass.new }
-        ensures left { pass.old.left ≤ pass.new.left + length events.now }
-        ensures told { MatchResult result
-            (λ r. HasAnsweredAll pass.old.list events.now pass.old.seen r.0 r.1.items pass.new.seen)
-            (λ _. HasAnsweredFront pass.old.list events.now pass.old.seen pass.new.seen) }
-        ensures places { IfOk result (λ r. r.0 + length events.now ≤ 2 ^ 40) }
-        ensures legal { OnOk result (IsLegal pass.new.settings pass.new.seen) }
-    {
-        let events = copy_events(alloc, events)?;
-        self.ask_all(rt, alloc, pass, events)
-    }
-
+    /// front of them was taken, and the rest is given up. May wait.
+    ///
     /// Draws a ticket for each event, waits for its turn, steps the book with all and passes the turn on,
     /// whatever came of it.
-    fn ask_all<R: Wait>(
+    pub fn take_all<R: Wait>(
         &self,
         rt: &R,
         alloc: Global,

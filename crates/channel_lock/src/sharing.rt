@@ -25,15 +25,9 @@ impl Shared for ChannelLock {
         rt: &R,
         alloc: Global,
         pass: &mut Pass,
-        event: &Event,
+        event: Event,
     ) -> Result<(u64, Answer), NoMemory> {
-        match event {
-            Event::Live(bytes) => self.live(rt, alloc, pass, bytes.bytes()),
-            Event::Feedback { client, bytes } => {
-                self.feedback(rt, alloc, pass, *client, bytes.bytes())
-            }
-            Event::Tick => self.tick(rt, alloc, pass),
-        }
+        self.ask(rt, alloc, pass, event)
     }
 
     fn step_all<R: Wait>(
@@ -41,7 +35,7 @@ impl Shared for ChannelLock {
         rt: &R,
         alloc: Global,
         pass: &mut Pass,
-        events: &[Event],
+        events: Vec<Event>,
     ) -> Result<(u64, Vec<Answer>), NoMemory> {
         self.take_all(rt, alloc, pass, events)
     }

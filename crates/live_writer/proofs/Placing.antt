@@ -1,13 +1,13 @@
 -- Calls of a list, piece by piece, and their places.
-use Rattle.std.proofs.Common.{◌≡◌, ℕ, zero, suc, ◌+◌, ◌≤◌, ◌==◌, Bool, true, false, List, [], ◌∷◌, ◌++◌, map, length, take, drop, refl, sym, ap, ◌∙◌, subst, arith, append_assoc}
+use Rattle.std.proofs.Common.{◌≡◌, ℕ, zero, suc, ◌+◌, ◌≤◌, ◌==◌, Bool, true, false, List, [], ◌∷◌, ◌++◌, map, length, refl, sym, ap, ◌∙◌, subst, arith, append_assoc}
 use Rattle.std.specs.Prelude.{if◌then◌else◌, Result, Ok, Err, OnOk, MatchResult}
 use Rattle.std.specs.List.{AllByRecursion as Each}
-use Rattle.std.proofs.lemmas.List.{append-nil, length-append, length-map, map-append, take-append-drop}
+use Rattle.std.proofs.lemmas.List.{append-nil, length-append, length-map, map-append}
 use Rattle.std.proofs.lemmas.List.Elements.{filter-append, All-from_recursion}
 use Rattle.rams_model.specs.declared.event.Event.{Event}
 use Rattle.rams_model.specs.Service.{Settings, Answered}
 use Rattle.channel_book.specs.declared.entry.Entry.{Entry}
-use Rattle.channel_book.specs.{LegalFrom, IsLegal, is_of, calls_by, StartsWith, HasAnsweredAll, HasAnsweredFront}
+use Rattle.channel_book.specs.{LegalFrom, IsLegal, is_of, calls_by, StartsWith, HasAnsweredAll}
 use Rattle.live_writer.specs.declared.writer.Placed.{Placed}
 use Rattle.live_writer.specs.{places_from, places_by, datagrams_of, numbers_from, WasAnswered, WereAnswered, HasDrawn, HasWritten, HasWrittenFront, HasWrittenPiece}
 
@@ -107,23 +107,21 @@ pub nothing_drawn : (s : Settings) (place : ℕ) (old : List Placed) → HasDraw
 nothing_drawn s place old = record {
   placed = [];
   items = sym (append-nil old);
-  answers_are = refl;
   places_are = refl;
   drawn = refl;
 }
 
-pub draws_on : (s : Settings) (place : ℕ) (answers : List Answered) (old all : List Placed) (p : Placed) → HasDrawn s place answers old all → p.place ≡ place + length answers
-    → p.datagrams.items ≡ datagrams_of s p.answer → HasDrawn s place (answers ++ p.answer ∷ []) old (all ++ p ∷ [])
-draws_on s place answers old all p h at drawn = record {
+pub draws_on : (s : Settings) (place : ℕ) (answers : List Answered) (old all : List Placed) (a : Answered) (p : Placed) → HasDrawn s place answers old all → p.place ≡ place + length answers
+    → p.datagrams.items ≡ datagrams_of s a → HasDrawn s place (answers ++ a ∷ []) old (all ++ p ∷ [])
+draws_on s place answers old all a p h at drawn = record {
   placed = h.placed ++ p ∷ [];
   items = ap (λ (l : List Placed). l ++ p ∷ []) h.items ∙ append_assoc old h.placed (p ∷ []);
-  answers_are = map-append (λ (x : Placed). x.answer) h.placed (p ∷ []) ∙ ap (λ (l : List Answered). l ++ p.answer ∷ []) h.answers_are;
   places_are = map-append (λ (x : Placed). x.place) h.placed (p ∷ []) ∙ ap (λ (l : List ℕ). l ++ p.place ∷ []) h.places_are
       ∙ ap (λ (k : ℕ). numbers_from place (length answers) ++ k ∷ []) at
       ∙ sym (numbers_snoc place (length answers))
-      ∙ ap (numbers_from place) (sym (length-append answers (p.answer ∷ [])));
+      ∙ ap (numbers_from place) (sym (length-append answers (a ∷ [])));
   drawn = map-append (λ (x : Placed). x.datagrams.items) h.placed (p ∷ []) ∙ ap (λ (l : List (List (List ℕ))). l ++ p.datagrams.items ∷ []) h.drawn
-      ∙ ap (λ (d : List (List ℕ)). map (datagrams_of s) answers ++ d ∷ []) drawn ∙ sym (map-append (datagrams_of s) answers (p.answer ∷ []));
+      ∙ ap (λ (d : List (List ℕ)). map (datagrams_of s) answers ++ d ∷ []) drawn ∙ sym (map-append (datagrams_of s) answers (a ∷ []));
 }
 
 -- ---- a piece
@@ -143,7 +141,6 @@ writes_piece list s events old place answers new before after h d = record {
     events_are = h.calls.events_are;
     own = h.own;
     starts = starts_answered list events old place answers new h;
-    answers = d.answers_are ∙ sym h.calls.answers_are;
     places = placed_last list events old place answers new h ∙ ap (λ (l : List ℕ). places_by list old ++ l) (sym d.places_are);
     drawn = d.drawn ∙ (ap (map (datagrams_of s)) (sym h.calls.answers_are) ∙ drawn_entries s h.made);
   };
@@ -174,16 +171,12 @@ piece_told list s events old place answers new before after (Err e) h drawn = an
 
 -- ---- one piece more
 
-pub cut : (mid : ℕ) (events piece later : List Event) → piece ≡ take mid events → later ≡ drop mid events → piece ++ later ≡ events
-cut mid events piece later front back = (λ i. front i ++ back i) ∙ take-append-drop mid events
-
 pub nothing_written : (list : ℕ) (s : Settings) (old : List Entry) → HasWritten list s [] old [] old
 nothing_written list s old = record {
   made = [];
   events_are = refl;
   own = sym (append-nil (calls_by list old));
   starts = record { rest = []; is = sym (append-nil old) };
-  answers = refl;
   places = sym (append-nil (places_by list old));
   drawn = refl;
 }
@@ -198,8 +191,6 @@ writes_on list s events more old all after middle new w piece =
       events_are = map-append (λ (x : Entry). x.event) w.made h.made ∙ ap (λ (l : List Event). l ++ map (λ (x : Entry). x.event) h.made) w.events_are ∙ ap (λ (l : List Event). events ++ l) h.events_are;
       own = h.own ∙ ap (λ (l : List Entry). l ++ h.made) w.own ∙ append_assoc (calls_by list old) w.made h.made;
       starts = starts_over new middle old h.starts w.starts;
-      answers = map-append (λ (x : Placed). x.answer) all p ∙ ap (λ (l : List Answered). l ++ map (λ (x : Placed). x.answer) p) w.answers
-          ∙ ap (λ (l : List Answered). map (λ (x : Entry). x.answer) w.made ++ l) h.answers ∙ sym (map-append (λ (x : Entry). x.answer) w.made h.made);
       places = h.places ∙ ap (λ (l : List ℕ). l ++ map (λ (x : Placed). x.place) p) w.places
           ∙ append_assoc (places_by list old) (map (λ (x : Placed). x.place) all) (map (λ (x : Placed). x.place) p)
           ∙ ap (λ (l : List ℕ). places_by list old ++ l) (sym (map-append (λ (x : Placed). x.place) all p));

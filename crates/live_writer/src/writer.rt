@@ -1,5 +1,6 @@
 //! The calls of one list.
-ghost use Rattle.std.specs.Prelude.{◌≡◌, ◌+◌, ◌^◌, ◌<◌, ◌≤◌, All, length, OnOk, MatchResult};
+ghost use Rattle.std.specs.Prelude.{◌≡◌, ◌+◌, ◌++◌, ◌^◌, ◌<◌, ◌≤◌, All, IfOk, length, min, OnOk, MatchResult};
+ghost use Rattle.std.specs.Vec.Iter.{into_iter_items};
 ghost use Rattle.order_datagrams.specs.{Renders};
 ghost use Rattle.live_writer.specs.{HasDrawn, HasWritten, HasWrittenFront, HasWrittenPiece, WasAnswered, WereAnswered};
 
@@ -11,6 +12,7 @@ use rams_model::Octets;
 use std::alloc::Global;
 use std::sync::Wait;
 use std::thread::Threads;
+use std::vec::IntoIter;
 
 /// The most events that are taken in one turn. Beside so many, what it costs to pass a turn on is small.
 const LARGEST_PIECE: usize = 256;
@@ -20,8 +22,7 @@ const LARGEST_PIECE: usize = 256;
 pub struct Placed {
     /// Its place in the history.
     pub place: u64,
-    pub answer: Answer,
-    /// The datagram of each order of the answer.
+    /// The datagram of each order of its answer.
     pub datagrams: Vec<Octets>,
 }
 
@@ -66,12 +67,31 @@ fn draw_all<R: Threads + Wait + Sync, G: Gate>(
         let datagrams = render(rt, alloc, config, &answer.orders, workers)?;
         all.push(Placed {
             place: next,
-            answer,
             datagrams,
         })?;
         next += 1;
     }
     Ok(())
+}
+
+/// The next events of a list, so many where there are as many.
+fn next_piece(
+    alloc: Global,
+    left: &mut IntoIter<Event, Global>,
+    size: usize,
+) -> Result<Vec<Event>, NoMemory>
+    ensures cut { IfOk result (λ piece. piece.items ++ into_iter_items left.new ≡ into_iter_items left.old) }
+    ensures count { IfOk result (λ piece. length piece.items ≡ min size (length (into_iter_items left.old))) }
+{
+    let size = size.min(left.len());
+    let mut piece = Vec::with_capacity(alloc, size)?;
+    for _ in 0..size {
+        let Some(event) = left.next() else {
+            unreachable!()
+        };
+        piece.push_reserved(event);
+    }
+    Ok(piece)
 }
 
 /// Takes a piece of a list in one turn, and then adds the datagrams of its answers, while no turn is
@@ -82,7 +102,7 @@ fn write_piece<R: Threads + Wait + Sync, S: Shared, G: Gate>(
     shared: &S,
     pass: &mut S::Pass,
     list: u16,
-    events: &[Event],
+    events: Vec<Event>,
     config: &Config,
     workers: u32,
     gate: &G,
@@ -90,15 +110,15 @@ fn write_piece<R: Threads + Wait + Sync, S: Shared, G: Gate>(
 ) -> Result<(), NoMemory>
     requires workers { 0 < workers }
     requires made { S.made shared.now pass.old }
-    requires left { (0 < length events.now) × (length events.now ≤ S.left pass.old) }
+    requires left { (0 < length events.items) × (length events.items ≤ S.left pass.old) }
     requires settings { S.settings pass.old ≡ config.now }
     ensures made { S.made shared.now pass.new }
     ensures settings { S.settings pass.new ≡ S.settings pass.old }
     ensures list { S.list pass.new ≡ S.list pass.old }
-    ensures left { S.left pass.old ≤ S.left pass.new + length events.now }
+    ensures left { S.left pass.old ≤ S.left pass.new + length events.items }
     ensures told { MatchResult result
-        (λ _. HasWrittenPiece (S.list pass.old) config.now events.now (S.seen pass.old) all.old.items all.new.items (S.seen pass.new))
-        (λ _. HasWrittenFront (S.list pass.old) events.now (S.seen pass.old) (S.seen pass.new)) }
+        (λ _. HasWrittenPiece (S.list pass.old) config.now events.items (S.seen pass.old) all.old.items all.new.items (S.seen pass.new))
+        (λ _. HasWrittenFront (S.list pass.old) events.items (S.seen pass.old) (S.seen pass.new)) }
 {
     enter_all(gate, list, all.len(), events.len());
     let (place, answers) = shared.step_all(rt, alloc, pass, events)?;
@@ -112,38 +132,37 @@ fn write_piece<R: Threads + Wait + Sync, S: Shared, G: Gate>(
 /// on up to 256. The gate is passed before the turn in which a call is stepped, and again when that
 /// turn was passed on, before the call's answer is rendered.
 ///
-/// After want of memory a front of the events was taken.
+/// After want of memory a front of the events was taken, and the rest is given up.
 pub fn write_all<R: Threads + Wait + Sync, S: Shared, G: Gate>(
     rt: &R,
     alloc: Global,
     shared: &S,
     pass: &mut S::Pass,
     list: u16,
-    events: &[Event],
+    events: Vec<Event>,
     config: &Config,
     workers: u32,
     gate: &G,
 ) -> Result<Vec<Placed>, NoMemory>
     requires workers { 0 < workers }
     requires made { S.made shared.now pass.old }
-    requires left { length events.now ≤ S.left pass.old }
+    requires left { length events.items ≤ S.left pass.old }
     requires settings { S.settings pass.old ≡ config.now }
     ensures made { S.made shared.now pass.new }
     ensures settings { S.settings pass.new ≡ S.settings pass.old }
     ensures list { S.list pass.new ≡ S.list pass.old }
     ensures told { MatchResult result
-        (λ placed. HasWritten (S.list pass.old) config.now events.now (S.seen pass.old) placed.items (S.seen pass.new))
-        (λ _. HasWrittenFront (S.list pass.old) events.now (S.seen pass.old) (S.seen pass.new)) }
+        (λ placed. HasWritten (S.list pass.old) config.now events.items (S.seen pass.old) placed.items (S.seen pass.new))
+        (λ _. HasWrittenFront (S.list pass.old) events.items (S.seen pass.old) (S.seen pass.new)) }
 {
     let mut all = Vec::with_capacity(alloc, events.len())?;
-    let mut left = events;
+    let mut left = events.into_iter();
     let mut size = 1;
-    while !left.is_empty() {
-        let (piece, later) = left.split_at(size.min(left.len()));
+    while left.len() > 0 {
+        let piece = next_piece(alloc, &mut left, size)?;
         write_piece(
             rt, alloc, shared, pass, list, piece, config, workers, gate, &mut all,
         )?;
-        left = later;
         size = (2 * size).min(LARGEST_PIECE);
     }
     Ok(all)

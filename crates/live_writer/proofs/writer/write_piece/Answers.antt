@@ -9,7 +9,7 @@ pub draw_all-requires-clause-places : goal.draw_all-requires-clause-places
 draw_all-requires-clause-places g c =
     let s = g.S.Shared in
     let told = c.in_ok-place.ensures in
-    omega (arith, told.places, length_answers (s.list c.args.pass.now) c.args.events.now (s.seen c.args.pass.now) c.in_ok-place.place c.in_ok-place.answers.items (s.seen c.step_all.new.pass) told.told)
+    omega (arith, told.places, length_answers (s.list c.args.pass.now) c.args.events.items (s.seen c.args.pass.now) c.in_ok-place.place c.in_ok-place.answers.items (s.seen c.step_all.new.pass) told.told)
 
 pub draw_all-requires-clause-answered : goal.draw_all-requires-clause-answered
 draw_all-requires-clause-answered g c κs within =
@@ -17,10 +17,10 @@ draw_all-requires-clause-answered g c κs within =
     let new = s.seen c.step_all.new.pass in
     let told = c.in_ok-place.ensures in
     let legal = subst (λ (t : Settings). IsLegal t new) (told.settings ∙ c.requires.settings) told.legal in
-    all_answered (s.list c.args.pass.now) c.args.config.now c.args.events.now (s.seen c.args.pass.now) c.in_ok-place.place c.in_ok-place.answers.items new told.told legal
+    all_answered (s.list c.args.pass.now) c.args.config.now c.args.events.items (s.seen c.args.pass.now) c.in_ok-place.place c.in_ok-place.answers.items new told.told legal
 
 pub returns-clause-told : goal.returns-clause-told
 returns-clause-told g c =
     let s = g.S.Shared in
-    piece_told (s.list c.args.pass.now) c.args.config.now c.args.events.now (s.seen c.args.pass.now) c.in_ok-place.place c.in_ok-place.answers.items (s.seen c.step_all.new.pass)
+    piece_told (s.list c.args.pass.now) c.args.config.now c.args.events.items (s.seen c.args.pass.now) c.in_ok-place.place c.in_ok-place.answers.items (s.seen c.step_all.new.pass)
     c.args.all.now.items c.draw_all.new.all.items c.draw_all.result c.in_ok-place.ensures.told c.draw_all.ensures
