@@ -107,21 +107,23 @@ pub nothing_drawn : (s : Settings) (place : ℕ) (old : List Placed) → HasDraw
 nothing_drawn s place old = record {
   placed = [];
   items = sym (append-nil old);
+  answers_are = refl;
   places_are = refl;
   drawn = refl;
 }
 
-pub draws_on : (s : Settings) (place : ℕ) (answers : List Answered) (old all : List Placed) (a : Answered) (p : Placed) → HasDrawn s place answers old all → p.place ≡ place + length answers
-    → p.datagrams.items ≡ datagrams_of s a → HasDrawn s place (answers ++ a ∷ []) old (all ++ p ∷ [])
-draws_on s place answers old all a p h at drawn = record {
+pub draws_on : (s : Settings) (place : ℕ) (answers : List Answered) (old all : List Placed) (p : Placed) → HasDrawn s place answers old all → p.place ≡ place + length answers
+    → p.datagrams.items ≡ datagrams_of s p.answer → HasDrawn s place (answers ++ p.answer ∷ []) old (all ++ p ∷ [])
+draws_on s place answers old all p h at drawn = record {
   placed = h.placed ++ p ∷ [];
   items = ap (λ (l : List Placed). l ++ p ∷ []) h.items ∙ append_assoc old h.placed (p ∷ []);
+  answers_are = map-append (λ (x : Placed). x.answer) h.placed (p ∷ []) ∙ ap (λ (l : List Answered). l ++ p.answer ∷ []) h.answers_are;
   places_are = map-append (λ (x : Placed). x.place) h.placed (p ∷ []) ∙ ap (λ (l : List ℕ). l ++ p.place ∷ []) h.places_are
       ∙ ap (λ (k : ℕ). numbers_from place (length answers) ++ k ∷ []) at
       ∙ sym (numbers_snoc place (length answers))
-      ∙ ap (numbers_from place) (sym (length-append answers (a ∷ [])));
+      ∙ ap (numbers_from place) (sym (length-append answers (p.answer ∷ [])));
   drawn = map-append (λ (x : Placed). x.datagrams.items) h.placed (p ∷ []) ∙ ap (λ (l : List (List (List ℕ))). l ++ p.datagrams.items ∷ []) h.drawn
-      ∙ ap (λ (d : List (List ℕ)). map (datagrams_of s) answers ++ d ∷ []) drawn ∙ sym (map-append (datagrams_of s) answers (a ∷ []));
+      ∙ ap (λ (d : List (List ℕ)). map (datagrams_of s) answers ++ d ∷ []) drawn ∙ sym (map-append (datagrams_of s) answers (p.answer ∷ []));
 }
 
 -- ---- a piece
@@ -141,6 +143,7 @@ writes_piece list s events old place answers new before after h d = record {
     events_are = h.calls.events_are;
     own = h.own;
     starts = starts_answered list events old place answers new h;
+    answers = d.answers_are ∙ sym h.calls.answers_are;
     places = placed_last list events old place answers new h ∙ ap (λ (l : List ℕ). places_by list old ++ l) (sym d.places_are);
     drawn = d.drawn ∙ (ap (map (datagrams_of s)) (sym h.calls.answers_are) ∙ drawn_entries s h.made);
   };
@@ -177,6 +180,7 @@ nothing_written list s old = record {
   events_are = refl;
   own = sym (append-nil (calls_by list old));
   starts = record { rest = []; is = sym (append-nil old) };
+  answers = refl;
   places = sym (append-nil (places_by list old));
   drawn = refl;
 }
@@ -191,6 +195,8 @@ writes_on list s events more old all after middle new w piece =
       events_are = map-append (λ (x : Entry). x.event) w.made h.made ∙ ap (λ (l : List Event). l ++ map (λ (x : Entry). x.event) h.made) w.events_are ∙ ap (λ (l : List Event). events ++ l) h.events_are;
       own = h.own ∙ ap (λ (l : List Entry). l ++ h.made) w.own ∙ append_assoc (calls_by list old) w.made h.made;
       starts = starts_over new middle old h.starts w.starts;
+      answers = map-append (λ (x : Placed). x.answer) all p ∙ ap (λ (l : List Answered). l ++ map (λ (x : Placed). x.answer) p) w.answers
+          ∙ ap (λ (l : List Answered). map (λ (x : Entry). x.answer) w.made ++ l) h.answers ∙ sym (map-append (λ (x : Entry). x.answer) w.made h.made);
       places = h.places ∙ ap (λ (l : List ℕ). l ++ map (λ (x : Placed). x.place) p) w.places
           ∙ append_assoc (places_by list old) (map (λ (x : Placed). x.place) all) (map (λ (x : Placed). x.place) p)
           ∙ ap (λ (l : List ℕ). places_by list old ++ l) (sym (map-append (λ (x : Placed). x.place) all p));

@@ -22,7 +22,8 @@ const LARGEST_PIECE: usize = 256;
 pub struct Placed {
     /// Its place in the history.
     pub place: u64,
-    /// The datagram of each order of its answer.
+    pub answer: Answer,
+    /// The datagram of each order of the answer.
     pub datagrams: Vec<Octets>,
 }
 
@@ -67,6 +68,7 @@ fn draw_all<R: Threads + Wait + Sync, G: Gate>(
         let datagrams = render(rt, alloc, config, &answer.orders, workers)?;
         all.push(Placed {
             place: next,
+            answer,
             datagrams,
         })?;
         next += 1;

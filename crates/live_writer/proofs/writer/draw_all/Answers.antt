@@ -1,5 +1,5 @@
 -- One answer more has its datagrams.
-use Rattle.std.proofs.Common.{[], ◌∷◌, ◌++◌, List, map, All, sym, ap, ◌∙◌, subst, arith, append_assoc}
+use Rattle.std.proofs.Common.{[], ◌∷◌, ◌++◌, ℕ, ◌+◌, List, map, length, All, sym, ap, ◌∙◌, subst, arith, append_assoc}
 use Rattle.std.specs.Vec.Iter.{into_iter_items}
 use Rattle.std.proofs.lemmas.List.{length-append}
 use Rattle.std.proofs.lemmas.List.Elements.{All-same, All-head, All-tail}
@@ -33,7 +33,7 @@ loop-answer-preserved g c =
     let answer = c.in-Some.answer in
     let later = into_iter_items c.next.new.self in
     let steps = c.in-Some.ensures.steps in
-    let placed : Placed = record { place = l.next; datagrams = c.in_ok-datagrams.datagrams } in
+    let placed : Placed = record { place = l.next; answer = answer; datagrams = c.in_ok-datagrams.datagrams } in
     record {
       can_next = tt;
       is_finite = tt;
@@ -42,7 +42,7 @@ loop-answer-preserved g c =
         append_assoc done (answer ∷ []) later ∙ (ap (λ (l : List Answered). done ++ l) (sym steps.0) ∙ i.drawn.1),
         omega (arith, i.drawn.2, length-append done (answer ∷ [])),
         subst (λ (l : List Placed). HasDrawn s c.args.place (done ++ answer ∷ []) c.args.all.now.items l) (sym c.in_ok-push.ensures.items)
-            (draws_on s c.args.place done c.args.all.now.items l.all.items answer placed i.drawn.3 i.drawn.2 (c.in_ok-datagrams.ensures ∙ ap (map (datagram s)) (c.deref.ensures.value ∙ ap (λ (a : Answered). a.orders) c.answer.view_is))),
+            (draws_on s c.args.place done c.args.all.now.items l.all.items placed i.drawn.3 i.drawn.2 (c.in_ok-datagrams.ensures ∙ ap (map (datagram s)) (c.deref.ensures.value ∙ ap (λ (a : Answered). a.orders) c.answer.view_is))),
       );
       answered = All-tail (WasAnswered s) answer later (All-same (WasAnswered s) (answer ∷ later) (into_iter_items l.answer-iterator) (sym steps.0) i.answered);
     }
