@@ -11,6 +11,7 @@ use Rattle.rams_model.specs.declared.note.Cause.{Cause}
 use Rattle.rams_model.specs.declared.note.Note.{Note}
 use Rattle.rams_model.specs.declared.note.Note.TheVariants as note
 use Rattle.rams_model.specs.Service.{Settings, end_info, began, told, noted, History, arrivals, hold, Burst, open_burst, info_order, packet_order, again_order, update_order, end_order, order_of, newest_orders, history_of, answer}
+use Rattle.rams_model.specs.Formats.{wire_size}
 use Rattle.rams_model.proofs.Legal.{Allows, IsLegal}
 use Rattle.rams_model.proofs.Legality.{legal_history}
 use Rattle.book_laws.proofs.HeldPackets as packets
@@ -21,6 +22,10 @@ use Rattle.tick_core.proofs.Sized.{IsSized, all_sized}
 
 -- ---- the packets that are held
 
+-- one has its wire size
+pub held_sized : (s : Settings) (history : History) (h : Held) → Contains (hold s history) h → h.wire ≡ wire_size h.packet
+held_sized s history h among = All-contains IsSized (hold s history) h (all_sized s history) among
+
 each_small : (hs : List Held) → packets.AreSmall hs → Each (λ (h : Held). h.wire ≤ 1500) hs
 each_small [] small = tt
 each_small (h ∷ hs) small = (small.0, each_small hs small.1)
@@ -28,7 +33,7 @@ each_small (h ∷ hs) small = (small.0, each_small hs small.1)
 held_short : (s : Settings) (history : History) (h : Held) → ArriveSmall (arrivals history) → Contains (hold s history) h → length h.packet ≤ 1470
 held_short s history h small among =
     let each = All-from_recursion (λ (x : Held). x.wire ≤ 1500) (hold s history) (each_small (hold s history) (small_held s history small)) in
-    omega (arith, All-contains (λ (x : Held). x.wire ≤ 1500) (hold s history) h each among, All-contains IsSized (hold s history) h (all_sized s history) among)
+    omega (arith, All-contains (λ (x : Held). x.wire ≤ 1500) (hold s history) h each among, held_sized s history h among)
 
 -- ---- the orders
 

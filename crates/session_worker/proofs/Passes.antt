@@ -1,5 +1,5 @@
 -- The passes of a new lock, list by list.
-use Rattle.std.proofs.Common.{◌≡◌, ℕ, zero, suc, ◌+◌, ◌^◌, ◌<◌, List, [], get_or, length, sym, ap, ◌∙◌, arith}
+use Rattle.std.proofs.Common.{◌≡◌, ℕ, zero, suc, ◌+◌, ◌^◌, ◌<◌, List, [], get_or, length, map, sym, ap, ◌∙◌, arith}
 use Rattle.std.proofs.lemmas.List.{get_or-map, length-map}
 use Rattle.atomic_table.specs.Seated.{TableId}
 use Rattle.rams_model.specs.Service.{Settings}
@@ -25,11 +25,15 @@ module _ (lock : TableId) (s : Settings) where
       none_more : (i : ℕ) → 0 + i ≡ i
       none_more i = omega arith
 
-  pub ready_count : (n : ℕ) (staff : List Worker) → AreReady lock s n staff → length staff ≡ n
-  ready_count n staff ready =
-      let f : ℕ → Known = λ list. known lock s list [] (2 ^ 34) in
-      omega (arith, ap length ready, length-map staff (λ (w : Worker). w.pass), length-map (numbers 0 n) f, length_numbers 0 n)
+  pub fresh_count : (n : ℕ) → length (fresh lock s n) ≡ n
+  fresh_count n = let f : ℕ → Known = λ list. known lock s list [] (2 ^ 34) in omega (arith, length-map (numbers 0 n) f, length_numbers 0 n)
 
-  pub ready_at : (n i : ℕ) (staff : List Worker) (w : Worker) → AreReady lock s n staff → i < length staff → (get_or staff i w).pass ≡ known lock s i [] (2 ^ 34)
-  ready_at n i staff w ready lt =
-      sym (get_or-map (λ (x : Worker). x.pass) staff i w w.pass lt) ∙ ap (λ l. get_or l i w.pass) ready ∙ fresh_at n i w.pass (omega (arith, lt, ready_count n staff ready))
+  -- workers with the passes of a new lock of as many lists
+  pub ready_staff : (n : ℕ) (staff : List Worker) → map (λ (w : Worker). w.pass) staff ≡ fresh lock s n → AreReady lock s staff
+  ready_staff n staff is =
+      let count : n ≡ length staff = omega (arith, ap length is, length-map staff (λ (w : Worker). w.pass), fresh_count n) in
+      is ∙ ap (fresh lock s) count
+
+  pub ready_at : (i : ℕ) (staff : List Worker) (w : Worker) → AreReady lock s staff → i < length staff → (get_or staff i w).pass ≡ known lock s i [] (2 ^ 34)
+  ready_at i staff w ready lt =
+      sym (get_or-map (λ (x : Worker). x.pass) staff i w w.pass lt) ∙ ap (λ l. get_or l i w.pass) ready ∙ fresh_at (length staff) i w.pass lt

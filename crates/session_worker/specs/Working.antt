@@ -22,9 +22,13 @@ drawn_in (Err e) = []
 abbrev pub drawn_by : Worker → List (List (List ℕ))
 drawn_by w = drawn_in w.wrote
 
+-- the events that a worker is still to take
+abbrev pub events_of : Worker → List Event
+events_of w = w.events.items
+
 -- the workers have the passes of a new lock
-abbrev pub AreReady : TableId → Settings → ℕ → List Worker → Type 0
-AreReady lock s lists workers = map (λ (w : Worker). w.pass) workers ≡ fresh lock s lists
+abbrev pub AreReady : TableId → Settings → List Worker → Type 0
+AreReady lock s workers = map (λ (w : Worker). w.pass) workers ≡ fresh lock s (length workers)
 
 -- The worker of a list has its pass of this lock, and where memory sufficed it has taken all of the list's events.
 pub record HasWorked (lock : TableId) (s : Settings) (list : ℕ) (events : List Event) (w : Worker) : Type 0 where

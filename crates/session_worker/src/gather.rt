@@ -26,7 +26,7 @@ pub(crate) fn take_apart(alloc: Global, staff: Vec<Worker>) -> Result<Left, NoMe
     let mut passes = Vec::with_capacity(alloc, staff.len())?;
     let mut queues = Vec::with_capacity(alloc, staff.len())?;
     for worker in staff {
-        let Worker { pass, wrote } = worker;
+        let Worker { pass, wrote, .. } = worker;
         let mut placed = wrote?;
         placed.reverse();
         passes.push(pass)?;

@@ -32,23 +32,23 @@ pub fn run_lists<R: Threads + Wait + Sync, G: Gate + Sync>(
     rt: &R,
     alloc: Global,
     core: Core,
-    lists: &[Vec<Event>],
+    lists: Vec<Vec<Event>>,
     workers: u32,
     gate: &G,
 ) -> Result<Worked, NoMemory>
     requires made { StandsFor core [] }
-    requires lists { (0 < length lists.now) × (length lists.now ≤ 32) }
-    requires short { All (λ l. length l.items ≤ 2 ^ 34) lists.now }
+    requires lists { (0 < length lists.items) × (length lists.items ≤ 32) }
+    requires short { All (λ l. length l.items ≤ 2 ^ 34) lists.items }
     requires workers { 0 < workers }
     ensures settings { IfOk result (λ worked. worked.book.settings ≡ core.settings) }
     ensures legal { IfOk result (λ worked. IsLegal core.settings worked.book.entries) }
-    ensures interleaving { IfOk result (λ worked. IsInterleaving (map (λ l. l.items) lists.now) worked.book.entries) }
+    ensures interleaving { IfOk result (λ worked. IsInterleaving (map (λ l. l.items) lists.items) worked.book.entries) }
     ensures drawn { IfOk result (λ worked. map (λ d. d.items) worked.drawn.items ≡ answered_with core.settings worked.book.entries) }
 {
     let config = *core.config();
     let (lock, passes) = ChannelLock::new(alloc, core, lists.len() as u32)?;
-    let staff = seat(alloc, passes)?;
-    let staff = write_lists(rt, alloc, &lock, staff, lists, &config, workers, gate);
+    let staff = seat(alloc, passes, lists)?;
+    let staff = write_lists(rt, alloc, &lock, staff, &config, workers, gate);
     let left = take_apart(alloc, staff)?;
     let Ok(book) = lock.close(left.passes) else {
         // All passes are given back.

@@ -1,7 +1,7 @@
 //! The threads of the lists.
-ghost use Rattle.std.specs.Prelude.{◌≡◌, ◌^◌, ◌<◌, ◌≤◌, [], All, map, length, slice_index_or, IfOk};
-ghost use Rattle.channel_lock.specs.{fresh, known};
-ghost use Rattle.session_worker.specs.{AreReady, HasWorked, HaveWorked};
+ghost use Rattle.std.specs.Prelude.{◌≡◌, ◌^◌, ◌<◌, ◌≤◌, [], All, map, length, IfOk};
+ghost use Rattle.channel_lock.specs.{known};
+ghost use Rattle.session_worker.specs.{AreReady, HasWorked, HaveWorked, events_of};
 
 use channel_book::{Config, Event, NoMemory};
 use channel_lock::{ChannelLock, Pass};
@@ -9,24 +9,37 @@ use live_writer::{Placed, write_all};
 use ram_io::Gate;
 use std::alloc::Global;
 use std::sync::Wait;
-use std::thread;
 use std::thread::Threads;
+use std::{mem, thread};
 
-/// A list's pass, and what became of its events.
+/// A list's pass, its events, and what became of them.
 #[derive(Drop)]
 pub(crate) struct Worker {
     pub pass: Pass,
+    /// Those that are still to be taken.
+    pub events: Vec<Event>,
     pub wrote: Result<Vec<Placed>, NoMemory>,
 }
 
-/// A worker for each pass.
-pub(crate) fn seat(alloc: Global, passes: Vec<Pass>) -> Result<Vec<Worker>, NoMemory>
-    ensures { IfOk result (λ staff. map (λ w. w.pass) staff.items ≡ passes.items) }
+/// A worker for each pass, with the list at its place.
+pub(crate) fn seat(
+    alloc: Global,
+    passes: Vec<Pass>,
+    lists: Vec<Vec<Event>>,
+) -> Result<Vec<Worker>, NoMemory>
+    requires { length passes.items ≡ length lists.items }
+    ensures passes { IfOk result (λ staff. map (λ w. w.pass) staff.items ≡ passes.items) }
+    ensures events { IfOk result (λ staff. map events_of staff.items ≡ map (λ l. l.items) lists.items) }
 {
     let mut staff = Vec::with_capacity(alloc, passes.len())?;
+    let mut lists = lists.into_iter();
     for pass in passes {
+        let Some(events) = lists.next() else {
+            unreachable!()
+        };
         staff.push(Worker {
             pass,
+            events,
             wrote: Ok(Vec::new(alloc)),
         })?;
     }
@@ -40,16 +53,16 @@ fn work<R: Threads + Wait + Sync, G: Gate>(
     lock: &ChannelLock,
     worker: &mut Worker,
     list: u16,
-    events: &[Event],
     config: &Config,
     workers: u32,
     gate: &G,
 )
     requires pass { worker.old.pass ≡ known lock.now.lock config.now list [] (2 ^ 34) }
-    requires short { length events.now ≤ 2 ^ 34 }
+    requires short { length (events_of worker.old) ≤ 2 ^ 34 }
     requires workers { 0 < workers }
-    ensures { HasWorked lock.now.lock config.now list events.now worker.new }
+    ensures { HasWorked lock.now.lock config.now list (events_of worker.old) worker.new }
 {
+    let events = mem::replace(&mut worker.events, Vec::new(alloc));
     let pass = &mut worker.pass;
     worker.wrote = write_all(rt, alloc, lock, pass, list, events, config, workers, gate);
 }
@@ -60,37 +73,25 @@ fn work_all<R: Threads + Wait + Sync, G: Gate + Sync>(
     alloc: Global,
     lock: &ChannelLock,
     staff: &mut [Worker],
-    lists: &[Vec<Event>],
     config: &Config,
     workers: u32,
     gate: &G,
 )
-    requires ready { AreReady lock.now.lock config.now (length lists.now) staff.old }
-    requires lists { (0 < length lists.now) × (length lists.now ≤ 32) }
-    requires short { All (λ l. length l.items ≤ 2 ^ 34) lists.now }
+    requires ready { AreReady lock.now.lock config.now staff.old }
+    requires lists { (0 < length staff.old) × (length staff.old ≤ 32) }
+    requires short { All (λ es. length es ≤ 2 ^ 34) (map events_of staff.old) }
     requires workers { 0 < workers }
-    ensures { HaveWorked lock.now.lock config.now (map (λ l. l.items) lists.now) staff.new }
+    ensures { HaveWorked lock.now.lock config.now (map events_of staff.old) staff.new }
 {
     thread::for_each_mut(
         rt,
         staff,
-        lists.len(),
+        staff.len(),
         &|list: usize, worker: &mut Worker|
-            requires { (worker.old.pass ≡ known lock.now.lock config.now list [] (2 ^ 34)) × (list < length lists.now) × (length lists.now ≤ 32) × All (λ l. length l.items ≤ 2 ^ 34) lists.now × (0 < workers) }
-            ensures { HasWorked lock.entry.now.lock config.entry.now list (slice_index_or (map (λ l. l.items) lists.entry.now) list []) worker.new }
+            requires { (worker.old.pass ≡ known lock.now.lock config.now list [] (2 ^ 34)) × (list < 32) × (length (events_of worker.old) ≤ 2 ^ 34) × (0 < workers) }
+            ensures { HasWorked lock.entry.now.lock config.entry.now list (events_of worker.old) worker.new }
         {
-            let events = lists[list].as_slice();
-            work(
-                rt,
-                alloc,
-                lock,
-                worker,
-                list as u16,
-                events,
-                config,
-                workers,
-                gate,
-            );
+            work(rt, alloc, lock, worker, list as u16, config, workers, gate);
         },
     );
 }
@@ -101,18 +102,17 @@ pub(crate) fn write_lists<R: Threads + Wait + Sync, G: Gate + Sync>(
     alloc: Global,
     lock: &ChannelLock,
     mut staff: Vec<Worker>,
-    lists: &[Vec<Event>],
     config: &Config,
     workers: u32,
     gate: &G,
 ) -> Vec<Worker>
-    requires ready { AreReady lock.now.lock config.now (length lists.now) staff.items }
-    requires lists { (0 < length lists.now) × (length lists.now ≤ 32) }
-    requires short { All (λ l. length l.items ≤ 2 ^ 34) lists.now }
+    requires ready { AreReady lock.now.lock config.now staff.items }
+    requires lists { (0 < length staff.items) × (length staff.items ≤ 32) }
+    requires short { All (λ es. length es ≤ 2 ^ 34) (map events_of staff.items) }
     requires workers { 0 < workers }
-    ensures { HaveWorked lock.now.lock config.now (map (λ l. l.items) lists.now) result.items }
+    ensures { HaveWorked lock.now.lock config.now (map events_of staff.items) result.items }
 {
     let all = staff.as_mut_slice();
-    work_all(rt, alloc, lock, all, lists, config, workers, gate);
+    work_all(rt, alloc, lock, all, config, workers, gate);
     staff
 }

@@ -19,10 +19,11 @@ pub unwrap-plan-requires : goal.unwrap-plan-requires
 unwrap-plan-requires c =
     c.next.ensures.variant.1 (omega (arith, plan_left IsPlanOf _ _ _ _ _ c.loop-core.invariant.halfway (omega arith), c.loop-core.plans.rest.ok.0))
 
-pub commit-requires-clause-plan : goal.commit-requires-clause-plan
-commit-requires-clause-plan c =
-    (next IsPlanOf _ _ _ _ _ c.unwrap-plan.result (into_iter_items c.next.new.self) c.loop-core.invariant.halfway
-    (c.next.ensures.items ∙ ap (λ o. option_to_list o ++ into_iter_items c.next.new.self) c.unwrap-plan.ensures) c.core-item.result).is_plan
+pub commit-requires : goal.commit-requires
+commit-requires c = record {
+  plan = (next IsPlanOf _ _ _ _ _ c.unwrap-plan.result (into_iter_items c.next.new.self) c.loop-core.invariant.halfway
+      (c.next.ensures.items ∙ ap (λ o. option_to_list o ++ into_iter_items c.next.new.self) c.unwrap-plan.ensures) c.core-item.result).is_plan;
+}
 
 pub unwrap-requires : goal.unwrap-requires
 unwrap-requires c = c.push.ensures.succeeds (omega (arith, answered IsPlanOf _ _ _ _ _ c.loop-core.invariant.halfway, c.loop-core.answers.ok.0))

@@ -1,23 +1,53 @@
 -- What the closed lock has of the lists.
-use Rattle.std.proofs.Common.{◌≡◌, ℕ, List, [], map, sym, subst, All}
+use Rattle.std.proofs.Common.{◌≡◌, ◌∙◌, ℕ, ◌^◌, ◌≤◌, List, [], length, map, ap, sym, subst, arith, All}
+use Rattle.std.specs.Global.{Vec}
+use Rattle.std.proofs.lemmas.List.{length-map}
+use Rattle.std.proofs.lemmas.List.Elements.{All-map}
+use Rattle.rams_model.specs.declared.event.Event.{Event}
 use Rattle.channel_book.specs.declared.entry.Entry.{Entry}
-use Rattle.channel_book.specs.{calls_by}
+use Rattle.channel_book.specs.{calls_by, IsInterleaving}
 use Rattle.channel_lock.specs.{Known, IsOfPass, NotAmong}
-use Rattle.session_worker.specs.{AreQueues, queue_of}
+use Rattle.rams_model.specs.Service.{Settings}
+use Rattle.session_worker.specs.{AreQueues, AreReady, events_of, queue_of}
+use Rattle.session_worker.proofs.Passes.{fresh_count, ready_staff}
 use Rattle.session_worker.proofs.Lists.{same_lock, queues_are, interleaved}
 use Rattle.session_worker.proofs.run.run_lists.Goals as goal
+
+pub seat-requires : goal.seat-requires
+seat-requires g c =
+    let count : c.len.result ≡ length c.args.lists.items = omega (arith, c.len.ensures, c.args.lists.ok.0) in
+    ap length c.in_ok-lock.ensures.passes ∙ fresh_count c.in_ok-lock.lock.lock c.args.core.settings c.len.result ∙ count
+
+pub write_lists-staff-requires-clause-ready : goal.write_lists-staff-requires-clause-ready
+write_lists-staff-requires-clause-ready g c κs within =
+    let lock = c.in_ok-lock.lock.lock in
+    let staff = c.in_ok-staff.staff.items in
+    subst (λ (s : Settings). AreReady lock s staff) (sym c.config.ensures)
+    (ready_staff lock c.args.core.settings c.len.result staff (c.in_ok-staff.ensures.passes ∙ c.in_ok-lock.ensures.passes))
+
+pub write_lists-staff-requires-clause-lists : goal.write_lists-staff-requires-clause-lists
+write_lists-staff-requires-clause-lists g c κs within =
+    let staff = c.in_ok-staff.staff.items in
+    let lists = c.args.lists.items in
+    let count : length staff ≡ length lists = omega (arith, ap length c.in_ok-staff.ensures.events, length-map staff events_of, length-map lists (λ l. l.items)) in
+    (omega (arith, count, c.requires.lists), omega (arith, count, c.requires.lists))
+
+pub write_lists-staff-requires-clause-short : goal.write_lists-staff-requires-clause-short
+write_lists-staff-requires-clause-short g c κs within =
+    let short : List Event → Type 0 = λ es. length es ≤ 2 ^ 34 in
+    subst (All short) (sym c.in_ok-staff.ensures.events) (All-map short (λ (l : Vec Event). l.items) c.args.lists.items c.requires.short)
 
 pub close-requires : goal.close-requires
 close-requires g c =
     let lock = c.in_ok-lock.lock.lock in
-    let lists = map (λ l. l.items) c.args.lists.now in
+    let lists = map events_of c.in_ok-staff.staff.items in
     let staff = c.write_lists-staff.result.items in
     record { made = subst (λ (ps : List Known). All (λ (p : Known). p.lock ≡ lock) ps) (sym c.in_ok-left.ensures.passes) (same_lock lock c.config.result.now lists staff c.write_lists-staff.ensures) }
 
 pub draw-requires : goal.draw-requires
 draw-requires g c =
     let s = c.config.result.now in
-    let lists = map (λ l. l.items) c.args.lists.now in
+    let lists = map events_of c.in_ok-staff.staff.items in
     let staff = c.write_lists-staff.result.items in
     let left = c.in_ok-left in
     let entries = c.in-Ok.book.entries in
@@ -29,10 +59,11 @@ draw-requires g c =
 pub returns-clause-interleaving : goal.returns-clause-interleaving
 returns-clause-interleaving g c =
     let s = c.config.result.now in
-    let lists = map (λ l. l.items) c.args.lists.now in
+    let lists = map events_of c.in_ok-staff.staff.items in
     let staff = c.write_lists-staff.result.items in
     let left = c.in_ok-left in
     let entries = c.in-Ok.book.entries in
     let passes = subst (λ (ps : List Known). All (IsOfPass entries) ps) left.ensures.passes c.in-Ok.ensures.passes in
     let others = subst (λ (ps : List Known). (list : ℕ) → NotAmong ps list → calls_by list entries ≡ []) left.ensures.passes c.in-Ok.ensures.others in
-    interleaved c.in_ok-lock.lock.lock s lists staff entries c.write_lists-staff.ensures left.ensures.wrote passes others
+    subst (λ (ls : List (List Event)). IsInterleaving ls entries) c.in_ok-staff.ensures.events
+    (interleaved c.in_ok-lock.lock.lock s lists staff entries c.write_lists-staff.ensures left.ensures.wrote passes others)

@@ -5,6 +5,9 @@ use Rattle.server_hub.specs.Seen.{Seen}
 use Rattle.server_hub.proofs.Keeping.{written, kept, settings_kept, place_within, one_steps, one_is, none_steps, none_is}
 use Rattle.server_hub.proofs.hub.Hub.feedback.Goals as goal
 
+pub invariant_of-self : goal.invariant_of-self
+invariant_of-self c = kept _ _ _ _ _ c.self.invariant (none_steps _ _ _ _ c.self.invariant _ c.deref.ensures.value c.args.id (Feedback c.args.client c.args.bytes.now) c.in_default.ensures.none).keep
+
 pub returns-in_default-clause-stands : goal.returns-in_default-clause-stands
 returns-in_default-clause-stands c = λ channels s.
     (none_steps _ _ _ _ c.self.invariant _ c.deref.ensures.value c.args.id (Feedback c.args.client c.args.bytes.now) c.in_default.ensures.none).stands channels (subst (λ (v : Seen). StandsFor v channels) (sym c.self.view_is) s)
@@ -12,8 +15,8 @@ returns-in_default-clause-stands c = λ channels s.
 pub returns-in_default-clause-there : goal.returns-in_default-clause-there
 returns-in_default-clause-there c = rw (← c.self.view_is) (sym (none_is _ _ _ _ c.self.invariant _ c.deref.ensures.value c.args.id c.in_default.ensures.none).1)
 
-pub feedback_at-requires-clause-place : goal.feedback_at-requires-clause-place
-feedback_at-requires-clause-place c = omega (arith, place_within _ _ _ _ c.self.invariant _ c.deref.ensures.value c.args.id c.in-Some.place c.in-Some.ensures.there, c.deref_mut.ensures.len)
+pub feedback_at-requires : goal.feedback_at-requires
+feedback_at-requires c = record { place = omega (arith, place_within _ _ _ _ c.self.invariant _ c.deref.ensures.value c.args.id c.in-Some.place c.in-Some.ensures.there, c.deref_mut.ensures.len) }
 
 pub invariant_of-self-2 : goal.invariant_of-self-2
 invariant_of-self-2 c =

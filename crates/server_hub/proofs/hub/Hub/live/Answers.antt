@@ -5,6 +5,9 @@ use Rattle.server_hub.specs.Seen.{Seen}
 use Rattle.server_hub.proofs.Keeping.{written, kept, settings_kept, all_few, place_within, one_steps, one_is, none_steps, none_is}
 use Rattle.server_hub.proofs.hub.Hub.live.Goals as goal
 
+pub invariant_of-self : goal.invariant_of-self
+invariant_of-self c = kept _ _ _ _ _ c.self.invariant (none_steps _ _ _ _ c.self.invariant _ c.deref.ensures.value c.args.id (Live c.args.bytes.now) c.in_default.ensures.none).keep
+
 pub returns-in_default-clause-stands : goal.returns-in_default-clause-stands
 returns-in_default-clause-stands c = λ channels s.
     (none_steps _ _ _ _ c.self.invariant _ c.deref.ensures.value c.args.id (Live c.args.bytes.now) c.in_default.ensures.none).stands channels (subst (λ (v : Seen). StandsFor v channels) (sym c.self.view_is) s)
