@@ -26,7 +26,8 @@ fn expect_meeting(
     let packets = pair(alloc, first, second)?;
     let ticks = pair(alloc, Event::Tick, Event::Tick)?;
     let gate = Meeting::new(point);
-    let worked = run_lists(rt, alloc, new_core(alloc)?, &[packets, ticks], 2, &gate)?;
+    let lists = vec![in alloc; packets, ticks]?;
+    let worked = run_lists(rt, alloc, new_core(alloc)?, lists, 2, &gate)?;
     assert!(rt; gate.was_held(), "both were there at once");
     assert_eq!(rt; worked.book.entries().len(), 4, "each event once");
     assert_eq!(rt; worked.drawn.len(), 4, "with its datagrams");
@@ -66,7 +67,8 @@ fn worked(
 {
     let list = burst(alloc)?;
     assert!(rt; list.len() <= 1 << 20, "a short list");
-    Ok(run_lists(rt, alloc, new_core(alloc)?, &[list], workers, &Open)?)
+    let lists = vec![in alloc; list]?;
+    Ok(run_lists(rt, alloc, new_core(alloc)?, lists, workers, &Open)?)
 }
 
 fn are_same(some: &[Octets], others: &[Octets]) -> bool {

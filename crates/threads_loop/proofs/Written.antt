@@ -67,9 +67,8 @@ module _ (d : Dealt) (xs : List ℕ) (s : Settings) (entries : List Entry) (r : 
 
 -- ---- what was worked, as it is called here
 
-pub own_lists : (d : Dealt) (entries book : List Entry) (lists : List (Vec Event)) → lists ≡ d.lists.items → entries ≡ book → IsInterleaving (map (λ l. l.items) lists) book → IsInterleaving (lists_in d) entries
-own_lists d entries book lists same is way =
-    subst (IsInterleaving (lists_in d)) (sym is) (subst (λ (ls : List (Vec Event)). IsInterleaving (map (λ l. l.items) ls) book) same way)
+pub own_lists : (d : Dealt) (entries book : List Entry) → entries ≡ book → IsInterleaving (lists_in d) book → IsInterleaving (lists_in d) entries
+own_lists d entries book is way = subst (IsInterleaving (lists_in d)) (sym is) way
 
 pub own_answers : (s made : Settings) (entries book : List Entry) → made ≡ s → entries ≡ book → IsLegal made book → IsLegal s entries
 own_answers s made entries book same is legal = subst (λ (x : Settings). IsLegal x entries) same (subst (IsLegal made) (sym is) legal)

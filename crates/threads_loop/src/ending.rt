@@ -68,28 +68,28 @@ fn refuse_more<K: Sink>(sink: &mut K) -> Result<Status, Stop>
 fn work_and_write<R: Threads + Wait + Sync, K: Sink, G: Gate + Sync>(
     rt: &R,
     alloc: Global,
-    dealt: &Dealt,
+    dealt: Dealt,
     sink: &mut K,
     gate: &G,
 ) -> Result<Status, Stop>
-    requires { (stage : Stage (List Served)) × HasDealt dealt.now stage × (is_some dealt.now.config ≡ true) }
+    requires { (stage : Stage (List Served)) × HasDealt dealt stage × (is_some dealt.config ≡ true) }
     ensures status { IfOk result (λ status. status ≡ Done) }
-    ensures text { (xs : List ℕ) → IsReadOf dealt.now.workers xs dealt.now → OnOk result (HasEnded dealt.now.workers xs (K.held sink.old) (K.held sink.new) Done) }
-    ensures front { (xs : List ℕ) → IsReadOf dealt.now.workers xs dealt.now → IfErr result (λ _. (K.held sink.new ≡ K.held sink.old) ⊎ HasStopped dealt.now.workers xs (K.held sink.old) (K.held sink.new)) }
+    ensures text { (xs : List ℕ) → IsReadOf dealt.workers xs dealt → OnOk result (HasEnded dealt.workers xs (K.held sink.old) (K.held sink.new) Done) }
+    ensures front { (xs : List ℕ) → IsReadOf dealt.workers xs dealt → IfErr result (λ _. (K.held sink.new ≡ K.held sink.old) ⊎ HasStopped dealt.workers xs (K.held sink.old) (K.held sink.new)) }
     ensures cause { IsStoppedByWrite (K.faults sink.old) (K.faults sink.new) result }
-    ensures steady { (xs : List ℕ) → IsReadOf dealt.now.workers xs dealt.now → HasRoomFor dealt.now.workers xs (K.is_steady sink.old) → OnlyMemoryStops result (Unit {0}) }
+    ensures steady { (xs : List ℕ) → IsReadOf dealt.workers xs dealt → HasRoomFor dealt.workers xs (K.is_steady sink.old) → OnlyMemoryStops result (Unit {0}) }
 {
     journals_replay();
     runs_of_journals();
-    let Some(config) = &dealt.config else {
+    let Some(config) = dealt.config else {
         unreachable!()
     };
-    let core = Core::new(alloc, config)?;
-    let worked = run_lists(rt, alloc, core, &dealt.lists, dealt.workers, gate)?;
+    let core = Core::new(alloc, &config)?;
+    let worked = run_lists(rt, alloc, core, dealt.lists, dealt.workers, gate)?;
     write_worked(
         alloc,
         sink,
-        config,
+        &config,
         &dealt.head,
         worked.book.entries(),
         &worked.drawn,
@@ -119,7 +119,7 @@ pub fn write_threads<R: Threads + Wait + Sync, S: Source, K: Sink, G: Gate + Syn
     ensures steady { S.is_steady source.old → IfTold (S.left source.old) (λ xs. HasRoomFor workers xs (K.is_steady sink.old) → OnlyMemoryStops result (Unit {0})) }
 {
     match read_trace(alloc, workers, source)? {
-        ReadTrace::Lawful(dealt) => work_and_write(rt, alloc, &dealt, sink, gate),
+        ReadTrace::Lawful(dealt) => work_and_write(rt, alloc, dealt, sink, gate),
         ReadTrace::Unlawful { line, fault } => refuse(alloc, sink, line, fault),
         ReadTrace::TooLong => refuse_more(sink),
     }
