@@ -21,8 +21,8 @@ pub written : (len : ℕ) (channels old : List cores.Seen) → len ≡ length ch
 written len channels old is = ap (λ n. take n (channels ++ drop (length channels) old)) is ∙ take-append_seam channels (drop (length channels) old)
 
 -- as long as the hub counts few events, each of its cores stands for few
-pub all_few : (v : Seen) (n : ℕ) → All (λ core. cores.StandsForFewer core (v.calls + 1)) v.channels → v.calls < n → All (λ core. cores.StandsForFewer core n) v.channels
-all_few v n counted less = λ k d within. fewer_still (get_or v.channels k d) (v.calls + 1) n (omega (arith, less)) (counted k d within)
+pub all_few : (calls n : ℕ) (all : List cores.Seen) → All (λ core. cores.StandsForFewer core (calls + 1)) all → calls < n → All (λ core. cores.StandsForFewer core n) all
+all_few calls n all counted less = λ k d within. fewer_still (get_or all k d) (calls + 1) n (omega (arith, less)) (counted k d within)
 
 -- the hub after an event
 abbrev pub stepped : Seen → List cores.Seen → Seen

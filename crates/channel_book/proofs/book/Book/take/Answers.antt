@@ -20,7 +20,7 @@ invariant_of-self-2 c =
 pub answer_twice-requires : goal.answer_twice-requires
 answer_twice-requires c =
     let old = c.self.inside.entries.items in
-    (events_behind [] old, c.self.invariant.stands, omega (arith, as_many_behind [] old, ap (λ (v : Kept). length v.entries) c.self.view_is, c.requires))
+    record { few = (events_behind [] old, c.self.invariant.stands, omega (arith, as_many_behind [] old, ap (λ (v : Kept). length v.entries) c.self.view_is, c.requires.few)) }
 
 pub returns-clause-legal : goal.returns-clause-legal
 returns-clause-legal c = (invariant_of-self-2 c).legal

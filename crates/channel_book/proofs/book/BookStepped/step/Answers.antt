@@ -1,9 +1,12 @@
-use Rattle.std.proofs.Common.{[], ◌∷◌, ◌++◌, List, ap, ◌∙◌, subst}
+use Rattle.std.proofs.Common.{[], ◌∷◌, ◌++◌, List, length, ap, ◌∙◌, subst, arith}
 use Rattle.rams_model.specs.declared.event.Event.{Event}
 use Rattle.rams_model.specs.Service.{Settings, answer}
 use Rattle.channel_book.specs.{entry, events_behind, IsLegal}
-use Rattle.channel_book.proofs.Histories.{legal_last, events_snoc}
+use Rattle.channel_book.proofs.Histories.{as_many_behind, legal_last, events_snoc}
 use Rattle.channel_book.proofs.book.BookStepped.step.Goals as goal
+
+pub step-requires : goal.step-requires
+step-requires c = let before = c.requires.few in record { few = omega (arith, before.2, ap length before.1, as_many_behind [] c.args.self.now.entries) }
 
 pub returns-clause-stands : goal.returns-clause-stands
 returns-clause-stands c = λ events is.

@@ -1,4 +1,4 @@
-use Rattle.std.proofs.Common.{sym, subst, arith}
+use Rattle.std.proofs.Common.{◌^◌, sym, ap, subst, arith}
 use Rattle.rams_model.specs.declared.event.Event.TheVariants.{Live}
 use Rattle.server_hub.specs.{StandsFor}
 use Rattle.server_hub.specs.Seen.{Seen}
@@ -19,7 +19,7 @@ pub live_at-requires-clause-place : goal.live_at-requires-clause-place
 live_at-requires-clause-place c = omega (arith, place_within _ _ _ _ c.self.invariant _ c.deref.ensures.value c.args.id c.in-Some.place c.in-Some.ensures.there, c.deref_mut.ensures.len)
 
 pub live_at-requires-clause-few : goal.live_at-requires-clause-few
-live_at-requires-clause-few c = rw (c.deref_mut.ensures.value) (all_few _ (2 ^ 40) c.self.invariant.lawful.counted (rw (c.self.view_is) c.requires))
+live_at-requires-clause-few c = rw (c.deref_mut.ensures.value) (all_few c.self.inside.calls (2 ^ 40) _ c.self.invariant.lawful.counted (omega (arith, c.requires, ap (λ (v : Seen). v.calls) c.self.view_is)))
 
 pub invariant_of-self-2 : goal.invariant_of-self-2
 invariant_of-self-2 c =
