@@ -1,5 +1,7 @@
 //! What a row of a table is, and how it is run.
-ghost use Rattle.std.specs.Prelude.{◌≡◌, ◌+◌, ◌<◌, ◌^◌, IfOk, length};
+ghost use Rattle.std.specs.Prelude.{◌+◌, ◌<◌, ◌^◌, List, [], IfOk, length};
+ghost use Rattle.rams_model.specs.declared.event.Event.{Event};
+ghost use Rattle.session_core.specs.{StandsFor};
 
 use crate::fixtures::{REQUEST, SOURCE, bytes_of, same};
 use channel_config::{Channel, Config};
