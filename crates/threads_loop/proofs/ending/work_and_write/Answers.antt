@@ -11,7 +11,7 @@ run_lists-requires-clause-short g c = λ lifetimes outlive. lists_short c.args.d
 pub write_worked-requires : goal.write_worked-requires
 write_worked-requires g c =
     let entries = c.in_ok-worked.worked.book.entries in
-    ap (map (λ d. d.items)) c.deref-2.ensures.value ∙ c.in_ok-worked.ensures.drawn ∙ ap (λ (s : Settings). answered_with s entries) c.in_ok-core.ensures.value.0 ∙ ap (answered_with c.in-Some.config) (sym c.entries.ensures.entries)
+    ap (map (λ d. d.items)) c.deref-2.ensures.value ∙ c.in_ok-worked.ensures.drawn ∙ ap (λ (s : Settings). answered_with s entries) c.in_ok-core.ensures.settings ∙ ap (answered_with c.in-Some.config) (sym c.entries.ensures.entries)
 
 pub returns-clause-text : goal.returns-clause-text
 returns-clause-text g c = λ xs r.
@@ -20,7 +20,7 @@ returns-clause-text g c = λ xs r.
     let entries = c.entries.result.now in
     let book = c.in_ok-worked.worked.book in
     let lists = own_lists d entries book.entries c.entries.ensures.entries c.in_ok-worked.ensures.interleaving in
-    let legal = own_answers s c.in_ok-core.core.settings entries book.entries c.in_ok-core.ensures.value.0 c.entries.ensures.entries c.in_ok-worked.ensures.legal in
+    let legal = own_answers s c.in_ok-core.core.settings entries book.entries c.in_ok-core.ensures.settings c.entries.ensures.entries c.in_ok-worked.ensures.legal in
     worked_text d xs s entries r c.in-Some.is c.deref.result.now c.deref.ensures.value lists legal c.runs_of_journals.ensures.text (g.K.Sink.held c.args.sink.now) (g.K.Sink.held c.write_worked.new.sink) c.write_worked.result c.write_worked.ensures.text
 
 pub returns-clause-front : goal.returns-clause-front
@@ -30,7 +30,7 @@ returns-clause-front g c = λ xs r.
     let entries = c.entries.result.now in
     let book = c.in_ok-worked.worked.book in
     let lists = own_lists d entries book.entries c.entries.ensures.entries c.in_ok-worked.ensures.interleaving in
-    let legal = own_answers s c.in_ok-core.core.settings entries book.entries c.in_ok-core.ensures.value.0 c.entries.ensures.entries c.in_ok-worked.ensures.legal in
+    let legal = own_answers s c.in_ok-core.core.settings entries book.entries c.in_ok-core.ensures.settings c.entries.ensures.entries c.in_ok-worked.ensures.legal in
     worked_front d xs s entries r c.in-Some.is c.deref.result.now c.deref.ensures.value lists legal c.runs_of_journals.ensures.text (g.K.Sink.held c.args.sink.now) (g.K.Sink.held c.write_worked.new.sink) c.write_worked.result c.write_worked.ensures.front
 
 pub returns-clause-steady : goal.returns-clause-steady
@@ -40,5 +40,5 @@ returns-clause-steady g c = λ xs r room.
     let entries = c.entries.result.now in
     let book = c.in_ok-worked.worked.book in
     let lists = own_lists d entries book.entries c.entries.ensures.entries c.in_ok-worked.ensures.interleaving in
-    let legal = own_answers s c.in_ok-core.core.settings entries book.entries c.in_ok-core.ensures.value.0 c.entries.ensures.entries c.in_ok-worked.ensures.legal in
+    let legal = own_answers s c.in_ok-core.core.settings entries book.entries c.in_ok-core.ensures.settings c.entries.ensures.entries c.in_ok-worked.ensures.legal in
     c.write_worked.ensures.steady (worked_room d xs s entries r c.in-Some.is c.deref.result.now c.deref.ensures.value lists legal c.runs_of_journals.ensures.text (g.K.Sink.is_steady c.args.sink.now) room)
