@@ -110,8 +110,9 @@ class Build:
             flags = ["--jobs", str(jobs)]
             if crate != self.program:
                 return crate.build_rlib(flags, anew=False)
-            with open(TRACE, "rb") as trace:
-                return crate.run(flags, ["run"], stdin=trace, stdout=subprocess.PIPE)
+            # (rt compares status and text with those of the crate's stored run)
+            with open(f"{crate.folder}/stdin", "rb") as stored:
+                return crate.run(flags, ["run"], stdin=stored, stdout=subprocess.PIPE)
 
     def start(self):
         """Starts crates that wait for no other on idle lanes, first whatever has most above it."""
