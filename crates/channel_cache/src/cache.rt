@@ -69,7 +69,8 @@ impl Cache {
             Ok(packet) => packet,
             Err(note) => return Ok(note),
         };
-        let incoming = Incoming::of(alloc, channel, &packet)?;
+        let memory = self.intake.stock.memory_for(alloc, packet.stripped_len())?;
+        let incoming = Incoming::of(memory, channel, &packet)?;
         Ok(receive(&mut self.numbering, &mut self.intake, incoming))
     }
 

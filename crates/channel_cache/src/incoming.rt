@@ -10,7 +10,6 @@ use channel_config::{Access, Channel};
 use ram_io::NoMemory;
 use rams_model::{Held, LiveNote, MOST_PACKET, RTX_OVERHEAD};
 use rtp_record::Rtp;
-use std::alloc::Global;
 use ts_access::has_access;
 
 /// A packet of the channel that has no number yet.
@@ -59,20 +58,25 @@ fn is_access_point(access: Access, packet: &Rtp<'_>) -> bool
 }
 
 impl Incoming {
-    /// What a packet of the channel brings, in memory of its own.
-    pub fn of(alloc: Global, channel: &Channel, packet: &Rtp<'_>) -> Result<Incoming, NoMemory>
+    /// What a packet of the channel brings, in this memory. What it holds is dropped.
+    pub fn of(
+        mut memory: Vec<u8>,
+        channel: &Channel,
+        packet: &Rtp<'_>,
+    ) -> Result<Incoming, NoMemory>
         requires lawful { IsPacket packet.now }
         requires short { length (stripped packet.now) ≤ 1470 }
         ensures value { IfOk result (λ i. arrival_of i ≡ arrival channel.now packet.now) }
         ensures low { IfOk result (λ i. i.sequence < 65536) }
         ensures bare { IfOk result (λ i. IsBare i.packet) }
     {
-        let stripped = packet.strip(alloc)?;
+        memory.clear();
+        packet.append_stripped(&mut memory)?;
         Ok(Incoming {
             sequence: packet.sequence(),
             timestamp: packet.timestamp(),
             access: is_access_point(channel.access, packet),
-            packet: Bytes::from_vec(stripped)?,
+            packet: Bytes::from_vec(memory)?,
         })
     }
 

@@ -14,6 +14,7 @@ use ram_io::NoMemory;
 use rams_model::Held;
 use std::alloc::Global;
 use std::marker::Model;
+use std::mem;
 
 /// The last packets of the source. The marks of the index are the packets of the ring.
 #[derive(Drop)]
@@ -22,6 +23,10 @@ pub struct Stock {
     index: Index,
     // None of the packets is smaller on the wire.
     least_wire: u32,
+    // The memory of the last packet that the ring let go.
+    spare: Vec<u8>,
+    // Most bytes that memory was taken for.
+    longest: usize,
 }
 
 impl Model for Stock {
@@ -45,6 +50,8 @@ impl Stock {
             ring: Ring::new(alloc, capacity)?,
             index: Index::new(alloc, capacity)?,
             least_wire: u32::MAX,
+            spare: Vec::new(alloc),
+            longest: 0,
         })
     }
 
@@ -59,10 +66,22 @@ impl Stock {
         ensures stands { (source : List Held) → StandsFor self.old.ring source → StandsFor self.new.ring (source ++ held ∷ []) }
     {
         let (n, ts, wire, access) = (held.n, held.ts, held.wire, held.access);
-        self.ring.push(held);
+        put_aside(&mut self.spare, self.ring.push(held));
         self.index.drop_below(self.ring.lo());
         self.index.push(n, ts, wire, access);
         self.least_wire = self.least_wire.min(wire);
+    }
+
+    /// Memory for a packet of so many bytes, which may hold others: that of the last packet that was let
+    /// go. It has room for just the longest packet that memory was taken for.
+    pub fn memory_for(&mut self, alloc: Global, len: usize) -> Result<Vec<u8>, NoMemory>
+        ensures { self.new ≡ self.old }
+    {
+        self.longest = self.longest.max(len);
+        let mut memory = mem::replace(&mut self.spare, Vec::new(alloc));
+        memory.clear();
+        memory.reserve_exact(self.longest)?;
+        Ok(memory)
     }
 
     /// The number of the oldest packet; 0 while nothing is held.
@@ -108,4 +127,18 @@ impl Stock {
         let room = u64::from(channel.ring) * channel.minwire;
         self.index.choose(room, channel.declared, min_ms, max_ms)
     }
+}
+
+// Puts the memory of a packet that was let go aside, unless others still read it.
+fn put_aside(spare: &mut Vec<u8>, gone: Option<Held>) {
+    if let Some(memory) = gone.and_then(memory_of) {
+        *spare = memory;
+    }
+}
+
+// The memory of a packet, with no bytes in it; none where others still read it.
+fn memory_of(gone: Held) -> Option<Vec<u8>> {
+    let mut memory = gone.packet.reclaim()?;
+    memory.clear();
+    memory.into_vec().ok()
 }

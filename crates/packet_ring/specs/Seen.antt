@@ -1,5 +1,5 @@
 -- What contracts see of a ring, and the source that it stands for.
-use Rattle.std.specs.Prelude.{◌≡◌, ℕ, ◌+◌, ◌^◌, ◌≤◌, ◌==◌, if◌then◌else◌, List, [], ◌∷◌, ◌++◌, length, Option, find}
+use Rattle.std.specs.Prelude.{◌≡◌, ℕ, ◌+◌, ◌^◌, ◌≤◌, ◌==◌, nat_lt, if◌then◌else◌, List, [], ◌∷◌, ◌++◌, length, slice_get, Option, None, find}
 use Rattle.rams_model.specs.declared.held.Held.{Held}
 use Rattle.rams_model.specs.Packets.{lo, hi, last_of, Follows, consecutive_end}
 
@@ -21,6 +21,10 @@ with_next capacity held h = if h.n == hi held then last_of capacity (held ++ h �
 -- the ring after a packet was put in
 abbrev pub pushed : Seen → Held → Seen
 pushed v h = record v { held = with_next v.capacity v.held h }
+
+-- The packet that the ring lets go for one more: the oldest, where the numbers go on and there is no room. At a gap all go, and none is told.
+abbrev pub let_go : Seen → Held → Option Held
+let_go v h = if h.n == hi v.held then (if nat_lt (length v.held) v.capacity then None else slice_get v.held 0) else None
 
 -- the packet of a number
 abbrev pub packet_of : ℕ → List Held → Option Held

@@ -2,7 +2,7 @@
 ghost use Rattle.std.specs.Prelude.{◌≡◌, ◌+◌, ◌^◌, ◌<◌, ◌≤◌, List, [], ◌∷◌, ◌++◌, ◌↔◌, option_copied, IfOk, IfSome, IsSome};
 ghost use Rattle.rams_model.specs.declared.held.Held.{Held};
 ghost use Rattle.rams_model.specs.Packets.{lo, hi};
-ghost use Rattle.packet_ring.specs.{empty_ring, pushed, packet_of, IsRing, StandsFor};
+ghost use Rattle.packet_ring.specs.{empty_ring, pushed, let_go, packet_of, IsRing, StandsFor};
 
 use circular_buffer::HeapCircularBuffer;
 use ram_io::NoMemory;
@@ -41,11 +41,12 @@ impl Ring {
     }
 
     /// Puts a packet behind the others, where its number is the next; the oldest goes where there
-    /// is no room. Where its number is greater, all others go.
-    pub fn push(&mut self, held: Held)
+    /// is no room, and is handed out. Where its number is greater, all others go.
+    pub fn push(&mut self, held: Held) -> Option<Held>
         requires above { hi self.old.held ≤ held.n }
         requires small { held.n < 2 ^ 62 }
         ensures step { self.new ≡ pushed self.old held }
+        ensures gone { result ≡ let_go self.old held }
         ensures ring { IsRing self.new }
         // Whichever source the ring stood for, it stands for that with the packet at its end.
         ensures stands { (source : List Held) → StandsFor self.old source → StandsFor self.new (source ++ held ∷ []) }
@@ -53,7 +54,7 @@ impl Ring {
         if held.n != self.hi() {
             self.packets.clear();
         }
-        self.packets.push_back(held);
+        self.packets.push_back(held)
     }
 
     /// The number of the oldest packet; 0 while nothing is held.

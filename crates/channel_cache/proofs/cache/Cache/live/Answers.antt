@@ -1,8 +1,10 @@
 use Rattle.std.proofs.Common.{◌≡◌, ◌<◌, ◌^◌, IfSome, sym, ◌∙◌, ap, subst, arith}
 use Rattle.rams_model.specs.declared.channel.Channel.{Channel}
 use Rattle.rams_model.specs.Service.{live, dropped, heard_live}
+use Rattle.channel_cache.specs.declared.intake.Intake.{Intake}
 use Rattle.channel_cache.specs.{arrival_of}
 use Rattle.channel_cache.specs.Seen.{Seen}
+use Rattle.channel_cache.specs.Stocked as stocks
 use Rattle.channel_cache.proofs.Shown.{Does, seen_at, took, let_go, fewer_after, numbers_have_room}
 use Rattle.channel_cache.proofs.cache.Cache.live.Goals as goal
 
@@ -25,9 +27,13 @@ returns-clause-stands c =
     let a = arrival_of c.in_ok-incoming.incoming in
     let heard = subst (λ (ch : Channel). heard_live ch bytes ≡ live a) c.channel-channel.ensures.value (c.in-Ok.ensures.heard ∙ ap live (sym c.in_ok-incoming.ensures.value)) in
     let grows = c.receive.ensures.grows in
-    subst (λ (v : Seen). Does v (seen_at old.config new.numbering new.intake) bytes c.receive.result) c.self.view_is
-    (took old.config old.numbering new.numbering old.intake new.intake bytes a c.receive.result (record { width = c.self.invariant.width; ring = c.self.invariant.ring })
-    (record { width = grows.width ∙ c.self.invariant.width; ring = grows.capacity ∙ c.self.invariant.ring }) grows.total heard c.receive.ensures.stands)
+    let same = c.memory_for.ensures in
+    let intake : Intake = record old.intake { stock = c.memory_for.new.self } in
+    let shows = ap (λ (s : stocks.Seen). seen_at old.config old.numbering (record old.intake { stock = s })) same ∙ c.self.view_is in
+    let ring = ap (λ (s : stocks.Seen). s.ring.capacity) same ∙ c.self.invariant.ring in
+    subst (λ (v : Seen). Does v (seen_at old.config new.numbering new.intake) bytes c.receive.result) shows
+    (took old.config old.numbering new.numbering intake new.intake bytes a c.receive.result (record { width = c.self.invariant.width; ring = ring })
+    (record { width = grows.width ∙ c.self.invariant.width; ring = grows.capacity ∙ ring }) grows.total heard c.receive.ensures.stands)
 
 pub returns-clause-few : goal.returns-clause-few
 returns-clause-few c = λ most few. fewer_after c.args.self.now _ c.args.bytes.now c.receive.result most (returns-clause-stands c) few
@@ -37,4 +43,4 @@ receive-requires-clause-numbered c =
     subst (λ (v : Seen). IfSome v.numbering.greatest (λ n. n < 2 ^ 61)) (sym c.self.view_is) (numbers_have_room c.args.self.now c.requires)
 
 pub receive-requires-clause-few : goal.receive-requires-clause-few
-receive-requires-clause-few c = omega (arith, ap (λ (v : Seen). v.total) c.self.view_is, c.requires.stands.total, c.requires.few)
+receive-requires-clause-few c = omega (arith, ap (λ (s : stocks.Seen). s.total) c.memory_for.ensures, ap (λ (v : Seen). v.total) c.self.view_is, c.requires.stands.total, c.requires.few)

@@ -5,7 +5,7 @@ use Rattle.packet_ring.specs.{IsRing, StandsFor}
 use Rattle.packet_ring.specs.Seen.{Seen}
 use Rattle.packet_ring.proofs.Ends.{pushed_stands}
 use Rattle.packet_ring.proofs.Following.{pushed_is_ring}
-use Rattle.packet_ring.proofs.Putting.{shown, put_behind, put_alone}
+use Rattle.packet_ring.proofs.Putting.{shown, put_behind, put_alone, handed_behind, handed_alone}
 use Rattle.packet_ring.proofs.ring.Ring.push.Goals as goal
 use Rattle.packet_ring.proofs.ring.Ring.push.Goals.{then-held-hi, else-held-hi}
 
@@ -19,6 +19,17 @@ returns-clause-step c =
           (ap (λ (i : Inside). i.packets) w.self-inside-is ∙ (w.clear.ensures ∙ ap (λ (u : Seen). buffer [] u.capacity) c.self.view_is)) c.push_back.ensures.items
       | else-held-hi w ↦ put_behind v c.args.held before after (w.if-held-hi.false ∙ c.hi.ensures.value)
           (ap (λ (i : Inside). shown i.packets) w.self-inside-is ∙ c.self.view_is) c.push_back.ensures.items
+    ]
+
+pub returns-clause-gone : goal.returns-clause-gone
+returns-clause-gone c =
+    let v = c.args.self.now in
+    let before = c.if-held-hi.self-inside.packets in
+    c.push_back.ensures.value ∙ elim c.if-held-hi.branch [
+      | then-held-hi w ↦ handed_alone v c.args.held before c.hi.ensures.ring.room (λ next. w.if-held-hi.true (next ∙ sym c.hi.ensures.value))
+          (ap (λ (i : Inside). i.packets) w.self-inside-is ∙ (w.clear.ensures ∙ ap (λ (u : Seen). buffer [] u.capacity) c.self.view_is))
+      | else-held-hi w ↦ handed_behind v c.args.held before c.hi.ensures.ring.room (w.if-held-hi.false ∙ c.hi.ensures.value)
+          (ap (λ (i : Inside). shown i.packets) w.self-inside-is ∙ c.self.view_is)
     ]
 
 pub invariant_of-self : goal.invariant_of-self
