@@ -79,13 +79,16 @@ pub(crate) fn copy_answer(alloc: Global, answer: &Answer) -> Result<Answer, NoMe
     Ok(Answer::new(notes, orders))
 }
 
-/// The answer again, where it has one note and sends nothing. It takes no memory.
-pub(crate) fn copy_one(alloc: Global, answer: &Answer) -> Answer
-    requires one { length answer.now.notes ≡ 1 }
+/// The answer again, where it has one note at most and sends nothing. It takes no memory.
+pub(crate) fn copy_small(alloc: Global, answer: &Answer) -> Answer
+    requires few { length answer.now.notes ≤ 1 }
     requires silent { answer.now.orders ≡ [] }
     ensures { result ≡ answer.now }
 {
-    Answer::one(alloc, answer.notes[0])
+    match answer.notes.as_slice() {
+        [note] => Answer::one(alloc, *note),
+        _ => Answer::new(Vec::new(alloc), Vec::new(alloc)),
+    }
 }
 
 /// Room for a copy of an answer that sends no packet.

@@ -5,10 +5,10 @@ ghost use Rattle.rams_model.specs.declared.event.Event.TheVariants.{Live, Feedba
 ghost use Rattle.session_core.specs.{StandsFor, StandsForFewer, TellsAlone};
 ghost use Rattle.channel_book.specs.{IsTwice};
 
-use crate::copies::{Room, copy_answer, copy_one};
+use crate::copies::{Room, copy_answer, copy_small};
 use ram_io::NoMemory;
 use rams_model::{Answer, Event};
-use session_core::{Core, most_notes_for};
+use session_core::{Core, most_in};
 use std::alloc::Global;
 
 /// The most bytes of a datagram whose copy there can be memory for.
@@ -45,11 +45,20 @@ fn live_twice(alloc: Global, core: &mut Core, bytes: &[u8]) -> Result<Twice, NoM
     ensures settings { core.new.settings ≡ core.old.settings }
     ensures same { OnErr result (core.new ≡ core.old) }
 {
-    let given = core.live(alloc, bytes)?;
-    Ok(Twice {
-        kept: copy_one(alloc, &given),
+    let answer = core.live(alloc, bytes)?;
+    Ok(small_twice(alloc, answer))
+}
+
+/// An answer of one note at most that sends nothing. It takes no memory.
+fn small_twice(alloc: Global, given: Answer) -> Twice
+    requires few { length given.notes ≤ 1 }
+    requires silent { given.orders ≡ [] }
+    ensures { (result.kept ≡ given) × (result.given ≡ given) }
+{
+    Twice {
+        kept: copy_small(alloc, &given),
         given,
-    })
+    }
 }
 
 /// The same answer, without the room that it doesn't need.
@@ -71,8 +80,8 @@ fn twice_in(alloc: Global, room: Room, answer: Answer) -> Twice
 {
     if answer.notes.as_slice().len() == 1 && answer.orders.is_empty() {
         return Twice {
-            kept: copy_one(alloc, &answer),
-            given: copy_one(alloc, &answer),
+            kept: copy_small(alloc, &answer),
+            given: copy_small(alloc, &answer),
         };
     }
     let given = room.copy(&answer);
@@ -82,7 +91,7 @@ fn twice_in(alloc: Global, room: Room, answer: Answer) -> Twice
     }
 }
 
-/// A datagram has no more notes than its length allows, and no order but a RAMS-I.
+/// A datagram has no more notes than its messages allow, and no order but a RAMS-I.
 fn feedback_twice(
     alloc: Global,
     core: &mut Core,
@@ -97,7 +106,12 @@ fn feedback_twice(
     if bytes.len() > LONGEST_DATAGRAM {
         return Err(NoMemory);
     }
-    let room = Room::new(alloc, most_notes_for(bytes.len()), 1)?;
+    let most = most_in(bytes);
+    if most.notes <= 1 && most.orders == 0 {
+        let answer = core.feedback(alloc, client, bytes)?;
+        return Ok(small_twice(alloc, answer));
+    }
+    let room = Room::new(alloc, most.notes, most.orders)?;
     let answer = core.feedback(alloc, client, bytes)?;
     Ok(twice_in(alloc, room, answer))
 }

@@ -1,11 +1,16 @@
 -- How many notes the packets of a datagram get at most.
 use Rattle.std.proofs.Common.{◌≡◌, ℕ, ◌+◌, ◌-◌, ◌*◌, ◌/◌, ◌≤◌, ◌<◌, not, ◌&&◌, zero, suc, List, [], ◌∷◌, length, drop, Option, Some, None, Result, Ok, Err, refl, subst, arith, eqb, ltb, length-drop, length-take}
-use Rattle.std.specs.Int.{w16, from_be_bytes}
-use Rattle.std.specs.Prelude.{slice_index}
+use Rattle.std.specs.Int.{w16, w32, from_be_bytes}
+use Rattle.std.specs.Prelude.{◌==◌, nat_le, slice_index, if◌then◌else◌}
 use Rattle.std.proofs.lemmas.Bool.{cond_both, ltb-true, ltb-false}
 use Rattle.rams_model.specs.declared.fault.FrameFault.{FrameFault}
-use Rattle.rams_model.specs.Formats.{unless_fault, onto, pieces_from, Framed, packet_size, rtcp_padding, framed_first, packet_fault, packet_format, framed}
-use Rattle.feedback_core.specs.{most_of, most_notes, most_notes_for}
+use Rattle.rams_model.specs.declared.rtcp.TheConstants.{BYE, FMT_NACK, FMT_RAMS, RTPFB}
+use Rattle.rams_model.specs.declared.rams.TheConstants.{SFMT_RAMS_R, SFMT_RAMS_T}
+use Rattle.rams_model.specs.Formats.{unless_fault, onto, pieces_from, Framed, packet_size, rtcp_padding, framed_first, packet_fault, packet_format, framed, Feedback, feedback_of, nack_numbers, request_at, stop_at}
+use Rattle.rams_model.specs.Service.{Message, named, message_of, feedback_message, rams_message}
+use Rattle.rams_model.specs.Service.Messages.{bye, nack, asks, stops}
+use Rattle.feedback_core.specs.{most_of, most_of_found, most_notes, most_notes_for}
+use Rattle.feedback_core.proofs.Nacks.{named_few}
 
 -- the packet in front is whole
 whole : (bytes : List ℕ) → packet_fault bytes ≡ None → packet_size bytes ≤ length bytes
@@ -18,11 +23,29 @@ whole bytes e =
 body_within : (bytes : List ℕ) → length (framed_first bytes).body ≤ packet_size bytes - 4
 body_within bytes = omega (arith, length-take (packet_size bytes - rtcp_padding bytes - 4) (drop 4 bytes))
 
+most_rams : (f : Feedback) → most_of_found (rams_message f) ≤ 2
+most_rams f =
+    cond_both (slice_index f.fci 0 == SFMT_RAMS_R) (Some (asks f.sender (request_at f.fci))) (if slice_index f.fci 0 == SFMT_RAMS_T then Some (stops (stop_at f.fci)) else None)
+    (λ o. most_of_found o ≤ 2) (λ t. omega arith)
+    (λ r. cond_both (slice_index f.fci 0 == SFMT_RAMS_T) (Some (stops (stop_at f.fci))) None (λ o. most_of_found o ≤ 2) (λ t. omega arith) (λ n. omega arith))
+
+most_feedback : (f : Feedback) → most_of_found (feedback_message (Some f)) ≤ 17 * (length f.fci / 4) + 2
+most_feedback f =
+    let P : Option Message → Type 0 = λ o. most_of_found o ≤ 17 * (length f.fci / 4) + 2 in
+    cond_both (f.format == FMT_NACK) (Some (nack f.media f.sender (named (nack_numbers f.fci)))) (if f.format == FMT_RAMS then rams_message f else None) P
+    (λ t. omega (arith, named_few f.fci)) (λ g. cond_both (f.format == FMT_RAMS) (rams_message f) None P (λ t. omega (arith, most_rams f)) (λ n. omega arith))
+
+most_one : (p : Framed) → most_of p ≤ 17 * ((length p.body - 8) / 4) + 2
+unfolding message_of
+most_one p =
+    let f : Feedback = record { sender = from_be_bytes w32 p.body; media = from_be_bytes w32 (drop 4 p.body); format = p.count; fci = drop 8 p.body } in
+    let most = 17 * ((length p.body - 8) / 4) + 2 in
+    cond_both (p.kind == BYE) (Some (bye p)) (feedback_message (feedback_of p)) (λ o. most_of_found o ≤ most) (λ t. omega arith)
+    (λ n. cond_both (p.kind == RTPFB && nat_le 8 (length p.body)) (Some f) None (λ o. most_of_found (feedback_message o) ≤ most)
+    (λ t. omega (arith, most_feedback f, length-drop 8 p.body)) (λ m. omega arith))
+
 most_first : (bytes : List ℕ) → most_of (framed_first bytes) ≤ 17 * ((packet_size bytes - 12) / 4) + 2
-most_first bytes =
-    let body = body_within bytes in
-    cond_both (eqb (framed_first bytes).kind 205 && eqb (framed_first bytes).count 1) (17 * ((length (framed_first bytes).body - 8) / 4) + 1) 2
-    (λ n. n ≤ 17 * ((packet_size bytes - 12) / 4) + 2) (λ t. omega (arith, body)) (λ f. omega arith)
+most_first bytes = omega (arith, body_within bytes, most_one (framed_first bytes))
 
 -- packets of so many bytes get at most so many notes: up to three of them have no entry
 record AreFew (most bytes : ℕ) : Type 0 where

@@ -9,6 +9,7 @@ pub mod Byes
 pub mod Lows
 pub mod Writing
 pub mod Nacks
+pub mod Counts
 pub mod Told
 pub mod Turns
 pub mod Unsent

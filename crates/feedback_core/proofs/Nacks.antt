@@ -43,7 +43,14 @@ read_numbers fci numbers e =
     (λ t q. let same : numbers_of fci ≡ numbers = cc in subst (λ (ns : List ℕ). length ns ≤ 17 * (length fci / 4)) same (few_numbers fci)) (λ g q. absurd cc)) e
 
 pub read_few : (fci numbers : List ℕ) → nack_numbers fci ≡ Ok numbers → length numbers ≤ most_of_nack fci
-read_few fci numbers e = omega (arith, read_numbers fci numbers e)
+read_few fci numbers e = let count = ap (λ (r : Result (List ℕ) NackFault). length (named r)) e in omega (arith, count)
+
+pub named_few : (fci : List ℕ) → length (named (nack_numbers fci)) ≤ 17 * (length fci / 4)
+named_few fci = by_result (nack_numbers fci) refl
+  where
+    by_result : (r : Result (List ℕ) NackFault) → nack_numbers fci ≡ r → length (named r) ≤ 17 * (length fci / 4)
+    by_result (Ok numbers) e = read_numbers fci numbers e
+    by_result (Err fault) e = omega arith
 
 -- of another media source
 pub nack_foreign : (s : Settings) (before history : History) (queue : List Wanted) (v : Visitor) (media : ℕ) (numbers : List ℕ) (channel : Channel) (old new : List Note)

@@ -115,7 +115,7 @@ unasked p new events k bytes ps given st fe none ne ge =
     )
 
 -- no more notes, and what is answered where there is memory
-pub few_within : {F : Type 0} (r : Result Answered F) (most bound : ℕ) → most ≤ bound → IfOk r (λ a. (length a.notes ≤ most) × (length a.orders ≤ 1))
-    → IfOk r (λ a. (length a.notes ≤ bound) × (length a.orders ≤ 1))
-few_within (Ok a) most bound le few = (omega (arith, le, few.0), few.1)
-few_within (Err f) most bound le few = tt
+pub few_within : {F : Type 0} (r : Result Answered F) (notes orders most_notes most_orders : ℕ) → notes ≤ most_notes → orders ≤ most_orders
+    → IfOk r (λ a. (length a.notes ≤ notes) × (length a.orders ≤ orders)) → IfOk r (λ a. (length a.notes ≤ most_notes) × (length a.orders ≤ most_orders))
+few_within (Ok a) notes orders most_notes most_orders le lo few = (omega (arith, le, few.0), omega (arith, lo, few.1))
+few_within (Err f) notes orders most_notes most_orders le lo few = tt

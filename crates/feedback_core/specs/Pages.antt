@@ -1,5 +1,5 @@
 -- What is noted of a datagram so far, and what its client is told.
-use Rattle.std.specs.Prelude.{◌≡◌, ℕ, true, List, [], Option, Some, None, option_map, option_to_list}
+use Rattle.std.specs.Prelude.{◌≡◌, ℕ, true, List, [], length, Option, Some, None, option_map, option_to_list}
 use Rattle.rams_model.specs.declared.message.Info.{Info}
 use Rattle.rams_model.specs.declared.note.Note.{Note}
 use Rattle.rams_model.specs.declared.note.Note.TheVariants.{Accept, Update, Again, Refuse}
@@ -31,6 +31,10 @@ info_for o note = None
 pub record IsPage (s : Settings) (k : ℕ) (history : History) (page : Page) : Type 0 where
   pub notes : newest_notes history [] ≡ page.notes.items
   pub orders : newest_orders s history [] ≡ option_to_list (option_map (info_order k) page.info)
+
+-- how much the client is told
+abbrev pub told_by : Page → ℕ
+told_by page = length (option_to_list page.info)
 
 -- as long as a RAMS message is answered, the client is told nothing
 abbrev pub IsFresh : Page → Type 0

@@ -1,8 +1,8 @@
 //! The answers to the messages of a datagram, in their order.
-ghost use Rattle.std.specs.Prelude.{◌≡◌, ◌+◌, ◌≤◌, ◌<◌, true, None, vec_len, vec_capacity, ◌∷◌, false};
+ghost use Rattle.std.specs.Prelude.{◌≡◌, ◌+◌, ◌≤◌, true, None, max, length, ◌∷◌, false};
 ghost use Rattle.rams_model.specs.Service.{after_message, after_messages, told, noted, is_rams, message_of as model_message, verdict};
 ghost use Rattle.rtcp_frame.specs.{packets_left, shown_packet};
-ghost use Rattle.feedback_core.specs.{most_of, most_of_message, most_notes, shown_message, turn_of, due_after, answered_of, IsFresh, IsPage, IsTurned, AreOfOne, IsSameDesk, IsReadyDesk, HoldsOn, IsHeardOn, IsSaid, Serves};
+ghost use Rattle.feedback_core.specs.{most_of, most_of_message, most_notes, orders_of, most_orders, told_by, shown_message, turn_of, due_after, answered_of, IsFresh, IsPage, IsTurned, AreOfOne, IsSameDesk, IsReadyDesk, HoldsOn, IsHeardOn, IsSaid, Serves};
 ghost use Rattle.rams_model.specs.Formats.{request_at};
 
 use crate::bye::answer_bye;
@@ -19,11 +19,12 @@ use rtcp_frame::{Packet, Packets};
 pub(crate) fn answer_packets(desk: &mut Desk<'_>, packets: Packets<'_>)
     requires ready { IsReadyDesk desk.old }
     requires fresh { IsFresh desk.old.page }
-    requires room { vec_len desk.old.page.notes + most_notes (packets_left packets) ≤ vec_capacity desk.old.page.notes }
+    requires room { length desk.old.page.notes.items + most_notes (packets_left packets) ≤ desk.old.page.notes.room }
     ensures ready { IsReadyDesk desk.new }
     ensures same_queue { desk.new.queue.ghost_name ≡ desk.old.queue.ghost_name }
     ensures same { IsSameDesk desk.old desk.new }
-    ensures few { vec_len desk.new.page.notes ≤ vec_len desk.old.page.notes + most_notes (packets_left packets.entry) }
+    ensures few { length desk.new.page.notes.items ≤ length desk.old.page.notes.items + most_notes (packets_left packets.entry) }
+    ensures told { told_by desk.new.page ≤ max (told_by desk.old.page) (most_orders (packets_left packets.entry)) }
     ensures answers { let s = desk.old.config.now in let k = desk.old.visitor.client in
         Serves desk.old (HoldsOn desk.old) (λ before history. IsPage s k history desk.old.page
         → IsTurned s before (after_messages s k (answered_of desk.old.page.is_due (packets_left packets.entry)) history) desk.new.queue.now desk.new.visitor desk.new.page) }
@@ -37,13 +38,14 @@ pub(crate) fn answer_packets(desk: &mut Desk<'_>, packets: Packets<'_>)
 fn answer_packet(desk: &mut Desk<'_>, packet: &Packet<'_>)
     requires ready { IsReadyDesk desk.old }
     requires fresh { IsFresh desk.old.page }
-    requires room { vec_len desk.old.page.notes + most_of (shown_packet packet.now) ≤ vec_capacity desk.old.page.notes }
+    requires room { length desk.old.page.notes.items + most_of (shown_packet packet.now) ≤ desk.old.page.notes.room }
     ensures ready { IsReadyDesk desk.new }
     ensures same_queue { desk.new.queue.ghost_name ≡ desk.old.queue.ghost_name }
     ensures same { IsSameDesk desk.old desk.new }
     ensures fresh { IsFresh desk.new.page }
-    ensures few { vec_len desk.new.page.notes ≤ vec_len desk.old.page.notes + most_of (shown_packet packet.now) }
-    ensures room { vec_capacity desk.new.page.notes ≡ vec_capacity desk.old.page.notes }
+    ensures few { length desk.new.page.notes.items ≤ length desk.old.page.notes.items + most_of (shown_packet packet.now) }
+    ensures told { told_by desk.new.page ≤ max (told_by desk.old.page) (orders_of (shown_packet packet.now)) }
+    ensures room { desk.new.page.notes.room ≡ desk.old.page.notes.room }
     ensures due { desk.new.page.is_due ≡ due_after desk.old.page.is_due (model_message (shown_packet packet.now)) }
     ensures answers { let s = desk.old.config.now in let k = desk.old.visitor.client in
         Serves desk.old (HoldsOn desk.old) (λ before history. IsPage s k history desk.old.page
@@ -62,14 +64,14 @@ fn answer_packet(desk: &mut Desk<'_>, packet: &Packet<'_>)
 fn answer_message(desk: &mut Desk<'_>, message: &Message<'_>)
     requires ready { IsReadyDesk desk.old }
     requires fresh { is_rams (shown_message message.now) ≡ true → desk.old.page.info ≡ None }
-    requires room { vec_len desk.old.page.notes + most_of_message message.now ≤ vec_capacity desk.old.page.notes }
+    requires room { length desk.old.page.notes.items + most_of_message (shown_message message.now) ≤ desk.old.page.notes.room }
     ensures ready { IsReadyDesk desk.new }
     ensures same_queue { desk.new.queue.ghost_name ≡ desk.old.queue.ghost_name }
     ensures same { IsSameDesk desk.old desk.new }
     ensures info { is_rams (shown_message message.now) ≡ false → desk.new.page.info ≡ desk.old.page.info }
     ensures due { desk.new.page.is_due ≡ desk.old.page.is_due }
-    ensures few { vec_len desk.new.page.notes ≤ vec_len desk.old.page.notes + most_of_message message.now }
-    ensures room { vec_capacity desk.new.page.notes ≡ vec_capacity desk.old.page.notes }
+    ensures few { length desk.new.page.notes.items ≤ length desk.old.page.notes.items + most_of_message (shown_message message.now) }
+    ensures room { desk.new.page.notes.room ≡ desk.old.page.notes.room }
     ensures answers { let s = desk.old.config.now in let k = desk.old.visitor.client in
         Serves desk.old (HoldsOn desk.old) (λ before history. IsPage s k history desk.old.page
         → IsTurned s before (after_message s k (shown_message message.now) (told k (shown_message message.now) ∷ history)) desk.new.queue.now desk.new.visitor desk.new.page) }
@@ -94,12 +96,13 @@ fn answer_message(desk: &mut Desk<'_>, message: &Message<'_>)
     }
 }
 
-// Answers a request, and says what its client is told.
+// Answers a request, which ends nothing, and says what its client is told.
 fn say_request(desk: &mut Desk<'_>, sender: u32, fci: &[u8]) -> Said
     requires ready { IsReadyDesk desk.old }
     ensures ready { IsReadyDesk desk.new }
     ensures one { AreOfOne desk.old.visitor desk.new.visitor }
     ensures same { desk.new ≡ record desk.old { visitor = desk.new.visitor } }
+    ensures open { result.end ≡ None }
     ensures says { let s = desk.old.config.now in let k = desk.old.visitor.client in
         Serves desk.old (IsHeardOn desk.old sender) (λ before history. IsSaid s before history (noted (verdict s k history (request_at fci.now)) None ∷ history) desk.old.queue.now desk.new.visitor result) }
 {

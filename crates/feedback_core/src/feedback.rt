@@ -6,12 +6,12 @@ ghost use Rattle.rams_model.specs.Service.{answer};
 ghost use Rattle.rams_model.specs.Formats.{framed};
 ghost use Rattle.rtcp_frame.specs.{packets_left};
 ghost use Rattle.channel_parts.specs.{StandsFor};
-ghost use Rattle.feedback_core.specs.{most_notes, most_notes_for, woken, has_place, with_place, TellsAlone};
+ghost use Rattle.feedback_core.specs.{most_notes, most_orders, most_notes_in, most_orders_in, most_notes_for, woken, has_place, with_place, TellsAlone};
 ghost use Rattle.client_table.specs.{entry_of};
 
 use crate::answering::answer_packets;
+use crate::counting::most_of_packets;
 use crate::desk::Desk;
-use crate::framing::{has_message, most_notes};
 use crate::page::Page;
 use crate::placing::{keep, make_place, wake};
 use crate::visitor::Visitor;
@@ -43,6 +43,7 @@ pub fn answer_feedback(
     ensures settings { parts.new.config ≡ parts.old.config }
     ensures same { OnErr result (parts.new ≡ parts.old) }
     ensures few { IfOk result (λ a. (length a.notes ≤ most_notes_for (length datagram.now)) × (length a.orders ≤ 1)) }
+    ensures counted { IfOk result (λ a. (length a.notes ≤ most_notes_in datagram.now) × (length a.orders ≤ most_orders_in datagram.now)) }
     ensures told { IfOk result TellsAlone }
 {
     match packets(datagram) {
@@ -69,15 +70,16 @@ fn answer_framed(
         (a ≡ answer parts.old.config events (Feedback client bytes)) × StandsFor parts.new (Feedback client bytes ∷ events)) }
     ensures settings { parts.new.config ≡ parts.old.config }
     ensures same { OnErr result (parts.new ≡ parts.old) }
-    ensures few { IfOk result (λ a. (length a.notes ≤ most_notes (packets_left packets.entry)) × (length a.orders ≤ 1)) }
+    ensures few { IfOk result (λ a. (length a.notes ≤ most_notes (packets_left packets.entry)) × (length a.orders ≤ most_orders (packets_left packets.entry))) }
     ensures told { IfOk result TellsAlone }
 {
-    if !has_message(packets) {
+    let most = most_of_packets(packets);
+    if most.notes == 0 {
         wake(&mut parts.table, client);
         return Ok(Answer::new(Vec::new(alloc), Vec::new(alloc)));
     }
-    let page = Page::new(alloc, most_notes(packets))?;
-    let orders = Vec::with_capacity(alloc, 1)?;
+    let page = Page::new(alloc, most.notes)?;
+    let orders = Vec::with_capacity(alloc, most.orders)?;
     let visitor = receive(alloc, parts, client)?;
     let mut desk = Desk {
         config: &parts.config,
@@ -96,7 +98,7 @@ fn answer_framed(
     } = desk;
     keep(&mut parts.table, client, visitor.entry);
     parts.budget = visitor.budget;
-    Ok(page.finish(client, orders))
+    Ok(page.finish(alloc, client, orders))
 }
 
 // The client, with a place in the table where it can have one. It takes the memory.

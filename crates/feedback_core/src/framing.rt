@@ -1,13 +1,13 @@
 //! Which packets of a datagram are messages that are answered.
-ghost use Rattle.std.specs.Prelude.{◌≡◌, ◌<◌, ◌≤◌, ◌^◌, ◌==◌, true, false, [], if◌then◌else◌, option_map, IfSome};
+ghost use Rattle.std.specs.Prelude.{◌≡◌, option_map};
 ghost use Rattle.rams_model.specs.Service.{is_rams, message_of, feedback_message, rams_message};
 ghost use Rattle.rtcp_feedback.specs.{shown_feedback};
-ghost use Rattle.rtcp_frame.specs.{packets_left, shown_packet};
-ghost use Rattle.feedback_core.specs.{most_of, most_of_message, most_of_nack, most_notes, shown_message, answered_of};
+ghost use Rattle.rtcp_frame.specs.{shown_packet};
+ghost use Rattle.feedback_core.specs.{shown_message};
 
-use rams_model::{BYE, FMT_NACK, FMT_RAMS, RTPFB, SFMT_RAMS_R, SFMT_RAMS_T};
+use rams_model::{BYE, FMT_NACK, FMT_RAMS, SFMT_RAMS_R, SFMT_RAMS_T};
 use rtcp_feedback::{Feedback, feedback};
-use rtcp_frame::{Packet, Packets};
+use rtcp_frame::Packet;
 
 /// A message that is answered.
 #[derive(Clone, Copy, Debug)]
@@ -37,8 +37,7 @@ impl Message<'_> {
 /// The message that a packet is; all other packets are skipped.
 #[tactic(auto, unfolding(rams_model::specs::Service::Messages::message_of))]
 pub(crate) fn message_of<'a>(packet: &Packet<'a>) -> Option<Message<'a>>
-    ensures message { option_map shown_message result ≡ message_of (shown_packet packet.now) }
-    ensures few { IfSome result (λ message. most_of_message message ≤ most_of (shown_packet packet.now)) }
+    ensures { option_map shown_message result ≡ message_of (shown_packet packet.now) }
 {
     if packet.kind == BYE {
         return Some(Message::Bye(*packet));
@@ -49,8 +48,7 @@ pub(crate) fn message_of<'a>(packet: &Packet<'a>) -> Option<Message<'a>>
 
 // Transport layer feedback by its format.
 fn feedback_message(message: Feedback<'_>) -> Option<Message<'_>>
-    ensures message { option_map shown_message result ≡ feedback_message (Some (shown_feedback message.entry)) }
-    ensures few { IfSome result (λ m. most_of_message m ≤ (if message.entry.fmt == 1 then most_of_nack message.entry.fci.now else 2)) }
+    ensures { option_map shown_message result ≡ feedback_message (Some (shown_feedback message.entry)) }
 {
     match message.fmt {
         FMT_NACK => Some(Message::Nack(message)),
@@ -61,48 +59,11 @@ fn feedback_message(message: Feedback<'_>) -> Option<Message<'_>>
 
 // A RAMS message by its sub-format, the first byte.
 fn rams_message(message: Feedback<'_>) -> Option<Message<'_>>
-    ensures message { option_map shown_message result ≡ rams_message (shown_feedback message.entry) }
-    ensures few { IfSome result (λ m. most_of_message m ≤ 2) }
+    ensures { option_map shown_message result ≡ rams_message (shown_feedback message.entry) }
 {
     match message.fci.first() {
         Some(&SFMT_RAMS_R) => Some(Message::Request(message)),
         Some(&SFMT_RAMS_T) => Some(Message::Stop(message)),
         _ => None,
-    }
-}
-
-/// Whether one of these packets is a message that is answered.
-pub(crate) fn has_message(packets: Packets<'_>) -> bool
-    ensures { result ≡ false → answered_of true (packets_left packets.entry) ≡ [] }
-{
-    for packet in packets {
-        if message_of(&packet).is_some() {
-            return true;
-        }
-    }
-    false
-}
-
-/// How many notes the answers to these packets make at most.
-pub(crate) fn most_notes(packets: Packets<'_>) -> usize
-    requires { most_notes (packets_left packets) < 2 ^ 63 }
-    ensures { result ≡ most_notes (packets_left packets.entry) }
-{
-    let mut most = 0;
-    for packet in packets {
-        most += most_of(&packet);
-    }
-    most
-}
-
-// The most of one packet: a word of a NACK names 17 numbers at most, and stands behind two SSRCs.
-fn most_of(packet: &Packet<'_>) -> usize
-    requires { most_of (shown_packet packet.now) < 2 ^ 63 }
-    ensures { result ≡ most_of (shown_packet packet.now) }
-{
-    if packet.kind == RTPFB && packet.count == FMT_NACK {
-        17 * (packet.body.len().saturating_sub(8) / 4) + 1
-    } else {
-        2
     }
 }

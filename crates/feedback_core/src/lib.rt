@@ -12,6 +12,7 @@ mod feedback;
 mod framing;
 mod holding;
 mod nack;
+mod pad;
 mod page;
 mod placing;
 mod rams_i;
@@ -21,7 +22,7 @@ mod said;
 mod visitor;
 
 pub use channel_parts::Parts;
-pub use counting::most_notes_for;
+pub use counting::{Most, most_in};
 pub use feedback::answer_feedback;
 pub use ram_io::NoMemory;
 pub use rams_model::Answer;

@@ -1,5 +1,5 @@
 //! The answer to a generic NACK (RFC 4585, 6.2.1).
-ghost use Rattle.std.specs.Prelude.{◌≡◌, ◌+◌, ◌≤◌, length, vec_len, vec_capacity};
+ghost use Rattle.std.specs.Prelude.{◌≡◌, ◌+◌, ◌≤◌, length};
 ghost use Rattle.rams_model.specs.Service.{room, number_answer, after_numbers, after_nack, named};
 ghost use Rattle.rams_model.specs.Packets.{lo, hi};
 ghost use Rattle.rams_model.specs.Formats.{nack_numbers};
@@ -16,19 +16,19 @@ use rtcp_feedback::{Feedback, NackIter, nack_numbers};
 /// order.
 pub(crate) fn answer_nack(desk: &mut Desk<'_>, nack: &Feedback<'_>)
     requires ready { IsReadyDesk desk.old }
-    requires room { vec_len desk.old.page.notes + most_of_nack nack.now.fci.now ≤ vec_capacity desk.old.page.notes }
+    requires room { length desk.old.page.notes.items + most_of_nack nack.now.fci.now ≤ desk.old.page.notes.room }
     ensures ready { IsReadyDesk desk.new }
     ensures same_queue { desk.new.queue.ghost_name ≡ desk.old.queue.ghost_name }
     ensures same { IsSameDesk desk.old desk.new }
     ensures page { desk.new.page ≡ record desk.old.page { notes = desk.new.page.notes } }
-    ensures few { vec_len desk.new.page.notes ≤ vec_len desk.old.page.notes + most_of_nack nack.now.fci.now }
-    ensures room { vec_capacity desk.new.page.notes ≡ vec_capacity desk.old.page.notes }
+    ensures few { length desk.new.page.notes.items ≤ length desk.old.page.notes.items + most_of_nack nack.now.fci.now }
+    ensures room { desk.new.page.notes.room ≡ desk.old.page.notes.room }
     ensures answers { let s = desk.old.config.now in let k = desk.old.visitor.client in
         Serves desk.old (IsHeardOn desk.old nack.now.sender) (λ before history. AreNoted s before history (after_nack s k nack.now.media (named (nack_numbers nack.now.fci.now)) history)
         desk.new.queue.now desk.new.visitor desk.old.page.notes.items desk.new.page.notes.items) }
 {
     if nack.media != desk.config.channel().ssrc {
-        desk.page.notes.push_reserved(Note::ForeignNack {
+        desk.page.notes.push(Note::ForeignNack {
             client: desk.visitor.client,
         });
         return;
@@ -44,13 +44,13 @@ pub(crate) fn answer_nack(desk: &mut Desk<'_>, nack: &Feedback<'_>)
 // Answers the numbers in their order.
 fn answer_numbers(desk: &mut Desk<'_>, sender: u32, numbers: NackIter<'_>)
     requires ready { IsReadyDesk desk.old }
-    requires room { vec_len desk.old.page.notes + length (numbers_left numbers) ≤ vec_capacity desk.old.page.notes }
+    requires room { length desk.old.page.notes.items + length (numbers_left numbers) ≤ desk.old.page.notes.room }
     ensures ready { IsReadyDesk desk.new }
     ensures same_queue { desk.new.queue.ghost_name ≡ desk.old.queue.ghost_name }
     ensures same { IsSameDesk desk.old desk.new }
     ensures page { desk.new.page ≡ record desk.old.page { notes = desk.new.page.notes } }
-    ensures few { vec_len desk.new.page.notes ≤ vec_len desk.old.page.notes + length (numbers_left numbers.entry) }
-    ensures room { vec_capacity desk.new.page.notes ≡ vec_capacity desk.old.page.notes }
+    ensures few { length desk.new.page.notes.items ≤ length desk.old.page.notes.items + length (numbers_left numbers.entry) }
+    ensures room { desk.new.page.notes.room ≡ desk.old.page.notes.room }
     ensures answers { let s = desk.old.config.now in let k = desk.old.visitor.client in
         Serves desk.old (IsHeardOn desk.old sender) (λ before history. AreNoted s before history (after_numbers s desk.old.cache.now.held k (numbers_left numbers.entry) history)
         desk.new.queue.now desk.new.visitor desk.old.page.notes.items desk.new.page.notes.items) }
@@ -58,7 +58,7 @@ fn answer_numbers(desk: &mut Desk<'_>, sender: u32, numbers: NackIter<'_>)
     let (from, to) = (desk.cache.lo(), desk.cache.hi());
     for low in numbers {
         let note = answer_number(desk, sender, from, to, low);
-        desk.page.notes.push_reserved(note);
+        desk.page.notes.push(note);
     }
 }
 

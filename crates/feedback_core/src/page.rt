@@ -1,20 +1,20 @@
 //! The notes of a datagram, and what its client is told.
-ghost use Rattle.std.specs.Prelude.{◌≡◌, ◌+◌, ◌<◌, ◌≤◌, [], ◌++◌, None, true, IfOk, option_map, option_to_list, ◌&&◌, ◌||◌, not, vec_len, vec_capacity, ◌∷◌};
+ghost use Rattle.std.specs.Prelude.{◌≡◌, ◌+◌, ◌≤◌, [], ◌++◌, None, true, IfOk, option_map, option_to_list, ◌&&◌, ◌||◌, not, length, vec_len, vec_capacity};
 ghost use Rattle.rams_model.specs.Service.{is_rams, answered, info_order};
-ghost use Rattle.feedback_core.specs.{shown_message, said_notes, or_info};
-ghost use Rattle.rams_model.specs.declared.note.Note.TheVariants.{End};
+ghost use Rattle.feedback_core.specs.{shown_message, said_notes, or_info, told_by};
 
 use crate::framing::Message;
+use crate::pad::Pad;
 use crate::said::Said;
 use client_table::Info;
 use ram_io::NoMemory;
-use rams_model::{Answer, Cause, Note, Order};
+use rams_model::{Answer, Note, Order};
 use std::alloc::Global;
 
 /// What was noted so far. There is room for all notes of the datagram.
 #[derive(Drop)]
 pub(crate) struct Page {
-    pub notes: Vec<Note>,
+    pub notes: Pad,
     /// What the client is told.
     pub info: Option<Info>,
     /// Whether a RAMS message is still answered: the first one is, and no other.
@@ -25,28 +25,31 @@ impl Page {
     /// Nothing is written yet; there is room for so many notes.
     pub fn new(alloc: Global, most: usize) -> Result<Page, NoMemory>
         ensures notes { IfOk result (λ page. page.notes.items ≡ []) }
-        ensures len { IfOk result (λ page. vec_len page.notes ≡ 0) }
-        ensures room { IfOk result (λ page. most ≤ vec_capacity page.notes) }
+        ensures room { IfOk result (λ page. most ≤ page.notes.room) }
         ensures info { IfOk result (λ page. page.info ≡ None) }
         ensures due { IfOk result (λ page. page.is_due ≡ true) }
     {
         Ok(Page {
-            notes: Vec::with_capacity(alloc, most)?,
+            notes: Pad::new(alloc, most)?,
             info: None,
             is_due: true,
         })
     }
 
-    /// The answer, in whose empty list of orders there is room for one.
-    pub fn finish(self, client: u64, mut orders: Vec<Order>) -> Answer
+    /// The answer, in whose empty list of orders there is room for what the client is told.
+    pub fn finish(self, alloc: Global, client: u64, mut orders: Vec<Order>) -> Answer
         requires empty { orders.items ≡ [] }
-        requires room { vec_len orders < vec_capacity orders }
+        requires count { vec_len orders ≡ 0 }
+        requires room { told_by self ≤ vec_capacity orders }
         ensures { result ≡ answered self.notes.items (option_to_list (option_map (info_order client) self.info)) }
     {
         if let Some(info) = self.info {
             orders.push_reserved(Order::Info { client, info });
         }
-        Answer::new(self.notes, orders)
+        Answer {
+            notes: self.notes.finish(alloc),
+            orders,
+        }
     }
 
     /// Whether the message is answered.
@@ -64,28 +67,19 @@ impl Page {
 
     /// Writes the notes of a message, and what the client is told of it.
     pub fn write(&mut self, client: u64, said: &Said)
-        requires { vec_len self.old.notes + 2 ≤ vec_capacity self.old.notes }
+        requires { length self.old.notes.items + length (said_notes client said.now []) ≤ self.old.notes.room }
         ensures notes { self.new.notes.items ≡ self.old.notes.items ++ said_notes client said.now [] }
-        ensures few { vec_len self.new.notes ≤ vec_len self.old.notes + 2 }
-        ensures room { vec_capacity self.new.notes ≡ vec_capacity self.old.notes }
+        ensures few { length self.new.notes.items ≡ length self.old.notes.items + length (said_notes client said.now []) }
+        ensures room { self.new.notes.room ≡ self.old.notes.room }
         ensures info { self.new.info ≡ or_info said.now.info self.old.info }
         ensures due { self.new.is_due ≡ self.old.is_due }
     {
-        self.notes.push_reserved(said.note);
+        self.notes.push(said.note);
         if let Some(cause) = said.end {
-            push_end(&mut self.notes, client, cause);
+            self.notes.push(Note::End { client, cause });
         }
         if said.info.is_some() {
             self.info = said.info;
         }
     }
-}
-
-fn push_end(notes: &mut Vec<Note>, client: u64, cause: Cause)
-    requires { vec_len notes.old + 1 ≤ vec_capacity notes.old }
-    ensures notes { notes.new.items ≡ notes.old.items ++ End client cause ∷ [] }
-    ensures few { vec_len notes.new ≡ vec_len notes.old + 1 }
-    ensures room { vec_capacity notes.new ≡ vec_capacity notes.old }
-{
-    notes.push_reserved(Note::End { client, cause });
 }

@@ -1,15 +1,14 @@
 -- Calls of a list, piece by piece, and their places.
 use Rattle.std.proofs.Common.{◌≡◌, ℕ, zero, suc, ◌+◌, ◌≤◌, ◌==◌, Bool, true, false, List, [], ◌∷◌, ◌++◌, map, length, refl, sym, ap, ◌∙◌, subst, arith, append_assoc}
 use Rattle.std.specs.Prelude.{if◌then◌else◌, Result, Ok, Err, OnOk, MatchResult}
-use Rattle.std.specs.List.{AllByRecursion as Each}
 use Rattle.std.proofs.lemmas.List.{append-nil, length-append, length-map, map-append}
-use Rattle.std.proofs.lemmas.List.Elements.{filter-append, All-from_recursion}
+use Rattle.std.proofs.lemmas.List.Elements.{filter-append}
 use Rattle.rams_model.specs.declared.event.Event.{Event}
 use Rattle.rams_model.specs.Service.{Settings, Answered}
 use Rattle.channel_book.specs.declared.entry.Entry.{Entry}
-use Rattle.channel_book.specs.{LegalFrom, IsLegal, is_of, calls_by, StartsWith, HasAnsweredAll}
+use Rattle.channel_book.specs.{is_of, calls_by, StartsWith, HasAnsweredAll}
 use Rattle.live_writer.specs.declared.writer.Placed.{Placed}
-use Rattle.live_writer.specs.{places_from, places_by, datagrams_of, numbers_from, WasAnswered, WereAnswered, HasDrawn, HasWritten, HasWrittenFront, HasWrittenPiece}
+use Rattle.live_writer.specs.{places_from, places_by, datagrams_of, numbers_from, HasDrawn, HasWritten, HasWrittenFront, HasWrittenPiece}
 
 -- ---- beginnings
 
@@ -227,17 +226,3 @@ tries_on list s events piece later old all middle new w h =
       own = h.own ∙ ap (λ (l : List Entry). l ++ h.made) w.own ∙ append_assoc (calls_by list old) w.made h.made;
       starts = starts_over new middle old h.starts w.starts;
     }
-
--- ---- the answers of a legal history
-
-answered_behind : (s : Settings) (before : List Event) (front made : List Entry) → LegalFrom s before (front ++ made) → Each (WasAnswered s) (map (λ (e : Entry). e.answer) made)
-answered_behind s before [] [] l = tt
-answered_behind s before [] (e ∷ made) l = (record { before = before; event = e.event; lawful = l.0 }, answered_behind s (e.event ∷ before) [] made l.1)
-answered_behind s before (x ∷ front) made l = answered_behind s (x.event ∷ before) front made l.1
-
--- each was given to its event
-pub all_answered : (list : ℕ) (s : Settings) (events : List Event) (old : List Entry) (place : ℕ) (answers : List Answered) (new : List Entry) → HasAnsweredAll list events old place answers new
-    → IsLegal s new → WereAnswered s answers
-all_answered list s events old place answers new h legal =
-    subst (WereAnswered s) h.calls.answers_are
-    (record { each = All-from_recursion (WasAnswered s) (map (λ (e : Entry). e.answer) h.made) (answered_behind s [] (old ++ h.between) h.made (subst (IsLegal s) h.history legal)) })

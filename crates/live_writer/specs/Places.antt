@@ -1,7 +1,7 @@
 -- Where the calls of a list stand in a history, and what is drawn of their answers.
-use Rattle.std.specs.Prelude.{◌≡◌, ℕ, ◌+◌, ◌==◌, if◌then◌else◌, List, [], ◌∷◌, ◌++◌, map, All}
+use Rattle.std.specs.Prelude.{◌≡◌, ℕ, ◌+◌, ◌==◌, if◌then◌else◌, List, [], ◌∷◌, ◌++◌, map}
 use Rattle.rams_model.specs.declared.event.Event.{Event}
-use Rattle.rams_model.specs.Service.{Settings, Answered, answer, datagram}
+use Rattle.rams_model.specs.Service.{Settings, Answered, datagram}
 use Rattle.channel_book.specs.declared.entry.Entry.{Entry}
 use Rattle.channel_book.specs.{calls_by, StartsWith}
 
@@ -17,16 +17,6 @@ places_by list entries = places_from list 0 entries
 -- the datagrams that an answer asks for, in the order of its orders
 abbrev pub datagrams_of : Settings → Answered → List (List ℕ)
 datagrams_of s a = map (datagram s) a.orders
-
--- the answer was given to some event behind some others
-pub record WasAnswered (s : Settings) (a : Answered) : Type 0 where
-  pub before : List Event
-  pub event : Event
-  pub lawful : a ≡ answer s before event
-
--- each was given to some event behind some others
-pub record WereAnswered (s : Settings) (answers : List Answered) : Type 0 where
-  pub each : All (WasAnswered s) answers
 
 -- A front of these events was taken as calls of the list, in order.
 pub record HasWrittenFront (list : ℕ) (events : List Event) (old new : List Entry) : Type 0 where

@@ -1,7 +1,6 @@
 //! Orders to datagrams, by one thread or several.
-ghost use Rattle.std.specs.Prelude.{◌≡◌, ◌<◌, All, map, IfOk};
+ghost use Rattle.std.specs.Prelude.{◌≡◌, ◌<◌, map, IfOk};
 ghost use Rattle.rams_model.specs.Service.{datagram};
-ghost use Rattle.order_datagrams.specs.{Renders};
 
 use order_datagrams::{Config, render_order};
 use ram_io::NoMemory;
@@ -22,8 +21,7 @@ pub fn render<R: Threads + Sync>(
     orders: &[Order],
     workers: u32,
 ) -> Result<Vec<Octets>, NoMemory>
-    requires workers { 0 < workers }
-    requires renders { All Renders orders.now }
+    requires { 0 < workers }
     ensures { IfOk result (λ datagrams. datagrams.items ≡ map (datagram config.now) orders.now) }
 {
     if workers == 1 || orders.len() <= WORTH_A_THREAD {
@@ -34,14 +32,12 @@ pub fn render<R: Threads + Sync>(
 }
 
 fn render_one(alloc: Global, config: &Config, order: &Order) -> Result<Octets, NoMemory>
-    requires { Renders order.now }
     ensures { IfOk result (λ bytes. bytes ≡ datagram config.now order.now) }
 {
     Ok(Octets::of(render_order(alloc, config, order)?))
 }
 
 fn render_alone(alloc: Global, config: &Config, orders: &[Order]) -> Result<Vec<Octets>, NoMemory>
-    requires { All Renders orders.now }
     ensures { IfOk result (λ datagrams. datagrams.items ≡ map (datagram config.now) orders.now) }
 {
     let mut datagrams = Vec::with_capacity(alloc, orders.len())?;
@@ -59,7 +55,6 @@ fn render_beside<R: Threads + Sync>(
     orders: &[Order],
     least: usize,
 ) -> Result<Vec<Octets>, NoMemory>
-    requires { All Renders orders.now }
     ensures { IfOk result (λ datagrams. datagrams.items ≡ map (datagram config.now) orders.now) }
 {
     orders
@@ -67,7 +62,6 @@ fn render_beside<R: Threads + Sync>(
         .with_min_len(least)
         .map(
             move |order: &Order| -> Result<Octets, NoMemory>
-                requires { Renders order.now }
                 ensures { IfOk result (λ bytes. bytes ≡ datagram config.entry.now order.now) }
             { render_one(alloc, config, order) },
         )

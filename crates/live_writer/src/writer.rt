@@ -1,12 +1,10 @@
 //! The calls of one list.
-ghost use Rattle.std.specs.Prelude.{◌≡◌, ◌+◌, ◌++◌, ◌^◌, ◌<◌, ◌≤◌, All, IfOk, length, min, OnOk, MatchResult};
+ghost use Rattle.std.specs.Prelude.{◌≡◌, ◌+◌, ◌++◌, ◌^◌, ◌<◌, ◌≤◌, IfOk, length, min, OnOk, MatchResult};
 ghost use Rattle.std.specs.Vec.Iter.{into_iter_items};
-ghost use Rattle.order_datagrams.specs.{Renders};
-ghost use Rattle.live_writer.specs.{HasDrawn, HasWritten, HasWrittenFront, HasWrittenPiece, WasAnswered, WereAnswered};
+ghost use Rattle.live_writer.specs.{HasDrawn, HasWritten, HasWrittenFront, HasWrittenPiece};
 
 use crate::rendering::render;
 use channel_book::{Answer, Config, Event, NoMemory, Shared};
-use order_datagrams::orders_of_answers_render;
 use ram_io::Gate;
 use rams_model::Octets;
 use std::alloc::Global;
@@ -25,14 +23,6 @@ pub struct Placed {
     pub answer: Answer,
     /// The datagram of each order of the answer.
     pub datagrams: Vec<Octets>,
-}
-
-/// An answer that was given has datagrams.
-fn answer_renders(_config: &Config, _answer: &Answer)
-    requires { WasAnswered _config.now _answer.now }
-    ensures { All Renders _answer.now.orders }
-{
-    orders_of_answers_render();
 }
 
 /// Stands before the calls of a piece, from this number on.
@@ -58,13 +48,11 @@ fn draw_all<R: Threads + Wait + Sync, G: Gate>(
 ) -> Result<(), NoMemory>
     requires workers { 0 < workers }
     requires places { place + length answers.items ≤ 2 ^ 40 }
-    requires answered { WereAnswered config.now answers.items }
     ensures { OnOk result (HasDrawn config.now place answers.items all.old.items all.new.items) }
 {
     let mut next = place;
     for answer in answers {
         gate.drawing(list, all.len() as u64);
-        answer_renders(config, &answer);
         let datagrams = render(rt, alloc, config, &answer.orders, workers)?;
         all.push(Placed {
             place: next,

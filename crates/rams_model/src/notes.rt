@@ -29,7 +29,7 @@ impl Model for Notes {
 }
 
 impl Notes {
-    ghost use Rattle.std.specs.Prelude.{[], ◌∷◌, IfOk};
+    ghost use Rattle.std.specs.Prelude.{[], ◌∷◌};
 
     /// One note. Takes no memory.
     pub fn one(note: Note) -> Notes

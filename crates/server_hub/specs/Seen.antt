@@ -56,7 +56,7 @@ pub record IsHub (v : Seen) : Type 0 where
   pub link_least : 1500 ≤ v.link
   pub link_most : v.link ≤ 1000000000
   pub channels : FitLink v.tick v.link (settings_of v)
-  -- each core stands for no more events than the hub counts
+  -- each core stands for some events, no more of them than the hub counts
   pub counted : All (λ core. cores.StandsForFewer core (v.calls + 1)) v.channels
 
 -- What is true of the fields of a hub: the numbers of its channels, the room for them, and the sum of their shares.

@@ -33,7 +33,7 @@ impl Core {
     ghost use Rattle.rams_model.specs.declared.event.Event.TheVariants.{Live, Feedback, Tick};
     ghost use Rattle.rams_model.specs.Packets.{lo, hi};
     ghost use Rattle.rams_model.specs.Service.{hold, history_of, answer};
-    ghost use Rattle.session_core.specs.{StandsFor, StandsForFewer, IsPlanOf, SendsShort, HasAtMost, IsCountable, JoinTimesAreKept, TellsAlone, most_notes_for};
+    ghost use Rattle.session_core.specs.{StandsFor, StandsForFewer, IsPlanOf, SendsShort, HasAtMost, IsCountable, JoinTimesAreKept, TellsAlone, most_notes_for, most_notes_in, most_orders_in};
 
     /// The core of a channel to which nothing came yet. It takes the room for the channel's live
     /// packets, for 4,096 repairs and for as many clients as it may have.
@@ -89,6 +89,7 @@ impl Core {
             IfOk result (λ a. (a ≡ answer self.old.settings events (Feedback client bytes.now))
             × StandsFor self.new (Feedback client bytes.now ∷ events)) }
         ensures few { IfOk result (HasAtMost (most_notes_for (length bytes.now)) 1) }
+        ensures counted { IfOk result (HasAtMost (most_notes_in bytes.now) (most_orders_in bytes.now)) }
         ensures told { IfOk result TellsAlone }
         ensures short { IfOk result SendsShort }
         ensures settings { self.new.settings ≡ self.old.settings }

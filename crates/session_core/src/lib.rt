@@ -10,7 +10,7 @@ mod stepped;
 
 pub use channel::Core;
 pub use channel_config::Config;
-pub use feedback_core::most_notes_for;
+pub use feedback_core::{Most, most_in};
 pub use ram_io::NoMemory;
 pub use rams_model::{Answer, Event};
 pub use stepped::Stepped;

@@ -1,7 +1,8 @@
 -- One packet more, and in the end all of them.
 use Rattle.std.proofs.Common.{◌≡◌, ◌+◌, ◌∙◌, ap, arith}
+use Rattle.std.specs.Prelude.{max}
 use Rattle.rtcp_frame.specs.{packets_left, shown_packet}
-use Rattle.feedback_core.specs.{most_of, most_notes, answered_of}
+use Rattle.feedback_core.specs.{most_of, most_notes, orders_of, most_orders, answered_of}
 use Rattle.feedback_core.proofs.Desks.{same_still, step_before}
 use Rattle.feedback_core.proofs.Turns.{after_packet, at_last}
 use Rattle.feedback_core.proofs.answering.answer_packets.Goals as goal
@@ -12,6 +13,7 @@ loop-packet-preserved c =
     let i = c.loop-packet.invariant in
     let p = shown_packet c.in-Some.packet in
     let step : most_notes (packets_left c.loop-packet.packet-iterator) ≡ most_of p + most_notes (packets_left c.next.new.self) = ap most_notes c.in-Some.ensures.steps in
+    let orders : most_orders (packets_left c.loop-packet.packet-iterator) ≡ max (orders_of p) (most_orders (packets_left c.next.new.self)) = ap most_orders c.in-Some.ensures.steps in
     record {
       can_next = tt;
       is_finite = tt;
@@ -21,6 +23,7 @@ loop-packet-preserved c =
       fresh = c.answer_packet.ensures.fresh;
       room = omega (arith, step, i.room, c.answer_packet.ensures.few, c.answer_packet.ensures.room);
       few = omega (arith, step, i.few, c.answer_packet.ensures.few);
+      told = omega (arith, orders, i.told, c.answer_packet.ensures.told);
       answers = λ before history hold visit written.
           let a = i.answers before history hold visit written in
           after_packet s c.args.desk.now.cache.now.held c.args.desk.now.visitor.client c.loop-packet.desk.visitor.client before history

@@ -5,6 +5,7 @@ use Rattle.rams_model.specs.Service.{answered}
 use Rattle.client_table.specs.Clients.{Clients}
 use Rattle.channel_parts.specs.declared.parts.Parts.{Parts}
 use Rattle.rtcp_frame.specs.{packets_left}
+use Rattle.feedback_core.proofs.Counts.{none_asked}
 use Rattle.feedback_core.proofs.Serving.{parts_ended, ready_placed, safe_placed, served, unasked}
 use Rattle.feedback_core.proofs.Telling.{page_tells}
 use Rattle.feedback_core.proofs.feedback.answer_framed.Goals as goal
@@ -30,8 +31,8 @@ returns-clause-settings c = ap (λ (p : Parts). p.config) c.in_ok-visitor.ensure
 pub returns-clause-told : goal.returns-clause-told
 returns-clause-told c = page_tells c.finish.result _ c.args.client _ c.finish.ensures
 
-pub returns-then-not-has_message-clause-stands : goal.returns-then-not-has_message-clause-stands
-returns-then-not-has_message-clause-stands c = λ events bytes st fe.
-    unasked c.args.parts.now (record c.args.parts.now { table = c.wake.new.table }) events c.args.client bytes (packets_left c.args.packets) c.new-then-not-has_message-2.result st fe
-    (c.has_message.ensures c.if-not-has_message.true) (ap (λ (t : Clients). record c.args.parts.now { table = t }) c.wake.ensures)
-    (c.new-then-not-has_message-2.ensures ∙ ap (λ (ns : List Note). answered ns c.new-then-not-has_message.result.items) c.new.ensures.items ∙ ap (answered []) c.new-then-not-has_message.ensures.items)
+pub returns-then-most-eq0-clause-stands : goal.returns-then-most-eq0-clause-stands
+returns-then-most-eq0-clause-stands c = λ events bytes st fe.
+    unasked c.args.parts.now (record c.args.parts.now { table = c.wake.new.table }) events c.args.client bytes (packets_left c.args.packets) c.new-then-most-eq0-2.result st fe
+    (none_asked (packets_left c.args.packets) (sym c.most_of_packets-most.ensures.notes ∙ c.if-most-eq0.true)) (ap (λ (t : Clients). record c.args.parts.now { table = t }) c.wake.ensures)
+    (c.new-then-most-eq0-2.ensures ∙ ap (λ (ns : List Note). answered ns c.new-then-most-eq0.result.items) c.new.ensures.items ∙ ap (answered []) c.new-then-most-eq0.ensures.items)

@@ -9,7 +9,7 @@ use Rattle.feedback_core.proofs.nack.answer_nack.Goals as goal
 pub returns-then-nack-channel-clause-answers : goal.returns-then-nack-channel-clause-answers
 returns-then-nack-channel-clause-answers c = λ before history heard w.
     nack_foreign c.args.desk.now.config.now before history c.args.desk.now.queue.now c.args.desk.now.visitor c.args.nack.now.media (named (nack_numbers c.args.nack.now.fci.now)) c.channel.result.now c.args.desk.now.page.notes.items
-    c.push_reserved.new.self.items c.channel.ensures.value c.if-nack-channel.true c.push_reserved.ensures.items w
+    c.push.new.self.items c.channel.ensures.value c.if-nack-channel.true c.push.ensures.items w
 
 pub answer_numbers-requires-clause-room : goal.answer_numbers-requires-clause-room
 answer_numbers-requires-clause-room c =

@@ -1,27 +1,18 @@
 -- One answer more has its datagrams.
-use Rattle.std.proofs.Common.{[], ◌∷◌, ◌++◌, ℕ, ◌+◌, List, map, length, All, sym, ap, ◌∙◌, subst, arith, append_assoc}
+use Rattle.std.proofs.Common.{[], ◌∷◌, ◌++◌, ℕ, ◌+◌, List, map, length, sym, ap, ◌∙◌, subst, arith, append_assoc}
 use Rattle.std.specs.Vec.Iter.{into_iter_items}
 use Rattle.std.proofs.lemmas.List.{length-append}
-use Rattle.std.proofs.lemmas.List.Elements.{All-same, All-head, All-tail}
 use Rattle.rams_model.specs.Service.{Answered, datagram}
 use Rattle.live_writer.specs.declared.writer.Placed.{Placed}
-use Rattle.live_writer.specs.{WasAnswered, HasDrawn}
+use Rattle.live_writer.specs.{HasDrawn}
 use Rattle.live_writer.proofs.Placing.{nothing_drawn, draws_on}
 use Rattle.live_writer.proofs.writer.draw_all.Goals as goal
-
-pub answer_renders-requires : goal.answer_renders-requires
-answer_renders-requires g c =
-    let s = c.args.config.now in
-    let later = into_iter_items c.next.new.self in
-    let steps = c.in-Some.ensures.steps in
-    All-head (WasAnswered s) c.in-Some.answer later (All-same (WasAnswered s) (c.in-Some.answer ∷ later) (into_iter_items c.loop-answer.answer-iterator) (sym steps.0) c.loop-answer.invariant.answered)
 
 pub loop-answer-init : goal.loop-answer-init
 loop-answer-init g c = record {
   can_next = tt;
   is_finite = tt;
   drawn = ([], c.into_iter-answer-iterator.ensures.into_iter_gives.0, omega arith, nothing_drawn c.args.config.now c.args.place c.args.all.now.items);
-  answered = subst (All (WasAnswered c.args.config.now)) (sym c.into_iter-answer-iterator.ensures.into_iter_gives.0) c.requires.answered.each;
 }
 
 pub loop-answer-preserved : goal.loop-answer-preserved
@@ -44,5 +35,4 @@ loop-answer-preserved g c =
         subst (λ (l : List Placed). HasDrawn s c.args.place (done ++ answer ∷ []) c.args.all.now.items l) (sym c.in_ok-push.ensures.items)
             (draws_on s c.args.place done c.args.all.now.items l.all.items placed i.drawn.3 i.drawn.2 (c.in_ok-datagrams.ensures ∙ ap (map (datagram s)) (c.deref.ensures.value ∙ ap (λ (a : Answered). a.orders) c.answer.view_is))),
       );
-      answered = All-tail (WasAnswered s) answer later (All-same (WasAnswered s) (answer ∷ later) (into_iter_items l.answer-iterator) (sym steps.0) i.answered);
     }

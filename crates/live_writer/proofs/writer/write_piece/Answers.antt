@@ -1,8 +1,6 @@
 -- What became of the events of a piece.
-use Rattle.std.proofs.Common.{◌∙◌, subst, arith}
-use Rattle.rams_model.specs.Service.{Settings}
-use Rattle.channel_book.specs.{IsLegal}
-use Rattle.live_writer.proofs.Placing.{piece_told, length_answers, all_answered}
+use Rattle.std.proofs.Common.{arith}
+use Rattle.live_writer.proofs.Placing.{piece_told, length_answers}
 use Rattle.live_writer.proofs.writer.write_piece.Goals as goal
 
 pub draw_all-requires-clause-places : goal.draw_all-requires-clause-places
@@ -10,14 +8,6 @@ draw_all-requires-clause-places g c =
     let s = g.S.Shared in
     let told = c.in_ok-place.ensures in
     omega (arith, told.places, length_answers (s.list c.args.pass.now) c.args.events.items (s.seen c.args.pass.now) c.in_ok-place.place c.in_ok-place.answers.items (s.seen c.step_all.new.pass) told.told)
-
-pub draw_all-requires-clause-answered : goal.draw_all-requires-clause-answered
-draw_all-requires-clause-answered g c κs within =
-    let s = g.S.Shared in
-    let new = s.seen c.step_all.new.pass in
-    let told = c.in_ok-place.ensures in
-    let legal = subst (λ (t : Settings). IsLegal t new) (told.settings ∙ c.requires.settings) told.legal in
-    all_answered (s.list c.args.pass.now) c.args.config.now c.args.events.items (s.seen c.args.pass.now) c.in_ok-place.place c.in_ok-place.answers.items new told.told legal
 
 pub returns-clause-told : goal.returns-clause-told
 returns-clause-told g c =
