@@ -41,6 +41,12 @@ fn write_note<K: Sink>(
     ensures steady { (room : ℕ) → K.is_steady sink.old (length writer.old.gather + length (world_line event note.now) + room)
         → OnlyMemoryStops result (K.is_steady sink.new (length writer.new.gather + room)) }
 {
-    append_world_note(&mut writer.pen, writer.gather.text(), event, note)?;
+    append_world_note(
+        &mut writer.pen,
+        writer.gather.text(),
+        &mut writer.datagram,
+        event,
+        note,
+    )?;
     settle(&mut writer.gather, sink)
 }

@@ -1,3 +1,4 @@
+pub mod Spelling
 pub mod World
 pub mod Sources
 pub mod Turns

@@ -8,8 +8,10 @@
 pub mod channels;
 pub mod laws;
 pub mod rows;
+mod sent_bytes;
 mod world;
 
 pub use rams_model::{InfoCame, MediaCame, Note, Octets};
+pub use sent_bytes::SentBytes;
 pub use server_hub::HubEvent;
 pub use world::{WorldEvent, WorldItem, WorldNote};

@@ -1,4 +1,5 @@
 //! What happens in a world, and what is said of it.
+use crate::sent_bytes::SentBytes;
 use bytes::Bytes;
 use rams_model::{InfoCame, MediaCame, Note, Octets};
 use server_hub::HubEvent;
@@ -28,7 +29,7 @@ pub enum WorldItem {
     /// A note of the channel.
     Note(Note),
     /// A datagram of the server to this client.
-    Send { client: u64, bytes: Bytes },
+    Send { client: u64, bytes: SentBytes },
     /// A datagram of this client's receiver to the feedback target (RFC 4585).
     Post { client: u64, bytes: Bytes },
     /// What became of a RAMS-I (RFC 6285, 7.3) that was delivered.

@@ -1,5 +1,4 @@
 pub mod Loops
-pub mod Cutting
 pub mod AllShown
 pub mod Turned
 pub mod Listeners

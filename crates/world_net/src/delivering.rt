@@ -55,10 +55,11 @@ impl Parts {
         ensures few { (n : ℕ) → AreFew n self.old → AreFew (n + 1) self.new }
     {
         let parcel = &self.parcels[at];
+        parcel.spell(&mut self.room)?;
         let heard = Heard::Feedback {
             id: parcel.id(),
             client: parcel.client(),
-            bytes: parcel.bytes(),
+            bytes: &self.room,
         };
         let answer = self.hub.hear(alloc, heard)?;
         tell(alloc, &self.hub, &answer, notes, &mut self.parcels)
@@ -75,8 +76,8 @@ impl Parts {
         let Some(place) = self.listening(id, client) else {
             return say(notes, id, WorldItem::NoReceiver(client));
         };
-        let bytes = self.parcels[at].bytes();
-        hear_info(&mut self.seats[place], id, client, bytes, notes)
+        self.parcels[at].spell(&mut self.room)?;
+        hear_info(&mut self.seats[place], id, client, &self.room, notes)
     }
 
     // So does the retransmission of the source's packet `n`, unless that is too far away.
@@ -100,8 +101,16 @@ impl Parts {
         if self.seats[place].is_too_far(n) {
             return say(notes, id, WorldItem::TooFar(client));
         }
-        let bytes = self.parcels[at].bytes();
-        hear_again(alloc, &mut self.seats[place], id, client, n, bytes, notes)
+        self.parcels[at].spell(&mut self.room)?;
+        hear_again(
+            alloc,
+            &mut self.seats[place],
+            id,
+            client,
+            n,
+            &self.room,
+            notes,
+        )
     }
 
     // One above the number of the newest packet that a channel holds, which has room for one; `None`

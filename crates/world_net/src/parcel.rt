@@ -1,16 +1,17 @@
 //! The datagrams of a world.
-ghost use Rattle.std.specs.Prelude.{◌≡◌, IfOk};
-ghost use Rattle.rams_model.specs.Service.{client_of};
+ghost use Rattle.std.specs.Prelude.{◌≡◌, IfOk, OnOk};
+ghost use Rattle.rams_model.specs.Service.{client_of, datagram};
 ghost use Rattle.world_laws.specs.{posts, way_of};
 ghost use Rattle.world_laws.specs.declared.world.WorldItem.TheVariants as item;
-ghost use Rattle.world_net.specs.{as_way};
+ghost use Rattle.world_net.specs.{as_way, sent_of};
 
 use bytes::Bytes;
-use order_datagrams::Config;
+use order_datagrams::{Config, render_order};
 use ram_io::NoMemory;
 use rams_model::Order;
+use std::alloc::Global;
 use std::marker::Model;
-use world_laws::WorldItem;
+use world_laws::{SentBytes, WorldItem};
 
 /// Why a datagram was sent.
 #[derive(Clone, Copy, Debug)]
@@ -29,7 +30,7 @@ pub(crate) struct Parcel {
     id: u16,
     client: u64,
     way: Way,
-    bytes: Bytes,
+    bytes: SentBytes,
 }
 
 impl Model for Parcel {
@@ -50,20 +51,20 @@ impl Parcel {
             id,
             client,
             way: Way::Posts,
-            bytes,
+            bytes: SentBytes::whole(bytes),
         }
     }
 
-    /// The datagram of an order of a channel with these settings, which is these bytes.
-    pub(crate) fn ordered(config: &Config, order: &Order, bytes: Bytes) -> Parcel
-        ensures { result ≡ record { id = config.now.channel.id; client = client_of order.now; way = way_of order.now; bytes = bytes } }
+    /// The datagram of an order of a channel with these settings.
+    pub(crate) fn ordered(alloc: Global, config: &Config, order: &Order) -> Result<Parcel, NoMemory>
+        ensures { IfOk result (λ parcel. parcel ≡ sent_of config.now order.now) }
     {
-        Parcel {
+        Ok(Parcel {
             id: config.channel().id,
             client: client_of(order),
             way: way_of(order),
-            bytes,
-        }
+            bytes: bytes_of(alloc, config, order)?,
+        })
     }
 
     /// The number of its channel.
@@ -86,10 +87,12 @@ impl Parcel {
         self.way
     }
 
-    pub(crate) fn bytes(&self) -> &[u8]
-        ensures { result.now ≡ self.now.bytes }
+    /// Its bytes stand in `room` then; what stood there goes.
+    pub(crate) fn spell(&self, room: &mut Vec<u8>) -> Result<(), NoMemory>
+        ensures { OnOk result (room.new.items ≡ self.now.bytes) }
     {
-        &self.bytes
+        room.clear();
+        self.bytes.append_to(room)
     }
 
     /// What is said of it where the server sent it.
@@ -98,18 +101,25 @@ impl Parcel {
     {
         Ok(WorldItem::Send {
             client: self.client,
-            bytes: self.bytes.clone()?,
+            bytes: self.bytes.share()?,
         })
     }
+}
 
-    /// What is said of it where a receiver posted it.
-    pub(crate) fn as_posted(&self) -> Result<WorldItem, NoMemory>
-        ensures { IfOk result (λ said. said ≡ item.Post self.now.client self.now.bytes) }
-    {
-        Ok(WorldItem::Post {
-            client: self.client,
-            bytes: self.bytes.clone()?,
-        })
+// The bytes of an order's datagram.
+#[tactic(auto, unfolding(rams_model::specs::Service::Orders::datagram))]
+fn bytes_of(alloc: Global, config: &Config, order: &Order) -> Result<SentBytes, NoMemory>
+    ensures { IfOk result (λ bytes. bytes ≡ datagram config.now order.now) }
+{
+    match order {
+        Order::Rtx { seq, packet, .. } => {
+            let rtx = config.channel().rtx;
+            Ok(SentBytes::again(packet.clone()?, rtx, *seq))
+        }
+        Order::Info { .. } => {
+            let text = render_order(alloc, config, order)?;
+            Ok(SentBytes::whole(Bytes::from_vec(text)?))
+        }
     }
 }
 

@@ -20,6 +20,8 @@ pub(crate) struct Parts {
     pub places: BTreeMap<(u16, u64), usize>,
     /// The receivers, in the order in which they were tuned.
     pub seats: Vec<Seat>,
+    /// A datagram is spelled here where it is delivered.
+    pub room: Vec<u8>,
 }
 
 impl Parts {

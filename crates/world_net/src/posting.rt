@@ -8,7 +8,7 @@ use crate::telling::say;
 use bytes::Bytes;
 use ram_io::NoMemory;
 use rams_model::Octets;
-use world_laws::WorldNote;
+use world_laws::{WorldItem, WorldNote};
 
 /// Adds a datagram that a client's receiver posts, and what is said of it.
 pub(crate) fn post(
@@ -21,9 +21,13 @@ pub(crate) fn post(
     ensures notes { OnOk result (notes.new.items ≡ notes.old.items ++ post_at id client datagram.items ∷ []) }
     ensures parcels { OnOk result (parcels.new.items ≡ parcels.old.items ++ posted_at id client datagram.items ∷ []) }
 {
-    let parcel = Parcel::posted(id, client, Bytes::from_vec(datagram)?);
-    say(notes, id, parcel.as_posted()?)?;
-    parcels.push(parcel)?;
+    let bytes = Bytes::from_vec(datagram)?;
+    let item = WorldItem::Post {
+        client,
+        bytes: bytes.clone()?,
+    };
+    say(notes, id, item)?;
+    parcels.push(Parcel::posted(id, client, bytes))?;
     Ok(())
 }
 

@@ -52,6 +52,7 @@ impl World {
                 parcels: Vec::new(alloc),
                 places: BTreeMap::new(alloc),
                 seats: Vec::new(alloc),
+                room: Vec::new(alloc),
             },
             calls: 0,
             cut_off: false,

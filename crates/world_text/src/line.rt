@@ -1,20 +1,21 @@
 //! The lines of what is said in a world.
 ghost use Rattle.std.specs.Prelude.{◌≡◌, ◌∷◌, ◌++◌, ◌+◌, ◌≤◌, OnErr, OnOk, codes, length};
-ghost use Rattle.rams_model.specs.Texts.{spaced, of_word, hex_word, book_line};
+ghost use Rattle.rams_model.specs.Texts.{spaced, of_word, hex_word, book_line, send_line};
 ghost use Rattle.world_text.specs.{info_words, media_word, bytes_line, named_line, item_line, world_line};
 ghost use Rattle.world_laws.specs.declared.world.WorldItem.TheVariants as item;
 
 use book_text::{Pen, Tail, append_no_channel, append_send, append_with_hex, begin};
 use ram_io::NoMemory;
 use rams_model::{InfoCame, MediaCame};
-use world_laws::{WorldItem, WorldNote};
+use world_laws::{SentBytes, WorldItem, WorldNote};
 
 /// The line of a note: `EVENT ID`, and its words, as `9 7 info 5 taken`; `EVENT no-datagram NUMBER`
-/// of a datagram that isn't there.
+/// of a datagram that isn't there. A datagram that the server sends is made in `room`.
 #[tactic(auto, unfolding(crate::specs::WorldLines::world_line))]
 pub fn append_world_note(
     pen: &mut Pen,
     text: &mut Vec<u8>,
+    room: &mut Vec<u8>,
     event: u64,
     note: &WorldNote,
 ) -> Result<(), NoMemory>
@@ -25,7 +26,7 @@ pub fn append_world_note(
     match &note.item {
         WorldItem::NoChannel(_) => append_no_channel(text, event, id),
         WorldItem::Note(note) => pen.append_note(text, event, id, note),
-        WorldItem::Send { client, bytes } => append_send(text, event, id, *client, bytes),
+        WorldItem::Send { client, bytes } => append_sent(text, room, event, id, *client, bytes),
         WorldItem::Post { client, bytes } => append_post(text, event, id, *client, bytes),
         WorldItem::Info { client, came } => append_info(text, event, id, *client, *came),
         WorldItem::Media { client, came } => append_media(text, event, id, *client, *came),
@@ -38,6 +39,23 @@ pub fn append_world_note(
         WorldItem::NoPacket(n) => append_named(text, event, id, b"no-packet", *n),
         WorldItem::TooFar(client) => append_named(text, event, id, b"too-far", *client),
     }
+}
+
+// A datagram that the server sends: `EVENT ID send CLIENT HEX`, with `-` for no bytes.
+fn append_sent(
+    text: &mut Vec<u8>,
+    room: &mut Vec<u8>,
+    event: u64,
+    id: u16,
+    client: u64,
+    bytes: &SentBytes,
+) -> Result<(), NoMemory>
+    ensures text { OnOk result (text.new.items ≡ text.old.items ++ send_line event id client bytes.now) }
+    ensures err { OnErr result (text.new.items ≡ text.old.items) }
+{
+    room.clear();
+    bytes.append_to(room)?;
+    append_send(text, event, id, client, room)
 }
 
 // A datagram that a receiver posts: `EVENT ID post CLIENT HEX`.

@@ -30,12 +30,12 @@ returns-clause-goes c = λ w d k is.
     let new = c.hear_info.new.notes.items in
     let i : c.id-id.result ≡ d.id = c.id-id.ensures ∙ ap (λ (x : Datagram). x.id) (parcel_is _ _ d _ c.requires.there is c.index.ensures) in
     let n : c.client-client.result ≡ d.client = c.client-client.ensures ∙ ap (λ (x : Datagram). x.client) (parcel_is _ _ d _ c.requires.there is c.index-2.ensures) in
-    let b : c.bytes-bytes.result.now ≡ d.bytes = c.bytes-bytes.ensures ∙ ap (λ (x : Datagram). x.bytes) (parcel_is _ _ d _ c.requires.there is c.index-3.ensures) in
+    let b : c.deref.result.now ≡ d.bytes = c.deref.ensures.value ∙ c.in_ok-spell.ensures ∙ ap (λ (x : Datagram). x.bytes) (parcel_is _ _ d _ c.requires.there is c.index-3.ensures) in
     let s = sits v c.id-id.result c.client-client.result c.in-Some.place c.in-Some.ensures in
     let x = listens_there v w _ _ _ s k in
     let f : List ℕ → Listener → Step = λ y l. hearing (told_by l.tuned y) l w in
     let later : Kept = record { hub = v.hub; packets = v.packets; parcels = v.parcels; places = v.places; seats = set v.seats c.in-Some.place c.hear_info.new.seat } in
     ok_then c.hear_info.result (c.hear_info.ensures.takes x.listener (follows_so v w _ _ _ s x _ c.index_mut.ensures.value) x.at) (λ t.
     let r = of_three (Went later old new) (λ (a m : ℕ) (y : List ℕ). if_listening a m (listener_of a m w) w (f y)) _ _ _ _ _ _ i n b
-    (is_listening v w _ _ _ s x (f c.bytes-bytes.result.now) (Went later old new) (turned v w _ _ _ s x _ _ [] _ old new [] [] v.parcels k t (sym (append-nil v.parcels)))) in
+    (is_listening v w _ _ _ s x (f c.deref.result.now) (Went later old new) (turned v w _ _ _ s x _ _ [] _ old new [] [] v.parcels k t (sym (append-nil v.parcels)))) in
     record { notes = r.0; stands = r.1 })

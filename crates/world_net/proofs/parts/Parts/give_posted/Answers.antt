@@ -15,7 +15,7 @@ returns-clause-goes c = λ w d k is.
     ok_both c.tell.result c.tell.ensures.notes c.tell.ensures.parcels (λ said sent.
     let later : Kept = record { hub = c.hear.new.self; packets = v.packets; parcels = c.tell.new.parcels.items; places = v.places; seats = v.seats } in
     let r = of_three (Went later c.args.notes.now.items c.tell.new.notes.items) (λ (i n : ℕ) (b : List ℕ). serving (Feedback i n b) w) _ _ _ _ _ _ (c.id.ensures ∙ ap (λ (x : Datagram). x.id) same)
-    (c.client.ensures ∙ ap (λ (x : Datagram). x.client) same) (c.bytes.ensures ∙ ap (λ (x : Datagram). x.bytes) same)
-    (served (Feedback c.id.result c.client.result c.bytes.result.now) w v c.hear.new.self (told c.in_ok-answer.answer) v.packets c.tell.new.parcels.items _ _ k
+    (c.client.ensures ∙ ap (λ (x : Datagram). x.client) same) (c.deref.ensures.value ∙ c.in_ok-spell.ensures ∙ ap (λ (x : Datagram). x.bytes) same)
+    (served (Feedback c.id.result c.client.result c.deref.result.now) w v c.hear.new.self (told c.in_ok-answer.answer) v.packets c.tell.new.parcels.items _ _ k
     (c.in_ok-answer.ensures.stands w.channels k.hub) c.hear.ensures.settings c.hear.ensures.lawful (λ i m. refl) said sent) in
     record { notes = r.0; stands = r.1 })
