@@ -1,37 +1,138 @@
 //! A ticker and takers, by hand and on threads.
-ghost use Rattle.std.specs.Prelude.{◌≡◌, ◌<◌, ◌≤◌, [], IfOk};
+ghost use Rattle.std.specs.Prelude.{◌≡◌, ◌+◌, ◌^◌, ◌<◌, ◌≤◌, [], All, IfErr, IfOk};
+ghost use Rattle.link_pool.specs.{claimed};
 
 use ledger_text::append_ledger;
-use link_pool::{NoMemory, Pool, PoolFault, Taker};
+use link_pool::{Ledger, NoMemory, Pool, PoolFault, Taker, Ticker};
+use std::alloc::Global;
+use std::process::Abort;
 use std::test::Fail;
 use std::thread;
 use std::thread::Threads;
+
+/// A link of two takers, to which nothing was granted.
+fn two_takers(rt: &impl Abort, alloc: Global) -> Result<(Pool, Ticker, Taker, Taker), Fail>
+    ensures made { IfOk result (λ r. (r.1.pool ≡ r.0.pool) × (r.2.pool ≡ r.0.pool) × (r.3.pool ≡ r.0.pool)) }
+    ensures none { IfOk result (λ r. (r.1.total ≡ 0) × (r.2.claims ≡ []) × (r.3.claims ≡ [])) }
+{
+    let (pool, ticker, mut takers) = Pool::new(alloc, 2)?;
+    let second = takers.pop().expect(rt, "the second");
+    let first = takers.pop().expect(rt, "the first");
+    Ok((pool, ticker, first, second))
+}
+
+/// The first byte of a claim. The call stands alone, as its contract is long.
+fn claim(pool: &Pool, taker: &mut Taker, bytes: u64) -> Result<u64, NoMemory>
+    requires made { taker.old.pool ≡ pool.now.pool }
+    requires bytes { (0 < bytes) × (claimed taker.old.claims + bytes ≤ 2 ^ 48) }
+    ensures pool { taker.new.pool ≡ taker.old.pool }
+    ensures claimed { IfOk result (λ _. claimed taker.new.claims ≡ claimed taker.old.claims + bytes) }
+{
+    pool.claim(taker, bytes)
+}
+
+/// The takers of a link, and one more.
+fn one_more(
+    alloc: Global,
+    pool: &Pool,
+    takers: Vec<Taker>,
+    taker: Taker,
+) -> Result<Vec<Taker>, Fail>
+    requires all { All (λ t. t.pool ≡ pool.now.pool) takers.items }
+    requires made { taker.pool ≡ pool.now.pool }
+    ensures { IfOk result (λ all. All (λ t. t.pool ≡ pool.now.pool) all.items) }
+{
+    let mut all = takers;
+    all.push(taker)?;
+    Ok(all)
+}
+
+/// The call that closes a pool. It stands alone, as its contract is long.
+fn closed(
+    alloc: Global,
+    pool: Pool,
+    ticker: Ticker,
+    takers: Vec<Taker>,
+) -> Result<Ledger, (Pool, Ticker, Vec<Taker>, PoolFault)>
+    requires ticker { ticker.pool ≡ pool.pool }
+    requires takers { All (λ t. t.pool ≡ pool.pool) takers.items }
+    ensures few { IfOk result (λ ledger. claimed ledger.claims.items < 2 ^ 64) }
+    ensures back { IfErr result (λ r. (r.0 ≡ pool) × (r.1 ≡ ticker) × (r.2.items ≡ takers.items)) }
+{
+    pool.close(alloc, ticker, takers)
+}
+
+/// Two takers claim in turn, of what two ticks grant.
+fn expect_claims(
+    rt: &impl Abort,
+    pool: &Pool,
+    ticker: &mut Ticker,
+    first: &mut Taker,
+    last: &mut Taker,
+) -> Result<(), Fail>
+    requires made { (ticker.old.pool ≡ pool.now.pool) × (first.old.pool ≡ pool.now.pool) × (last.old.pool ≡ pool.now.pool) }
+    requires none { (ticker.old.total ≡ 0) × (first.old.claims ≡ []) × (last.old.claims ≡ []) }
+    ensures { (ticker.new.pool ≡ pool.now.pool) × (first.new.pool ≡ pool.now.pool) × (last.new.pool ≡ pool.now.pool) }
+{
+    assert_eq!(rt; (first.number(), last.number()), (0, 1), "their numbers");
+    pool.grant(ticker, 1500);
+    pool.grant(ticker, 1500);
+    assert_eq!(rt; ticker.total(), 3000, "what was granted");
+    assert_eq!(rt; claim(pool, last, 1500)?, 0, "the first bytes");
+    assert_eq!(rt; claim(pool, first, 1500)?, 1500, "the next");
+    assert_eq!(rt; claim(pool, last, 1)?, 3000, "one more");
+    assert_eq!(rt; last.claims().len(), 2, "its own claims");
+    Ok(())
+}
+
+/// With one taker missing all comes back.
+fn expect_open(
+    rt: &impl Abort,
+    alloc: Global,
+    pool: Pool,
+    ticker: Ticker,
+    takers: Vec<Taker>,
+) -> Result<(Pool, Ticker, Vec<Taker>), Fail>
+    requires ticker { ticker.pool ≡ pool.pool }
+    requires takers { All (λ t. t.pool ≡ pool.pool) takers.items }
+    ensures { IfOk result (λ r. (r.0 ≡ pool) × (r.1 ≡ ticker) × (r.2.items ≡ takers.items)) }
+{
+    let Err((pool, ticker, takers, fault)) = closed(alloc, pool, ticker, takers) else {
+        panic!(rt; "closed with one taker missing");
+    };
+    let want = PoolFault::Passes { made: 2, given: 1 };
+    assert_eq!(rt; fault, want, "why it isn't closed");
+    Ok((pool, ticker, takers))
+}
+
+/// With all takers there is a ledger.
+fn expect_ledger(
+    rt: &impl Abort,
+    alloc: Global,
+    pool: Pool,
+    ticker: Ticker,
+    takers: Vec<Taker>,
+) -> Result<Ledger, Fail>
+    requires ticker { ticker.pool ≡ pool.pool }
+    requires takers { All (λ t. t.pool ≡ pool.pool) takers.items }
+    ensures { IfOk result (λ ledger. claimed ledger.claims.items < 2 ^ 64) }
+{
+    let Ok(ledger) = closed(alloc, pool, ticker, takers) else {
+        panic!(rt; "not closed with all takers");
+    };
+    Ok(ledger)
+}
 
 /// Two takers claim in turn; the pool is closed once both are given back.
 #[test]
 fn a_pool_is_closed_with_all_its_takers(rt: HostRuntime) -> Result<(), Fail> {
     let alloc = rt.alloc();
-    let (pool, mut ticker, mut takers) = Pool::new(alloc, 2)?;
-    let mut last = takers.pop().expect(&rt, "the second");
-    let mut first = takers.pop().expect(&rt, "the first");
-    assert_eq!(&rt; (first.number(), last.number()), (0, 1), "their numbers");
-    pool.grant(&mut ticker, 1500);
-    pool.grant(&mut ticker, 1500);
-    assert_eq!(&rt; ticker.total(), 3000, "what was granted");
-    assert_eq!(&rt; pool.claim(&mut last, 1500)?, 0, "the first bytes");
-    assert_eq!(&rt; pool.claim(&mut first, 1500)?, 1500, "the next");
-    assert_eq!(&rt; pool.claim(&mut last, 1)?, 3000, "one more");
-    assert_eq!(&rt; last.claims().len(), 2, "its own claims");
-    takers.push(first)?;
-    let Err((pool, ticker, mut takers, fault)) = pool.close(alloc, ticker, takers) else {
-        panic!(&rt; "closed with one taker missing");
-    };
-    let want = PoolFault::Passes { made: 2, given: 1 };
-    assert_eq!(&rt; fault, want, "why it isn't closed");
-    takers.push(last)?;
-    let Ok(ledger) = pool.close(alloc, ticker, takers) else {
-        panic!(&rt; "not closed with all takers");
-    };
+    let (pool, mut ticker, mut first, mut last) = two_takers(&rt, alloc)?;
+    expect_claims(&rt, &pool, &mut ticker, &mut first, &mut last)?;
+    let one = one_more(alloc, &pool, Vec::new(alloc), first)?;
+    let (pool, ticker, one) = expect_open(&rt, alloc, pool, ticker, one)?;
+    let both = one_more(alloc, &pool, one, last)?;
+    let ledger = expect_ledger(&rt, alloc, pool, ticker, both)?;
     let mut text = Vec::new(alloc);
     append_ledger(&mut text, &[7, 8], &ledger)?;
     let want =
@@ -48,7 +149,7 @@ fn claim_often(pool: &Pool, mut taker: Taker, bytes: u64) -> Result<Taker, NoMem
     ensures { IfOk result (λ t. t.pool ≡ pool.now.pool) }
 {
     for _time in 0..1000u32 {
-        pool.claim(&mut taker, bytes)?;
+        claim(pool, &mut taker, bytes)?;
     }
     Ok(taker)
 }
@@ -82,15 +183,11 @@ fn claim_beside<R: Threads>(
 #[test]
 fn claims_of_two_threads_fill_the_link(rt: HostRuntime) -> Result<(), Fail> {
     let alloc = rt.alloc();
-    let (pool, ticker, mut takers) = Pool::new(alloc, 2)?;
-    let second = takers.pop().expect(&rt, "the second");
-    let first = takers.pop().expect(&rt, "the first");
+    let (pool, ticker, first, second) = two_takers(&rt, alloc)?;
     let (first, second) = claim_beside(&rt, &pool, first, second)?;
-    takers.push(first)?;
-    takers.push(second)?;
-    let Ok(ledger) = pool.close(alloc, ticker, takers) else {
-        panic!(&rt; "not closed with all takers");
-    };
+    let one = one_more(alloc, &pool, Vec::new(alloc), first)?;
+    let both = one_more(alloc, &pool, one, second)?;
+    let ledger = expect_ledger(&rt, alloc, pool, ticker, both)?;
     let mut end: u64 = 0;
     for claim in &ledger.claims {
         assert_eq!(&rt; claim.from, end, "without gap or overlap");

@@ -1,9 +1,9 @@
 //! Lists of one channel on threads.
-ghost use Rattle.std.specs.Prelude.{◌<◌};
+ghost use Rattle.std.specs.Prelude.{◌≡◌, ◌^◌, ◌<◌, ◌≤◌, All, IfOk, length};
 
 use crate::fixtures::{new_core, packet, pair, request};
 use crate::gates::{Meeting, Point};
-use ram_io::Open;
+use ram_io::{Gate, Open};
 use rams_model::{Event, Octets};
 use session_worker::{Worked, run_lists};
 use std::alloc::{AllocError, Global};
@@ -14,6 +14,21 @@ use std::thread::Threads;
 
 /// Packets of the long list. So many orders of one answer are rendered by several threads, where there may be.
 const PACKETS: u16 = 20_000;
+
+/// The call of the lists. It stands alone, as its contract is long.
+fn run<G: Gate + Sync>(
+    rt: &(impl Threads + Wait + Sync),
+    alloc: Global,
+    lists: Vec<Vec<Event>>,
+    workers: u32,
+    gate: &G,
+) -> Result<Worked, Fail>
+    requires lists { (0 < length lists.items) × (length lists.items ≤ 32) }
+    requires short { All (λ l. length l.items ≤ 2 ^ 34) lists.items }
+    requires workers { 0 < workers }
+{
+    Ok(run_lists(rt, alloc, new_core(alloc)?, lists, workers, gate)?)
+}
 
 /// The threads of two packets and of two ticks wait for each other at this point.
 fn expect_meeting(
@@ -27,7 +42,7 @@ fn expect_meeting(
     let ticks = pair(alloc, Event::Tick, Event::Tick)?;
     let gate = Meeting::new(point);
     let lists = vec![in alloc; packets, ticks]?;
-    let worked = run_lists(rt, alloc, new_core(alloc)?, lists, 2, &gate)?;
+    let worked = run(rt, alloc, lists, 2, &gate)?;
     assert!(rt; gate.was_held(), "both were there at once");
     assert_eq!(rt; worked.book.entries().len(), 4, "each event once");
     assert_eq!(rt; worked.drawn.len(), 4, "with its datagrams");
@@ -57,6 +72,25 @@ fn burst(alloc: Global) -> Result<Vec<Event>, AllocError> {
     Ok(list)
 }
 
+/// The list, which is as short as one must be.
+fn short(rt: &impl Abort, list: Vec<Event>) -> Vec<Event>
+    ensures { length result.items ≤ 2 ^ 34 }
+{
+    assert!(rt; list.len() <= 1 << 20, "a short list");
+    list
+}
+
+/// The list alone.
+fn alone(alloc: Global, list: Vec<Event>) -> Result<Vec<Vec<Event>>, AllocError>
+    requires { length list.items ≤ 2 ^ 34 }
+    ensures one { IfOk result (λ lists. length lists.items ≡ 1) }
+    ensures short { IfOk result (λ lists. All (λ l. length l.items ≤ 2 ^ 34) lists.items) }
+{
+    let mut lists = Vec::new(alloc);
+    lists.push(list)?;
+    Ok(lists)
+}
+
 /// One list, rendered by so many threads.
 fn worked(
     rt: &(impl Threads + Wait + Abort + Sync),
@@ -65,10 +99,9 @@ fn worked(
 ) -> Result<Worked, Fail>
     requires { 0 < workers }
 {
-    let list = burst(alloc)?;
-    assert!(rt; list.len() <= 1 << 20, "a short list");
-    let lists = vec![in alloc; list]?;
-    Ok(run_lists(rt, alloc, new_core(alloc)?, lists, workers, &Open)?)
+    let list = short(rt, burst(alloc)?);
+    let lists = alone(alloc, list)?;
+    run(rt, alloc, lists, workers, &Open)
 }
 
 fn are_same(some: &[Octets], others: &[Octets]) -> bool {

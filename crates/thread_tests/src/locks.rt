@@ -1,8 +1,8 @@
 //! A lock of three seats.
-ghost use Rattle.std.specs.Prelude.{◌≡◌, ◌<◌, IfOk};
+ghost use Rattle.std.specs.Prelude.{◌≡◌, ◌<◌, All, IfErr, IfOk};
 
 use crate::fixtures::new_core;
-use channel_lock::{ChannelLock, CloseFault, Pass};
+use channel_lock::{Book, ChannelLock, CloseFault, Pass};
 use std::alloc::Global;
 use std::process::Abort;
 use std::sync::Wait;
@@ -20,6 +20,21 @@ fn three_seats(rt: &impl Abort, alloc: Global) -> Result<(ChannelLock, Pass, Pas
     Ok((lock, first, second, third))
 }
 
+/// The place of a tick. The call stands alone, as its contract is long.
+fn place_of_tick(
+    rt: &impl Wait,
+    alloc: Global,
+    lock: &ChannelLock,
+    pass: &mut Pass,
+) -> Result<u64, Fail>
+    requires made { pass.old.lock ≡ lock.now.lock }
+    requires left { 0 < pass.old.left }
+    ensures { pass.new.lock ≡ lock.now.lock }
+{
+    let (place, _) = lock.tick(rt, alloc, pass)?;
+    Ok(place)
+}
+
 /// A tick of each; then the first learns of the other's.
 fn expect_ticks(
     rt: &(impl Wait + Abort),
@@ -32,14 +47,59 @@ fn expect_ticks(
     requires left { (0 < first.old.left) × (0 < second.old.left) }
     ensures { (first.new.lock ≡ lock.now.lock) × (second.new.lock ≡ lock.now.lock) }
 {
-    let (place, _) = lock.tick(rt, alloc, first)?;
+    let place = place_of_tick(rt, alloc, lock, first)?;
     assert_eq!(rt; place, 0, "the place of its tick");
-    let (place, _) = lock.tick(rt, alloc, second)?;
+    let place = place_of_tick(rt, alloc, lock, second)?;
     assert_eq!(rt; place, 1, "the place of the other");
     assert_eq!(rt; first.seen(), 1, "its own call");
     lock.meet(first, second);
     assert_eq!(rt; first.seen(), 2, "and what the other had seen");
     Ok(())
+}
+
+/// The passes of a lock, and one more.
+fn one_more(
+    alloc: Global,
+    lock: &ChannelLock,
+    passes: Vec<Pass>,
+    pass: Pass,
+) -> Result<Vec<Pass>, Fail>
+    requires all { All (λ p. p.lock ≡ lock.now.lock) passes.items }
+    requires made { pass.lock ≡ lock.now.lock }
+    ensures { IfOk result (λ all. All (λ p. p.lock ≡ lock.now.lock) all.items) }
+{
+    let mut all = passes;
+    all.push(pass)?;
+    Ok(all)
+}
+
+/// The call that closes a lock. It stands alone, as its contract is long.
+fn closed(
+    lock: ChannelLock,
+    passes: Vec<Pass>,
+) -> Result<Book, (ChannelLock, Vec<Pass>, CloseFault)>
+    requires { All (λ p. p.lock ≡ lock.lock) passes.items }
+    ensures { IfErr result (λ r. (r.0 ≡ lock) × (r.1.items ≡ passes.items)) }
+{
+    lock.close(passes)
+}
+
+/// With two passes all comes back.
+fn expect_open(
+    rt: &impl Abort,
+    lock: ChannelLock,
+    passes: Vec<Pass>,
+) -> Result<(ChannelLock, Vec<Pass>), Fail>
+    requires { All (λ p. p.lock ≡ lock.lock) passes.items }
+    ensures { IfOk result (λ r. (r.0 ≡ lock) × (r.1.items ≡ passes.items)) }
+{
+    let Err((lock, passes, fault)) = closed(lock, passes) else {
+        panic!(rt; "closed with one pass missing");
+    };
+    let want = CloseFault::Passes { made: 3, given: 2 };
+    assert_eq!(rt; fault, want, "why it isn't closed");
+    assert_eq!(rt; passes.len(), 2, "all is given back");
+    Ok((lock, passes))
 }
 
 /// With two passes all comes back; with three there is a book.
@@ -53,17 +113,11 @@ fn expect_closing(
 ) -> Result<(), Fail>
     requires { (first.lock ≡ lock.lock) × (second.lock ≡ lock.lock) × (third.lock ≡ lock.lock) }
 {
-    let mut passes = Vec::new(alloc);
-    passes.push(first)?;
-    passes.push(second)?;
-    let Err((lock, mut passes, fault)) = lock.close(passes) else {
-        panic!(rt; "closed with one pass missing");
-    };
-    let want = CloseFault::Passes { made: 3, given: 2 };
-    assert_eq!(rt; fault, want, "why it isn't closed");
-    assert_eq!(rt; passes.len(), 2, "all is given back");
-    passes.push(third)?;
-    let Ok(book) = lock.close(passes) else {
+    let one = one_more(alloc, &lock, Vec::new(alloc), first)?;
+    let two = one_more(alloc, &lock, one, second)?;
+    let (lock, two) = expect_open(rt, lock, two)?;
+    let all = one_more(alloc, &lock, two, third)?;
+    let Ok(book) = closed(lock, all) else {
         panic!(rt; "not closed with all passes");
     };
     assert_eq!(rt; book.entries().len(), 2, "the two ticks");
