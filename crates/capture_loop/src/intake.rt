@@ -84,7 +84,7 @@ fn take_into<S: Source>(source: &mut S, bytes: &mut [u8], at: usize) -> Result<u
 impl Intake {
     /// An intake that has these bytes.
     pub(crate) fn new(alloc: Global, bytes: &[u8]) -> Result<Intake, NoMemory>
-        requires { length bytes.now ≤ 8192 }
+        requires { length bytes.now ≤ 65536 }
         ensures { IfOk result (λ intake. intake ≡ bytes.now) }
     {
         let mut room = buffer(alloc, ROOM)?;

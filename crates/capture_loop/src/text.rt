@@ -81,7 +81,7 @@ fn write_behind<S: Source, K: Sink, T: CaptureWatch>(
 ) -> Result<Status, Stop>
     requires port { port ≤ 65000 }
     requires few { length opened.now.ids.items ≤ 64 }
-    requires bytes { length bytes.now ≤ 8192 }
+    requires bytes { length bytes.now ≤ 65536 }
     ensures status { IfOk result IsCaptureEnd }
     ensures text { IfOk result (λ status. (channels : List Served) → Numbered opened.now.ids.items channels → IfTold (prepend_known bytes.now (S.left source.old))
         (λ xs. (status ≡ (file_text port channels (new_clock opened.now.hub.tick) xs).status)

@@ -18,10 +18,10 @@ pub record IsGrown (old new : List ℕ) (n : ℕ) : Type 0 where
   pub whole : new ≡ old ++ more
   pub count : length more ≡ n
 
--- the line and what is kept are ranges of a buffer of 8,192 bytes
+-- the line and what is kept are ranges of a buffer of 65,536 bytes
 pub record AreRanges (line end from to : ℕ) (bytes : List ℕ) : Type 0 where
   pub line_ordered : line ≤ end
-  pub line_within : end ≤ 8192
+  pub line_within : end ≤ 65536
   pub kept_ordered : from ≤ to
-  pub kept_within : to ≤ 8192
-  pub size : length bytes ≡ 8192
+  pub kept_within : to ≤ 65536
+  pub size : length bytes ≡ 65536

@@ -20,7 +20,7 @@ pub enum Next {
     End,
 }
 
-/// A reader of lines over one buffer of 8,192 bytes.
+/// A reader of lines over one buffer of 65,536 bytes.
 ///
 /// What it has taken of its source and not handed out yet, it keeps; so all reading of a source
 /// goes through one reader.
@@ -58,7 +58,7 @@ impl LineReader {
         ensures kept { IfOk result (λ reader. reader.kept ≡ []) }
     {
         Ok(LineReader {
-            bytes: buffer(alloc, 8192)?,
+            bytes: buffer(alloc, 65536)?,
             line: 0,
             end: 0,
             from: 0,
@@ -73,7 +73,7 @@ impl LineReader {
         &self.bytes[self.line..self.end]
     }
 
-    /// Reads the next line; a last line may lack its line feed. Takes 4,096 to 8,192
+    /// Reads the next line; a last line may lack its line feed. Takes 4,096 to 65,536
     /// bytes of the source at a time, as far as it gives them, and none where a whole line is kept.
     ///
     /// Where the source fails, nothing is lost, and no whole line is kept: the next call goes on. After
@@ -101,7 +101,7 @@ impl LineReader {
     /// source has left.
     pub fn kept(&self) -> &[u8]
         ensures kept { result.now ≡ self.now.kept }
-        ensures few { length result.now ≤ 8192 }
+        ensures few { length result.now ≤ 65536 }
     {
         &self.bytes[self.from..self.to]
     }
