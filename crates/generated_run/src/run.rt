@@ -1,6 +1,8 @@
 //! From a seed to the summary of its events.
-ghost use Rattle.std.specs.Prelude.{◌≡◌, ◌≤◌, IfOk};
+ghost use Rattle.std.specs.Prelude.{◌≡◌, ◌≤◌, [], IfOk};
+ghost use Rattle.session_core.specs.{StandsFor};
 ghost use Rattle.summary.specs.{made_summary};
+ghost use Rattle.trace_gen.specs.{config};
 
 use crate::serving::answer_to;
 use ram_io::NoMemory;
@@ -22,6 +24,21 @@ pub fn summary_of(alloc: Global, seed: u32, blocks: u32) -> Result<Vec<u8>, NoMe
     ensures { IfOk result (λ text. text.items ≡ made_summary seed blocks) }
 {
     let mut core = Core::new(alloc, &config_of())?;
+    summary_by(alloc, &mut core, seed, blocks)
+}
+
+/// The same by a core to which nothing came yet.
+fn summary_by(
+    alloc: Global,
+    core: &mut Core,
+    seed: u32,
+    blocks: u32,
+) -> Result<Vec<u8>, NoMemory>
+    requires settings { core.old.settings ≡ config }
+    requires stands { StandsFor core.old [] }
+    requires few { blocks ≤ 50000 }
+    ensures { IfOk result (λ text. text.items ≡ made_summary seed blocks) }
+{
     let mut at = Made::new(seed);
     let mut tally = Tally::new();
     let mut page = Vec::new(alloc);
@@ -29,7 +46,7 @@ pub fn summary_of(alloc: Global, seed: u32, blocks: u32) -> Result<Vec<u8>, NoMe
         let Some(kind) = event_into(blocks, &mut at, &mut page)? else {
             return tally.write(alloc, seed, blocks, events);
         };
-        tally.add(&answer_to(alloc, &mut core, kind, &page)?);
+        tally.add(&answer_to(alloc, core, kind, &page)?);
     }
     unreachable!()
 }

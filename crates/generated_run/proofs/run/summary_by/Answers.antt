@@ -5,12 +5,11 @@ use Rattle.trace_gen.specs.declared.page.Kind.{Kind}
 use Rattle.generated_run.specs.{IsBrief}
 use Rattle.generated_run.proofs.Brief.{next_is_brief}
 use Rattle.generated_run.proofs.Steps.{begins, goes_on, as_many, ends, is_few}
-use Rattle.generated_run.proofs.run.summary_of.Goals as goal
+use Rattle.generated_run.proofs.run.summary_by.Goals as goal
 
 pub loop-events-init : goal.loop-events-init
 loop-events-init c = (
-  begins c.args.seed c.args.blocks c.new-at.result c.in_ok-core.core c.new-tally.result (c.new-at.ensures.all c.args.blocks) (c.in_ok-core.ensures.settings ∙ c.config_of.ensures)
-      c.in_ok-core.ensures.stands c.new-tally.ensures,
+  begins c.args.seed c.args.blocks c.new-at.result c.args.core.now c.new-tally.result (c.new-at.ensures.all c.args.blocks) c.requires.settings c.requires.stands c.new-tally.ensures,
   ap (λ p. p.seed) c.new-at.ensures.value,
 )
 
@@ -31,13 +30,13 @@ answer_to-requires-clause-brief c =
 pub answer_to-requires-clause-few : goal.answer_to-requires-clause-few
 answer_to-requires-clause-few c =
     let running = c.loop-events.invariant.0 in
-    let few = is_few c.args.seed c.args.blocks c.loop-events.events c.loop-events.at c.loop-events.core c.loop-events.tally running c.requires in
+    let few = is_few c.args.seed c.args.blocks c.loop-events.events c.loop-events.at c.loop-events.core c.loop-events.tally running c.requires.few in
     (running.came, running.stands, omega (arith, running.counted, few))
 
 pub add-requires-clause-answers : goal.add-requires-clause-answers
 add-requires-clause-answers c =
     let many = as_many c.args.seed c.args.blocks c.loop-events.events c.loop-events.at c.loop-events.core c.loop-events.tally c.loop-events.invariant.0 in
-    let few = is_few c.args.seed c.args.blocks c.loop-events.events c.loop-events.at c.loop-events.core c.loop-events.tally c.loop-events.invariant.0 c.requires in
+    let few = is_few c.args.seed c.args.blocks c.loop-events.events c.loop-events.at c.loop-events.core c.loop-events.tally c.loop-events.invariant.0 c.requires.few in
     omega (arith, many, few)
 
 pub loop-events-preserved : goal.loop-events-preserved
@@ -56,5 +55,5 @@ loop-events-preserved c =
 
 pub unreachable-requires : goal.unreachable-requires
 unreachable-requires c =
-    let few = is_few c.args.seed c.args.blocks c.loop-events.events c.loop-events.at c.loop-events.core c.loop-events.tally c.loop-events.invariant.0 c.requires in
+    let few = is_few c.args.seed c.args.blocks c.loop-events.events c.loop-events.at c.loop-events.core c.loop-events.tally c.loop-events.invariant.0 c.requires.few in
     omega (arith, few, c.loop-events-test.false)
