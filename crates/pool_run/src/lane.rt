@@ -1,6 +1,7 @@
 //! One channel on its thread.
-ghost use Rattle.std.specs.Prelude.{IfOk};
-ghost use Rattle.pool_run.specs.{CanRun, HasRun};
+ghost use Rattle.std.specs.Prelude.{◌≡◌, ◌<◌, ◌≤◌, [], length, map, IfOk, OnOk};
+ghost use Rattle.link_pool.specs.{bytes_of};
+ghost use Rattle.pool_run.specs.{CanRun, HasRun, IsBookOf, sizes_of};
 
 use crate::claiming::claim_answer;
 use channel_book::{Book, Event};
@@ -42,14 +43,37 @@ pub(crate) fn run_lane<G: Gate>(
 {
     let Job { lane, mut taker } = job;
     let Lane { core, events } = lane;
-    let number = taker.number() as u16;
     let mut book = Book::new(alloc, core);
+    run_events(alloc, pool, &mut book, &mut taker, events, gate)?;
+    Ok(Ran { book, taker })
+}
+
+/// The same into a new book, with a taker that has claimed nothing yet.
+fn run_events<G: Gate>(
+    alloc: Global,
+    pool: &Pool,
+    book: &mut Book,
+    taker: &mut Taker,
+    events: Vec<Event>,
+    gate: &G,
+) -> Result<(), NoMemory>
+    requires made { taker.old.pool ≡ pool.now.pool }
+    requires number { taker.old.number < 64 }
+    requires claims { taker.old.claims ≡ [] }
+    requires entries { book.old.entries ≡ [] }
+    requires few { length events.items ≤ 200000 }
+    ensures pool { taker.new.pool ≡ taker.old.pool }
+    ensures number { taker.new.number ≡ taker.old.number }
+    ensures book { OnOk result (IsBookOf book.old.settings events.items book.new) }
+    ensures claims { OnOk result (map bytes_of taker.new.claims ≡ sizes_of book.new.entries) }
+{
+    let number = taker.number() as u16;
     for event in events {
         let call = book.entries().len() as u64;
         gate.enter(number, call);
         let (_, answer) = book.take(alloc, 0, event)?;
         gate.drawing(number, call);
-        claim_answer(pool, &mut taker, &answer)?;
+        claim_answer(pool, taker, &answer)?;
     }
-    Ok(Ran { book, taker })
+    Ok(())
 }

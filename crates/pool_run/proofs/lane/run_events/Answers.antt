@@ -1,5 +1,5 @@
 use Rattle.pool_run.proofs.Sizing.{short_answer}
-use Rattle.pool_run.proofs.lane.run_lane.Goals as goal
+use Rattle.pool_run.proofs.lane.run_events.Goals as goal
 
 pub claim_answer-requires-clause-short : goal.claim_answer-requires-clause-short
 claim_answer-requires-clause-short g c =

@@ -4,16 +4,16 @@ use Rattle.channel_book.specs.declared.entry.Entry.{Entry}
 use Rattle.channel_book.specs.{IsLegal}
 use Rattle.link_pool.specs.{bytes_of}
 use Rattle.pool_run.specs.{sizes_of, AreSmall}
-use Rattle.pool_run.proofs.lane.run_lane.Given as goal
+use Rattle.pool_run.proofs.lane.run_events.Given as goal
 
 abbrev pub invariant-loop-event : goal.invariant-loop-event
 invariant-loop-event g l = record {
   can_next : (goal.iterator-loop-event g).can_next l.event-iterator;
   is_finite : (goal.iterator-loop-event g).is_finite l.event-iterator;
-  pool : l.taker.pool ≡ l.fn.job.taker.pool;
-  number : l.taker.number ≡ l.fn.job.taker.number;
-  settings : l.book.settings ≡ l.fn.job.lane.core.settings;
-  events : map (λ (e : Entry). e.event) l.book.entries ++ into_iter_items l.event-iterator ≡ l.fn.job.lane.events.items;
+  pool : l.taker.pool ≡ l.fn.taker.pool;
+  number : l.taker.number ≡ l.fn.taker.number;
+  settings : l.book.settings ≡ l.fn.book.settings;
+  events : map (λ (e : Entry). e.event) l.book.entries ++ into_iter_items l.event-iterator ≡ l.fn.events.items;
   legal : IsLegal l.book.settings l.book.entries;
   claims : map bytes_of l.taker.claims ≡ sizes_of l.book.entries;
   small : AreSmall l.taker.claims;
