@@ -1,11 +1,10 @@
 -- What a core sends is short enough to be counted.
-use Rattle.std.proofs.Common.{◌≡◌, ◌+◌, ◌≤◌, All, List, length, arith}
+use Rattle.std.proofs.Common.{All, List, arith}
 use Rattle.std.proofs.lemmas.List.Elements.{All-weaker}
 use Rattle.rams_model.specs.declared.answer.Order.{Order}
 use Rattle.rams_model.specs.declared.answer.Order.TheVariants.{Rtx, Info}
 use Rattle.session_core.specs as core
 use Rattle.session_core.specs.{SendsShort}
-use Rattle.rams_model.specs.Service.{Answered}
 use Rattle.summary.specs.{IsShort}
 
 short_is : (order : Order) → core.IsShort order → IsShort order

@@ -28,12 +28,7 @@ pub fn summary_of(alloc: Global, seed: u32, blocks: u32) -> Result<Vec<u8>, NoMe
 }
 
 /// The same by a core to which nothing came yet.
-fn summary_by(
-    alloc: Global,
-    core: &mut Core,
-    seed: u32,
-    blocks: u32,
-) -> Result<Vec<u8>, NoMemory>
+fn summary_by(alloc: Global, core: &mut Core, seed: u32, blocks: u32) -> Result<Vec<u8>, NoMemory>
     requires settings { core.old.settings ≡ config }
     requires stands { StandsFor core.old [] }
     requires few { blocks ≤ 50000 }

@@ -1,5 +1,4 @@
-use Rattle.std.proofs.Common.{◌≡◌, ℕ, ◌+◌, ◌<◌, List, [], ◌∷◌, Option, IfNone, option_map, sym, ap, subst, ◌∙◌, arith}
-use Rattle.rams_model.specs.declared.event.Event.{Event}
+use Rattle.std.proofs.Common.{◌≡◌, ℕ, List, [], ◌∷◌, Option, IfNone, option_map, sym, ap, subst, ◌∙◌, arith}
 use Rattle.trace_gen.specs.{event_on, left, with_first}
 use Rattle.trace_gen.specs.declared.page.Kind.{Kind}
 use Rattle.generated_run.specs.{IsBrief}
