@@ -2,12 +2,13 @@
 ghost use Rattle.std.specs.Prelude.{◌≡◌, ◌^◌, ◌<◌, ◌≤◌, [], All, map, length, IfOk};
 ghost use Rattle.session_core.specs.{StandsFor};
 ghost use Rattle.channel_book.specs.{IsInterleaving, IsLegal};
-ghost use Rattle.session_worker.specs.{answered_with};
+ghost use Rattle.session_worker.specs.{AreQueues, answered_with, queue_of};
 
 use crate::gather::{draw, take_apart};
 use crate::worker::{seat, write_lists};
-use channel_book::{Book, Core, Event, NoMemory};
+use channel_book::{Book, Config, Core, Event, NoMemory};
 use channel_lock::ChannelLock;
+use live_writer::Placed;
 use ram_io::Gate;
 use rams_model::Octets;
 use std::alloc::Global;
@@ -54,6 +55,19 @@ pub fn run_lists<R: Threads + Wait + Sync, G: Gate + Sync>(
         // All passes are given back.
         unreachable!()
     };
-    let drawn = draw(alloc, &config, book.entries(), left.queues)?;
+    with_drawn(alloc, &config, book, left.queues)
+}
+
+/// The book with the datagrams of its answers.
+fn with_drawn(
+    alloc: Global,
+    config: &Config,
+    book: Book,
+    queues: Vec<Vec<Placed>>,
+) -> Result<Worked, NoMemory>
+    requires { AreQueues config.now book.entries (map queue_of queues.items) }
+    ensures { IfOk result (λ worked. (worked.book ≡ book) × (map (λ d. d.items) worked.drawn.items ≡ answered_with config.now book.entries)) }
+{
+    let drawn = draw(alloc, config, book.entries(), queues)?;
     Ok(Worked { book, drawn })
 }

@@ -3,12 +3,13 @@ use Rattle.std.proofs.Common.{◌≡◌, ◌∙◌, ℕ, ◌^◌, ◌≤◌, Lis
 use Rattle.std.specs.Global.{Vec}
 use Rattle.std.proofs.lemmas.List.{length-map}
 use Rattle.std.proofs.lemmas.List.Elements.{All-map}
+use Rattle.std.proofs.lemmas.Result.{IfOk-weaker}
 use Rattle.rams_model.specs.declared.event.Event.{Event}
 use Rattle.channel_book.specs.declared.entry.Entry.{Entry}
-use Rattle.channel_book.specs.{calls_by, IsInterleaving}
+use Rattle.channel_book.specs.{calls_by, IsInterleaving, IsLegal, Kept}
 use Rattle.channel_lock.specs.{Known, IsOfPass, NotAmong}
 use Rattle.rams_model.specs.Service.{Settings}
-use Rattle.session_worker.specs.{AreQueues, AreReady, events_of, queue_of}
+use Rattle.session_worker.specs.{AreReady, answered_with, events_of, queue_of}
 use Rattle.session_worker.proofs.Passes.{fresh_count, ready_staff}
 use Rattle.session_worker.proofs.Lists.{same_lock, queues_are, interleaved}
 use Rattle.session_worker.proofs.run.run_lists.Goals as goal
@@ -44,8 +45,8 @@ close-requires g c =
     let staff = c.write_lists-staff.result.items in
     record { made = subst (λ (ps : List Known). All (λ (p : Known). p.lock ≡ lock) ps) (sym c.in_ok-left.ensures.passes) (same_lock lock c.config.result.now lists staff c.write_lists-staff.ensures) }
 
-pub draw-requires : goal.draw-requires
-draw-requires g c =
+pub with_drawn-requires : goal.with_drawn-requires
+with_drawn-requires g c =
     let s = c.config.result.now in
     let lists = map events_of c.in_ok-staff.staff.items in
     let staff = c.write_lists-staff.result.items in
@@ -53,8 +54,27 @@ draw-requires g c =
     let entries = c.in-Ok.book.entries in
     let passes = subst (λ (ps : List Known). All (IsOfPass entries) ps) left.ensures.passes c.in-Ok.ensures.passes in
     let others = subst (λ (ps : List Known). (list : ℕ) → NotAmong ps list → calls_by list entries ≡ []) left.ensures.passes c.in-Ok.ensures.others in
-    subst (λ (es : List Entry). AreQueues s es (map queue_of left.left.queues.items)) (sym c.entries.ensures.entries)
-    (queues_are c.in_ok-lock.lock.lock s lists staff entries c.write_lists-staff.ensures left.ensures.wrote passes others (map queue_of left.left.queues.items) left.ensures.queues)
+    queues_are c.in_ok-lock.lock.lock s lists staff entries c.write_lists-staff.ensures left.ensures.wrote passes others (map queue_of left.left.queues.items) left.ensures.queues
+
+pub returns-clause-settings : goal.returns-clause-settings
+returns-clause-settings g c =
+    let book = c.in-Ok.book in
+    IfOk-weaker c.with_drawn.result (λ w. (w.book ≡ book) × (map (λ d. d.items) w.drawn.items ≡ answered_with c.config.result.now book.entries)) (λ w. w.book.settings ≡ c.args.core.settings)
+    (λ w h. ap (λ (b : Kept). b.settings) h.0 ∙ (c.in-Ok.ensures.settings ∙ c.in_ok-lock.ensures.lock.0)) c.with_drawn.ensures
+
+pub returns-clause-legal : goal.returns-clause-legal
+returns-clause-legal g c =
+    let book = c.in-Ok.book in
+    let legal = subst (λ (s : Settings). IsLegal s book.entries) c.in_ok-lock.ensures.lock.0 c.in-Ok.ensures.legal in
+    IfOk-weaker c.with_drawn.result (λ w. (w.book ≡ book) × (map (λ d. d.items) w.drawn.items ≡ answered_with c.config.result.now book.entries)) (λ w. IsLegal c.args.core.settings w.book.entries)
+    (λ w h. subst (λ (b : Kept). IsLegal c.args.core.settings b.entries) (sym h.0) legal) c.with_drawn.ensures
+
+pub returns-clause-drawn : goal.returns-clause-drawn
+returns-clause-drawn g c =
+    let s = c.args.core.settings in
+    let book = c.in-Ok.book in
+    IfOk-weaker c.with_drawn.result (λ w. (w.book ≡ book) × (map (λ d. d.items) w.drawn.items ≡ answered_with c.config.result.now book.entries)) (λ w. map (λ d. d.items) w.drawn.items ≡ answered_with s w.book.entries)
+    (λ w h. h.1 ∙ (ap (λ (x : Settings). answered_with x book.entries) c.config.ensures ∙ ap (λ (b : Kept). answered_with s b.entries) (sym h.0))) c.with_drawn.ensures
 
 pub returns-clause-interleaving : goal.returns-clause-interleaving
 returns-clause-interleaving g c =
@@ -65,5 +85,8 @@ returns-clause-interleaving g c =
     let entries = c.in-Ok.book.entries in
     let passes = subst (λ (ps : List Known). All (IsOfPass entries) ps) left.ensures.passes c.in-Ok.ensures.passes in
     let others = subst (λ (ps : List Known). (list : ℕ) → NotAmong ps list → calls_by list entries ≡ []) left.ensures.passes c.in-Ok.ensures.others in
-    subst (λ (ls : List (List Event)). IsInterleaving ls entries) c.in_ok-staff.ensures.events
-    (interleaved c.in_ok-lock.lock.lock s lists staff entries c.write_lists-staff.ensures left.ensures.wrote passes others)
+    let all = map (λ (l : Vec Event). l.items) c.args.lists.items in
+    let whole : IsInterleaving all entries = subst (λ (ls : List (List Event)). IsInterleaving ls entries) c.in_ok-staff.ensures.events
+    (interleaved c.in_ok-lock.lock.lock s lists staff entries c.write_lists-staff.ensures left.ensures.wrote passes others) in
+    IfOk-weaker c.with_drawn.result (λ w. (w.book ≡ c.in-Ok.book) × (map (λ d. d.items) w.drawn.items ≡ answered_with s entries)) (λ w. IsInterleaving all w.book.entries)
+    (λ w h. subst (λ (b : Kept). IsInterleaving all b.entries) (sym h.0) whole) c.with_drawn.ensures
