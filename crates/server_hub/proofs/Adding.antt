@@ -52,6 +52,13 @@ no_fault r o is = subst (λ (p : Option AddFault). IfSome p (λ x. r ≡ Err x))
 pub settings_more : (channels : List cores.Seen) (core : cores.Seen) → all_settings (channels ++ core ∷ []) ≡ all_settings channels ++ core.settings ∷ []
 settings_more channels core = map-append (λ (x : cores.Seen). x.settings) channels (core ∷ [])
 
+-- where there is room for a channel more, there is room for its number
+pub number_fits : (ids : List ℕ) (room claimed : ℕ) (v : Seen) → AreFields ids room claimed v → length v.channels < 64 → length ids < room
+number_fits ids room claimed v f few =
+    let all = length-map v.channels (λ core. core.settings) in
+    let names = ap length f.ids_are ∙ length-map (settings_of v) (λ (s : Settings). s.channel.id) in
+    omega (arith, f.room_is, all, names)
+
 -- one channel more still fits the link
 fit_more : (tick link : ℕ) (all : List Settings) (s : Settings) → FitLink tick link all → length all < 64 → All (λ k. k ≢ s.channel.id) (ids_of all)
     → shares_of all + s.channel.share ≤ link → s.tick ≡ tick → FitLink tick link (all ++ s ∷ [])

@@ -4,7 +4,7 @@ use Rattle.server_hub.specs.declared.event.AddFault.{AddFault}
 use Rattle.server_hub.specs.{StandsFor}
 use Rattle.server_hub.specs.declared.event.AddFault.TheVariants.{Twice, Link, NoMemory}
 use Rattle.server_hub.specs.Seen.{Seen}
-use Rattle.server_hub.proofs.Adding.{is_twice, exceeds_link, is_added, is_fault, no_fault, added, one_more_serves}
+use Rattle.server_hub.proofs.Adding.{is_twice, exceeds_link, is_added, is_fault, no_fault, added, number_fits, one_more_serves}
 use Rattle.server_hub.proofs.hub.Hub.add.Goals as goal
 
 pub returns-then-contains-clause-refused : goal.returns-then-contains-clause-refused
@@ -36,6 +36,10 @@ returns-in_err-core-clause-refused c =
     no_fault _ _
     (is_added _ _ _ _ c.self.invariant _ c.self.view_is _ c.deref.ensures.value c.args.config _ c.channel-channel.ensures.value
     (omega (arith, c.len.ensures, c.self.inside.cores.ok.0)) c.if-contains.ensures.value c.if-channel-self.false)
+
+pub invariant_of-self-in_err-push-2 : goal.invariant_of-self-in_err-push-2
+invariant_of-self-in_err-push-2 c =
+    absurd (omega (arith, number_fits _ _ _ _ c.self.invariant (omega (arith, c.len.ensures, c.self.inside.cores.ok.0)), c.in_err-push-2.ensures.full))
 
 pub invariant_of-self-2 : goal.invariant_of-self-2
 invariant_of-self-2 c =
