@@ -10,3 +10,4 @@ pub mod Gathering
 pub mod Calling
 pub mod Closing
 pub mod Taking
+pub mod Resting

@@ -1,12 +1,12 @@
 -- Several events in one turn.
-use Rattle.std.proofs.Common.{◌≡◌, ◌≢◌, ℕ, ◌+◌, ◌<◌, ◌≤◌, ◌==◌, Bool, true, false, List, [], ◌∷◌, ◌++◌, map, length, refl, sym, ap, ◌∙◌, subst, arith, Some}
+use Rattle.std.proofs.Common.{◌≡◌, ◌≢◌, ℕ, ◌≤◌, ◌==◌, Bool, true, false, List, [], ◌∷◌, ◌++◌, map, length, refl, sym, ap, ◌∙◌, subst, arith, Some}
 use Rattle.std.specs.Prelude.{if◌then◌else◌, Result, Ok, Err, MatchResult}
 use Rattle.std.proofs.lemmas.Bool.Decides.{nat_tests}
 use Rattle.std.proofs.lemmas.List.{append-nil, length-append, length-map}
 use Rattle.rams_model.specs.declared.event.Event.{Event}
 use Rattle.rams_model.specs.Service.{Answered}
 use Rattle.channel_book.specs.declared.entry.Entry.{Entry}
-use Rattle.channel_book.specs.{IsLegal, is_of, calls_by, Kept, StartsWith, AreCalls, HasTaken, HasTakenFront, HasAnsweredAll, HasAnsweredFront}
+use Rattle.channel_book.specs.{IsLegal, calls_by, Kept, StartsWith, HasTaken, HasTakenFront, HasAnsweredAll, HasAnsweredFront}
 use Rattle.channel_lock.specs.declared.turns.View.{View}
 use Rattle.channel_lock.specs.Turns.{times}
 use Rattle.channel_lock.specs.Steps.{Grew}

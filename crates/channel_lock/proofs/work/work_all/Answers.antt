@@ -1,5 +1,5 @@
 -- The book is out, and grows by calls of the list.
-use Rattle.std.proofs.Common.{◌≡◌, ℕ, List, [], ◌∷◌, Some, sym, ap, ◌∙◌}
+use Rattle.std.proofs.Common.{◌≡◌, ℕ, List, ◌∷◌, Some, sym, ap, ◌∙◌}
 use Rattle.atomic_table.specs.Table.{rest}
 use Rattle.channel_book.specs.{Kept}
 use Rattle.channel_lock.specs.Turns.{kept}
