@@ -8,6 +8,8 @@ use Rattle.server_hub.specs.declared.event.At.{At}
 use Rattle.line_io.proofs.Passing.{Passes-then}
 use Rattle.journal_book.specs.{behind, datagrams_of, event_line}
 use Rattle.trace_loop.specs.declared.stop.Stop.{Stop}
+use Rattle.trace_loop.proofs.Stopping.{err_so, only_err}
+use Rattle.serve_loop.proofs.Causes.{stopped_by_wire, write_stops}
 use Rattle.serve_loop.specs.{AllRender, Broken, HasRoom, Sends, Serving, bytes_of, said_datagrams}
 use Rattle.serve_loop.proofs.Rooms.{only_weaker, quiet_room, text_parts, wire_quiet}
 use Rattle.serve_loop.proofs.Steps.{StopsIn-then, quiet_goes_on, line_breaks, sent_goes_on, sending_breaks, none_ordered, each_error, where_ok, heard_sends, heard_stands}
@@ -121,3 +123,46 @@ returns-clause-steady g c = λ b events more r h.
     (λ quiet. subst (λ (l : List ℕ). HasRoom (g.K.Sink.is_steady c.flush.new.sink) (g.W.Wire.is_steady c.send_all.new.wire) l [] more) (sym c.in_ok-flush.ensures.empty)
     (quiet_room (g.K.Sink.is_steady c.flush.new.sink) (g.W.Wire.is_steady c.send_all.new.wire) [] more (subst (g.K.Sink.is_steady c.flush.new.sink) (let zero : more.text ≡ length {A = ℕ} [] + more.text = omega arith in zero) gone) quiet))
     (c.send_all.ensures.steady more.bytes more.datagrams fits)
+
+pub returns-in_err-write_event-clause-cause : goal.returns-in_err-write_event-clause-cause
+returns-in_err-write_event-clause-cause g c =
+    let p = err_from_is_err_and c.from_residual-in_err-write_event.result c.from_residual-in_err-write_event.ensures.1 in
+    let before = g.K.Sink.faults c.args.sink.now in
+    let stops = write_stops before before (g.K.Sink.faults c.write_event.new.sink) (g.W.Wire.faults c.args.wire.now) _ (omega arith) c.in_err-write_event.ensures.cause.cause in
+    record {
+      write_later = c.write_event.ensures.cause.later;
+      wire_later = omega arith;
+      cause = err_so c.from_residual-in_err-write_event.result p.0 c.in_err-write_event.field-0.0 _ p.1 p.2 stops;
+    }
+
+pub returns-in_err-write_event-clause-steady : goal.returns-in_err-write_event-clause-steady
+returns-in_err-write_event-clause-steady g c = λ b events more r h.
+    let p = err_from_is_err_and c.from_residual-in_err-write_event.result c.from_residual-in_err-write_event.ensures.1 in
+    only_err c.from_residual-in_err-write_event.result p.0 c.in_err-write_event.field-0.0 _ p.1 p.2
+    (c.in_err-write_event.ensures.steady more.text (text_parts (g.K.Sink.is_steady c.args.sink.now) c.args.server.now.journal (event_line (event_of c.args.heard)) more.text h.text_fits))
+
+pub returns-in_err-flush-clause-cause : goal.returns-in_err-flush-clause-cause
+returns-in_err-flush-clause-cause g c =
+    let p = err_from_is_err_and c.from_residual-in_err-flush.result c.from_residual-in_err-flush.ensures.1 in
+    let before = g.K.Sink.faults c.args.sink.now in
+    let written = c.write_event.ensures.cause.later in
+    let flushed = c.flush.ensures.cause.later in
+    let stops = write_stops before (g.K.Sink.faults c.write_event.new.sink) (g.K.Sink.faults c.flush.new.sink) (g.W.Wire.faults c.args.wire.now) _ written c.in_err-flush.ensures.cause.cause in
+    record {
+      write_later = omega (arith, written, flushed);
+      wire_later = omega arith;
+      cause = err_so c.from_residual-in_err-flush.result p.0 c.in_err-flush.field-0.0 _ p.1 p.2 stops;
+    }
+
+pub returns-in_err-flush-clause-steady : goal.returns-in_err-flush-clause-steady
+returns-in_err-flush-clause-steady g c = λ b events more r h.
+    let p = err_from_is_err_and c.from_residual-in_err-flush.result c.from_residual-in_err-flush.ensures.1 in
+    let written = c.in_ok-write_event.ensures.steady more.text
+    (text_parts (g.K.Sink.is_steady c.args.sink.now) c.args.server.now.journal (event_line (event_of c.args.heard)) more.text h.text_fits) in
+    only_err c.from_residual-in_err-flush.result p.0 c.in_err-flush.field-0.0 _ p.1 p.2 (c.in_err-flush.ensures.steady more.text written)
+
+pub returns-clause-cause : goal.returns-clause-cause
+returns-clause-cause g c =
+    let written = c.write_event.ensures.cause.later in
+    let flushed = c.flush.ensures.cause.later in
+    stopped_by_wire _ _ _ _ c.send_all.result (omega (arith, written, flushed)) c.send_all.ensures.cause
