@@ -32,3 +32,23 @@ stopped_by_wire write writes wire wires r less s = record { write_later = less; 
 -- the sink did, or want of memory
 pub write_stops : (write mid writes wire : ℕ) (stop : Stop) → write ≤ mid → IsWriteStop mid writes stop → IsOutStop write writes wire wire stop
 write_stops write mid writes wire stop less cause = write_out write mid writes wire wire stop less cause
+
+-- what stopped a call stopped those that began before it
+pub outside_since : {T : Type 0} (write mid writes wire second wires : ℕ) (r : Result T Stop) → write ≤ mid → wire ≤ second → IsStoppedOutside mid writes second wires r → IsStoppedOutside write writes wire wires r
+outside_since write mid writes wire second wires r less same s =
+    let wrote = s.write_later in
+    let sent = s.wire_later in
+    record { write_later = omega (arith, less, wrote); wire_later = omega (arith, same, sent); cause = by r s.cause }
+  where
+    by : {T : Type 0} (x : Result T Stop) → IfErr x (IsOutStop mid writes second wires) → IfErr x (IsOutStop write writes wire wires)
+    by (Ok t) h = tt
+    by (Err Memory) h = tt
+    by (Err Read) h = h
+    by (Err Write) h = rose_later write mid writes less h
+    by (Err Wire) h = rose_later wire second wires same h
+
+pub write_since : (write mid writes : ℕ) (stop : Stop) → write ≤ mid → IsWriteStop mid writes stop → IsWriteStop write writes stop
+write_since write mid writes Memory less cause = tt
+write_since write mid writes Read less cause = cause
+write_since write mid writes Write less cause = rose_later write mid writes less cause
+write_since write mid writes Wire less cause = cause

@@ -10,7 +10,7 @@ use Rattle.journal_book.specs.{behind, datagrams_of, event_line}
 use Rattle.trace_loop.specs.declared.stop.Stop.{Stop}
 use Rattle.trace_loop.proofs.Stopping.{err_so, only_err}
 use Rattle.serve_loop.proofs.Causes.{stopped_by_wire, write_stops}
-use Rattle.serve_loop.specs.{AllRender, Broken, HasRoom, Sends, Serving, bytes_of, said_datagrams}
+use Rattle.serve_loop.specs.{AllRender, Broken, HasRoom, IsOutStop, Sends, Serving, bytes_of, said_datagrams}
 use Rattle.serve_loop.proofs.Rooms.{only_weaker, quiet_room, text_parts, wire_quiet}
 use Rattle.serve_loop.proofs.Steps.{StopsIn-then, quiet_goes_on, line_breaks, sent_goes_on, sending_breaks, none_ordered, each_error, where_ok, heard_sends, heard_stands}
 use Rattle.serve_loop.proofs.Telling.{said_few, said_renders}
@@ -128,17 +128,19 @@ pub returns-in_err-write_event-clause-cause : goal.returns-in_err-write_event-cl
 returns-in_err-write_event-clause-cause g c =
     let p = err_from_is_err_and c.from_residual-in_err-write_event.result c.from_residual-in_err-write_event.ensures.1 in
     let before = g.K.Sink.faults c.args.sink.now in
-    let stops = write_stops before before (g.K.Sink.faults c.write_event.new.sink) (g.W.Wire.faults c.args.wire.now) _ (omega arith) c.in_err-write_event.ensures.cause.cause in
+    let wire = g.W.Wire.faults c.args.wire.now in
+    let stops = write_stops before before (g.K.Sink.faults c.write_event.new.sink) wire c.in_err-write_event.field-0.0 (omega arith) c.in_err-write_event.ensures.cause.cause in
     record {
       write_later = c.write_event.ensures.cause.later;
       wire_later = omega arith;
-      cause = err_so c.from_residual-in_err-write_event.result p.0 c.in_err-write_event.field-0.0 _ p.1 p.2 stops;
+      cause =
+          err_so c.from_residual-in_err-write_event.result p.0 c.in_err-write_event.field-0.0 (IsOutStop before (g.K.Sink.faults c.write_event.new.sink) wire wire) p.1 p.2 stops;
     }
 
 pub returns-in_err-write_event-clause-steady : goal.returns-in_err-write_event-clause-steady
 returns-in_err-write_event-clause-steady g c = λ b events more r h.
     let p = err_from_is_err_and c.from_residual-in_err-write_event.result c.from_residual-in_err-write_event.ensures.1 in
-    only_err c.from_residual-in_err-write_event.result p.0 c.in_err-write_event.field-0.0 _ p.1 p.2
+    only_err c.from_residual-in_err-write_event.result p.0 c.in_err-write_event.field-0.0 (HasRoom (g.K.Sink.is_steady c.write_event.new.sink) (g.W.Wire.is_steady c.args.wire.now) c.write_event.new.journal [] more) p.1 p.2
     (c.in_err-write_event.ensures.steady more.text (text_parts (g.K.Sink.is_steady c.args.sink.now) c.args.server.now.journal (event_line (event_of c.args.heard)) more.text h.text_fits))
 
 pub returns-in_err-flush-clause-cause : goal.returns-in_err-flush-clause-cause
@@ -147,11 +149,13 @@ returns-in_err-flush-clause-cause g c =
     let before = g.K.Sink.faults c.args.sink.now in
     let written = c.write_event.ensures.cause.later in
     let flushed = c.flush.ensures.cause.later in
-    let stops = write_stops before (g.K.Sink.faults c.write_event.new.sink) (g.K.Sink.faults c.flush.new.sink) (g.W.Wire.faults c.args.wire.now) _ written c.in_err-flush.ensures.cause.cause in
+    let wire = g.W.Wire.faults c.args.wire.now in
+    let stops = write_stops before (g.K.Sink.faults c.write_event.new.sink) (g.K.Sink.faults c.flush.new.sink) wire c.in_err-flush.field-0.0 written c.in_err-flush.ensures.cause.cause in
     record {
       write_later = omega (arith, written, flushed);
       wire_later = omega arith;
-      cause = err_so c.from_residual-in_err-flush.result p.0 c.in_err-flush.field-0.0 _ p.1 p.2 stops;
+      cause =
+          err_so c.from_residual-in_err-flush.result p.0 c.in_err-flush.field-0.0 (IsOutStop before (g.K.Sink.faults c.flush.new.sink) wire wire) p.1 p.2 stops;
     }
 
 pub returns-in_err-flush-clause-steady : goal.returns-in_err-flush-clause-steady
@@ -159,7 +163,7 @@ returns-in_err-flush-clause-steady g c = λ b events more r h.
     let p = err_from_is_err_and c.from_residual-in_err-flush.result c.from_residual-in_err-flush.ensures.1 in
     let written = c.in_ok-write_event.ensures.steady more.text
     (text_parts (g.K.Sink.is_steady c.args.sink.now) c.args.server.now.journal (event_line (event_of c.args.heard)) more.text h.text_fits) in
-    only_err c.from_residual-in_err-flush.result p.0 c.in_err-flush.field-0.0 _ p.1 p.2 (c.in_err-flush.ensures.steady more.text written)
+    only_err c.from_residual-in_err-flush.result p.0 c.in_err-flush.field-0.0 (HasRoom (g.K.Sink.is_steady c.flush.new.sink) (g.W.Wire.is_steady c.args.wire.now) c.flush.new.gather [] more) p.1 p.2 (c.in_err-flush.ensures.steady more.text written)
 
 pub returns-clause-cause : goal.returns-clause-cause
 returns-clause-cause g c =

@@ -4,9 +4,10 @@ use Rattle.server_hub.specs.declared.event.HubEvent.{HubEvent}
 use Rattle.server_hub.specs.declared.event.HubEvent.TheVariants.{Tick}
 use Rattle.journal_book.specs.{behind, tick_at}
 use Rattle.trace_loop.specs.declared.stop.Stop.{Stop}
-use Rattle.serve_loop.specs.{HasRoom, IsBetween, OnlyMemoryStops}
+use Rattle.serve_loop.specs.{HasRoom, IsBetween, IsOutStop, OnlyMemoryStops}
 use Rattle.serve_loop.proofs.Between.{between_ready, between_after, tick_due, no_tick_due}
 use Rattle.serve_loop.proofs.Rooms.{room_none, room_one}
+use Rattle.trace_loop.proofs.Stopping.{err_so}
 use Rattle.serve_loop.proofs.turns.hear_tick.Goals as goal
 
 pub returns-then-moment-due-clause-steady : goal.returns-then-moment-due-clause-steady
@@ -37,3 +38,13 @@ returns-clause-steady g c = λ b events more i h.
     (tick_due c.args.due c.args.moment c.if-moment-due.false) h in
     let ready = between_ready b events _ _ _ _ _ _ Tick (c.args.server.now.live + 1) i refl in
     c.in_ok-hear.ensures.steady b events more ready room
+
+pub returns-in_err-hear-clause-cause : goal.returns-in_err-hear-clause-cause
+returns-in_err-hear-clause-cause g c =
+    let p = err_from_is_err_and c.from_residual.result c.from_residual.ensures.1 in
+    let stops = IsOutStop (g.K.Sink.faults c.args.sink.now) (g.K.Sink.faults c.hear.new.sink) (g.W.Wire.faults c.args.wire.now) (g.W.Wire.faults c.hear.new.wire) in
+    record {
+      write_later = c.hear.ensures.cause.write_later;
+      wire_later = c.hear.ensures.cause.wire_later;
+      cause = err_so c.from_residual.result p.0 c.in_err-hear.field-0.0 stops p.1 p.2 c.in_err-hear.ensures.cause.cause;
+    }

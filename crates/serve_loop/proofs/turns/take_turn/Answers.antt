@@ -3,9 +3,11 @@ use Rattle.std.proofs.lemmas.Result.{err_from_is_err_and}
 use Rattle.server_hub.specs.Served.{Served}
 use Rattle.journal_book.specs.{behind, event_lines, next_moment, sent_for, tick_at}
 use Rattle.trace_loop.specs.declared.stop.Stop.{Stop}
-use Rattle.serve_loop.specs.{Broken, HasRoom, OnlyMemoryStops, next_events}
+use Rattle.serve_loop.specs.{Broken, HasRoom, IsOutStop, OnlyMemoryStops, next_events}
 use Rattle.serve_loop.proofs.Steps.{broken_more}
 use Rattle.serve_loop.proofs.Rooms.{behind_append, room_for, room_split, room_join}
+use Rattle.trace_loop.proofs.Stopping.{err_so}
+use Rattle.serve_loop.proofs.Causes.{outside_since}
 use Rattle.serve_loop.proofs.turns.take_turn.Goals as goal
 
 pub returns-in_err-take_arrival-clause-breaks : goal.returns-in_err-take_arrival-clause-breaks
@@ -43,3 +45,18 @@ returns-clause-steady g c = λ b events arrivals moments more i told shows h.
     let placed = subst (λ (cs : List Served). HasRoom sink wire (waits ++ event_lines tick) (sent_for (b.live + 1) cs tick) more) (sym (behind_append b.channels events (next_events b arrivals))) joined in
     let at = subst (λ m. HasRoom sink wire (waits ++ event_lines (tick_at c.args.due m)) (sent_for (b.live + 1) (behind (events ++ next_events b arrivals) b.channels) (tick_at c.args.due m)) more) (sym moment) placed in
     c.hear_tick.ensures.steady b (events ++ next_events b arrivals) more between at
+
+pub returns-in_err-take_arrival-clause-cause : goal.returns-in_err-take_arrival-clause-cause
+returns-in_err-take_arrival-clause-cause g c =
+    let p = err_from_is_err_and c.from_residual.result c.from_residual.ensures.1 in
+    let stops = IsOutStop (g.K.Sink.faults c.args.sink.now) (g.K.Sink.faults c.take_arrival.new.sink) (g.W.Wire.faults c.args.wire.now) (g.W.Wire.faults c.take_arrival.new.wire) in
+    record {
+      write_later = c.take_arrival.ensures.cause.write_later;
+      wire_later = c.take_arrival.ensures.cause.wire_later;
+      cause = err_so c.from_residual.result p.0 c.in_err-take_arrival.field-0.0 stops p.1 p.2 c.in_err-take_arrival.ensures.cause.cause;
+    }
+
+pub returns-clause-cause : goal.returns-clause-cause
+returns-clause-cause g c =
+    outside_since (g.K.Sink.faults c.args.sink.now) (g.K.Sink.faults c.take_arrival.new.sink) (g.K.Sink.faults c.hear_tick.new.sink) (g.W.Wire.faults c.args.wire.now) (g.W.Wire.faults c.take_arrival.new.wire) (g.W.Wire.faults c.hear_tick.new.wire) c.hear_tick.result
+    c.take_arrival.ensures.cause.write_later c.take_arrival.ensures.cause.wire_later c.hear_tick.ensures.cause
