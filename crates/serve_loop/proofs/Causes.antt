@@ -3,7 +3,7 @@ use Rattle.std.proofs.Common.{ℕ, ◌≤◌, Result, Ok, Err, IfErr, arith}
 use Rattle.ram_io.specs.{Rose}
 use Rattle.trace_loop.specs.declared.stop.Stop.{Stop}
 use Rattle.trace_loop.specs.declared.stop.Stop.TheVariants.{Memory, Read, Write, Wire}
-use Rattle.serve_loop.specs.{IsOutStop, IsWireStop, IsWriteStop, IsStoppedByWire, IsStoppedOutside}
+use Rattle.serve_loop.specs.{IsOutStop, IsWireStop, IsWriteStop, IsStoppedByWire, IsStoppedByWrite, IsStoppedOutside}
 
 -- a count that rose later rose
 rose_later : (before mid now : ℕ) → before ≤ mid → Rose mid now → Rose before now
@@ -52,3 +52,11 @@ write_since write mid writes Memory less cause = tt
 write_since write mid writes Read less cause = cause
 write_since write mid writes Write less cause = rose_later write mid writes less cause
 write_since write mid writes Wire less cause = cause
+
+-- the sink stopped the call, or want of memory did
+pub stopped_by_write : {T : Type 0} (write writes wire wires : ℕ) (r : Result T Stop) → wire ≤ wires → IsStoppedByWrite write writes r → IsStoppedOutside write writes wire wires r
+stopped_by_write write writes wire wires r less s = record { write_later = s.later; wire_later = less; cause = by r s.cause }
+  where
+    by : {T : Type 0} (x : Result T Stop) → IfErr x (IsWriteStop write writes) → IfErr x (IsOutStop write writes wire wires)
+    by (Ok t) h = tt
+    by (Err stop) h = write_out write write writes wire wires stop (omega arith) h

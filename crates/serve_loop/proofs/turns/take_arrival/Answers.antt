@@ -7,6 +7,7 @@ use Rattle.serve_loop.specs.{Broken, HasRoom, next_events}
 use Rattle.serve_loop.proofs.Between.{told_next, nothing_next, datagram_next, err_weaker}
 use Rattle.serve_loop.proofs.Rooms.{only_both, only_weaker, quiet_room, room_at, room_none, room_one, wire_none}
 use Rattle.serve_loop.proofs.Steps.{broken_more, flushing_breaks, serving_breaks}
+use Rattle.serve_loop.proofs.Causes.{outside_since, stopped_by_write}
 use Rattle.serve_loop.proofs.turns.take_arrival.Goals as goal
 
 pub returns-in-Err-clause-breaks : goal.returns-in-Err-clause-breaks
@@ -58,3 +59,13 @@ returns-in-None-clause-steady g c = λ b events arrivals more i told h.
     let room = room_none (g.K.Sink.is_steady c.args.sink.now) (g.W.Wire.is_steady c.args.wire.now) c.args.server.now.journal (b.live + 1) (behind events b.channels) (next_events b arrivals) more none h in
     room_at (g.K.Sink.is_steady c.args.sink.now) (g.W.Wire.is_steady c.args.wire.now) c.args.server.now.journal (b.live + 1) (behind events b.channels) (g.W.Wire.is_steady c.receive.new.self)
     c.args.server.now.journal [] more c.in-Ok-Some.ensures.steady room
+
+pub returns-in-Ok-None-clause-cause : goal.returns-in-Ok-None-clause-cause
+returns-in-Ok-None-clause-cause g c =
+    stopped_by_write (g.K.Sink.faults c.args.sink.now) (g.K.Sink.faults c.flush.new.sink) (g.W.Wire.faults c.args.wire.now) (g.W.Wire.faults c.receive.new.self) c.flush.result c.receive.ensures.cause.later c.flush.ensures.cause
+
+pub returns-in-Some-clause-cause : goal.returns-in-Some-clause-cause
+returns-in-Some-clause-cause g c =
+    let before = g.K.Sink.faults c.args.sink.now in
+    outside_since before before (g.K.Sink.faults c.hear.new.sink) (g.W.Wire.faults c.args.wire.now) (g.W.Wire.faults c.receive.new.self) (g.W.Wire.faults c.hear.new.wire) c.hear.result (omega arith) c.receive.ensures.cause.later
+    c.hear.ensures.cause
