@@ -1,6 +1,7 @@
 //! Lines of a book behind a text, written by hand.
 use crate::fixtures::same;
 use book_text::{Pen, append_count, append_no_channel, append_refused, append_send};
+use ram_io::NoMemory;
 use rams_model::{Cause, FrameFault, LineFault, LiveNote, Note, RtpFault};
 use std::alloc::Global;
 use std::process::Abort;
@@ -262,18 +263,32 @@ fn refused_line(alloc: Global, fault: LineFault) -> Result<Vec<u8>, Fail> {
     Ok(text)
 }
 
-#[test]
-fn notes_datagrams_and_refusals_are_lines(rt: HostRuntime) -> Result<(), Fail> {
-    for (note, line) in NOTES {
-        expect_line(&rt, &note_line(rt.alloc(), note)?, line);
-    }
-    for (bytes, line) in SENDS {
-        expect_line(&rt, &send_line(rt.alloc(), bytes)?, line);
-    }
-    for (fault, line) in REFUSALS {
-        expect_line(&rt, &refused_line(rt.alloc(), *fault)?, line);
+fn expect_notes(rt: &impl Abort, alloc: Global, rows: &[(Note, &str)]) -> Result<(), Fail> {
+    for (note, line) in rows {
+        expect_line(rt, &note_line(alloc, note)?, line);
     }
     Ok(())
+}
+
+fn expect_sends(rt: &impl Abort, alloc: Global, rows: &[(&[u8], &str)]) -> Result<(), Fail> {
+    for (bytes, line) in rows {
+        expect_line(rt, &send_line(alloc, bytes)?, line);
+    }
+    Ok(())
+}
+
+fn expect_refusals(rt: &impl Abort, alloc: Global, rows: &[(LineFault, &str)]) -> Result<(), Fail> {
+    for (fault, line) in rows {
+        expect_line(rt, &refused_line(alloc, *fault)?, line);
+    }
+    Ok(())
+}
+
+#[test]
+fn notes_datagrams_and_refusals_are_lines(rt: HostRuntime) -> Result<(), Fail> {
+    expect_notes(&rt, rt.alloc(), NOTES)?;
+    expect_sends(&rt, rt.alloc(), SENDS)?;
+    expect_refusals(&rt, rt.alloc(), REFUSALS)
 }
 
 /// The greatest client.
@@ -301,16 +316,26 @@ fn repair(client: u64, n: u64) -> Note {
     }
 }
 
+/// The lines of event 4 of channel 7.
+fn append_first(pen: &mut Pen, text: &mut Vec<u8>) -> Result<(), NoMemory> {
+    pen.append_told(text, 4, 7, &repair(5, 98), 5, &[0xab])?;
+    pen.append_told(text, 4, 7, &repair(5, 100), 5, &[])?;
+    pen.append_told(text, 4, 7, &repair(60, 100), 60, &[1])
+}
+
+/// Those of channel 8.
+fn append_others(pen: &mut Pen, text: &mut Vec<u8>) -> Result<(), NoMemory> {
+    pen.append_note(text, 4, 8, &FORGOT)?;
+    pen.append_told(text, 12, 8, &repair(60, 9), 60, &[2])?;
+    pen.append_told(text, 12, 8, &FORGOT, 60, &[3])
+}
+
 #[test]
 fn a_pen_writes_one_line_after_another(rt: HostRuntime) -> Result<(), Fail> {
     let mut pen = Pen::new();
     let mut text = Vec::new(rt.alloc());
-    pen.append_told(&mut text, 4, 7, &repair(5, 98), 5, &[0xab])?;
-    pen.append_told(&mut text, 4, 7, &repair(5, 100), 5, &[])?;
-    pen.append_told(&mut text, 4, 7, &repair(60, 100), 60, &[1])?;
-    pen.append_note(&mut text, 4, 8, &FORGOT)?;
-    pen.append_told(&mut text, 12, 8, &repair(60, 9), 60, &[2])?;
-    pen.append_told(&mut text, 12, 8, &FORGOT, 60, &[3])?;
+    append_first(&mut pen, &mut text)?;
+    append_others(&mut pen, &mut text)?;
     let want = b"4 7 repair 5 98 500\n4 7 send 5 ab\n4 7 repair 5 100 500\n4 7 send 5 -\n\
         4 7 repair 60 100 500\n4 7 send 60 01\n4 8 forgot 281474976710655\n\
         12 8 repair 60 9 500\n12 8 send 60 02\n12 8 forgot 281474976710655\n12 8 send 60 03\n";

@@ -164,14 +164,19 @@ fn a_line_has_4096_bytes(rt: HostRuntime) -> Result<(), Fail> {
     expect_answers(&rt, rt.alloc(), &bytes, 4, &want)
 }
 
+/// The next line is too long.
+fn is_long(reader: &mut LineReader, source: &mut Pieces<'_>) -> Result<bool, Failed> {
+    Ok(reader.advance(source)? == Next::Long)
+}
+
 /// The beginning of a line that is too long, which a second call answers again.
 fn long_line(alloc: Global, source: &mut Pieces<'_>) -> Result<Vec<u8>, Fail> {
     let mut reader = LineReader::new(alloc)?;
-    if reader.advance(source)? != Next::Long {
+    if !is_long(&mut reader, source)? {
         return Err(Fail::from("the line isn't too long"));
     }
     let line = reader.line().to_vec(alloc)?;
-    if reader.advance(source)? != Next::Long {
+    if !is_long(&mut reader, source)? {
         return Err(Fail::from("the reader goes on"));
     }
     Ok(line)
@@ -217,6 +222,25 @@ fn put_all(gather: &mut Gather, sink: &mut Text, pieces: &[&[u8]]) -> Result<usi
     Ok(sink.bytes.len())
 }
 
+/// How many bytes the sink has after two short pieces and an empty one, a third, and a long one.
+fn put_each(
+    gather: &mut Gather,
+    sink: &mut Text,
+    short: &[u8],
+    long: &[u8],
+) -> Result<[usize; 3], Fail> {
+    let two = put_all(gather, sink, &[short, short, b""])?;
+    let third = put_all(gather, sink, &[short])?;
+    let all = put_all(gather, sink, &[long])?;
+    Ok([two, third, all])
+}
+
+/// Puts "end", and lets all pass.
+fn put_end(gather: &mut Gather, sink: &mut Text) -> Result<(), Failed> {
+    gather.put(sink, b"end")?;
+    gather.flush(sink)
+}
+
 /// How many bytes a sink has after two short pieces and an empty one, a third, and a long one; and
 /// its bytes in the end.
 fn passed(
@@ -227,13 +251,8 @@ fn passed(
 ) -> Result<([usize; 3], Vec<u8>), Fail> {
     let mut sink = sink_for(alloc, most, 0);
     let mut gather = Gather::new(alloc)?;
-    let held = [
-        put_all(&mut gather, &mut sink, &[short, short, b""])?,
-        put_all(&mut gather, &mut sink, &[short])?,
-        put_all(&mut gather, &mut sink, &[long])?,
-    ];
-    gather.put(&mut sink, b"end")?;
-    gather.flush(&mut sink)?;
+    let held = put_each(&mut gather, &mut sink, short, long)?;
+    put_end(&mut gather, &mut sink)?;
     gather.flush(&mut sink)?;
     Ok((held, sink.bytes))
 }
@@ -252,19 +271,31 @@ fn texts_pass(rt: HostRuntime) -> Result<(), Fail> {
     Ok(())
 }
 
+/// Appends "ab" and more to what waits, and settles.
+fn settle_behind(gather: &mut Gather, sink: &mut Text, more: &[u8]) -> Result<(), Fail> {
+    gather.put(sink, b"a")?;
+    gather.text().push(b'b')?;
+    gather.text().extend_from_slice(more)?;
+    Ok(gather.settle(sink)?)
+}
+
 /// How many bytes a sink has after "ab" and so many bytes more were appended to what waits, and that
 /// settled; and its bytes in the end.
 fn settled(alloc: Global, most: usize, more: &[u8]) -> Result<(usize, Vec<u8>), Fail> {
     let mut sink = sink_for(alloc, most, 0);
     let mut gather = Gather::new(alloc)?;
-    gather.put(&mut sink, b"a")?;
-    gather.text().push(b'b')?;
-    gather.text().extend_from_slice(more)?;
-    gather.settle(&mut sink)?;
+    settle_behind(&mut gather, &mut sink, more)?;
     let held = sink.bytes.len();
-    gather.put(&mut sink, b"end")?;
-    gather.flush(&mut sink)?;
+    put_end(&mut gather, &mut sink)?;
     Ok((held, sink.bytes))
+}
+
+/// "ab", these bytes and "end".
+fn whole_of(alloc: Global, more: &[u8]) -> Result<Vec<u8>, Fail> {
+    let mut whole = b"ab".to_vec(alloc)?;
+    whole.extend_from_slice(more)?;
+    whole.extend_from_slice(b"end")?;
+    Ok(whole)
 }
 
 /// How many bytes are appended, and how many of them and of "ab" pass when they settle.
@@ -274,14 +305,23 @@ const SETTLED: &[(usize, usize)] = &[(0, 0), (262141, 0), (262142, 262144), (300
 fn long_text_settles(rt: HostRuntime) -> Result<(), Fail> {
     for (count, want) in SETTLED {
         let more = run(rt.alloc(), b't', *count, b"")?;
-        let mut whole = b"ab".to_vec(rt.alloc())?;
-        whole.extend_from_slice(&more)?;
-        whole.extend_from_slice(b"end")?;
         let (held, bytes) = settled(rt.alloc(), 1000, &more)?;
         same(&rt, &held, want, count);
-        holds(&rt, bytes == whole, count);
+        holds(&rt, bytes == whole_of(rt.alloc(), &more)?, count);
     }
     Ok(())
+}
+
+/// The text fails to settle, waits, and settles.
+fn expect_waits(
+    rt: &impl Abort,
+    gather: &mut Gather,
+    sink: &mut Text,
+    text: &[u8],
+) -> Result<(), Failed> {
+    holds(rt, gather.settle(sink).is_err(), &"settle");
+    holds(rt, gather.text().as_slice() == text, &"waits");
+    gather.settle(sink)
 }
 
 #[test]
@@ -290,9 +330,7 @@ fn text_that_fails_to_settle_waits(rt: HostRuntime) -> Result<(), Fail> {
     let mut gather = Gather::new(rt.alloc())?;
     let text = run(rt.alloc(), b't', 262144, b"")?;
     gather.text().extend_from_slice(&text)?;
-    holds(&rt, gather.settle(&mut sink).is_err(), &"settle");
-    holds(&rt, gather.text().as_slice() == text.as_slice(), &"waits");
-    gather.settle(&mut sink)?;
+    expect_waits(&rt, &mut gather, &mut sink, &text)?;
     holds(&rt, sink.bytes == text, &"passes");
     Ok(())
 }

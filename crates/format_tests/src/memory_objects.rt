@@ -124,16 +124,23 @@ fn sink_of(alloc: Global, room: usize, most: usize, fails: &[u64; 2]) -> Result<
     Ok(MemSink::new(alloc, room, most.max(1), fails.to_vec(alloc)?)?)
 }
 
+/// The answers of such a sink, and what it is then.
+fn put(
+    alloc: Global,
+    room: usize,
+    most: usize,
+    fails: &[u64; 2],
+) -> Result<(String, MemSink), Fail> {
+    let mut sink = sink_of(alloc, room, most, fails)?;
+    let answers = six_puts(alloc, &mut sink)?;
+    Ok((answers, sink))
+}
+
 #[test]
 fn sinks_take_bytes(rt: HostRuntime) -> Result<(), Fail> {
     for (room, most, fails, want, held) in SINKS {
-        let mut sink = sink_of(rt.alloc(), *room, *most, fails)?;
-        same(
-            &rt,
-            &six_puts(rt.alloc(), &mut sink)?.as_str(),
-            want,
-            &(room, most),
-        );
+        let (got, sink) = put(rt.alloc(), *room, *most, fails)?;
+        same(&rt, &got.as_str(), want, &(room, most));
         same(&rt, &sink.held(), held, &(room, most));
     }
     Ok(())
@@ -187,6 +194,12 @@ fn arrivals(alloc: Global) -> Result<Vec<Incoming>, AllocError>
     Ok(arrivals)
 }
 
+/// Writes whence a datagram came and where to, its length, and its first and its last byte.
+fn write_arrival(text: &mut String, from: u64, port: u16, bytes: &[u8]) -> Result<(), AllocError> {
+    let ends = (bytes.first(), bytes.last());
+    write!(text, "{from} to {port}: {} {ends:?} ", bytes.len())
+}
+
 /// The answers of six calls of `receive`, each with the first and the last byte of its datagram.
 fn six_receives<W: Wire>(alloc: Global, wire: &mut W) -> Result<String, AllocError> {
     let mut text = String::new(alloc);
@@ -195,8 +208,7 @@ fn six_receives<W: Wire>(alloc: Global, wire: &mut W) -> Result<String, AllocErr
         match wire.receive(&mut buf) {
             Ok(None) => write!(text, "None ")?,
             Ok(Some(Arrival { from, port, len })) => {
-                let ends = (buf[..len].first(), buf[..len].last());
-                write!(text, "{from} to {port}: {len} {ends:?} ")?;
+                write_arrival(&mut text, from, port, &buf[..len])?;
             }
             Err(Failed) => write!(text, "Failed ")?,
         }
@@ -204,9 +216,14 @@ fn six_receives<W: Wire>(alloc: Global, wire: &mut W) -> Result<String, AllocErr
     Ok(text)
 }
 
-fn received(alloc: Global) -> Result<String, Fail> {
+/// A wire with these arrivals, of which the first two calls fail.
+fn arriving(alloc: Global) -> Result<MemWire, Fail> {
     let fails = [1, 2].to_vec(alloc)?;
-    let mut wire = MemWire::new(alloc, arrivals(alloc)?, 0, 0, fails)?;
+    Ok(MemWire::new(alloc, arrivals(alloc)?, 0, 0, fails)?)
+}
+
+fn received(alloc: Global) -> Result<String, Fail> {
+    let mut wire = arriving(alloc)?;
     Ok(six_receives(alloc, &mut wire)?)
 }
 
@@ -246,21 +263,31 @@ fn wire_of(alloc: Global, room: usize, datagrams: usize, fails: u64) -> Result<M
     Ok(MemWire::new(alloc, Vec::new(alloc), room, datagrams, fails)?)
 }
 
+/// The answers of such a wire, and what it is then.
+fn sent(
+    alloc: Global,
+    room: usize,
+    datagrams: usize,
+    fails: u64,
+) -> Result<(String, MemWire), Fail> {
+    let mut wire = wire_of(alloc, room, datagrams, fails)?;
+    let answers = sends(alloc, &mut wire)?;
+    Ok((answers, wire))
+}
+
+/// All that went out went to client 5 and port 9.
+fn went_there(wire: &MemWire) -> bool {
+    wire.sent()
+        .iter()
+        .all(|sent| sent.to == 5 && sent.port == 9)
+}
+
 #[test]
 fn a_wire_sends(rt: HostRuntime) -> Result<(), Fail> {
     for (room, datagrams, fails, want, bytes) in SENDS {
-        let mut wire = wire_of(rt.alloc(), *room, *datagrams, *fails)?;
-        same(
-            &rt,
-            &sends(rt.alloc(), &mut wire)?.as_str(),
-            want,
-            &(room, datagrams),
-        );
-        let is_right = wire
-            .sent()
-            .iter()
-            .all(|sent| sent.to == 5 && sent.port == 9);
-        holds(&rt, is_right && wire.sent_bytes() == *bytes, want);
+        let (got, wire) = sent(rt.alloc(), *room, *datagrams, *fails)?;
+        same(&rt, &got.as_str(), want, &(room, datagrams));
+        holds(&rt, went_there(&wire) && wire.sent_bytes() == *bytes, want);
     }
     Ok(())
 }

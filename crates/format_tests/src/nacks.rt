@@ -1,8 +1,8 @@
 //! Feedback messages and generic NACKs, byte for byte (RFC 4585, 6.1 and 6.2.1).
 use crate::fixtures::{CLIENT, MEDIA, Reading, Words, bytes_of, holds, is_twice};
-use rtcp_feedback::{append_nack, feedback, nack_numbers, write_nack};
+use rtcp_feedback::{Feedback, append_nack, feedback, nack_numbers, write_nack};
 use rtcp_frame::Packet;
-use std::alloc::Global;
+use std::alloc::{AllocError, Global};
 use std::fmt::Write;
 use std::test::Fail;
 
@@ -123,6 +123,10 @@ pub const MESSAGES: &[Reading] = &[
     ("APP", &["cc", "0000c001", "11223344", "01000000"], "none"),
 ];
 
+fn text_of(alloc: Global, f: &Feedback<'_>) -> Result<String, AllocError> {
+    format!(in alloc; "{:08x} {:08x} {} {:?}", f.sender, f.media, f.fmt, f.fci)
+}
+
 /// The sources, the format and the information of a packet of format 6: its type, then its body.
 pub fn message(alloc: Global, bytes: &[u8]) -> Result<String, Fail> {
     let (kind, body) = bytes.split_first().ok_or("no type")?;
@@ -133,6 +137,6 @@ pub fn message(alloc: Global, bytes: &[u8]) -> Result<String, Fail> {
     };
     Ok(match feedback(&packet) {
         None => String::from_str(alloc, "none")?,
-        Some(f) => format!(in alloc; "{:08x} {:08x} {} {:?}", f.sender, f.media, f.fmt, f.fci)?,
+        Some(f) => text_of(alloc, &f)?,
     })
 }

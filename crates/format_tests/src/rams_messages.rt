@@ -5,6 +5,7 @@ use rams_tlv::{
     read_request, read_stop, write_info, write_request, write_stop,
 };
 use std::alloc::Global;
+use std::process::Abort;
 use std::test::Fail;
 
 const SENDER: u32 = 0xaabb_ccdd;
@@ -19,7 +20,7 @@ const ANY: Request<'static> = Request {
 };
 
 /// Feedback control information of RAMS-R, reserved bits set, and what is read of it.
-const REQUESTS: &[(&str, Words, Result<Request<'static>, TlvFault>)] = &[
+const REQUESTS: &[Read] = &[
     ("none", &["01ffffff"], Ok(ANY)),
     (
         "type 3, then type 2, then type 3 again",
@@ -127,13 +128,20 @@ const REQUESTS: &[(&str, Words, Result<Request<'static>, TlvFault>)] = &[
     ("a RAMS-I", &["02000000"], Err(TlvFault::Form)),
 ];
 
-#[test]
-fn requests_are_read(rt: HostRuntime) -> Result<(), Fail> {
-    for (name, words, want) in REQUESTS {
-        let fci = bytes_of(rt.alloc(), words)?;
-        same(&rt, &read_request(&fci), want, name);
+/// What is read of information.
+type Read = (&'static str, Words, Result<Request<'static>, TlvFault>);
+
+fn expect_read(rt: &impl Abort, alloc: Global, rows: &[Read]) -> Result<(), Fail> {
+    for (name, words, want) in rows {
+        let fci = bytes_of(alloc, words)?;
+        same(rt, &read_request(&fci), want, name);
     }
     Ok(())
+}
+
+#[test]
+fn requests_are_read(rt: HostRuntime) -> Result<(), Fail> {
+    expect_read(&rt, rt.alloc(), REQUESTS)
 }
 
 /// Requests, and whether they are of the source.

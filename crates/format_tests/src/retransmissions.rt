@@ -2,6 +2,7 @@
 use crate::fixtures::{Reading, Words, bytes_of, holds, is_twice};
 use rtx_payload::{Rtp, append_rtx, restore, restoring_gives_the_original, write_rtx};
 use std::alloc::Global;
+use std::process::Abort;
 use std::test::Fail;
 
 /// Packets, and their retransmissions under payload type 99 and sequence number 500.
@@ -45,9 +46,14 @@ const ROWS: &[(&str, Words, Words)] = &[
     ),
 ];
 
+/// The packet of these bytes.
+fn packet_of<'a>(bytes: &'a [u8]) -> Result<Rtp<'a>, Fail> {
+    Ok(Rtp::read(bytes).ok().ok_or("a packet")?)
+}
+
 /// The packet is sent again as these bytes, alone and behind others.
 fn goes_again(alloc: Global, packet: &[u8], again: &[u8]) -> Result<bool, Fail> {
-    let original = Rtp::read(packet).ok().ok_or("a packet")?;
+    let original = packet_of(packet)?;
     let mut text = write_rtx(alloc, &original, 99, 500)?;
     append_rtx(&mut text, &original, 99, 500)?;
     Ok(is_twice(&text, again))
@@ -55,10 +61,23 @@ fn goes_again(alloc: Global, packet: &[u8], again: &[u8]) -> Result<bool, Fail> 
 
 /// The bytes bring the packet's number, and the packet without its padding.
 fn comes_back(alloc: Global, packet: &[u8], again: &[u8]) -> Result<bool, Fail> {
-    let original = Rtp::read(packet).ok().ok_or("a packet")?;
-    let again = Rtp::read(again).ok().ok_or("a retransmission")?;
+    let original = packet_of(packet)?;
+    let again = packet_of(again)?;
     let (number, restored) = restore(alloc, &again, 33).ok().ok_or("an original")?;
     Ok(number == original.sequence() && restored == original.strip(alloc)?)
+}
+
+/// The packet is sent again as these bytes, and they bring it back.
+fn expect_back(
+    rt: &impl Abort,
+    alloc: Global,
+    name: &str,
+    packet: &[u8],
+    again: &[u8],
+) -> Result<(), Fail> {
+    holds(rt, goes_again(alloc, packet, again)?, &name);
+    holds(rt, comes_back(alloc, packet, again)?, &name);
+    Ok(())
 }
 
 #[test]
@@ -67,8 +86,7 @@ fn packets_go_there_and_back(rt: HostRuntime) -> Result<(), Fail> {
     for (name, words, again) in ROWS {
         let packet = bytes_of(rt.alloc(), words)?;
         let again = bytes_of(rt.alloc(), again)?;
-        holds(&rt, goes_again(rt.alloc(), &packet, &again)?, name);
-        holds(&rt, comes_back(rt.alloc(), &packet, &again)?, name);
+        expect_back(&rt, rt.alloc(), name, &packet, &again)?;
     }
     Ok(())
 }
@@ -104,7 +122,7 @@ pub const PAYLOADS: &[Reading] = &[
 
 /// Why nothing is restored of a retransmission.
 pub fn fault(alloc: Global, bytes: &[u8]) -> Result<String, Fail> {
-    let packet = Rtp::read(bytes).ok().ok_or("a packet")?;
+    let packet = packet_of(bytes)?;
     let fault = restore(alloc, &packet, 33).err();
     Ok(format!(in alloc; "{fault:?}")?)
 }

@@ -1,9 +1,9 @@
 //! Datagrams of RTCP packets, byte for byte, and each fault at its edge (RFC 3550, 6).
 use crate::fixtures::{CLIENT, Reading, Words, bytes_of, same};
 use rtcp_frame::{
-    append_bye, append_rr, append_sdes, bye_names, packets, write_bye, write_rr, write_sdes,
+    Packet, append_bye, append_rr, append_sdes, bye_names, packets, write_bye, write_rr, write_sdes,
 };
-use std::alloc::Global;
+use std::alloc::{AllocError, Global};
 use std::fmt::Write;
 use std::test::Fail;
 
@@ -144,14 +144,25 @@ pub const DATAGRAMS: &[Reading] = &[
     ),
 ];
 
+/// Writes type, count and length of the body of a packet.
+fn write_frame(text: &mut String, packet: &Packet<'_>) -> Result<(), AllocError> {
+    write!(
+        text,
+        "{} {} {}, ",
+        packet.kind,
+        packet.count,
+        packet.body.len()
+    )
+}
+
 /// Type, count and length of the body of each packet, or the fault.
 pub fn framed(alloc: Global, datagram: &[u8]) -> Result<String, Fail> {
     let mut text = String::new(alloc);
     match packets(datagram) {
         Err(fault) => write!(text, "{fault:?}")?,
         Ok(all) => {
-            for p in all {
-                write!(text, "{} {} {}, ", p.kind, p.count, p.body.len())?;
+            for packet in all {
+                write_frame(&mut text, &packet)?;
             }
         }
     }

@@ -1,7 +1,7 @@
 //! A packet with every part, and each fault at its edge (RFC 3550, 5.1).
 use crate::fixtures::{Reading, Words, bytes_of, holds, is_twice, same};
 use rtp_record::{Rtp, RtpFields, append_rtp, append_rtp_behind, write_rtp};
-use std::alloc::Global;
+use std::alloc::{AllocError, Global};
 use std::fmt::Write;
 use std::test::Fail;
 
@@ -35,10 +35,8 @@ pub const PARTS: &[Reading] = &[(
         0000000100000002 bede000110ff0000 aabb 30",
 )];
 
-/// Marker, payload type, sequence number, timestamp and SSRC of a packet; its contributing sources,
-/// its extension and its payload, and how long it is without padding.
-pub fn parts(alloc: Global, bytes: &[u8]) -> Result<String, Fail> {
-    let packet = Rtp::read(bytes).ok().ok_or("a packet")?;
+/// Marker, payload type, sequence number, timestamp and SSRC of a packet.
+fn header(alloc: Global, packet: &Rtp<'_>) -> Result<String, AllocError> {
     let header = (
         packet.marker(),
         packet.payload_type(),
@@ -46,11 +44,25 @@ pub fn parts(alloc: Global, bytes: &[u8]) -> Result<String, Fail> {
         packet.timestamp(),
         packet.ssrc(),
     );
-    let csrc = hex::encode(alloc, packet.csrc())?;
-    let extension = hex::encode(alloc, packet.extension())?;
-    let payload = hex::encode(alloc, packet.payload())?;
-    let len = packet.stripped_len();
-    Ok(format!(in alloc; "{header:?} {csrc} {extension} {payload} {len}")?)
+    format!(in alloc; "{header:?}")
+}
+
+/// Writes a space and the digits of bytes.
+fn append_digits(alloc: Global, text: &mut String, bytes: &[u8]) -> Result<(), AllocError> {
+    let digits = hex::encode(alloc, bytes)?;
+    write!(text, " {digits}")
+}
+
+/// A packet's header; its contributing sources, its extension and its payload, and how long it is without
+/// padding.
+pub fn parts(alloc: Global, bytes: &[u8]) -> Result<String, Fail> {
+    let packet = Rtp::read(bytes).ok().ok_or("a packet")?;
+    let mut text = header(alloc, &packet)?;
+    append_digits(alloc, &mut text, packet.csrc())?;
+    append_digits(alloc, &mut text, packet.extension())?;
+    append_digits(alloc, &mut text, packet.payload())?;
+    write!(text, " {}", packet.stripped_len())?;
+    Ok(text)
 }
 
 /// The packet without its padding: twice, and what its fields are written as.

@@ -1,6 +1,7 @@
 //! Lines of a trace: each kind, other forms, and numbers out of their ranges.
 use crate::fixtures::{holds, same};
-use crate::trace_words::{Answer, expect_words, line_of, word};
+use crate::trace_words::{Answer, expect_words, line_of, word_of};
+use ram_io::NoMemory;
 use rams_model::{Access, Channel};
 use std::alloc::{AllocError, Global};
 use std::process::Abort;
@@ -242,16 +243,20 @@ const KINDS: &[Spelled] = &[
     ),
 ];
 
+fn is_read(text: &[u8], line: &Line<'_>) -> bool {
+    read_line(text) == Ok(*line)
+}
+
+fn is_written(alloc: Global, text: &[u8], line: &Line<'_>) -> Result<bool, NoMemory> {
+    Ok(write_line(alloc, line)?.as_slice() == text)
+}
+
 /// Each text is read as its line, and the line is written as the text.
 fn expect_spelled(rt: &impl Abort, alloc: Global, rows: &[Spelled]) -> Result<(), Fail> {
     for (text, line) in rows {
         let text = line_of(alloc, text)?;
-        holds(rt, read_line(text.as_bytes()) == Ok(*line), &text);
-        holds(
-            rt,
-            write_line(alloc, line)?.as_slice() == text.as_bytes(),
-            &text,
-        );
+        holds(rt, is_read(text.as_bytes(), line), &text);
+        holds(rt, is_written(alloc, text.as_bytes(), line)?, &text);
     }
     Ok(())
 }
@@ -282,7 +287,7 @@ fn filled(alloc: Global, front: &str, len: usize) -> Result<String, AllocError> 
 fn a_line_has_at_most_4096_bytes(rt: HostRuntime) -> Result<(), Fail> {
     for (front, len, want) in LONG {
         let line = filled(rt.alloc(), front, *len)?;
-        same(&rt, &word(read_line(line.as_bytes()).err()), want, front);
+        same(&rt, &word_of(line.as_bytes()), want, front);
     }
     Ok(())
 }

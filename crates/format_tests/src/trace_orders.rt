@@ -2,7 +2,7 @@
 //! several faults is named.
 use crate::fixtures::same;
 use crate::trace_words::{line_of, word};
-use std::alloc::Global;
+use std::alloc::{AllocError, Global};
 use std::process::Abort;
 use std::test::Fail;
 use trace_text::{Mode, State};
@@ -258,6 +258,12 @@ const FULL: &[&str] = &[
     "ok end",
 ];
 
+/// The line of a channel.
+fn channel_line(alloc: Global, id: u32) -> Result<String, AllocError> {
+    let edits = format!(in alloc; "@channel 7>channel {id}")?;
+    line_of(alloc, &edits)
+}
+
 /// What a trace of 64 channels has reached.
 fn with_64_channels(alloc: Global) -> Result<State, Fail> {
     let mut state = State::new(Mode::Run);
@@ -266,8 +272,7 @@ fn with_64_channels(alloc: Global) -> Result<State, Fail> {
         return Err(Fail::from("the head"));
     }
     for id in 1..=64 {
-        let edits = format!(in alloc; "@channel 7>channel {id}")?;
-        let line = line_of(alloc, &edits)?;
+        let line = channel_line(alloc, id)?;
         if judged(&mut state, line.as_bytes()) != "ok" {
             return Err(Fail::from("a channel"));
         }

@@ -9,13 +9,18 @@ const CHANNEL: &str = "channel 7 ssrc 11223344 pt 33 rtx 99 server aabbccdd seq0
     window 0 access marker share 10000 reserve 1500 burst 4000 declared 100 minwire 42 limit 100 \
     idle 100 clients 4";
 
+/// The line with new text in place of the old.
+fn replaced(alloc: Global, line: &str, old: &str, new: &str) -> Result<String, AllocError> {
+    let (front, back) = line.split_once(old).unwrap_or(("no such part", ""));
+    format!(in alloc; "{front}{new}{back}")
+}
+
 /// `CHANNEL` with edits `old>new` that are set off by semicolons; none where there is no `>`.
 fn edited(alloc: Global, edits: &str) -> Result<String, AllocError> {
     let mut line = String::from_str(alloc, CHANNEL)?;
     for edit in edits.split(';') {
         if let Some((old, new)) = edit.split_once('>') {
-            let (front, back) = line.split_once(old).unwrap_or(("no such part", ""));
-            line = format!(in alloc; "{front}{new}{back}")?;
+            line = replaced(alloc, &line, old, new)?;
         }
     }
     Ok(line)
@@ -45,11 +50,16 @@ pub fn word(fault: Option<LineFault>) -> &'static str {
     }
 }
 
+/// The word of what a line is read as.
+pub fn word_of(line: &[u8]) -> &'static str {
+    word(read_line(line).err())
+}
+
 /// Each line is read with this word.
 pub fn expect_word(rt: &impl Abort, alloc: Global, want: &str, lines: &[&str]) -> Result<(), Fail> {
     for text in lines {
         let line = line_of(alloc, text)?;
-        same(rt, &word(read_line(line.as_bytes()).err()), &want, text);
+        same(rt, &word_of(line.as_bytes()), &want, text);
     }
     Ok(())
 }
