@@ -50,12 +50,16 @@ fn admit(rt: &impl Abort, alloc: Global, table: &mut Table, client: u32) -> Resu
     table.admit(alloc, u64::from(client), client, 500)
 }
 
+fn admit_all(rt: &impl Abort, alloc: Global, table: &mut Table, clients: &[u32]) {
+    for client in clients {
+        same(rt, &admit(rt, alloc, table, *client), &Ok(()), client);
+    }
+}
+
 // A table of at most so many clients, in which these are known.
 fn table_of(rt: &impl Abort, alloc: Global, most: u32, clients: &[u32]) -> Result<Table, Fail> {
     let mut table = Table::new(alloc, most, LIMIT)?;
-    for client in clients {
-        same(rt, &admit(rt, alloc, &mut table, *client), &Ok(()), client);
-    }
+    admit_all(rt, alloc, &mut table, clients);
     Ok(table)
 }
 
@@ -72,12 +76,8 @@ fn admitted(ssrc: u32) -> Entry {
 // Known are these clients, as they were admitted.
 fn expect_known(rt: &impl Abort, table: &Table, clients: &[u32]) {
     for (expected, (client, entry)) in clients.iter().zip(table.iter()) {
-        same(
-            rt,
-            &(client, entry),
-            &(u64::from(*expected), admitted(*expected)),
-            expected,
-        );
+        same(rt, &client, &u64::from(*expected), expected);
+        same(rt, &entry, &admitted(*expected), expected);
     }
 }
 
@@ -116,10 +116,15 @@ fn full_tables(rt: HostRuntime) -> Result<(), Fail> {
     expect_full(&rt, rt.alloc(), FULL)
 }
 
+// The call stands alone, as its contract is long.
+fn next_after(table: &Table, client: Option<u64>) -> Option<u64> {
+    table.next_after(client)
+}
+
 fn expect_next(rt: &impl Abort, alloc: Global, rows: &[Next]) -> Result<(), Fail> {
     for (clients, from, next) in rows {
         let table = table_of(rt, alloc, 4, clients)?;
-        same(rt, &table.next_after(*from), next, &(clients, from));
+        same(rt, &next_after(&table, *from), next, &(clients, from));
     }
     Ok(())
 }
@@ -213,21 +218,25 @@ fn opened_table(
     Ok(table)
 }
 
+fn count_open(table: &Table) -> usize {
+    table.open_bursts().count()
+}
+
+// Open are the bursts of these clients.
+fn expect_open(rt: &impl Abort, table: &Table, clients: &[u32]) {
+    for (expected, (client, entry)) in clients.iter().zip(table.open_bursts()) {
+        same(rt, &client, &u64::from(*expected), &clients);
+        same(rt, &entry.burst, &Some(BURST), &clients);
+    }
+}
+
 // Open are the bursts of these clients, by rising number, and no others.
 #[test]
 fn open_bursts(rt: HostRuntime) -> Result<(), Fail> {
     for (opened, ended, left, open_then) in OPENED {
         let table = opened_table(&rt, rt.alloc(), opened, ended, *left)?;
-        same(
-            &rt,
-            &table.open_bursts().count(),
-            &open_then.len(),
-            open_then,
-        );
-        for (expected, (client, entry)) in open_then.iter().zip(table.open_bursts()) {
-            same(&rt, &client, &u64::from(*expected), open_then);
-            same(&rt, &entry.burst, &Some(BURST), open_then);
-        }
+        same(&rt, &count_open(&table), &open_then.len(), open_then);
+        expect_open(&rt, &table, open_then);
     }
     Ok(())
 }

@@ -165,10 +165,11 @@ fn expect_steps(
 
 // The settings of the channel, with another window and another ring.
 fn settings(window: u32, ring: u32) -> Channel {
-    let mut channel = CHANNEL;
-    channel.window = window;
-    channel.ring = ring;
-    channel
+    Channel {
+        window,
+        ring,
+        ..CHANNEL
+    }
 }
 
 fn expect_rows(rt: &impl Abort, alloc: Global, rows: &[Row]) -> Result<(), Fail> {
@@ -240,6 +241,11 @@ fn expect_held(rt: &impl Abort, cache: &Cache, n: u64, want: (u64, u32, u32, boo
     same(rt, &held.packet.as_slice(), &packet, &n);
 }
 
+// Nothing is held under this number.
+fn is_none(cache: &Cache, n: u64) -> bool {
+    cache.held(n).is_none()
+}
+
 #[test]
 fn padding_is_not_held(rt: HostRuntime) -> Result<(), Fail> {
     let mut cache = cache_of(&rt, rt.alloc(), CHANNEL)?;
@@ -247,7 +253,7 @@ fn padding_is_not_held(rt: HostRuntime) -> Result<(), Fail> {
     expect_held(&rt, &cache, 65546, (65546, 0, 60, true), &BARE);
     holds(
         &rt,
-        cache.held(65545).is_none() && cache.held(65547).is_none(),
+        is_none(&cache, 65545) && is_none(&cache, 65547),
         &"around",
     );
     Ok(())

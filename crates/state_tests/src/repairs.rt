@@ -46,12 +46,16 @@ fn ask(rt: &impl Abort, queue: &mut Queue, client: u64, n: u64, answer: Asked) {
     same(rt, &queue.ask(client, n), &answer, &(n, client));
 }
 
+fn ask_for_pairs(rt: &impl Abort, queue: &mut Queue) {
+    for (client, n) in PAIRS {
+        ask(rt, queue, client, n, Asked::Queued);
+    }
+}
+
 // A queue in which the pairs are pending.
 fn queue_of(rt: &impl Abort, alloc: Global) -> Result<Queue, Fail> {
     let mut queue = Queue::new(alloc)?;
-    for (client, n) in PAIRS {
-        ask(rt, &mut queue, client, n, Asked::Queued);
-    }
+    ask_for_pairs(rt, &mut queue);
     Ok(queue)
 }
 
@@ -73,13 +77,22 @@ fn ask_for_256(rt: &impl Abort, queue: &mut Queue, client: u64) {
     ask(rt, queue, client, 65546, Asked::Already);
 }
 
+fn ask_for_4096(rt: &impl Abort, queue: &mut Queue) {
+    for client in 1..17 {
+        ask_for_256(rt, queue, client);
+    }
+}
+
 // A queue with 4,096 pending repairs, of the clients 1 to 16.
 fn full_queue(rt: &impl Abort, alloc: Global) -> Result<Queue, Fail> {
     let mut queue = Queue::new(alloc)?;
-    for client in 1..17 {
-        ask_for_256(rt, &mut queue, client);
-    }
+    ask_for_4096(rt, &mut queue);
     Ok(queue)
+}
+
+// How many repairs are pending.
+fn count(queue: &Queue) -> usize {
+    queue.pending().len()
 }
 
 // Each client may have 256 pending repairs and the channel 4,096: a client that asks for one more is
@@ -90,7 +103,7 @@ fn full_queues(rt: HostRuntime) -> Result<(), Fail> {
     ask(&rt, &mut queue, 17, 65546, Asked::QueueFull);
     ask(&rt, &mut queue, 1, 65801, Asked::Already);
     ask(&rt, &mut queue, 16, 65802, Asked::ClientFull);
-    same(&rt, &queue.pending().len(), &4096, &"pending");
+    same(&rt, &count(&queue), &4096, &"pending");
     Ok(())
 }
 
@@ -98,7 +111,7 @@ fn full_queues(rt: HostRuntime) -> Result<(), Fail> {
 fn full_queues_have_room_behind_a_client(rt: HostRuntime) -> Result<(), Fail> {
     let mut queue = full_queue(&rt, rt.alloc())?;
     queue.forget(3);
-    same(&rt, &queue.pending().len(), &3840, &"pending");
+    same(&rt, &count(&queue), &3840, &"pending");
     ask(&rt, &mut queue, 17, 65546, Asked::Queued);
     ask(&rt, &mut queue, 3, 65546, Asked::Queued);
     Ok(())
@@ -116,12 +129,17 @@ fn ask_again(rt: &impl Abort, queue: &mut Queue, done: &[bool; 5]) {
     }
 }
 
+// The marked ones go.
+fn settle(rt: &impl Abort, queue: &mut Queue, done: &[bool]) {
+    assert!(rt; queue.pending().len() == done.len());
+    queue.settle(done);
+}
+
 // The marked ones go, and the others stay in their order; what went may be asked for again.
 fn expect_settled(rt: &impl Abort, alloc: Global, rows: &[Settled]) -> Result<(), Fail> {
     for (done, left) in rows {
         let mut queue = queue_of(rt, alloc)?;
-        assert!(rt; queue.pending().len() == done.len());
-        queue.settle(done);
+        settle(rt, &mut queue, done);
         same(rt, &pending(alloc, &queue)?.as_slice(), left, done);
         ask_again(rt, &mut queue, done);
     }
@@ -144,8 +162,7 @@ fn settle_places(
     for place in 0..queue.pending().len() {
         done.push(places.0 <= place && place < places.1)?;
     }
-    assert!(rt; queue.pending().len() == done.len());
-    queue.settle(&done);
+    settle(rt, queue, &done);
     Ok(())
 }
 
