@@ -1,8 +1,9 @@
 //! What a row of a table is, and how it is run.
 ghost use Rattle.std.specs.Prelude.{◌≡◌, ◌+◌, ◌<◌, ◌≤◌, ◌^◌, IfOk, OnOk, length};
 
-use receiver_core::{InfoCame, MediaCame, Receiver, Tuned};
+use receiver_core::{InfoCame, MediaCame, Receiver, Shown, Tuned};
 use std::alloc::Global;
+use std::fmt::Debug;
 use std::process::Abort;
 use std::test::Fail;
 
@@ -71,31 +72,90 @@ pub fn tuned(alloc: Global) -> Result<Receiver, Fail>
     Ok(receiver)
 }
 
-// A packet of the multicast is answered so.
-fn expect_multicast(
+/// The value is the one that is wanted of this.
+fn same<T: Debug + PartialEq, C: Debug>(rt: &impl Abort, got: &T, want: &T, of: &C) {
+    assert_eq!(rt; *got, *want, "{of:?}");
+}
+
+// A RAMS-I is answered so.
+fn expect_told(
     rt: &impl Abort,
     alloc: Global,
     receiver: &mut Receiver,
-    packet: &[u8],
-    said: Said,
+    words: Words,
+    expected: InfoCame,
+) -> Result<(), Fail>
+    ensures { OnOk result (receiver.new.calls ≡ receiver.old.calls) }
+{
+    let came = receiver.info(&bytes_of(alloc, words)?);
+    same(rt, &came, &expected, &words);
+    Ok(())
+}
+
+// A retransmission is answered so.
+fn expect_again(
+    rt: &impl Abort,
+    alloc: Global,
+    receiver: &mut Receiver,
+    words: Words,
+    expected: MediaCame,
 ) -> Result<(), Fail>
     requires { receiver.old.calls < 2 ^ 40 }
     ensures { OnOk result (receiver.new.calls ≡ receiver.old.calls + 1) }
 {
-    let (came, text) = receiver.multicast(alloc, packet)?;
+    let came = receiver.rtx(alloc, &bytes_of(alloc, words)?)?;
+    same(rt, &came, &expected, &words);
+    Ok(())
+}
+
+// The answer to a packet of the multicast.
+fn answer(
+    alloc: Global,
+    receiver: &mut Receiver,
+    words: Words,
+) -> Result<(MediaCame, Option<Vec<u8>>), Fail>
+    requires { receiver.old.calls < 2 ^ 40 }
+    ensures { OnOk result (receiver.new.calls ≡ receiver.old.calls + 1) }
+{
+    Ok(receiver.multicast(alloc, &bytes_of(alloc, words)?)?)
+}
+
+// The answer is as it is said.
+fn expect_answer(
+    rt: &impl Abort,
+    alloc: Global,
+    came: MediaCame,
+    text: Option<Vec<u8>>,
+    said: Said,
+) -> Result<(), Fail> {
     match said {
         Said::Joined(expected, message) => {
-            assert_eq!(rt; came, expected, "{said:?}");
+            same(rt, &came, &expected, &said);
             let stop = text.expect(rt, "a RAMS-T");
-            assert_eq!(rt; stop, datagram(alloc, message)?, "{said:?}");
+            same(rt, &stop, &datagram(alloc, message)?, &said);
         }
         Said::Came(expected) => {
-            assert_eq!(rt; came, expected, "{said:?}");
+            same(rt, &came, &expected, &said);
             assert!(rt; text.is_none());
         }
         _ => assert!(rt; false, "{said:?}"),
     }
     Ok(())
+}
+
+// A packet of the multicast is answered so.
+fn expect_multicast(
+    rt: &impl Abort,
+    alloc: Global,
+    receiver: &mut Receiver,
+    words: Words,
+    said: Said,
+) -> Result<(), Fail>
+    requires { receiver.old.calls < 2 ^ 40 }
+    ensures { OnOk result (receiver.new.calls ≡ receiver.old.calls + 1) }
+{
+    let (came, text) = answer(alloc, receiver, words)?;
+    expect_answer(rt, alloc, came, text, said)
 }
 
 // The receiver asks by these datagrams.
@@ -106,10 +166,10 @@ fn expect_datagrams(
     messages: &[Words],
 ) -> Result<(), Fail> {
     let datagrams = receiver.ask(alloc)?;
-    assert_eq!(rt; datagrams.len(), messages.len(), "{messages:?}");
+    same(rt, &datagrams.len(), &messages.len(), &messages);
     for (asked, message) in datagrams.iter().zip(messages) {
         let expected = datagram(alloc, message)?;
-        assert_eq!(rt; asked.bytes(), expected.as_slice(), "{message:?}");
+        same(rt, &asked.bytes(), &expected.as_slice(), message);
     }
     Ok(())
 }
@@ -127,21 +187,25 @@ fn expect(
 {
     match (call, said) {
         (Call::Info(words), Said::Told(expected)) => {
-            let came = receiver.info(&bytes_of(alloc, words)?);
-            assert_eq!(rt; came, expected, "{words:?}");
+            expect_told(rt, alloc, receiver, words, expected)
         }
         (Call::Rtx(words), Said::Came(expected)) => {
-            let came = receiver.rtx(alloc, &bytes_of(alloc, words)?)?;
-            assert_eq!(rt; came, expected, "{words:?}");
+            expect_again(rt, alloc, receiver, words, expected)
         }
-        (Call::Multicast(words), _) => {
-            let packet = bytes_of(alloc, words)?;
-            expect_multicast(rt, alloc, receiver, &packet, said)?;
+        (Call::Multicast(words), _) => expect_multicast(rt, alloc, receiver, words, said),
+        (Call::Ask, Said::Asks(messages)) => expect_datagrams(rt, alloc, receiver, messages),
+        _ => {
+            assert!(rt; false, "{call:?} {said:?}");
+            Ok(())
         }
-        (Call::Ask, Said::Asks(messages)) => expect_datagrams(rt, alloc, receiver, messages)?,
-        _ => assert!(rt; false, "{call:?} {said:?}"),
     }
-    Ok(())
+}
+
+// What is presented next. The call stands alone, as its contract is long.
+fn presented(receiver: &mut Receiver) -> Option<Shown>
+    ensures { receiver.new.calls ≡ receiver.old.calls }
+{
+    receiver.present()
 }
 
 // These packets are presented, and no more.
@@ -154,11 +218,16 @@ fn expect_shown(
     ensures { OnOk result (receiver.new.calls ≡ receiver.old.calls) }
 {
     for (n, packet) in shown {
-        let piece = receiver.present().expect(rt, "a packet");
+        let piece = presented(receiver).expect(rt, "a packet");
         let expected = bytes_of(alloc, packet)?;
-        assert_eq!(rt; (piece.n, piece.packet.bytes()), (*n, expected.as_slice()));
+        same(
+            rt,
+            &(piece.n, piece.packet.bytes()),
+            &(*n, expected.as_slice()),
+            n,
+        );
     }
-    assert!(rt; receiver.present().is_none());
+    assert!(rt; presented(receiver).is_none());
     Ok(())
 }
 
