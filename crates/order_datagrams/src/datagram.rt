@@ -9,7 +9,7 @@ use ram_io::NoMemory;
 use rams_model::Order;
 use rams_tlv::append_info;
 use rtp_record::Rtp;
-use rtx_payload::append_rtx;
+use rtx_payload::{append_plain, append_rtx, is_plain};
 use std::alloc::Global;
 
 /// The datagram of an order; empty where the packet of a retransmission doesn't read as one, as each
@@ -54,6 +54,9 @@ fn append_retransmission(
     ensures full { OnErr result
         (vec_capacity text.old < vec_len text.old + length (sent_again rtx seq (packet_at packet.now))) }
 {
+    if is_plain(packet) {
+        return append_plain(text, packet, rtx, seq);
+    }
     match Rtp::read(packet) {
         Ok(original) => append_rtx(text, &original, rtx, seq),
         Err(_) => Ok(()),

@@ -4,9 +4,11 @@
 //! padding, and with the original number in front of its payload.
 #![tactic(auto)]
 
+mod plain;
 mod restoring;
 mod writing;
 
+pub use plain::{append_plain, is_plain};
 pub use ram_io::NoMemory;
 pub use restoring::{RtxFault, restore, restoring_gives_the_original};
 pub use rtp_record::Rtp;
