@@ -1,7 +1,6 @@
 -- Points whose timestamps rise, and the search among them by halves.
-use Rattle.std.proofs.Common.{◌≡◌, ℕ, ◌+◌, ◌-◌, ◌^◌, ◌<◌, ◌≤◌, ◌⊎◌, List, [], ◌∷◌, ◌++◌, length, get_or, take, drop, inl, inr, sym, ◌∙◌, ap, subst, length-append, length-drop, get_or-drop, take-suc, true, false, suc, arith}
-use Rattle.std.proofs.lemmas.Bool.{cases_lt}
-use Rattle.std.proofs.lemmas.List.{get_or_append_left, get_or_push, get_or_default}
+use Rattle.std.proofs.Common.{◌≡◌, ℕ, ◌+◌, ◌-◌, ◌^◌, ◌<◌, ◌≤◌, List, [], ◌∷◌, ◌++◌, length, get_or, take, sym, ◌∙◌, ap, subst, take-suc, true, false, suc, arith}
+use Rattle.std.proofs.lemmas.List.{get_or_default}
 use Rattle.rams_model.specs.Packets.{age_ms}
 use Rattle.access_index.specs.declared.point.Ask.{Ask}
 use Rattle.access_index.specs.declared.point.Point.{Point}
@@ -9,49 +8,10 @@ use Rattle.access_index.specs.declared.choice.Choice.TheVariants.{MinUnmet}
 use Rattle.access_index.specs.{leaves_room, start_unless, shown, start_of, RiseIn, RiseLast, AreAtMost}
 use Rattle.access_index.proofs.Choosing.{no_point, start_passed, start_old, start_full, before_last, rise_take}
 
--- ---- the first point goes
-pub risen_rest : (run : ℕ) (ps : List Point) → RiseLast run ps → RiseLast run (drop 1 ps)
-risen_rest run ps risen = λ i j e from ordered below.
-    subst (λ (q : Point). q.ts ≤ (get_or (drop 1 ps) j e).ts) (sym (get_or-drop 1 ps i e))
-    (subst (λ (q : Point). (get_or ps (1 + i) e).ts ≤ q.ts) (sym (get_or-drop 1 ps j e)) (risen (1 + i) (1 + j) e (omega (arith, length-drop 1 ps)) (omega arith) (omega (arith, length-drop 1 ps))))
-
--- ---- a point comes
-last_risen : (run : ℕ) (ps : List Point) (p : Point) (i : ℕ) (e : Point) → RiseLast run ps → ((d : Point) → 0 < length ps → (get_or ps (length ps - 1) d).ts ≤ p.ts) → length ps ≤ i + run → i < length ps → (get_or ps i e).ts ≤ p.ts
-last_risen run ps p i e risen over from below = omega (arith, risen i (length ps - 1) e from (omega arith) (omega arith), over e (omega arith))
-
-risen_step : (run : ℕ) (ps : List Point) (p : Point) (i j : ℕ) (e : Point) → RiseLast run ps → ((d : Point) → 0 < length ps → (get_or ps (length ps - 1) d).ts ≤ p.ts) → length ps ≤ i + run → i ≤ j → j ≤ length ps
-    → (j < length ps) ⊎ (length ps ≤ j) → (i < length ps) ⊎ (length ps ≤ i) → (get_or (ps ++ p ∷ []) i e).ts ≤ (get_or (ps ++ p ∷ []) j e).ts
-risen_step run ps p i j e risen over from ordered some (inl below) front =
-    subst (λ (q : Point). q.ts ≤ (get_or (ps ++ p ∷ []) j e).ts) (sym (get_or_append_left ps (p ∷ []) e i (omega arith)))
-    (subst (λ (q : Point). (get_or ps i e).ts ≤ q.ts) (sym (get_or_append_left ps (p ∷ []) e j below)) (risen i j e from ordered below))
-risen_step run ps p i j e risen over from ordered some (inr behind) (inl front) =
-    subst (λ (q : Point). q.ts ≤ (get_or (ps ++ p ∷ []) j e).ts) (sym (get_or_append_left ps (p ∷ []) e i front))
-    (subst (λ (q : Point). (get_or ps i e).ts ≤ q.ts) (sym (get_or_push ps p e j (omega arith))) (last_risen run ps p i e risen over from front))
-risen_step run ps p i j e risen over from ordered some (inr behind) (inr front) =
-    let same : i ≡ j = omega arith in
-    subst (λ (k : ℕ). (get_or (ps ++ p ∷ []) i e).ts ≤ (get_or (ps ++ p ∷ []) k e).ts) same (omega arith)
-
--- its timestamp is not below the newest's
-pub risen_more : (run more : ℕ) (ps : List Point) (p : Point) → RiseLast run ps → more ≤ run + 1 → ((d : Point) → 0 < length ps → (get_or ps (length ps - 1) d).ts ≤ p.ts) → RiseLast more (ps ++ p ∷ [])
-risen_more run more ps p risen one over = λ i j e from ordered below.
-    risen_step run ps p i j e risen over (omega (arith, length-append ps (p ∷ []))) ordered (omega (arith, length-append ps (p ∷ []))) (cases_lt j (length ps)) (cases_lt i (length ps))
-
--- it is alone
-pub risen_one : (ps : List Point) (p : Point) → RiseLast 1 (ps ++ p ∷ [])
-risen_one ps p = λ i j e from ordered below.
-    let same : i ≡ j = omega (arith, length-append ps (p ∷ [])) in
-    subst (λ (k : ℕ). (get_or (ps ++ p ∷ []) i e).ts ≤ (get_or (ps ++ p ∷ []) k e).ts) same (omega arith)
-
 -- ---- the search
 -- a later timestamp is younger
 pub age_falls : (last older newer : ℕ) → older ≤ newer → newer ≤ last → last < 2 ^ 32 → age_ms last newer ≤ age_ms last older
 age_falls last older newer ordered past small = omega arith
-
--- none is later than the last
-pub past_all : (run : ℕ) (ps : List Point) (p : Point) (last : ℕ) → RiseLast run ps → length ps ≤ run → p ≡ get_or ps (length ps - 1) p → p.ts ≤ last → AreAtMost last ps
-past_all run ps p last risen all is past = λ j e below.
-    let same : p ≡ get_or ps (length ps - 1) e = is ∙ get_or_default ps (length ps - 1) p e (omega arith) in
-    omega (arith, past, ap (λ (q : Point). q.ts) same, risen j (length ps - 1) e (omega arith) (omega arith) (omega arith))
 
 -- where a point is too young, those behind it are
 pub half_young : (a : Ask) (ps : List Point) (middle high : ℕ) (p : Point) → a.last < 2 ^ 32 → RiseLast (length ps) ps → AreAtMost a.last ps → middle ≤ high → high ≤ length ps → middle < length ps → p ≡ get_or ps middle p → age_ms a.last p.ts < a.min_ms

@@ -1,5 +1,6 @@
 pub mod Choosing
 pub mod Halving
+pub mod Lowest
 pub mod Packets
 pub mod Pushing
 pub mod Rising

@@ -1,10 +1,12 @@
 pub mod Asked
 pub mod Kept
+pub mod Lows
 pub mod Marks
 pub mod Seen
 pub mod Spans
 unfoldable pub use Rattle.access_index.specs.Asked.{roomy, start_of, choice_for}
 unfoldable pub use Rattle.access_index.specs.Kept.{shown, seen_of, RiseIn, above}
+unfoldable pub use Rattle.access_index.specs.Lows.{are_over, lows_of, under, IsLid, AreLids}
 unfoldable pub use Rattle.access_index.specs.Marks.{point_of, points_of, refused, choice_of}
 pub use Rattle.access_index.specs.Marks.{StandsFor}
 unfoldable pub use Rattle.access_index.specs.Seen.{new_index, more_behind, pushed, left_from, leaves_room, age_at, newest, start_unless, start_at, choice_among, choice}

@@ -6,6 +6,8 @@
 
 mod choice;
 mod index;
+mod lid;
+mod lows;
 mod point;
 mod points;
 mod span;

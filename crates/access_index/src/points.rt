@@ -1,10 +1,11 @@
 //! The access points in their order, and the timestamps of each 64 of them.
-ghost use Rattle.std.specs.Prelude.{◌≡◌, ℕ, ◌*◌, ◌+◌, ◌%◌, ◌++◌, ◌^◌, ◌<◌, ◌≤◌, List, [], ◌∷◌, length, take, IfOk, IfSome, IfNone};
+ghost use Rattle.std.specs.Prelude.{◌≡◌, ℕ, ◌*◌, ◌+◌, ◌%◌, ◌++◌, ◌^◌, ◌<◌, ◌≤◌, [], ◌∷◌, length, take, IfOk, IfSome, IfNone};
 ghost use Rattle.std.specs.VecDeque.{deque_len, deque_capacity};
-ghost use Rattle.access_index.specs.{above, start_of, choice_for, RiseIn, IsNoted, RiseLast, AreAtMost, IsLastOld};
-ghost use Rattle.access_index.specs.declared.point.Point.{Point};
+ghost use Rattle.access_index.specs.{above, start_of, choice_for, RiseIn, IsNoted};
 
 use crate::Choice;
+use crate::lid::Lids;
+use crate::lows::{choose_low, drop_lows, push_low};
 use crate::point::{Ask, Point};
 use crate::span::Span;
 use ext_seq::age_ms;
@@ -25,14 +26,16 @@ pub struct Points {
     spans: VecDeque<Span>,
     /// How many points of the first span are gone.
     gone: usize,
-    /// The timestamps of so many points, the newest, rise.
-    run: usize,
+    /// The points whose timestamps are below those of all points behind them.
+    lows: VecDeque<Point>,
+    /// Two timestamps that none of the newest points is above.
+    lids: Lids,
 }
 
 impl Model for Points {
-    ghost use Rattle.std.specs.Prelude.{◌+◌, ◌/◌, ◌≤◌};
+    ghost use Rattle.std.specs.Prelude.{◌≡◌, ◌+◌, ◌/◌, ◌≤◌};
     ghost use Rattle.std.specs.VecDeque.{deque_capacity};
-    ghost use Rattle.access_index.specs.{Row, Spanned, RiseLast};
+    ghost use Rattle.access_index.specs.{Row, Spanned, lows_of, AreLids};
 
     ghost Value = { Row };
 
@@ -41,7 +44,9 @@ impl Model for Points {
     ghost invariant = { λ p. record {
       spanned : Spanned p.gone p.spans.items p.points.items;
       room : deque_capacity p.points / 64 + 2 ≤ deque_capacity p.spans;
-      run : RiseLast p.run p.points.items;
+      lows : p.lows.items ≡ lows_of p.points.items;
+      lows_room : deque_capacity p.points ≤ deque_capacity p.lows;
+      lids : AreLids p.lids p.points.items;
     } };
 }
 
@@ -54,7 +59,8 @@ impl Points {
             points: VecDeque::with_capacity(alloc, capacity)?,
             spans: VecDeque::with_capacity(alloc, capacity / SPAN + 2)?,
             gone: 0,
-            run: 0,
+            lows: VecDeque::with_capacity(alloc, capacity)?,
+            lids: Lids::new(),
         })
     }
 
@@ -63,29 +69,18 @@ impl Points {
         requires { length self.old.items < self.old.capacity }
         ensures { self.new ≡ record { items = self.old.items ++ point ∷ []; capacity = self.old.capacity } }
     {
-        let run = self.run_with(point.ts);
         note(&mut self.spans, self.gone + self.points.len(), point.ts);
-        self.run = run;
+        push_low(&mut self.lows, point);
+        self.lids = self.lids.with(point.ts, self.points.len());
         self.points.push_back_reserved(point);
-    }
-
-    // Of how many points, the newest, the timestamps rise once one with this timestamp is behind them.
-    fn run_with(&self, ts: u32) -> usize
-        ensures { (point : Point) → point.ts ≡ ts → RiseLast result (self.now.items ++ point ∷ []) }
-    {
-        let Some(newest) = self.points.back() else {
-            return 1;
-        };
-        if ts < newest.ts {
-            return 1;
-        }
-        self.run.saturating_add(1)
     }
 
     /// The points with numbers below `lo`, which stand in front, go.
     pub fn drop_below(&mut self, lo: u64)
+        requires { (total : ℕ) × RiseIn 0 (2 ^ 62) 0 total self.old.items }
         ensures { self.new ≡ record { items = above lo self.old.items; capacity = self.old.capacity } }
     {
+        drop_lows(&mut self.lows, lo);
         while self.points.front().is_some_and(|point| point.n < lo) {
             let _ = self.points.pop_front();
             self.gone += 1;
@@ -96,8 +91,9 @@ impl Points {
         }
     }
 
-    /// The choice among the points. Where their timestamps rise it is found by halves. Else the search goes
-    /// from the newest on, and into a span only where a point of it may be old enough.
+    /// The choice among the points. Where none is above the last mark's timestamp, it is found by halves among those
+    /// that are below all behind them. Else the search goes from the newest on, and into a span only where a point
+    /// of it may be old enough.
     pub fn choose(&self, ask: &Ask) -> Choice
         requires { RiseIn 0 (2 ^ 62) 0 ask.now.total self.now.items }
         ensures { result ≡ choice_for ask.now self.now.items }
@@ -109,8 +105,8 @@ impl Points {
         if !ask.leaves_room(newest) {
             return Choice::NoStart;
         }
-        if self.points.len() <= self.run && newest.ts <= ask.last {
-            return self.choose_risen(ask);
+        if self.lids.are_over(self.points.len(), ask.last) {
+            return choose_low(&self.lows, ask);
         }
         let mut place = self.spans.len();
         while place > 0 {
@@ -124,46 +120,6 @@ impl Points {
             }
         }
         Choice::MinUnmet
-    }
-
-    // The choice among points whose timestamps rise, up to the last mark's at most.
-    fn choose_risen(&self, ask: &Ask) -> Choice
-        requires rise { RiseIn 0 (2 ^ 62) 0 ask.now.total self.now.items }
-        requires risen { RiseLast (length self.now.items) self.now.items }
-        requires past { AreAtMost ask.now.last self.now.items }
-        ensures { result ≡ start_of ask.now self.now.items }
-    {
-        let count = self.old_count(ask);
-        if count == 0 {
-            return Choice::MinUnmet;
-        }
-        let point = &self.points[count - 1];
-        if !ask.leaves_room(point) {
-            return Choice::MinUnmet;
-        }
-        ask.start_at(point, age_ms(ask.last, point.ts))
-    }
-
-    // How many points are old enough: those in front, where the timestamps rise up to the last mark's at
-    // most.
-    fn old_count(&self, ask: &Ask) -> usize
-        requires risen { RiseLast (length self.now.items) self.now.items }
-        requires past { AreAtMost ask.now.last self.now.items }
-        ensures within { result ≤ length self.now.items }
-        ensures old { IsLastOld ask.now.last ask.now.min_ms result self.now.items }
-        ensures same { start_of ask.now (take result self.now.items) ≡ start_of ask.now self.now.items }
-    {
-        let mut low = 0;
-        let mut high = self.points.len();
-        while low < high {
-            let middle = low + (high - low) / 2;
-            if age_ms(ask.last, self.points[middle].ts) >= ask.min_ms {
-                low = middle + 1;
-            } else {
-                high = middle;
-            }
-        }
-        low
     }
 
     // The choice among the first `end` points, if one of those from `start` on decides it: the newest of

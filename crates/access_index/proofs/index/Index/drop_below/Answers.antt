@@ -1,11 +1,16 @@
-use Rattle.std.proofs.Common.{ℕ, List, min, max, sym, ◌∙◌, ap, subst, arith}
+use Rattle.std.proofs.Common.{ℕ, ◌^◌, List, min, max, sym, ◌∙◌, ap, subst, arith}
 use Rattle.rams_model.specs.Packets.{from_number}
 use Rattle.access_index.specs.declared.point.Point.{Point}
 use Rattle.access_index.specs.{left_from, StandsFor, RiseIn}
 use Rattle.access_index.specs.Seen.{Seen}
-use Rattle.access_index.proofs.Rising.{left_is, rise_above}
+use Rattle.access_index.proofs.Rising.{left_is, rise_above, rise_wider}
 use Rattle.access_index.proofs.Standing.{left_stands}
 use Rattle.access_index.proofs.index.Index.drop_below.Goals as goal
+
+pub drop_below-requires : goal.drop_below-requires
+drop_below-requires c =
+    let i = c.self.inside in
+    (i.total, rise_wider i.lo i.hi 0 i.total 0 (2 ^ 62) 0 i.total i.points.items (omega arith) c.self.invariant.small (omega arith) (omega arith) c.self.invariant.rise)
 
 pub invariant_of-self : goal.invariant_of-self
 invariant_of-self c =

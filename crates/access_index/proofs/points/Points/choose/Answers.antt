@@ -1,8 +1,8 @@
-use Rattle.std.proofs.Common.{◌≡◌, ◌-◌, ◌^◌, List, [], ◌∷◌, ◌++◌, ◌<◌, length, get_or, take, deque_len, ℕ, refl, sym, ◌∙◌, ap, subst, arith}
+use Rattle.std.proofs.Common.{◌≡◌, ◌-◌, ◌^◌, List, [], ◌∷◌, ◌++◌, ◌<◌, length, take, deque_len, refl, sym, ◌∙◌, ap, subst, arith}
 use Rattle.access_index.specs.declared.point.Point.{Point}
-use Rattle.access_index.specs.{choice_for, RiseIn, AreAtMost}
+use Rattle.access_index.specs.{choice_for, start_of, RiseIn, RiseLast, AreAtMost}
 use Rattle.access_index.proofs.Choosing.{before_last, take_newest, choice_full}
-use Rattle.access_index.proofs.Halving.{past_all}
+use Rattle.access_index.proofs.Lowest.{lows_rise, lows_risen, lows_past, lows_start, choice_start}
 use Rattle.access_index.proofs.Spanning.{span_passed, span_kept}
 use Rattle.access_index.proofs.points.Points.choose.Goals as goal
 use Rattle.access_index.proofs.points.Points.choose.Goals.{In-Some}
@@ -18,13 +18,38 @@ joined c =
 rise : (c : In-Some) → RiseIn 0 (2 ^ 62) 0 c.args.ask.now.total (front c ++ c.in-Some.newest.now ∷ [])
 rise c = subst (λ (ps : List Point). RiseIn 0 (2 ^ 62) 0 c.args.ask.now.total ps) (joined c) c.requires
 
-pub choose_risen-requires-clause-past : goal.choose_risen-requires-clause-past
-choose_risen-requires-clause-past c =
+items : (c : In-Some) → c.self.inside.points.items ≡ c.args.self.now.items
+items c = ap (λ r. r.items) c.self.view_is
+
+rise_all : (c : In-Some) → RiseIn 0 (2 ^ 62) 0 c.args.ask.now.total c.self.inside.points.items
+rise_all c = subst (λ (ps : List Point). RiseIn 0 (2 ^ 62) 0 c.args.ask.now.total ps) (sym (items c)) c.requires
+
+pub choose_low-requires-clause-rise : goal.choose_low-requires-clause-rise
+choose_low-requires-clause-rise c =
+    let i = (goal.at.choose_low-requires-clause-rise c).In-Some in
+    subst (λ (ps : List Point). RiseIn 0 (2 ^ 62) 0 c.args.ask.now.total ps) (sym c.self.invariant.lows) (lows_rise 0 (2 ^ 62) 0 c.args.ask.now.total c.self.inside.points.items (rise_all i))
+
+pub choose_low-requires-clause-risen : goal.choose_low-requires-clause-risen
+choose_low-requires-clause-risen c = subst (λ (ps : List Point). RiseLast (length ps) ps) (sym c.self.invariant.lows) (lows_risen c.self.inside.points.items)
+
+pub choose_low-requires-clause-past : goal.choose_low-requires-clause-past
+choose_low-requires-clause-past c =
     let i = c.self.inside in
-    let items = ap (λ r. r.items) c.self.view_is in
-    let newest = c.in-Some.newest.now in
-    let is : newest ≡ get_or i.points.items (length i.points.items - 1) newest = c.in-Some.ensures.lookup ∙ ap (λ (n : ℕ). get_or i.points.items (n - 1) newest) i.points.ok.0 in
-    subst (AreAtMost c.args.ask.now.last) items (past_all i.run i.points.items newest c.args.ask.now.last c.self.invariant.run (omega (arith, c.if-len-self.true, c.len.ensures, i.points.ok.0)) is c.if-newest-ask.true)
+    let over = c.are_over.ensures c.if-are_over.true i.points.items (sym (c.len.ensures ∙ i.points.ok.0)) c.self.invariant.lids in
+    subst (AreAtMost c.args.ask.now.last) (sym c.self.invariant.lows) (lows_past c.args.ask.now.last i.points.items over)
+
+pub returns-then-are_over : goal.returns-then-are_over
+returns-then-are_over c =
+    let i = (goal.at.returns-then-are_over c).In-Some in
+    let ask = c.args.ask.now in
+    let points = c.self.inside.points.items in
+    let over = c.are_over.ensures c.if-are_over.true points (sym (c.len.ensures ∙ c.self.inside.points.ok.0)) c.self.invariant.lids in
+    let small : ask.last < 2 ^ 32 = omega (arith, c.fits-ask) in
+    c.choose_low.ensures
+    ∙ (ap (start_of ask) c.self.invariant.lows
+    ∙ (lows_start ask points small (rise_all i) over
+    ∙ (ap (start_of ask) (items i)
+    ∙ choice_start ask c.args.self.now.items (front i) c.in-Some.newest.now (joined i) (sym c.leaves_room.ensures ∙ c.if-not-leaves_room.false))))
 
 pub leaves_room-requires : goal.leaves_room-requires
 leaves_room-requires c =

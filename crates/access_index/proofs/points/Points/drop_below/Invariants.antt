@@ -1,6 +1,6 @@
 use Rattle.std.proofs.Common.{◌≡◌, ◌+◌, ◌/◌, ◌≤◌, deque_len}
 use Rattle.std.specs.VecDeque.{deque_capacity}
-use Rattle.access_index.specs.{above, Spanned, RiseLast}
+use Rattle.access_index.specs.{above, Spanned, lows_of, AreLids}
 use Rattle.access_index.proofs.points.Points.drop_below.Given as goal
 
 abbrev pub invariant-loop-lo : goal.invariant-loop-lo
@@ -11,7 +11,9 @@ invariant-loop-lo l =
       capacity : deque_capacity p.points ≡ l.fn.self.capacity;
       spanned : Spanned p.gone p.spans.items p.points.items;
       room : deque_capacity p.points / 64 + 2 ≤ deque_capacity p.spans;
-      run : RiseLast p.run p.points.items;
+      lows : p.lows.items ≡ lows_of (above l.lo l.fn.self.items);
+      lows_room : l.fn.self.capacity ≤ deque_capacity p.lows;
+      lids : AreLids p.lids p.points.items;
     }
 
 abbrev pub decreases-loop-lo : goal.decreases-loop-lo
