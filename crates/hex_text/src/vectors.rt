@@ -4,8 +4,11 @@ ghost use Rattle.hex.specs.Hex.{decode_of, encode_lower};
 ghost use Rattle.hex_text.specs.{is_lower_hex};
 
 use crate::decode::decode_known;
-use crate::encode::encode_all;
+use crate::encode::{encode_all, encode_into};
 use std::alloc::AllocError;
+
+// The digits of so many bytes are written beside the text first, and go there by one copy.
+const FEW: usize = 64;
 
 /// Puts the bytes that lower-case hexadecimal digits stand for, two a byte, in place of what `out`
 /// holds.
@@ -38,6 +41,9 @@ pub fn append_encoded(text: &mut Vec<u8>, bytes: &[u8]) -> Result<(), AllocError
     ensures full { OnErr result (vec_capacity text.old < length text.old.items + 2 * length bytes.now) }
     ensures room { vec_capacity text.old ≤ vec_capacity text.new }
 {
+    if bytes.len() <= FEW {
+        return append_few(text, bytes);
+    }
     let start = text.len();
     text.try_reserve(2 * bytes.len())?;
     // What the digits are then written over is the bytes themselves, twice: that takes less time than
@@ -46,5 +52,19 @@ pub fn append_encoded(text: &mut Vec<u8>, bytes: &[u8]) -> Result<(), AllocError
     text.extend_from_slice(bytes)?;
     let (_, room) = text.split_at_mut(start);
     encode_all(bytes, room);
+    Ok(())
+}
+
+// The digits of a few bytes.
+fn append_few(text: &mut Vec<u8>, bytes: &[u8]) -> Result<(), AllocError>
+    requires { length bytes.now ≤ 64 }
+    ensures ok { OnOk result (text.new.items ≡ text.old.items ++ encode_lower bytes.now) }
+    ensures err { OnErr result (text.new.items ≡ text.old.items) }
+    ensures full { OnErr result (vec_capacity text.old < length text.old.items + 2 * length bytes.now) }
+    ensures room { vec_capacity text.old ≤ vec_capacity text.new }
+{
+    let mut digits = [0; 2 * FEW];
+    encode_into(bytes, &mut digits);
+    text.extend_from_slice(&digits[..2 * bytes.len()])?;
     Ok(())
 }
