@@ -13,16 +13,6 @@ pub(crate) struct Block {
 }
 
 impl Block {
-    /// One mark.
-    pub(crate) fn with(place: usize) -> Block
-        requires { place < 64 }
-        ensures { (other : ℕ) → mark_of result other ≡ (place == other) }
-    {
-        let mut block = Block::new();
-        let _ = block.mark(place);
-        block
-    }
-
     /// No marks.
     pub(crate) fn new() -> Block
         ensures { (other : ℕ) → mark_of result other ≡ false }

@@ -1,5 +1,5 @@
 //! How many repairs of each client are pending.
-ghost use Rattle.std.specs.Prelude.{◌≡◌, ℕ, ◌+◌, ◌-◌, ◌==◌, ◌&&◌, if◌then◌else◌, nat_eq, nat_lt, IfOk};
+ghost use Rattle.std.specs.Prelude.{◌≡◌, ℕ, ◌+◌, ◌-◌, ◌==◌, ◌&&◌, if◌then◌else◌, nat_lt, IfOk};
 ghost use Rattle.repair_queue.specs.{counted, counted_in};
 
 use crate::wanted::MOST_OF_CLIENT;
@@ -10,12 +10,10 @@ use std::collections::HashMap;
 type Map = HashMap<u64, u32>;
 
 /// How many repairs of each client are pending. The asks of a client mostly come side by side, so the
-/// count of a client that asks twice running is had at hand: it stands apart and takes no look-up.
+/// count of the client that asked last is had at hand: it stands apart and takes no look-up.
 #[derive(Drop)]
 pub(crate) struct Counts {
     others: Map,
-    /// The client that was last looked up among the others.
-    named: u64,
     /// The client at hand.
     client: u64,
     /// How many it has, in place of what `others` has of it.
@@ -29,7 +27,6 @@ impl Counts {
     {
         Ok(Counts {
             others: HashMap::with_capacity(alloc, room)?,
-            named: 0,
             client: 0,
             count: 0,
         })
@@ -59,32 +56,20 @@ impl Counts {
         ensures fewer { IfOk result (λ fewer. fewer ≡ nat_lt (counted self.old client) 256) }
         ensures counts { IfOk result (λ fewer. (other : ℕ) → counted self.new other ≡ counted self.old other + (if fewer && client == other then 1 else 0)) }
     {
-        if self.is_at_hand(client)? {
-            return Ok(add_to(&mut self.count));
-        }
-        if let Some(count) = self.others.get_mut(&client) {
-            return Ok(add_to(count));
-        }
-        self.others.insert(client, 1)?;
-        Ok(true)
+        self.have_at_hand(client)?;
+        Ok(add_to(&mut self.count))
     }
 
-    // Whether the client is at hand. Where it was the last to be looked up, it is from here on. Most calls
-    // end at the first test, and it is to cost no call.
+    // Has the client at hand. Mostly it is, and then this is to cost no call.
     #[inline(always)]
-    fn is_at_hand(&mut self, client: u64) -> Result<bool, NoMemory>
-        ensures at_hand { IfOk result (λ is_at_hand. is_at_hand ≡ nat_eq self.new.client client) }
+    fn have_at_hand(&mut self, client: u64) -> Result<(), NoMemory>
+        ensures at_hand { IfOk result (λ _. self.new.client ≡ client) }
         ensures same { IfOk result (λ _. (other : ℕ) → counted self.new other ≡ counted self.old other) }
     {
-        if self.client == client {
-            return Ok(true);
+        if self.client != client {
+            self.turn_to(client)?;
         }
-        if self.named != client {
-            self.named = client;
-            return Ok(false);
-        }
-        self.turn_to(client)?;
-        Ok(true)
+        Ok(())
     }
 
     // Has the client at hand, in place of another.

@@ -14,13 +14,11 @@ type Blocks = HashMap<(u64, u64), Block>;
 const NUMBERS: u64 = BLOCK as u64;
 
 /// A mark for each pair of a client and a number that is pending. The numbers of a NACK mostly share a
-/// block, so one that is looked up twice running is had at hand: it stands apart and takes no look-up.
+/// block, so the last one is had at hand: it stands apart and takes no look-up.
 #[derive(Drop)]
 pub(crate) struct Marks {
     /// Each has at least one mark.
     others: Blocks,
-    /// The key that was last looked up among the others.
-    named: (u64, u64),
     /// The client of the block at hand, and which of its blocks it is.
     key: (u64, u64),
     /// The block at hand, in place of what `others` has under its key.
@@ -34,7 +32,6 @@ impl Marks {
     {
         Ok(Marks {
             others: HashMap::with_capacity(alloc, room)?,
-            named: (0, 0),
             key: (0, 0),
             block: Block::new(),
         })
@@ -61,41 +58,29 @@ impl Marks {
         ensures was { IfOk result (λ is_new. is_new ≡ not (marked self.old client n)) }
         ensures marks { IfOk result (λ _. (k m : ℕ) → marked self.new k m ≡ (if client == k && n == m then true else marked self.old k m)) }
     {
-        if self.is_at_hand((client, n / NUMBERS))? {
-            Ok(self.block.mark((n % NUMBERS) as usize))
-        } else {
-            put_pair(&mut self.others, client, n)
-        }
+        self.have_at_hand((client, n / NUMBERS))?;
+        Ok(self.block.mark((n % NUMBERS) as usize))
     }
 
     /// A pair is no longer marked.
     pub(crate) fn take(&mut self, client: u64, n: u64) -> Result<(), NoMemory>
         ensures { IfOk result (λ _. (k m : ℕ) → marked self.new k m ≡ (not (client == k && n == m) && marked self.old k m)) }
     {
-        if self.is_at_hand((client, n / NUMBERS))? {
-            self.block.unmark((n % NUMBERS) as usize);
-        } else {
-            take_pair(&mut self.others, client, n);
-        }
+        self.have_at_hand((client, n / NUMBERS))?;
+        self.block.unmark((n % NUMBERS) as usize);
         Ok(())
     }
 
-    // Whether the block of this key is at hand. Where it was the last to be looked up, it is from here on.
-    // Most calls end at the first test, and it is to cost no call.
+    // Has the block of this key at hand. Mostly it is there, and then this is to cost no call.
     #[inline(always)]
-    fn is_at_hand(&mut self, key: (u64, u64)) -> Result<bool, NoMemory>
-        ensures at_hand { IfOk result (λ is_at_hand. is_at_hand ≡ same_pair self.new.key key) }
+    fn have_at_hand(&mut self, key: (u64, u64)) -> Result<(), NoMemory>
+        ensures at_hand { IfOk result (λ _. self.new.key ≡ key) }
         ensures same { IfOk result (λ _. (k m : ℕ) → marked self.new k m ≡ marked self.old k m) }
     {
-        if self.key == key {
-            return Ok(true);
+        if self.key != key {
+            self.turn_to(key)?;
         }
-        if self.named != key {
-            self.named = key;
-            return Ok(false);
-        }
-        self.turn_to(key)?;
-        Ok(true)
+        Ok(())
     }
 
     // Has the block of this key at hand, in place of another.
@@ -134,32 +119,4 @@ fn store(blocks: &mut Blocks, key: (u64, u64), block: Block) -> Result<(), NoMem
         blocks.insert(key, block)?;
     }
     Ok(())
-}
-
-// Puts a pair in. Whether it wasn't there.
-fn put_pair(pairs: &mut Blocks, client: u64, n: u64) -> Result<bool, NoMemory>
-    ensures was { IfOk result (λ is_new. is_new ≡ not (marked_in pairs.old client n)) }
-    ensures marks { IfOk result (λ _. (k m : ℕ) → marked_in pairs.new k m ≡ (if client == k && n == m then true else marked_in pairs.old k m)) }
-{
-    let key = (client, n / NUMBERS);
-    let place = (n % NUMBERS) as usize;
-    if let Some(block) = pairs.get_mut(&key) {
-        return Ok(block.mark(place));
-    }
-    pairs.insert(key, Block::with(place))?;
-    Ok(true)
-}
-
-// Takes a pair out, where it is there.
-fn take_pair(pairs: &mut Blocks, client: u64, n: u64)
-    ensures { (k m : ℕ) → marked_in pairs.new k m ≡ (not (client == k && n == m) && marked_in pairs.old k m) }
-{
-    let key = (client, n / NUMBERS);
-    if let Some(block) = pairs.get_mut(&key) {
-        block.unmark((n % NUMBERS) as usize);
-        if !block.is_empty() {
-            return;
-        }
-    }
-    let _ = pairs.remove(&key);
 }
