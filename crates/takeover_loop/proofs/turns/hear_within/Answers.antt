@@ -4,7 +4,8 @@ use Rattle.server_hub.specs.declared.event.HubEvent.{HubEvent}
 use Rattle.server_hub.specs.{event_of}
 use Rattle.journal_book.specs.{behind}
 use Rattle.trace_loop.specs.declared.stop.Stop.{Stop}
-use Rattle.serve_loop.specs.{Broken, HasRoom, IsBetween, OnlyMemoryStops}
+use Rattle.trace_loop.proofs.Stopping.{err_so}
+use Rattle.serve_loop.specs.{Broken, HasRoom, IsBetween, IsOutStop, OnlyMemoryStops}
 use Rattle.serve_loop.proofs.Between.{between_ready, between_after}
 use Rattle.serve_loop.proofs.Rooms.{room_none, room_one}
 use Rattle.takeover_loop.proofs.Within.{none_left, one_within}
@@ -64,3 +65,16 @@ returns-clause-steady g c = λ b events more i from h.
     let ready = between_ready b events _ _ _ _ _ _ e c.args.first i from in
     let room = room_one (g.K.Sink.is_steady c.args.sink.now) (g.W.Wire.is_steady c.args.wire.now) c.args.server.now.journal (b.live + 1) (behind events b.channels) (take c.args.left (e ∷ [])) e more one h in
     c.in_ok-hear.ensures.steady b events more ready room
+
+pub returns-in_err-hear-clause-cause : goal.returns-in_err-hear-clause-cause
+returns-in_err-hear-clause-cause g c =
+    let p = err_from_is_err_and c.from_residual.result c.from_residual.ensures.1 in
+    let stops = IsOutStop (g.K.Sink.faults c.args.sink.now) (g.K.Sink.faults c.hear.new.sink) (g.W.Wire.faults c.args.wire.now) (g.W.Wire.faults c.hear.new.wire) in
+    record {
+      write_later = c.hear.ensures.cause.write_later;
+      wire_later = c.hear.ensures.cause.wire_later;
+      cause = err_so c.from_residual.result p.0 c.in_err-hear.field-0.0 stops p.1 p.2 c.in_err-hear.ensures.cause.cause;
+    }
+
+pub returns-clause-cause : goal.returns-clause-cause
+returns-clause-cause g c = record { write_later = c.hear.ensures.cause.write_later; wire_later = c.hear.ensures.cause.wire_later; cause = tt }

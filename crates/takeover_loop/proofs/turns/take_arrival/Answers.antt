@@ -1,14 +1,16 @@
-use Rattle.std.proofs.Common.{rules, ◌≡◌, ℕ, ◌+◌, length, refl, arith, List, [], ◌++◌, take, Option, None, Some, Result, IfErr, ap, sym, subst, ◌∙◌}
+use Rattle.std.proofs.Common.{rules, ◌≡◌, ℕ, ◌+◌, length, refl, arith, List, [], ◌++◌, take, Option, None, Some, Result, Err, IfErr, ap, sym, subst, ◌∙◌}
 use Rattle.std.proofs.lemmas.Result.{err_from_is_err_and}
 use Rattle.ram_io.specs.{Outgoing}
 use Rattle.server_hub.specs.declared.event.HubEvent.{HubEvent}
 use Rattle.journal_book.specs.{behind}
 use Rattle.trace_loop.specs.declared.stop.Stop.{Stop}
 use Rattle.trace_loop.specs.declared.stop.Stop.TheVariants.{Wire}
-use Rattle.serve_loop.specs.{Broken, HasRoom, next_events}
+use Rattle.trace_loop.proofs.Stopping.{err_so, only_err}
+use Rattle.serve_loop.specs.{Broken, HasRoom, IsOutStop, next_events}
 use Rattle.serve_loop.proofs.Between.{told_next, nothing_next, datagram_next}
 use Rattle.serve_loop.proofs.Rooms.{quiet_room, room_at, room_none, wire_none}
 use Rattle.serve_loop.proofs.Steps.{broken_more, flushing_breaks, serving_breaks}
+use Rattle.serve_loop.proofs.Causes.{outside_since, stopped_by_write}
 use Rattle.takeover_loop.proofs.Within.{all_within}
 use Rattle.takeover_loop.proofs.turns.take_arrival.Goals as goal
 
@@ -57,3 +59,35 @@ returns-in-None-clause-steady g c = λ b events arrivals more i told h.
     let room = room_none (g.K.Sink.is_steady c.args.sink.now) (g.W.Wire.is_steady c.args.wire.now) c.args.server.now.journal (b.live + 1) (behind events b.channels) (take c.args.left (next_events b arrivals)) more none h in
     room_at (g.K.Sink.is_steady c.args.sink.now) (g.W.Wire.is_steady c.args.wire.now) c.args.server.now.journal (b.live + 1) (behind events b.channels) (g.W.Wire.is_steady c.receive.new.self)
     c.args.server.now.journal [] more c.in-Ok-Some.ensures.steady room
+
+pub returns-in_err-flush-in-Ok-None-clause-cause : goal.returns-in_err-flush-in-Ok-None-clause-cause
+returns-in_err-flush-in-Ok-None-clause-cause g c =
+    let p = err_from_is_err_and c.from_residual.result c.from_residual.ensures.1 in
+    let before = g.K.Sink.faults c.args.sink.now in
+    let now = g.K.Sink.faults c.flush.new.sink in
+    let wire = g.W.Wire.faults c.args.wire.now in
+    let wires = g.W.Wire.faults c.receive.new.self in
+    let stopped = stopped_by_write before now wire wires (Err c.in_err-flush-in-Ok-None.field-0.0) c.receive.ensures.cause.later c.in_err-flush-in-Ok-None.ensures.cause in
+    record {
+      write_later = stopped.write_later;
+      wire_later = stopped.wire_later;
+      cause = err_so c.from_residual.result p.0 c.in_err-flush-in-Ok-None.field-0.0 (IsOutStop before now wire wires) p.1 p.2 stopped.cause;
+    }
+
+pub returns-in_err-flush-in-Ok-None-clause-steady : goal.returns-in_err-flush-in-Ok-None-clause-steady
+returns-in_err-flush-in-Ok-None-clause-steady g c = λ b events arrivals more i told h.
+    let p = err_from_is_err_and c.from_residual.result c.from_residual.ensures.1 in
+    let next = told_next _ _ c.receive.result None c.receive.new.buf arrivals (search rules) told c.receive.ensures.next in
+    let none = none_of c.args.left (next_events b arrivals) (nothing_next b arrivals c.receive.new.buf next.0) in
+    let room = room_none (g.K.Sink.is_steady c.args.sink.now) (g.W.Wire.is_steady c.args.wire.now) c.args.server.now.journal (b.live + 1) (behind events b.channels) (take c.args.left (next_events b arrivals)) more none h in
+    only_err c.from_residual.result p.0 c.in_err-flush-in-Ok-None.field-0.0 (HasRoom (g.K.Sink.is_steady c.flush.new.sink) (g.W.Wire.is_steady c.receive.new.self) c.flush.new.gather [] more) p.1 p.2
+    (c.in_err-flush-in-Ok-None.ensures.steady more.text room.text_fits)
+
+pub returns-in_ok-flush-in-Ok-None-clause-cause : goal.returns-in_ok-flush-in-Ok-None-clause-cause
+returns-in_ok-flush-in-Ok-None-clause-cause g c = record { write_later = c.flush.ensures.cause.later; wire_later = c.receive.ensures.cause.later; cause = tt }
+
+pub returns-in-Some-clause-cause : goal.returns-in-Some-clause-cause
+returns-in-Some-clause-cause g c =
+    let before = g.K.Sink.faults c.args.sink.now in
+    outside_since before before (g.K.Sink.faults c.hear_within.new.sink) (g.W.Wire.faults c.args.wire.now) (g.W.Wire.faults c.receive.new.self) (g.W.Wire.faults c.hear_within.new.wire) c.hear_within.result (omega arith)
+    c.receive.ensures.cause.later c.hear_within.ensures.cause

@@ -5,7 +5,9 @@ use Rattle.server_hub.specs.declared.event.HubEvent.{HubEvent}
 use Rattle.server_hub.specs.Served.{Served}
 use Rattle.journal_book.specs.{behind, event_lines, next_moment, sent_for, tick_at}
 use Rattle.trace_loop.specs.declared.stop.Stop.{Stop}
-use Rattle.serve_loop.specs.{Broken, HasRoom, IsBetween, OnlyMemoryStops, next_events}
+use Rattle.trace_loop.proofs.Stopping.{err_so}
+use Rattle.serve_loop.specs.{Broken, HasRoom, IsBetween, IsOutStop, OnlyMemoryStops, next_events}
+use Rattle.serve_loop.proofs.Causes.{outside_since}
 use Rattle.serve_loop.proofs.Closing.{ok_weaker}
 use Rattle.serve_loop.proofs.Rooms.{behind_append, room_join}
 use Rattle.takeover_loop.specs.declared.turns.Pace.{Pace}
@@ -98,3 +100,21 @@ returns-clause-steady g c = λ b events arrivals moments more i told shows h.
     let counted = subst (λ n. HasRoom sink wire (waits ++ event_lines (take n tick)) (sent_for (b.live + 1) (behind (events ++ take all next) b.channels) (take n tick)) more) left_is placed in
     let at = subst (λ m. HasRoom sink wire (waits ++ event_lines (take c.in-Some.left (tick_at c.args.pace.due m))) (sent_for (b.live + 1) (behind (events ++ take all next) b.channels) (take c.in-Some.left (tick_at c.args.pace.due m))) more) (sym moment) counted in
     c.hear_tick.ensures.steady b (events ++ take all next) more between at
+
+pub returns-in_err-left-clause-cause : goal.returns-in_err-left-clause-cause
+returns-in_err-left-clause-cause g c =
+    let p = err_from_is_err_and c.from_residual.result c.from_residual.ensures.1 in
+    let stops = IsOutStop (g.K.Sink.faults c.args.sink.now) (g.K.Sink.faults c.take_arrival.new.sink) (g.W.Wire.faults c.args.wire.now) (g.W.Wire.faults c.take_arrival.new.wire) in
+    record {
+      write_later = c.take_arrival.ensures.cause.write_later;
+      wire_later = c.take_arrival.ensures.cause.wire_later;
+      cause = err_so c.from_residual.result p.0 c.in_err-left.field-0.0 stops p.1 p.2 c.in_err-left.ensures.cause.cause;
+    }
+
+pub returns-in_default-clause-cause : goal.returns-in_default-clause-cause
+returns-in_default-clause-cause g c = record { write_later = c.take_arrival.ensures.cause.write_later; wire_later = c.take_arrival.ensures.cause.wire_later; cause = tt }
+
+pub returns-clause-cause : goal.returns-clause-cause
+returns-clause-cause g c =
+    outside_since (g.K.Sink.faults c.args.sink.now) (g.K.Sink.faults c.take_arrival.new.sink) (g.K.Sink.faults c.hear_tick.new.sink) (g.W.Wire.faults c.args.wire.now) (g.W.Wire.faults c.take_arrival.new.wire) (g.W.Wire.faults c.hear_tick.new.wire) c.hear_tick.result
+    c.take_arrival.ensures.cause.write_later c.take_arrival.ensures.cause.wire_later c.hear_tick.ensures.cause
