@@ -6,6 +6,7 @@ pub mod Happening
 pub mod Channels
 pub mod Worlds
 pub mod Worked
+pub mod TwoReceivers
 pub use Rattle.world_laws.specs.World.{Way, posts, tells, repeats, Datagram, Listener, Step}
 unfoldable pub use Rattle.world_laws.specs.World.{new_world, datagram_at, is_listener, listens, listener_of, first_replaced, step, note, refused}
 unfoldable pub use Rattle.world_laws.specs.Sources.{source_of, takes, hears_number, as_it_came, packet_of_source, HasBytes}
