@@ -34,14 +34,22 @@ impl Front {
         }
     }
 
+    #[cold]
+    fn begin(&mut self, event: u64, id: u16)
+        ensures event { self.new.event ≡ event }
+        ensures id { self.new.id ≡ id }
+    {
+        *self = Front::new(event, id);
+    }
+
     /// Turns to an event of a channel; where it was there already, nothing is written.
-    #[inline]
+    #[inline(always)]
     fn turn_to(&mut self, event: u64, id: u16)
         ensures event { self.new.event ≡ event }
         ensures id { self.new.id ≡ id }
     {
         if self.event != event || self.id != id {
-            *self = Front::new(event, id);
+            self.begin(event, id);
         }
     }
 }
