@@ -1,6 +1,6 @@
 //! The words of the command line.
-ghost use Rattle.std.specs.Prelude.{◌≡◌, ◌≤◌, IfSome};
-ghost use Rattle.rams_replay.specs.{IsWithin, command_of, number_within, port_of};
+ghost use Rattle.std.specs.Prelude.{◌≡◌, ◌≤◌, ◌∷◌, [], IfSome};
+ghost use Rattle.rams_replay.specs.{IsWithin, alone, command_of, number_within, port_of, with_number};
 
 use ram_io::Octets;
 use trace_text::number;
@@ -41,35 +41,75 @@ pub fn command_of(words: &[Octets]) -> Option<Command>
     ensures within { IfSome result IsWithin }
 {
     match words {
-        [word] if word.bytes() == b"run".as_slice() => Some(Command::Run),
-        [word] if word.bytes() == b"meet".as_slice() => Some(Command::Meet),
-        [word] if word.bytes() == b"sdp".as_slice() => Some(Command::Sdp),
-        [word, port] if word.bytes() == b"describe".as_slice() => Some(Command::Describe {
-            port: port_from(1, port.bytes())?,
-        }),
-        [word, port] if word.bytes() == b"pcap".as_slice() => Some(Command::Pcap {
-            port: port_from(1, port.bytes())?,
-        }),
-        [word, workers] if word.bytes() == b"threads".as_slice() => Some(Command::Threads {
-            workers: number_within(1, 16, workers.bytes())?,
-        }),
-        [word, rate] if word.bytes() == b"pool".as_slice() => Some(Command::Pool {
-            rate: number_within(1, 1_000_000_000, rate.bytes())?,
-        }),
-        [word, seed, blocks] if word.bytes() == b"make".as_slice() => Some(Command::Make {
-            seed: number_within(0, u32::MAX, seed.bytes())?,
-            blocks: number_within(1, 50_000, blocks.bytes())?,
-        }),
-        [word, port, turns] if word.bytes() == b"serve".as_slice() => Some(Command::Serve {
-            port: port_from(1024, port.bytes())?,
-            turns: number_within(1, 500_000, turns.bytes())?,
-        }),
-        [word, port, turns] if word.bytes() == b"takeover".as_slice() => Some(Command::Takeover {
-            port: port_from(1024, port.bytes())?,
-            turns: number_within(1, 500_000, turns.bytes())?,
-        }),
+        [word] => alone(word.bytes()),
+        [word, number] => with_number(word.bytes(), number.bytes()),
+        [word, first, second] => with_numbers(word.bytes(), first.bytes(), second.bytes()),
         _ => None,
     }
+}
+
+/// `run`, `meet` or `sdp`.
+fn alone(word: &[u8]) -> Option<Command>
+    ensures value { result ≡ alone word.now }
+    ensures within { IfSome result IsWithin }
+{
+    if word == b"run".as_slice() {
+        return Some(Command::Run);
+    }
+    if word == b"meet".as_slice() {
+        return Some(Command::Meet);
+    }
+    if word == b"sdp".as_slice() {
+        return Some(Command::Sdp);
+    }
+    None
+}
+
+/// `describe PORT`, `pcap PORT`, `threads WORKERS` or `pool RATE`.
+fn with_number(word: &[u8], number: &[u8]) -> Option<Command>
+    ensures value { result ≡ with_number word.now number.now }
+    ensures within { IfSome result IsWithin }
+{
+    if word == b"describe".as_slice() {
+        let port = port_from(1, number)?;
+        return Some(Command::Describe { port });
+    }
+    if word == b"pcap".as_slice() {
+        let port = port_from(1, number)?;
+        return Some(Command::Pcap { port });
+    }
+    if word == b"threads".as_slice() {
+        let workers = number_within(1, 16, number)?;
+        return Some(Command::Threads { workers });
+    }
+    if word == b"pool".as_slice() {
+        let rate = number_within(1, 1_000_000_000, number)?;
+        return Some(Command::Pool { rate });
+    }
+    None
+}
+
+/// `make SEED BLOCKS`, `serve PORT TURNS` or `takeover PORT TURNS`.
+fn with_numbers(word: &[u8], first: &[u8], second: &[u8]) -> Option<Command>
+    ensures value { result ≡ command_of (word.now ∷ first.now ∷ second.now ∷ []) }
+    ensures within { IfSome result IsWithin }
+{
+    if word == b"make".as_slice() {
+        let seed = number_within(0, u32::MAX, first)?;
+        let blocks = number_within(1, 50_000, second)?;
+        return Some(Command::Make { seed, blocks });
+    }
+    if word == b"serve".as_slice() {
+        let port = port_from(1024, first)?;
+        let turns = number_within(1, 500_000, second)?;
+        return Some(Command::Serve { port, turns });
+    }
+    if word == b"takeover".as_slice() {
+        let port = port_from(1024, first)?;
+        let turns = number_within(1, 500_000, second)?;
+        return Some(Command::Takeover { port, turns });
+    }
+    None
 }
 
 /// The number of a word, where it is one from `low` to `high`.
