@@ -1,9 +1,9 @@
 //! The calls of one list.
-ghost use Rattle.std.specs.Prelude.{◌≡◌, ◌+◌, ◌++◌, ◌^◌, ◌<◌, ◌≤◌, IfOk, length, min, OnOk, MatchResult};
+ghost use Rattle.std.specs.Prelude.{◌≡◌, ◌+◌, ◌++◌, ◌^◌, ◌<◌, ◌≤◌, IfOk, length, map, min, OnOk, MatchResult};
 ghost use Rattle.std.specs.Vec.Iter.{into_iter_items};
-ghost use Rattle.live_writer.specs.{HasDrawn, HasWritten, HasWrittenFront, HasWrittenPiece};
+ghost use Rattle.live_writer.specs.{datagrams_of, HasDrawn, HasWritten, HasWrittenFront, HasWrittenPiece};
 
-use crate::rendering::render;
+use crate::rendering::render_each;
 use channel_book::{Answer, Config, Event, NoMemory, Shared};
 use ram_io::Gate;
 use rams_model::Octets;
@@ -13,7 +13,7 @@ use std::thread::Threads;
 use std::vec::IntoIter;
 
 /// The most events that are taken in one turn. Beside so many, what it costs to pass a turn on is small.
-const LARGEST_PIECE: usize = 256;
+const LARGEST_PIECE: usize = 1024;
 
 /// What became of an event.
 #[derive(Drop)]
@@ -34,8 +34,45 @@ fn enter_all<G: Gate>(gate: &G, list: u16, first: usize, count: usize)
     }
 }
 
+/// Stands before the rendering of the answers of a piece, from this call on.
+fn draw_after<G: Gate>(gate: &G, list: u16, first: usize, count: usize)
+    requires { first + count < 2 ^ 64 }
+{
+    for call in first..first + count {
+        gate.drawing(list, call as u64);
+    }
+}
+
+/// Adds answers, from this place on, each with its datagrams.
+fn place_all(
+    _config: &Config,
+    place: u64,
+    answers: Vec<Answer>,
+    drawn: Vec<Vec<Octets>>,
+    all: &mut Vec<Placed>,
+) -> Result<(), NoMemory>
+    requires places { place + length answers.items ≤ 2 ^ 40 }
+    requires drawn { map (λ d. d.items) drawn.items ≡ map (datagrams_of _config.now) answers.items }
+    ensures { OnOk result (HasDrawn _config.now place answers.items all.old.items all.new.items) }
+{
+    let mut next = place;
+    let mut drawn = drawn.into_iter();
+    for answer in answers {
+        let Some(datagrams) = drawn.next() else {
+            unreachable!()
+        };
+        all.push(Placed {
+            place: next,
+            answer,
+            datagrams,
+        })?;
+        next += 1;
+    }
+    Ok(())
+}
+
 /// Adds the answers of a piece, from this place on, each with its datagrams. No turn is held.
-fn draw_all<R: Threads + Wait + Sync, G: Gate>(
+fn draw_all<R: Threads + Sync, G: Gate>(
     rt: &R,
     alloc: Global,
     list: u16,
@@ -50,18 +87,9 @@ fn draw_all<R: Threads + Wait + Sync, G: Gate>(
     requires places { place + length answers.items ≤ 2 ^ 40 }
     ensures { OnOk result (HasDrawn config.now place answers.items all.old.items all.new.items) }
 {
-    let mut next = place;
-    for answer in answers {
-        gate.drawing(list, all.len() as u64);
-        let datagrams = render(rt, alloc, config, &answer.orders, workers)?;
-        all.push(Placed {
-            place: next,
-            answer,
-            datagrams,
-        })?;
-        next += 1;
-    }
-    Ok(())
+    draw_after(gate, list, all.len(), answers.len());
+    let drawn = render_each(rt, alloc, config, &answers, workers)?;
+    place_all(config, place, answers, drawn, all)
 }
 
 /// The next events of a list, so many where there are as many.
@@ -119,7 +147,7 @@ fn write_piece<R: Threads + Wait + Sync, S: Shared, G: Gate>(
 /// the datagrams of its orders, by at most so many threads at once. May wait.
 ///
 /// Events are taken in pieces, each in one turn: the first event, the next two, the next four, and so
-/// on up to 256. The gate is passed before the turn in which a call is stepped, and again when that
+/// on up to 1,024. The gate is passed before the turn in which a call is stepped, and again when that
 /// turn was passed on, before the call's answer is rendered.
 ///
 /// After want of memory a front of the events was taken, and the rest is given up.

@@ -12,7 +12,7 @@ invariant-loop-alloc g l = record {
   list : g.S.Shared.list l.pass ≡ g.S.Shared.list l.fn.pass;
   calls : length (into_iter_items l.left) ≤ g.S.Shared.left l.pass;
   written : (front : List Event) × (front ++ into_iter_items l.left ≡ l.fn.events.items) × HasWritten (g.S.Shared.list l.fn.pass) l.config front (g.S.Shared.seen l.fn.pass) l.all.items (g.S.Shared.seen l.pass);
-  size : (0 < l.size) × (l.size ≤ 256);
+  size : (0 < l.size) × (l.size ≤ 1024);
 }
 
 abbrev pub decreases-loop-alloc : goal.decreases-loop-alloc
