@@ -15,6 +15,18 @@ use std::thread::{Threads, join};
 /// So many orders take as long as the start of a thread.
 const WORTH_A_THREAD: usize = 4096;
 
+/// So many bytes a datagram has, as a rule.
+const USUAL_BYTES: usize = 256;
+
+/// So many datagrams need more memory than a few pages.
+const WORTH_A_BLOCK: usize = 64;
+
+/// Lets this thread's memory grow in one step, where for small blocks it grows page by page, each by a
+/// call of the system: a block is taken, and given back at once.
+pub(crate) fn grow(alloc: Global, bytes: usize) {
+    let _room = Vec::<u8>::with_capacity(alloc, bytes);
+}
+
 /// The datagram of each order, in order, by at most so many threads at once. Where there are fewer than
 /// 4,096 orders for each of them, by fewer.
 pub fn render<R: Threads + Sync>(
@@ -43,6 +55,9 @@ fn render_one(alloc: Global, config: &Config, order: &Order) -> Result<Octets, N
 fn render_alone(alloc: Global, config: &Config, orders: &[Order]) -> Result<Vec<Octets>, NoMemory>
     ensures { IfOk result (λ datagrams. datagrams.items ≡ map (datagram config.now) orders.now) }
 {
+    if orders.len() >= WORTH_A_BLOCK {
+        grow(alloc, orders.len().min(WORTH_A_THREAD) * USUAL_BYTES);
+    }
     let mut datagrams = Vec::with_capacity(alloc, orders.len())?;
     for order in orders {
         datagrams.push(render_one(alloc, config, order)?)?;

@@ -3,7 +3,7 @@ ghost use Rattle.std.specs.Prelude.{◌≡◌, ◌+◌, ◌++◌, ◌^◌, ◌<�
 ghost use Rattle.std.specs.Vec.Iter.{into_iter_items};
 ghost use Rattle.live_writer.specs.{datagrams_of, HasDrawn, HasWritten, HasWrittenFront, HasWrittenPiece};
 
-use crate::rendering::render_each;
+use crate::rendering::{grow, render_each};
 use channel_book::{Answer, Config, Event, NoMemory, Shared};
 use ram_io::Gate;
 use rams_model::Octets;
@@ -14,6 +14,9 @@ use std::vec::IntoIter;
 
 /// The most events that are taken in one turn. Beside so many, what it costs to pass a turn on is small.
 const LARGEST_PIECE: usize = 1024;
+
+/// So much memory is at hand before the answers to a piece are made.
+const AT_HAND: usize = 1 << 20;
 
 /// What became of an event.
 #[derive(Drop)]
@@ -139,6 +142,7 @@ fn write_piece<R: Threads + Wait + Sync, S: Shared, G: Gate>(
         (λ _. HasWrittenFront (S.list pass.old) events.items (S.seen pass.old) (S.seen pass.new)) }
 {
     enter_all(gate, list, all.len(), events.len());
+    grow(alloc, AT_HAND);
     let (place, answers) = shared.step_all(rt, alloc, pass, events)?;
     draw_all(rt, alloc, list, place, answers, config, workers, gate, all)
 }
