@@ -9,3 +9,4 @@ pub mod Linked
 pub mod Together
 pub mod Stepping
 pub mod JoinTimes
+pub mod Passing
