@@ -14,7 +14,7 @@ use Rattle.trace_loop.specs.declared.turn.Turn.TheVariants.{GoesOn}
 use Rattle.trace_book.specs.{settings_of}
 use Rattle.world_laws.specs.World.{World}
 use Rattle.world_laws.specs.declared.world.WorldNote.{WorldNote}
-use Rattle.world_net.specs.{Seen, StandsFor, with_channel}
+use Rattle.world_net.specs.{CameAtMost, Seen, StandsFor, with_channel}
 use Rattle.world_book.specs.{meet}
 use Rattle.meet_loop.specs.{WorldServes, Serves, Stands, CanOpen, OpensIn, IsUnder, Comes, Took}
 use Rattle.meet_loop.proofs.Claims.{settings_stand, fits}
@@ -80,7 +80,7 @@ opened_turn (Some v) (Some w) events version number later s stage notes tick ope
     let stands = subst (λ (n : ℕ). StandsFor w (with_channel (settings c n) stage.state)) tick (opens.stands stage.state at.stands) in (
       record {
         served = subst (λ (h : Option Head). WorldServes (Some w) h later.begun (with_channel one stage.state) stage.events) (sym head)
-            (record { stands = stands; calls = opens.calls ∙ at.calls; tick = λ e. opens.tick ∙ at.tick none; link = λ e. opens.link ∙ at.link none });
+            (record { stands = stands; few = opens.few stage.events at.few; tick = λ e. opens.tick ∙ at.tick none; link = λ e. opens.link ∙ at.link none });
         claims = ap (λ (x : Reached). x.channels) (sym j.2.gives) ∙ ap (λ (l : List Claim). l ++ claim_of one ∷ []) comes.before.claims ∙ sym (claims_more stage.state one);
         counted = comes.before.counted;
         lines = refl;
@@ -111,7 +111,7 @@ head_turn world v events version tick link number later stage notes under comes 
         → Stands (Some v) events later (record { reached = later; state = stage.state; events = stage.events })
     by None None is serves = record {
       served = subst (λ (h : Option Head). WorldServes (Some v) h later.begun stage.state stage.events) (ap (λ (x : Reached). x.head) later_is)
-          (record { stands = subst (λ (w : World). StandsFor v w) (sym serves.0) under.stands; calls = under.calls ∙ sym serves.1; tick = λ e. under.tick_is; link = λ e. under.link_is });
+          (record { stands = subst (λ (w : World). StandsFor v w) (sym serves.0) under.stands; few = subst (λ n. CameAtMost n v.kept) (sym serves.1) under.few; tick = λ e. under.tick_is; link = λ e. under.link_is });
       claims = ap (λ (x : Reached). x.channels) (sym later_is) ∙ comes.before.claims;
       counted = comes.before.counted;
       lines = refl;

@@ -1,5 +1,5 @@
 -- The turns of lines.
-use Rattle.std.proofs.Common.{◌≡◌, ℕ, ◌+◌, ◌<◌, Bool, true, false, not, ◌&&◌, List, [], map, Option, None, Some, Result, Ok, Err, is_some, refl, sym, subst, ap, ◌∙◌, arith, ltb, length}
+use Rattle.std.proofs.Common.{◌≡◌, ℕ, ◌+◌, ◌-◌, ◌^◌, ◌<◌, Bool, true, false, not, ◌&&◌, List, [], map, Option, None, Some, Result, Ok, Err, is_some, refl, sym, subst, ap, ◌∙◌, arith, ltb, length}
 use Rattle.std.proofs.lemmas.Bool.{and_parts, lt-ltb}
 use Rattle.rams_model.specs.declared.fault.LineFault.{LineFault}
 use Rattle.rams_model.specs.Texts.{TraceLine, head_line, channel_line, live_line, feedback_line, tick_line, end_line, tune_line, give_line, mcast_line, ask_line, drop_line, Claim, Head, Reached, has_channel, has_events, has_receivers, judged, kind_of, kind_may_come, with_line}
@@ -12,7 +12,8 @@ use Rattle.world_laws.specs.declared.world.WorldEvent.{WorldEvent}
 use Rattle.world_laws.specs.declared.world.WorldNote.{WorldNote}
 use Rattle.world_laws.specs.World.{World}
 use Rattle.world_laws.specs.{happens}
-use Rattle.world_net.specs.{Seen, StandsFor}
+use Rattle.world_net.specs.{CameAtMost, Seen, StandsFor}
+use Rattle.world_net.proofs.Steps.{came_at_most}
 use Rattle.world_text.specs.{notes_lines}
 use Rattle.world_book.specs.{meet, most_events}
 use Rattle.world_book.proofs.Channels.{happens_keeps}
@@ -83,7 +84,7 @@ served_begun : (o : Option Seen) (h : Option Head) (b : Bool) (w : World) (n : �
 served_begun None None b w n serves = serves
 served_begun None (Some head) b w n serves = absurd serves
 served_begun (Some v) None b w n serves = absurd serves
-served_begun (Some v) (Some head) b w n serves = record { stands = serves.stands; calls = serves.calls; tick = λ e. absurd cc; link = λ e. absurd cc }
+served_begun (Some v) (Some head) b w n serves = record { stands = serves.stands; few = serves.few; tick = λ e. absurd cc; link = λ e. absurd cc }
 
 -- What stands behind an event line, but for the event.
 pub record IsBegun (world : Option Seen) (events : ℕ) (later : Reached) (stage : Stage World) : Type 0 where
@@ -114,10 +115,19 @@ pub brought_turn : (stage : Stage World) (later : Reached) (line : TraceLine) (e
     → Took (counted meet stage later e) world events later notes number t → Took (after_line meet stage later line (brought meet line)) world events later notes number t
 brought_turn stage later line e world events notes number t is took = subst (λ (o : Option WorldEvent). Took (after_line meet stage later line o) world events later notes number t) (sym is) took
 
+-- no more came to the world than its events so far
+pub few_came : (world : Option Seen) (v : Seen) (events : ℕ) (stage : Stage World) → Stands world events stage.reached stage → world ≡ Some v → events < 100000 → CameAtMost (2 ^ 40 - 1) v.kept
+few_came world v events stage stands is few =
+    by stage.reached.head (subst (λ (o : Option Seen). WorldServes o stage.reached.head stage.reached.begun stage.state stage.events) is stands.served)
+  where
+    by : (h : Option Head) → WorldServes (Some v) h stage.reached.begun stage.state stage.events → CameAtMost (2 ^ 40 - 1) v.kept
+    by None serves = absurd serves
+    by (Some head) serves = came_at_most stage.events (2 ^ 40 - 1) v.kept (omega (arith, few, stands.counted)) serves.few
+
 -- an event that is served
-pub served_turn : (v w : Seen) (events : ℕ) (e : WorldEvent) (notes : List WorldNote) → events < 100000 → w.calls ≡ v.calls + 1 → ((u : World) → StandsFor v u → Happens e u w notes true)
+pub served_turn : (v w : Seen) (events : ℕ) (e : WorldEvent) (notes : List WorldNote) → events < 100000 → ((n : ℕ) → CameAtMost n v.kept → CameAtMost (n + 1) w.kept) → ((u : World) → StandsFor v u → Happens e u w notes true)
     → (stage : Stage World) (number : ℕ) → Stands (Some v) events stage.reached stage → stage.reached.begun ≡ true → Took (counted meet stage stage.reached e) (Some w) (events + 1) stage.reached notes number (Said tt)
-served_turn v w events e notes few calls said stage number stands begun = by_head stage.reached.head refl stands.served
+served_turn v w events e notes few more said stage number stands begun = by_head stage.reached.head refl stands.served
   where
     by_head : (h : Option Head) → stage.reached.head ≡ h → WorldServes (Some v) h stage.reached.begun stage.state stage.events
         → Took (counted meet stage stage.reached e) (Some w) (events + 1) stage.reached notes number (Said tt)
@@ -127,7 +137,7 @@ served_turn v w events e notes few calls said stage number stands begun = by_hea
         rw (lt-ltb stage.events most_events (omega (arith, stands.counted)), told.2) (
           record {
             served = subst (λ (h : Option Head). WorldServes (Some w) h stage.reached.begun (happens e stage.state).world (stage.events + 1)) (sym is)
-                (record { stands = told.1; calls = calls ∙ ap (λ n. n + 1) serves.calls; tick = λ e. absurd cc; link = λ e. absurd cc });
+                (record { stands = told.1; few = more stage.events serves.few; tick = λ e. absurd cc; link = λ e. absurd cc });
             claims = stands.claims ∙ ap (map claim_of) (sym (happens_keeps e stage.state));
             counted = ap (λ n. n + 1) stands.counted;
             lines = refl;

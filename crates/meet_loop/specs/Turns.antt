@@ -12,14 +12,14 @@ use Rattle.world_laws.specs.declared.world.WorldEvent.{WorldEvent}
 use Rattle.world_laws.specs.declared.world.WorldNote.{WorldNote}
 use Rattle.world_laws.specs.{new_world, happens}
 use Rattle.world_laws.specs.World.{World}
-use Rattle.world_net.specs.{StandsFor, Seen, with_channel}
+use Rattle.world_net.specs.{CameAtMost, StandsFor, Seen, with_channel}
 use Rattle.world_text.specs.{notes_lines}
 use Rattle.world_book.specs.{meet}
 
--- What is kept stands for the world, and counts its events. Until one came, the hub has the tick and the link of this head line.
+-- What is kept stands for the world, to which no more came than its events. Until one came, the hub has the tick and the link of this head line.
 pub record Serves (v : Seen) (head : Head) (begun : Bool) (w : World) (events : ℕ) : Type 0 where
   pub stands : StandsFor v w
-  pub calls : v.calls ≡ events
+  pub few : CameAtMost events v.kept
   pub tick : begun ≡ false → v.kept.hub.tick ≡ head.tick
   pub link : begun ≡ false → v.kept.hub.link ≡ head.link
 
@@ -45,7 +45,7 @@ pub record Comes (world : Option Seen) (events : ℕ) (reached : Reached) (line 
 -- a new world without channels, whose hub has this tick and this link
 pub record IsUnder (tick link : ℕ) (v : Seen) : Type 0 where
   pub stands : StandsFor v (new_world [])
-  pub calls : v.calls ≡ 0
+  pub few : CameAtMost 0 v.kept
   pub tick_is : v.kept.hub.tick ≡ tick
   pub link_is : v.kept.hub.link ≡ link
 
@@ -57,7 +57,7 @@ pub record CanOpen (v : Seen) (s : Settings) : Type 0 where
 -- the channel was opened, beside the others
 pub record Opens (s : Settings) (old new : Seen) : Type 0 where
   pub stands : (w : World) → StandsFor old w → StandsFor new (with_channel s w)
-  pub calls : new.calls ≡ old.calls
+  pub few : (n : ℕ) → CameAtMost n old.kept → CameAtMost n new.kept
   pub tick : new.kept.hub.tick ≡ old.kept.hub.tick
   pub link : new.kept.hub.link ≡ old.kept.hub.link
 

@@ -1,5 +1,5 @@
 //! The trace of a world, line by line.
-ghost use Rattle.std.specs.Prelude.{◌≡◌, ◌<◌, ◌≤◌, ◌+◌, ◌^◌, ℕ, true, IfOk, IsSomeAnd, is_some, None};
+ghost use Rattle.std.specs.Prelude.{◌≡◌, ◌≤◌, ◌+◌, ◌-◌, ◌^◌, ℕ, true, IfOk, IsSomeAnd, is_some, None};
 ghost use Rattle.rams_model.specs.Texts.{tick_of};
 ghost use Rattle.trace_text.specs.{shown, told, HasDigits, IsOther, IsSettled};
 ghost use Rattle.trace_serving.specs.{Stage, opening, turn, after_line, eventless, counted, brought};
@@ -7,7 +7,7 @@ ghost use Rattle.trace_loop.specs.{StandsSomewhere};
 ghost use Rattle.trace_loop.specs.declared.turn.Turn.TheVariants.{GoesOn};
 ghost use Rattle.world_laws.specs.World.{World as Worlds};
 ghost use Rattle.world_laws.specs.declared.world.WorldEvent.{WorldEvent};
-ghost use Rattle.world_net.specs.{StandsFor};
+ghost use Rattle.world_net.specs.{CameAtMost, StandsFor};
 ghost use Rattle.world_text.specs.{notes_lines};
 ghost use Rattle.world_book.specs.{meet};
 ghost use Rattle.meet_loop.specs.{Stands, Comes, CanOpen, OpensIn, IsUnder, Happens, Took};
@@ -205,9 +205,9 @@ fn happen(
     event: &WorldEvent,
     notes: &mut Vec<WorldNote>,
 ) -> Result<bool, NoMemory>
-    requires { world.old.calls < 2 ^ 40 }
+    requires { CameAtMost (2 ^ 40 - 1) world.old.kept }
     ensures said { IfOk result (λ fits. (w : Worlds) → StandsFor world.old w → Happens event.now w world.new notes.new.items fits) }
-    ensures calls { world.new.calls ≡ world.old.calls + 1 }
+    ensures few { (n : ℕ) → CameAtMost n world.old.kept → CameAtMost (n + 1) world.new.kept }
 {
     world.step(alloc, event, notes)?;
     Ok(world.datagrams() <= MOST_DATAGRAMS)

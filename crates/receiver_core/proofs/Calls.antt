@@ -5,24 +5,24 @@ use Rattle.rams_model.specs.declared.reception.InfoCame.{InfoCame}
 use Rattle.rams_model.specs.declared.reception.MediaCame.{MediaCame}
 use Rattle.rams_model.specs.declared.reception.InfoCame.TheVariants.{Taken, Repeated, Updated, Ended, Refused, Foreign, Bad}
 use Rattle.rams_model.specs.Receiver.{Playing, after_presenting, or_begun, first_number, arrived, arrived_by_multicast, Told, informs, unread, Media, again, multicast, unfit, Reception, info_came, with_info, after_told, after_media, after_shown}
-use Rattle.receiver_core.specs.{Seen, with_got, with_call}
+use Rattle.receiver_core.specs.{Seen, with_got}
 
 -- what is unfit leaves what was got
-pub after_unfit : (s : Seen) (m : Media) (why : MediaCame) → unfit why ≡ m → with_call s.got s ≡ with_call (after_media m s.got) s
+pub after_unfit : (s : Seen) (m : Media) (why : MediaCame) → unfit why ≡ m → s ≡ with_got (after_media m s.got) s
 unfolding after_media
-after_unfit s m why e = ap (λ (x : Media). with_call (after_media x s.got) s) e
+after_unfit s m why e = ap (λ (x : Media). with_got (after_media x s.got) s) e
 
 pub after_again : (s : Seen) (m : Media) (sequence low : ℕ) (packet : List ℕ) (play : Option Playing) → again sequence low packet ≡ m
-    → play ≡ option_map (arrived low packet) (or_begun s.got.play (first_number s.got.named sequence low)) → with_call (record s.got { play = play }) s ≡ with_call (after_media m s.got) s
+    → play ≡ option_map (arrived low packet) (or_begun s.got.play (first_number s.got.named sequence low)) → with_got (record s.got { play = play }) s ≡ with_got (after_media m s.got) s
 unfolding after_media
 after_again s m sequence low packet play e is =
-    ap (λ (p : Option Playing). with_call (record s.got { play = p }) s) is ∙ ap (λ (x : Media). with_call (after_media x s.got) s) e
+    ap (λ (p : Option Playing). with_got (record s.got { play = p }) s) is ∙ ap (λ (x : Media). with_got (after_media x s.got) s) e
 
 pub after_multicast : (s : Seen) (m : Media) (low : ℕ) (packet : List ℕ) (play : Option Playing) → multicast low packet ≡ m
-    → play ≡ option_map (arrived_by_multicast low packet) s.got.play → with_call (record s.got { play = play }) s ≡ with_call (after_media m s.got) s
+    → play ≡ option_map (arrived_by_multicast low packet) s.got.play → with_got (record s.got { play = play }) s ≡ with_got (after_media m s.got) s
 unfolding after_media
 after_multicast s m low packet play e is =
-    ap (λ (p : Option Playing). with_call (record s.got { play = p }) s) is ∙ ap (λ (x : Media). with_call (after_media x s.got) s) e
+    ap (λ (p : Option Playing). with_got (record s.got { play = p }) s) is ∙ ap (λ (x : Media). with_got (after_media x s.got) s) e
 
 pub after_present : (s : Seen) (play : Option Playing) → play ≡ option_map after_presenting s.got.play → with_got (record s.got { play = play }) s ≡ with_got (after_shown s.got) s
 unfolding after_shown

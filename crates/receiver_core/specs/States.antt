@@ -1,24 +1,26 @@
 -- What contracts see of a receiver.
-use Rattle.std.specs.Prelude.{ℕ, ◌+◌, ◌<◌, ◌≤◌, ◌^◌, false, length, Option, None, option_and_then}
+use Rattle.std.specs.Prelude.{ℕ, ◌+◌, ◌-◌, ◌<◌, ◌≤◌, ◌^◌, false, length, Option, None, Some, option_and_then}
 use Rattle.rams_model.specs.declared.reception.Tuned.{Tuned}
 use Rattle.rams_model.specs.Receiver.{Playing, Reception, nothing_got, nearest, joining}
 
 pub record Seen : Type 0 where
   pub tuned : Tuned
   pub got : Reception
-  -- how many retransmissions and multicast packets came
-  pub calls : ℕ
 
 -- a receiver that has got nothing
 abbrev pub just_tuned : Tuned → Seen
-just_tuned t = record { tuned = t; got = nothing_got; calls = 0 }
+just_tuned t = record { tuned = t; got = nothing_got }
 
 abbrev pub with_got : Reception → Seen → Seen
 with_got got r = record r { got = got }
 
--- the same, after one more packet came
-abbrev pub with_call : Reception → Seen → Seen
-with_call got r = record r { got = got; calls = r.calls + 1 }
+-- how many packets were presented, or wait
+abbrev pub played : Option Playing → ℕ
+played None = 0
+played (Some p) = p.next - p.first + length p.waits
+
+abbrev pub reach : Seen → ℕ
+reach r = played r.got.play
 
 -- a receiver that was told no more than this
 abbrev pub named_alone : Option ℕ → Reception
@@ -33,9 +35,9 @@ pub record IsSafe (p : Playing) : Type 0 where
   pub low : 65536 ≤ p.next
   pub high : p.next < 2 ^ 62
 
--- the numbers go no further than packets came
-pub record IsBounded (calls : ℕ) (p : Playing) : Type 0 where
+-- the numbers begin low, and go no further than by so many
+pub record IsBounded (most : ℕ) (p : Playing) : Type 0 where
   pub low : 65536 ≤ p.first
   pub high : p.first < 131072
   pub above : p.first ≤ p.next
-  pub reach : p.next + length p.waits ≤ p.first + calls
+  pub reach : p.next + length p.waits ≤ p.first + most

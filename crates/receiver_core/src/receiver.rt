@@ -28,30 +28,27 @@ pub struct Receiver {
     ended: bool,
     /// What is played, once the first number is fixed.
     play: Option<Window>,
-    /// How many retransmissions and multicast packets came.
-    calls: u64,
 }
 
 impl Model for Receiver {
-    ghost use Rattle.std.specs.Prelude.{◌<◌, ◌≤◌, ◌^◌, IfSome};
+    ghost use Rattle.std.specs.Prelude.{◌<◌, ◌^◌, IfSome};
     ghost use Rattle.receiver_core.specs.States.{Seen, IsBounded};
 
     ghost Value = { Seen };
 
-    ghost view = { λ r. record { tuned = r.tuned; got = record { named = r.named; ended = r.ended; play = r.play }; calls = r.calls } };
+    ghost view = { λ r. record { tuned = r.tuned; got = record { named = r.named; ended = r.ended; play = r.play } } };
 
     ghost invariant = { λ r. record {
       media : r.tuned.pt < 128;
       again : r.tuned.rtx < 128;
-      few : r.calls ≤ 2 ^ 40;
-      play : IfSome r.play (IsBounded r.calls);
+      play : IfSome r.play (IsBounded (2 ^ 40));
     } };
 }
 
 impl Receiver {
-    ghost use Rattle.std.specs.Prelude.{◌≡◌, ◌<◌, ◌^◌, option_map, IfOk, IfErr, IfSome, OnOk, OnErr};
+    ghost use Rattle.std.specs.Prelude.{◌≡◌, ◌+◌, ◌<◌, ◌≤◌, ◌^◌, option_map, IfOk, IfErr, IfSome, OnOk, OnErr};
     ghost use Rattle.rams_model.specs.Receiver.{told_by, brought_again, brought_by_multicast, after_told, after_media, told_answer, media_answer, join_answer, shown_now, after_shown, asked, request_datagram, join_datagram, bye_datagram};
-    ghost use Rattle.receiver_core.specs.{just_tuned, with_got, with_call, as_shown, distance_of};
+    ghost use Rattle.receiver_core.specs.{just_tuned, with_got, reach, as_shown, distance_of};
 
     /// A receiver that has got nothing, and the datagram by which it asks for a burst: a RAMS-R (RFC
     /// 6285, 7.2) behind a report and its name. Payload types are below 128.
@@ -67,7 +64,6 @@ impl Receiver {
             named: None,
             ended: false,
             play: None,
-            calls: 0,
         };
         Ok((receiver, text))
     }
@@ -77,6 +73,7 @@ impl Receiver {
     pub fn info(&mut self, bytes: &[u8]) -> InfoCame
         ensures came { result ≡ told_answer (told_by self.old.tuned bytes.now) self.old.got }
         ensures after { self.new ≡ with_got (after_told (told_by self.old.tuned bytes.now) self.old.got) self.old }
+        ensures reach { reach self.new ≡ reach self.old }
     {
         let info = match read_told(&self.tuned, bytes) {
             Ok(info) => info,
@@ -94,17 +91,15 @@ impl Receiver {
     /// What becomes of a datagram of the retransmission session (RFC 4588, 4). After want of memory
     /// all is as before.
     pub fn rtx(&mut self, alloc: Global, bytes: &[u8]) -> Result<MediaCame, NoMemory>
-        requires few { self.old.calls < 2 ^ 40 }
+        requires few { reach self.old < 2 ^ 40 }
         ensures came { IfOk result (λ c. c ≡ media_answer (brought_again self.old.tuned bytes.now) self.old.got) }
-        ensures after { OnOk result (self.new ≡ with_call (after_media (brought_again self.old.tuned bytes.now) self.old.got) self.old) }
+        ensures after { OnOk result (self.new ≡ with_got (after_media (brought_again self.old.tuned bytes.now) self.old.got) self.old) }
+        ensures few { reach self.new ≤ reach self.old + 1 }
         ensures same { OnErr result (self.new ≡ self.old) }
     {
         let packet = match read_again(&self.tuned, bytes) {
             Ok(packet) => packet,
-            Err(came) => {
-                self.calls += 1;
-                return Ok(came);
-            }
+            Err(came) => return Ok(came),
         };
         let (low, original) = original_of(alloc, &packet, self.tuned.pt)?;
         let came = arrive_again(
@@ -115,7 +110,6 @@ impl Receiver {
             low,
             original,
         )?;
-        self.calls += 1;
         Ok(came)
     }
 
@@ -126,22 +120,19 @@ impl Receiver {
         alloc: Global,
         bytes: &[u8],
     ) -> Result<(MediaCame, Option<Vec<u8>>), NoMemory>
-        requires few { self.old.calls < 2 ^ 40 }
+        requires few { reach self.old < 2 ^ 40 }
         ensures came { IfOk result (λ r. r.0 ≡ media_answer (brought_by_multicast self.old.tuned bytes.now) self.old.got) }
         ensures join { IfOk result (λ r. option_map (λ v. v.items) r.1
             ≡ option_map (join_datagram self.old.tuned) (join_answer (brought_by_multicast self.old.tuned bytes.now) self.old.got)) }
-        ensures after { OnOk result (self.new ≡ with_call (after_media (brought_by_multicast self.old.tuned bytes.now) self.old.got) self.old) }
+        ensures after { OnOk result (self.new ≡ with_got (after_media (brought_by_multicast self.old.tuned bytes.now) self.old.got) self.old) }
+        ensures few { reach self.new ≤ reach self.old + 1 }
         ensures same { OnErr result (self.new ≡ self.old) }
     {
         let packet = match read_multicast(&self.tuned, bytes) {
             Ok(packet) => packet,
-            Err(came) => {
-                self.calls += 1;
-                return Ok((came, None));
-            }
+            Err(came) => return Ok((came, None)),
         };
         let answer = arrive_by_multicast(alloc, &self.tuned, &mut self.play, &packet)?;
-        self.calls += 1;
         Ok(answer)
     }
 
@@ -166,6 +157,7 @@ impl Receiver {
     pub fn present(&mut self) -> Option<Shown>
         ensures shown { result ≡ option_map as_shown (shown_now self.old.got) }
         ensures after { self.new ≡ with_got (after_shown self.old.got) self.old }
+        ensures reach { reach self.new ≡ reach self.old }
     {
         present(&mut self.play)
     }

@@ -1,5 +1,6 @@
 //! What a row of a table is, and how it is run.
 ghost use Rattle.std.specs.Prelude.{◌≡◌, ◌+◌, ◌<◌, ◌≤◌, ◌^◌, IfOk, OnOk, length};
+ghost use Rattle.receiver_core.specs.{reach};
 
 use receiver_core::{InfoCame, MediaCame, Receiver, Shown, Tuned};
 use std::alloc::Global;
@@ -66,7 +67,7 @@ pub fn datagram(alloc: Global, message: &[&str]) -> Result<Vec<u8>, Fail> {
 
 /// A receiver that has got nothing.
 pub fn tuned(alloc: Global) -> Result<Receiver, Fail>
-    ensures { IfOk result (λ receiver. receiver.calls ≡ 0) }
+    ensures { IfOk result (λ receiver. reach receiver ≡ 0) }
 {
     let (receiver, _) = Receiver::tune(alloc, TUNED)?;
     Ok(receiver)
@@ -85,7 +86,7 @@ fn expect_told(
     words: Words,
     expected: InfoCame,
 ) -> Result<(), Fail>
-    ensures { OnOk result (receiver.new.calls ≡ receiver.old.calls) }
+    ensures { OnOk result (reach receiver.new ≡ reach receiver.old) }
 {
     let came = receiver.info(&bytes_of(alloc, words)?);
     same(rt, &came, &expected, &words);
@@ -100,8 +101,8 @@ fn expect_again(
     words: Words,
     expected: MediaCame,
 ) -> Result<(), Fail>
-    requires { receiver.old.calls < 2 ^ 40 }
-    ensures { OnOk result (receiver.new.calls ≡ receiver.old.calls + 1) }
+    requires { reach receiver.old < 2 ^ 40 }
+    ensures { OnOk result (reach receiver.new ≤ reach receiver.old + 1) }
 {
     let came = receiver.rtx(alloc, &bytes_of(alloc, words)?)?;
     same(rt, &came, &expected, &words);
@@ -114,8 +115,8 @@ fn answer(
     receiver: &mut Receiver,
     words: Words,
 ) -> Result<(MediaCame, Option<Vec<u8>>), Fail>
-    requires { receiver.old.calls < 2 ^ 40 }
-    ensures { OnOk result (receiver.new.calls ≡ receiver.old.calls + 1) }
+    requires { reach receiver.old < 2 ^ 40 }
+    ensures { OnOk result (reach receiver.new ≤ reach receiver.old + 1) }
 {
     Ok(receiver.multicast(alloc, &bytes_of(alloc, words)?)?)
 }
@@ -151,8 +152,8 @@ fn expect_multicast(
     words: Words,
     said: Said,
 ) -> Result<(), Fail>
-    requires { receiver.old.calls < 2 ^ 40 }
-    ensures { OnOk result (receiver.new.calls ≡ receiver.old.calls + 1) }
+    requires { reach receiver.old < 2 ^ 40 }
+    ensures { OnOk result (reach receiver.new ≤ reach receiver.old + 1) }
 {
     let (came, text) = answer(alloc, receiver, words)?;
     expect_answer(rt, alloc, came, text, said)
@@ -182,8 +183,8 @@ fn expect(
     call: Call,
     said: Said,
 ) -> Result<(), Fail>
-    requires { receiver.old.calls < 2 ^ 40 }
-    ensures { OnOk result (receiver.new.calls ≤ receiver.old.calls + 1) }
+    requires { reach receiver.old < 2 ^ 40 }
+    ensures { OnOk result (reach receiver.new ≤ reach receiver.old + 1) }
 {
     match (call, said) {
         (Call::Info(words), Said::Told(expected)) => {
@@ -203,7 +204,7 @@ fn expect(
 
 // What is presented next. The call stands alone, as its contract is long.
 fn presented(receiver: &mut Receiver) -> Option<Shown>
-    ensures { receiver.new.calls ≡ receiver.old.calls }
+    ensures { reach receiver.new ≡ reach receiver.old }
 {
     receiver.present()
 }
@@ -215,7 +216,7 @@ fn expect_shown(
     receiver: &mut Receiver,
     shown: &[(u64, Words)],
 ) -> Result<(), Fail>
-    ensures { OnOk result (receiver.new.calls ≡ receiver.old.calls) }
+    ensures { OnOk result (reach receiver.new ≡ reach receiver.old) }
 {
     for (n, packet) in shown {
         let piece = presented(receiver).expect(rt, "a packet");

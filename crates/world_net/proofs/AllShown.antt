@@ -4,7 +4,7 @@ use Rattle.std.specs.Option.{option_to_list}
 use Rattle.rams_model.specs.Receiver.{Piece, Playing, presented, past, after_presenting, Reception, shown_now, after_shown, without_piece}
 use Rattle.rams_model.proofs.PieceCounts.{one_less}
 use Rattle.rams_model.specs.declared.reception.Shown.{Shown}
-use Rattle.receiver_core.specs.{with_got, as_shown}
+use Rattle.receiver_core.specs.{reach, with_got, as_shown}
 use Rattle.receiver_core.specs.States.{Seen}
 use Rattle.receiver_laws.specs.{presented_often}
 use Rattle.world_laws.specs.{waiting}
@@ -60,27 +60,25 @@ pub record IsPresenting {A : Type 0} (f : Piece → A) (old now : List A) (first
   pub shown : now ++ map f (all_shown r.got) ≡ old ++ map f (all_shown first.got)
   pub left : all_presented r.got ≡ all_presented first.got
   pub tuned : r.tuned ≡ first.tuned
-  pub calls : r.calls ≡ first.calls
+  pub reaches : reach r ≡ reach first
 
 pub presenting_ends : {A : Type 0} (f : Piece → A) (old now : List A) (first r : Seen) → IsPresenting f old now first r → shown_now r.got ≡ None
     → (now ≡ old ++ map f (all_shown first.got)) × (r ≡ with_got (all_presented first.got) first)
 presenting_ends f old now first r p none =
     let got : r.got ≡ all_presented first.got = sym (none_presented (waiting r.got.play) r.got none) ∙ p.left in (
       sym (append-nil now) ∙ ap (λ (l : List Piece). now ++ map f l) (sym (none_shown (waiting r.got.play) r.got none)) ∙ p.shown,
-      ap (λ t. record { tuned = t; got = r.got; calls = r.calls }) p.tuned
-          ∙ ap (λ g. record { tuned = first.tuned; got = g; calls = r.calls }) got
-          ∙ ap (λ n. record { tuned = first.tuned; got = all_presented first.got; calls = n }) p.calls,
+      ap (λ t. record { tuned = t; got = r.got }) p.tuned ∙ ap (λ g. record { tuned = first.tuned; got = g }) got,
     )
 
 pub presenting_more : {A : Type 0} (f : Piece → A) (old now new : List A) (first r next : Seen) (q : Piece) (x : A) → IsPresenting f old now first r → shown_now r.got ≡ Some q
-    → next ≡ with_got (after_shown r.got) r → new ≡ now ++ x ∷ [] → x ≡ f q → IsPresenting f old new first next
-presenting_more f old now new first r next q x p some is more same =
-    subst (λ (v : Seen). IsPresenting f old new first v) (sym is) (record {
+    → next ≡ with_got (after_shown r.got) r → reach next ≡ reach r → new ≡ now ++ x ∷ [] → x ≡ f q → IsPresenting f old new first next
+presenting_more f old now new first r next q x p some is reaches more same =
+    subst (λ (v : Seen). reach v ≡ reach r → IsPresenting f old new first v) (sym is) (λ still. record {
       shown = goes_on_one new now (map f (all_shown r.got)) (map f (all_shown (after_shown r.got))) (old ++ map f (all_shown first.got)) x (f q) more same p.shown (ap (map f) (one_shown r.got q some));
       left = sym (one_presented r.got q some) ∙ p.left;
       tuned = p.tuned;
-      calls = p.calls;
-    })
+      reaches = still ∙ p.reaches;
+    }) reaches
 
 -- what was shown is the piece
 pub was_shown : (r : Reception) (s : Shown) → Some s ≡ option_map as_shown (shown_now r) → (q : Piece) × (shown_now r ≡ Some q) × (s ≡ as_shown q)

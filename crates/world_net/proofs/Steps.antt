@@ -13,7 +13,7 @@ use Rattle.rams_model.specs.declared.reception.MediaCame.TheVariants as came
 use Rattle.rams_model.specs.declared.reception.Tuned.{Tuned}
 use Rattle.rams_model.specs.Formats.{Packet, packet_at, spelling, original, original_number}
 use Rattle.rams_model.specs.Receiver.{Turn, Media, again, unfit, delivers, Reception, reception, source_first, brought_again, read_again, is_of, media_answer, join_answer, join_datagram, asked, bye_datagram, request_datagram}
-use Rattle.receiver_core.specs.{just_tuned}
+use Rattle.receiver_core.specs.{reach, just_tuned}
 use Rattle.receiver_core.specs.States.{Seen}
 use Rattle.server_hub.specs.declared.event.HubEvent.{HubEvent}
 use Rattle.server_hub.specs.declared.event.HubEvent.TheVariants as hub
@@ -29,7 +29,7 @@ use Rattle.world_laws.specs.declared.world.WorldNote.{WorldNote}
 use Rattle.world_laws.specs.{listener_of, listens, first_replaced, presented_all, posted, after_turns, all_sent, serving, refused, if_listening, next_number, is_too_far, delivering, delivering_near, source_of, packet_of_source, as_it_came, post_all, leave, is_listener, tuned_to, new_listener, with_listener, tuning, datagram_at, giving, giving_by}
 use Rattle.world_net.specs.declared.parts.Parts.{Parts}
 use Rattle.world_net.specs.declared.seat.Seat.{Seat}
-use Rattle.world_net.specs.{kept_of, AreFew, Goes, EndsAt, EndsSo, packet_below, seat_is_too_far, Kept, KeptFor, at_pair, if_there, listening_at, came_at, place_of, key_of, AreApart, Follows, FollowsBy, IsAt, Hears, HasFew, Took, KeepsHeard, told_notes, told_sent, post_at, posted_at}
+use Rattle.world_net.specs.{kept_of, CameAtMost, Goes, EndsAt, EndsSo, packet_below, seat_is_too_far, Kept, KeptFor, at_pair, if_there, listening_at, came_at, place_of, key_of, AreApart, Follows, FollowsBy, IsAt, Hears, HasFew, Took, KeepsHeard, told_notes, told_sent, post_at, posted_at}
 use Rattle.world_net.proofs.Answered.{settings_all, told_is_said}
 use Rattle.world_net.proofs.CameLive.{found_id, live_kept, feedback_kept, tick_kept}
 use Rattle.world_net.proofs.Counting.{far_is}
@@ -106,12 +106,12 @@ seat_has v id client place s d is = ap (λ (x : Seat). x.receiver) (seat_is v id
 pub seat_there : (v : Kept) (id client place : ℕ) (s : Sits v id client place) (d : Seat) → d ≡ get_or v.seats place d → IsSome d.receiver
 seat_there v id client place s d is = ap is_some (seat_has v id client place s d is)
 
-few_more : (o : Option Seen) → IfSome o (λ r. r.calls ≤ 2 ^ 40 - 1) → IfSome o (λ r. r.calls < 2 ^ 40)
+few_more : (o : Option Seen) → IfSome o (λ r. reach r ≤ 2 ^ 40 - 1) → IfSome o (λ r. reach r < 2 ^ 40)
 few_more None h = tt
 few_more (Some r) h = omega (arith, h)
 
 pub seat_few : (v : Kept) (id client place : ℕ) (s : Sits v id client place) (d : Seat) → d ≡ get_or v.seats place d → ((k : ℕ) (x : Seat) → k < length v.seats → HasFew (2 ^ 40 - 1) (get_or v.seats k x))
-    → IfSome d.receiver (λ r. r.calls < 2 ^ 40)
+    → IfSome d.receiver (λ r. reach r < 2 ^ 40)
 seat_few v id client place s d is few = few_more d.receiver (subst (λ (x : Seat). HasFew (2 ^ 40 - 1) x) (sym is) (few place d s.within))
 
 -- ---- a listener
@@ -429,10 +429,14 @@ given v w number x way P k below is its p =
     let at : datagram_at number w ≡ Some x = ap (λ (l : List Datagram). slice_get l number) (sym k.parcels) ∙ (there ∙ ap Some (sym is)) in
     subst (λ (o : Option Datagram). P (giving number o w)) (sym at) (subst (λ (y : Way). P (giving_by y x w)) its p)
 
-few_up : (n : ℕ) (o : Option Seen) → IfSome o (λ r. r.calls ≤ n) → IfSome o (λ r. r.calls ≤ n + 1)
-few_up n None h = tt
-few_up n (Some r) h = omega (arith, h)
+few_up : (m n : ℕ) (o : Option Seen) → m ≤ n → IfSome o (λ r. reach r ≤ m) → IfSome o (λ r. reach r ≤ n)
+few_up m n None le h = tt
+few_up m n (Some r) le h = omega (arith, le, h)
+
+-- no more than so many are no more than a greater number
+pub came_at_most : (m n : ℕ) (v : Kept) → m ≤ n → CameAtMost m v → CameAtMost n v
+came_at_most m n v le f = record { hub = omega (arith, le, f.hub); seats = λ k d less. few_up m n (get_or v.seats k d).receiver le (f.seats k d less) }
 
 -- no more than one more
-pub are_few : (n : ℕ) (v : Parts) → AreFew n v → AreFew (n + 1) v
-are_few n v f = record { hub = omega (arith, f.hub); seats = λ k d less. few_up n (get_or v.seats.items k d).receiver (f.seats k d less) }
+pub are_few : (n : ℕ) (v : Kept) → CameAtMost n v → CameAtMost (n + 1) v
+are_few n v f = came_at_most n (n + 1) v (omega arith) f

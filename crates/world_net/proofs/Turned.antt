@@ -9,7 +9,7 @@ use Rattle.rams_model.specs.declared.reception.Tuned.{Tuned}
 use Rattle.rams_model.specs.declared.reception.MediaCame.TheVariants as came
 use Rattle.rams_model.specs.Formats.{Packet, packet_at, stripped}
 use Rattle.rams_model.specs.Receiver.{Piece, Reception, Media, again, multicast, unfit, Turn, hears, delivers, presents, reception, source_first, first_by, shown_now, after_told, after_media, told_by, told_answer, brought_again, brought_by_multicast, read_multicast, is_of, media_answer, join_answer, join_datagram}
-use Rattle.receiver_core.specs.{with_got, with_call, distance_of}
+use Rattle.receiver_core.specs.{with_got, distance_of}
 use Rattle.receiver_core.specs.States.{Seen}
 use Rattle.world_laws.specs.World.{Datagram, Listener, note}
 use Rattle.world_laws.specs.{presenting, pieces_in, turns_to_present}
@@ -84,7 +84,7 @@ first_is x (unfit why) r = refl
 
 pub again_took : (id client x : ℕ) (bytes : List ℕ) (s : Seat) (r r1 r2 : Seen) (distance f : Option ℕ) (came : MediaCame) (old notes new : List WorldNote) (l : Listener) → Follows s l → IsAt id client l → s.receiver ≡ Some r
     → distance ≡ distance_of (brought_again r.tuned bytes) r.got → f ≡ first_with s.first x distance
-    → came ≡ media_answer (brought_again r.tuned bytes) r.got → r1 ≡ with_call (after_media (brought_again r.tuned bytes) r.got) r
+    → came ≡ media_answer (brought_again r.tuned bytes) r.got → r1 ≡ with_got (after_media (brought_again r.tuned bytes) r.got) r
     → notes ≡ old ++ note id (item.Media client came) ∷ [] → new ≡ notes ++ map (show_at id client) (all_shown r1.got) → r2 ≡ with_got (all_presented r1.got) r1
     → Took (item.Media l.tuned.client (media_answer (brought_again l.tuned bytes) (reception l.turns))) (delivers x (brought_again l.tuned bytes) ∷ l.turns) [] l old new [] [] (record { receiver = Some r2; first = f })
 unfolding reception source_first
@@ -119,7 +119,7 @@ or_none (Some x) = refl
 pub multicast_took : (id client x : ℕ) (bytes : List ℕ) (s : Seat) (r r1 r2 : Seen) (came : MediaCame) (joined : Option (List ℕ)) (old notes more new : List WorldNote) (before now : List Datagram) (l : Listener)
     → Follows s l → IsAt id client l → s.receiver ≡ Some r
     → came ≡ media_answer (brought_by_multicast r.tuned bytes) r.got → joined ≡ option_map (join_datagram r.tuned) (join_answer (brought_by_multicast r.tuned bytes) r.got)
-    → r1 ≡ with_call (after_media (brought_by_multicast r.tuned bytes) r.got) r
+    → r1 ≡ with_got (after_media (brought_by_multicast r.tuned bytes) r.got) r
     → notes ≡ old ++ note id (item.Media client came) ∷ [] → more ≡ notes ++ map (post_at id client) (option_to_list joined) → now ≡ before ++ map (posted_at id client) (option_to_list joined)
     → new ≡ more ++ map (show_at id client) (all_shown r1.got) → r2 ≡ with_got (all_presented r1.got) r1
     → Took (item.Media l.tuned.client (media_answer (brought_by_multicast l.tuned bytes) (reception l.turns))) (delivers x (brought_by_multicast l.tuned bytes) ∷ l.turns)

@@ -1,6 +1,7 @@
 -- What contracts see of the receivers of a world, and the listeners that they stand for.
 use Rattle.std.specs.Prelude.{◌≡◌, ℕ, zero, suc, ◌+◌, ◌-◌, ◌≤◌, Bool, true, false, List, [], ◌∷◌, ◌++◌, map, Option, Some, None, option_map, IfSome}
 use Rattle.std.specs.Option.{option_or, option_to_list}
+use Rattle.receiver_core.specs.{reach}
 use Rattle.receiver_core.specs.States.{Seen}
 use Rattle.receiver_laws.specs.{presented_often}
 use Rattle.rams_model.specs.Receiver.{Piece, Playing, Reception, Turn, reception, source_first, shown_now, after_shown}
@@ -63,9 +64,9 @@ pub record Took (said : WorldItem) (turns : List Turn) (sent : List (List ℕ)) 
   pub parcels : now ≡ before ++ map (posted l) sent
   pub seat : Follows s (presented_all turns l)
 
--- no more packets came to a receiver than so many
+-- a receiver presented no more packets than so many, with those that wait
 abbrev pub HasFew : ℕ → Seat → Type 0
-HasFew n s = IfSome s.receiver (λ r. r.calls ≤ n)
+HasFew n s = IfSome s.receiver (λ r. reach r ≤ n)
 
 -- what is said of a packet that this client's receiver presents, and of a datagram that it posts
 abbrev pub show_at : ℕ → ℕ → Piece → WorldNote

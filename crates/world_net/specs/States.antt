@@ -37,8 +37,6 @@ kept_of v = record { hub = v.hub; packets = v.packets.entries; parcels = v.parce
 
 pub record Seen : Type 0 where
   pub kept : Kept
-  -- how many events came
-  pub calls : ℕ
   -- an event was cut off
   pub cut_off : Bool
 
@@ -114,9 +112,12 @@ pub record Goes (s : Step) (old new : List WorldNote) (v : Parts) : Type 0 where
   pub stands : Stands v s.world
 
 -- No more came to the hub, and to each receiver, than so many.
-pub record AreFew (n : ℕ) (v : Parts) : Type 0 where
+pub record CameAtMost (n : ℕ) (v : Kept) : Type 0 where
   pub hub : v.hub.calls ≤ n
-  pub seats : All (HasFew n) v.seats.items
+  pub seats : All (HasFew n) v.seats
+
+abbrev pub AreFew : ℕ → Parts → Type 0
+AreFew n v = CameAtMost n (kept_of v)
 
 -- a world with one more channel, to which nothing came
 abbrev pub with_channel : Settings → World → World

@@ -4,7 +4,7 @@ ghost use Rattle.std.specs.Option.{option_to_list};
 ghost use Rattle.rams_model.specs.Receiver.{hears, delivers, told_by, told_answer, brought_again, brought_by_multicast, media_answer, join_answer, join_datagram, reception};
 ghost use Rattle.world_laws.specs.World.{Listener};
 ghost use Rattle.world_laws.specs.declared.world.WorldItem.TheVariants as item;
-ghost use Rattle.receiver_core.specs.{distance_of};
+ghost use Rattle.receiver_core.specs.{reach, distance_of};
 ghost use Rattle.world_net.specs.{Follows, IsAt, Took, HasFew, first_with};
 
 use crate::parcel::Parcel;
@@ -50,7 +50,7 @@ pub(crate) fn hear_again(
     notes: &mut Vec<WorldNote>,
 ) -> Result<(), NoMemory>
     requires there { IsSome seat.old.receiver }
-    requires few { IfSome seat.old.receiver (λ r. r.calls < 2 ^ 40) }
+    requires few { IfSome seat.old.receiver (λ r. reach r < 2 ^ 40) }
     ensures takes { (l : Listener) → Follows seat.old l → IsAt id client l
         → OnOk result (Took (item.Media l.tuned.client (media_answer (brought_again l.tuned bytes.now) (reception l.turns))) (delivers x (brought_again l.tuned bytes.now) ∷ l.turns) [] l
         notes.old.items notes.new.items [] [] seat.new) }
@@ -89,7 +89,7 @@ pub(crate) fn hear_multicast(
     parcels: &mut Vec<Parcel>,
 ) -> Result<(), NoMemory>
     requires there { IsSome seat.old.receiver }
-    requires few { IfSome seat.old.receiver (λ r. r.calls < 2 ^ 40) }
+    requires few { IfSome seat.old.receiver (λ r. reach r < 2 ^ 40) }
     ensures takes { (l : Listener) (x : ℕ) → Follows seat.old l → IsAt id client l
         → OnOk result (Took (item.Media l.tuned.client (media_answer (brought_by_multicast l.tuned bytes.now) (reception l.turns))) (delivers x (brought_by_multicast l.tuned bytes.now) ∷ l.turns)
         (option_to_list (option_map (join_datagram l.tuned) (join_answer (brought_by_multicast l.tuned bytes.now) (reception l.turns)))) l

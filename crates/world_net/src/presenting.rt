@@ -1,6 +1,6 @@
 //! What a receiver presents.
 ghost use Rattle.std.specs.Prelude.{◌≡◌, ◌++◌, OnOk, map};
-ghost use Rattle.receiver_core.specs.{with_got};
+ghost use Rattle.receiver_core.specs.{reach, with_got};
 ghost use Rattle.world_net.specs.{show_at, all_shown, all_presented};
 
 use crate::telling::say;
@@ -17,7 +17,7 @@ pub(crate) fn present_all(
 ) -> Result<(), NoMemory>
     ensures notes { OnOk result (notes.new.items ≡ notes.old.items ++ map (show_at id client) (all_shown receiver.old.got)) }
     ensures receiver { OnOk result (receiver.new ≡ with_got (all_presented receiver.old.got) receiver.old) }
-    ensures calls { receiver.new.calls ≡ receiver.old.calls }
+    ensures reach { reach receiver.new ≡ reach receiver.old }
 {
     while let Some(shown) = receiver.present() {
         let item = WorldItem::Show {

@@ -11,39 +11,34 @@ use world_laws::{WorldEvent, WorldNote};
 #[derive(Drop)]
 pub struct World {
     parts: Parts,
-    /// How many events came.
-    calls: u64,
     /// An event was cut off for want of memory.
     cut_off: bool,
 }
 
 impl Model for World {
-    ghost use Rattle.std.specs.Prelude.{◌≤◌, ◌^◌};
-    ghost use Rattle.world_net.specs.States.{Seen, kept_of, AreFew};
+    ghost use Rattle.world_net.specs.States.{Seen, kept_of};
 
     ghost Value = { Seen };
 
-    ghost view = { λ w. record { kept = kept_of w.parts; calls = w.calls; cut_off = w.cut_off } };
-
-    ghost invariant = { λ w. AreFew w.calls w.parts };
+    ghost view = { λ w. record { kept = kept_of w.parts; cut_off = w.cut_off } };
 }
 
 impl World {
-    ghost use Rattle.std.specs.Prelude.{◌≡◌, ◌+◌, ◌^◌, ◌<◌, List, [], true, All, Err, IsErr, IfNone, IfOk, IfSome, IsOkUnless, OnErr, OnOk, length};
+    ghost use Rattle.std.specs.Prelude.{◌≡◌, ℕ, ◌+◌, ◌-◌, ◌^◌, List, [], true, All, Err, IsErr, IfNone, IfOk, IfSome, IsOkUnless, OnErr, OnOk, length};
     ghost use Rattle.server_hub.specs.declared.event.AddFault.TheVariants as faults;
     ghost use Rattle.server_hub.specs.Seen as hubs;
     ghost use Rattle.server_hub.specs.{refused, AddsSettings};
     ghost use Rattle.server_hub.specs.Served.{Served};
     ghost use Rattle.world_laws.specs.{new_world, happens};
     ghost use Rattle.world_laws.specs.World.{World as Worlds};
-    ghost use Rattle.world_net.specs.{StandsFor, with_channel};
+    ghost use Rattle.world_net.specs.{StandsFor, CameAtMost, with_channel};
 
     /// A world of a hub to which no event came, without receivers. It takes no memory.
     pub fn new(alloc: Global, hub: Hub) -> World
         requires { hub.calls ≡ 0 }
         ensures stands { (channels : List Served) → hubs.StandsFor hub channels → All (λ c. c.events ≡ []) channels → StandsFor result (new_world channels) }
         ensures hub { result.kept.hub ≡ hub }
-        ensures calls { result.calls ≡ 0 }
+        ensures few { CameAtMost 0 result.kept }
     {
         World {
             parts: Parts {
@@ -54,7 +49,6 @@ impl World {
                 seats: Vec::new(alloc),
                 room: Vec::new(alloc),
             },
-            calls: 0,
             cut_off: false,
         }
     }
@@ -66,7 +60,7 @@ impl World {
         ensures refused { IfSome (refused self.old.kept.hub config) (λ fault. result ≡ Err fault) }
         ensures added { IfNone (refused self.old.kept.hub config) (IsOkUnless result faults.NoMemory) }
         ensures settings { OnOk result (AddsSettings self.old.kept.hub self.new.kept.hub config) }
-        ensures calls { self.new.calls ≡ self.old.calls }
+        ensures few { (n : ℕ) → CameAtMost n self.old.kept → CameAtMost n self.new.kept }
         ensures same { OnErr result (self.new ≡ self.old) }
     {
         self.parts.hub.add(alloc, config)
@@ -82,14 +76,13 @@ impl World {
         event: &WorldEvent,
         notes: &mut Vec<WorldNote>,
     ) -> Result<(), NoMemory>
-        requires { self.old.calls < 2 ^ 40 }
+        requires { CameAtMost (2 ^ 40 - 1) self.old.kept }
         ensures stands { (w : Worlds) → StandsFor self.old w
             → OnOk result ((notes.new.items ≡ (happens event.now w).notes) × StandsFor self.new (happens event.now w).world) }
         ensures cut_off { self.old.cut_off ≡ true → IsErr result }
         ensures stays { OnErr result (self.new.cut_off ≡ true) }
-        ensures calls { self.new.calls ≡ self.old.calls + 1 }
+        ensures few { (n : ℕ) → CameAtMost n self.old.kept → CameAtMost (n + 1) self.new.kept }
     {
-        self.calls += 1;
         if self.cut_off {
             return Err(NoMemory);
         }

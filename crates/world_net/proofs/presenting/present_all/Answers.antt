@@ -14,7 +14,7 @@ loop-shown-smaller c =
 pub loop-shown-preserved : goal.loop-shown-preserved
 loop-shown-preserved c =
     let q = was_shown c.loop-shown.receiver.got c.in-Some.shown c.in-Some.ensures.shown in
-    presenting_more (show_at c.args.id c.args.client) _ _ _ _ _ _ q.0 _ c.loop-shown.invariant q.1 c.in-Some.ensures.after c.in_ok-say.ensures
+    presenting_more (show_at c.args.id c.args.client) _ _ _ _ _ _ q.0 _ c.loop-shown.invariant q.1 c.in-Some.ensures.after c.in-Some.ensures.reach c.in_ok-say.ensures
     (ap (λ (s : Shown). note c.args.id (item.Show c.args.client s.n s.packet)) q.2)
 
 pub returns-clause-notes : goal.returns-clause-notes

@@ -1,7 +1,9 @@
+use Rattle.std.proofs.Common.{sym, subst}
+use Rattle.world_net.specs.{Seen, CameAtMost}
 use Rattle.world_net.proofs.world.World.step.Goals as goal
 
-pub invariant_of-self-in_err-happen : goal.invariant_of-self-in_err-happen
-invariant_of-self-in_err-happen c = c.happen.ensures.few c.self.inside.calls c.self.invariant
+pub returns-in_err-happen-clause-few : goal.returns-in_err-happen-clause-few
+returns-in_err-happen-clause-few c = λ n few. c.happen.ensures.few n (subst (λ (v : Seen). CameAtMost n v.kept) (sym c.self.view_is) few)
 
-pub invariant_of-self-2 : goal.invariant_of-self-2
-invariant_of-self-2 c = c.happen.ensures.few c.self.inside.calls c.self.invariant
+pub returns-clause-few : goal.returns-clause-few
+returns-clause-few c = λ n few. c.happen.ensures.few n (subst (λ (v : Seen). CameAtMost n v.kept) (sym c.self.view_is) few)
