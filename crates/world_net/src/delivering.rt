@@ -62,7 +62,7 @@ impl Parts {
             bytes: &self.room,
         };
         let answer = self.hub.hear(alloc, heard)?;
-        tell(alloc, &self.hub, &answer, notes, &mut self.parcels)
+        tell(alloc, &self.hub, answer, notes, &mut self.parcels)
     }
 
     // A RAMS-I comes to the receiver to which it was sent.

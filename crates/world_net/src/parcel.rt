@@ -56,13 +56,13 @@ impl Parcel {
     }
 
     /// The datagram of an order of a channel with these settings.
-    pub(crate) fn ordered(alloc: Global, config: &Config, order: &Order) -> Result<Parcel, NoMemory>
-        ensures { IfOk result (λ parcel. parcel ≡ sent_of config.now order.now) }
+    pub(crate) fn ordered(alloc: Global, config: &Config, order: Order) -> Result<Parcel, NoMemory>
+        ensures { IfOk result (λ parcel. parcel ≡ sent_of config.now order) }
     {
         Ok(Parcel {
             id: config.channel().id,
-            client: client_of(order),
-            way: way_of(order),
+            client: client_of(&order),
+            way: way_of(&order),
             bytes: bytes_of(alloc, config, order)?,
         })
     }
@@ -108,16 +108,16 @@ impl Parcel {
 
 // The bytes of an order's datagram.
 #[tactic(auto, unfolding(rams_model::specs::Service::Orders::datagram))]
-fn bytes_of(alloc: Global, config: &Config, order: &Order) -> Result<SentBytes, NoMemory>
-    ensures { IfOk result (λ bytes. bytes ≡ datagram config.now order.now) }
+fn bytes_of(alloc: Global, config: &Config, order: Order) -> Result<SentBytes, NoMemory>
+    ensures { IfOk result (λ bytes. bytes ≡ datagram config.now order) }
 {
     match order {
         Order::Rtx { seq, packet, .. } => {
             let rtx = config.channel().rtx;
-            Ok(SentBytes::again(packet.clone()?, rtx, *seq))
+            Ok(SentBytes::again(packet, rtx, seq))
         }
         Order::Info { .. } => {
-            let text = render_order(alloc, config, order)?;
+            let text = render_order(alloc, config, &order)?;
             Ok(SentBytes::whole(Bytes::from_vec(text)?))
         }
     }

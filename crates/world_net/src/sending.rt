@@ -12,12 +12,12 @@ use std::alloc::Global;
 pub(crate) fn send_orders(
     alloc: Global,
     config: &Config,
-    orders: &[Order],
+    orders: Vec<Order>,
     parcels: &mut Vec<Parcel>,
 ) -> Result<(), NoMemory>
-    ensures { OnOk result (parcels.new.items ≡ parcels.old.items ++ map (sent_of config.now) orders.now) }
+    ensures { OnOk result (parcels.new.items ≡ parcels.old.items ++ map (sent_of config.now) orders.items) }
 {
-    for order in orders.iter() {
+    for order in orders {
         parcels.push(Parcel::ordered(alloc, config, order)?)?;
     }
     Ok(())

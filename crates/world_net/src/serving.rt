@@ -30,7 +30,7 @@ impl Parts {
     {
         let answer = self.hub.hear(alloc, heard)?;
         keep_live(alloc, &mut self.packets, heard, &answer)?;
-        tell(alloc, &self.hub, &answer, notes, &mut self.parcels)
+        tell(alloc, &self.hub, answer, notes, &mut self.parcels)
     }
 }
 

@@ -20,15 +20,15 @@ use world_laws::{WorldItem, WorldNote};
 pub(crate) fn tell(
     alloc: Global,
     hub: &Hub,
-    answer: &HubAnswer,
+    answer: HubAnswer,
     notes: &mut Vec<WorldNote>,
     parcels: &mut Vec<Parcel>,
 ) -> Result<(), NoMemory>
-    ensures notes { OnOk result (notes.new.items ≡ notes.old.items ++ told_notes (settings_of hub.now) (told answer.now)) }
-    ensures parcels { OnOk result (parcels.new.items ≡ parcels.old.items ++ told_sent (settings_of hub.now) (told answer.now)) }
+    ensures notes { OnOk result (notes.new.items ≡ notes.old.items ++ told_notes (settings_of hub.now) (told answer)) }
+    ensures parcels { OnOk result (parcels.new.items ≡ parcels.old.items ++ told_sent (settings_of hub.now) (told answer)) }
 {
     match answer {
-        HubAnswer::NoChannel(id) => say(notes, *id, WorldItem::NoChannel(*id)),
+        HubAnswer::NoChannel(id) => say(notes, id, WorldItem::NoChannel(id)),
         HubAnswer::Answer(at) => tell_at(alloc, hub, at, notes, parcels),
         HubAnswer::Answers(all) => tell_all(alloc, hub, all, notes, parcels),
     }
@@ -46,14 +46,14 @@ pub(crate) fn say(notes: &mut Vec<WorldNote>, id: u16, item: WorldItem) -> Resul
 fn tell_all(
     alloc: Global,
     hub: &Hub,
-    all: &[At],
+    all: Vec<At>,
     notes: &mut Vec<WorldNote>,
     parcels: &mut Vec<Parcel>,
 ) -> Result<(), NoMemory>
-    ensures notes { OnOk result (notes.new.items ≡ notes.old.items ++ flat_map (at_notes (settings_of hub.now)) all.now) }
-    ensures parcels { OnOk result (parcels.new.items ≡ parcels.old.items ++ flat_map (at_sent (settings_of hub.now)) all.now) }
+    ensures notes { OnOk result (notes.new.items ≡ notes.old.items ++ flat_map (at_notes (settings_of hub.now)) all.items) }
+    ensures parcels { OnOk result (parcels.new.items ≡ parcels.old.items ++ flat_map (at_sent (settings_of hub.now)) all.items) }
 {
-    for at in all.iter() {
+    for at in all {
         tell_at(alloc, hub, at, notes, parcels)?;
     }
     Ok(())
@@ -63,15 +63,15 @@ fn tell_all(
 fn tell_at(
     alloc: Global,
     hub: &Hub,
-    at: &At,
+    at: At,
     notes: &mut Vec<WorldNote>,
     parcels: &mut Vec<Parcel>,
 ) -> Result<(), NoMemory>
-    ensures notes { OnOk result (notes.new.items ≡ notes.old.items ++ at_notes (settings_of hub.now) at.now) }
-    ensures parcels { OnOk result (parcels.new.items ≡ parcels.old.items ++ at_sent (settings_of hub.now) at.now) }
+    ensures notes { OnOk result (notes.new.items ≡ notes.old.items ++ at_notes (settings_of hub.now) at) }
+    ensures parcels { OnOk result (parcels.new.items ≡ parcels.old.items ++ at_sent (settings_of hub.now) at) }
 {
     match hub.config(at.id) {
-        Some(config) => tell_answer(alloc, config, &at.answer, notes, parcels),
+        Some(config) => tell_answer(alloc, config, at.answer, notes, parcels),
         None => Ok(()),
     }
 }
@@ -80,15 +80,15 @@ fn tell_at(
 fn tell_answer(
     alloc: Global,
     config: &Config,
-    answer: &Answer,
+    answer: Answer,
     notes: &mut Vec<WorldNote>,
     parcels: &mut Vec<Parcel>,
 ) -> Result<(), NoMemory>
-    ensures notes { OnOk result (notes.new.items ≡ notes.old.items ++ said_in config.now answer.now) }
-    ensures parcels { OnOk result (parcels.new.items ≡ parcels.old.items ++ map (sent_of config.now) answer.now.orders) }
+    ensures notes { OnOk result (notes.new.items ≡ notes.old.items ++ said_in config.now answer) }
+    ensures parcels { OnOk result (parcels.new.items ≡ parcels.old.items ++ map (sent_of config.now) answer.orders) }
 {
     let start = parcels.len();
-    send_orders(alloc, config, &answer.orders, parcels)?;
+    send_orders(alloc, config, answer.orders, parcels)?;
     say_notes(config.channel().id, &answer.notes, &parcels[start..], notes)
 }
 

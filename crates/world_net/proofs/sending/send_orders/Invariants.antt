@@ -1,6 +1,11 @@
-use Rattle.std.proofs.Common.{◌≡◌, ◌++◌, map, drop}
+use Rattle.std.proofs.Common.{◌≡◌, ◌++◌, map}
+use Rattle.std.specs.Vec.Iter.{into_iter_items}
 use Rattle.world_net.specs.{sent_of}
 use Rattle.world_net.proofs.sending.send_orders.Given as goal
 
 abbrev pub invariant-loop-order : goal.invariant-loop-order
-invariant-loop-order l = l.parcels.items ++ map (sent_of l.config) (drop l.order-index l.orders) ≡ l.fn.parcels.items ++ map (sent_of l.config) l.orders
+invariant-loop-order l = record {
+  can_next : (goal.iterator-loop-order).can_next l.order-iterator;
+  is_finite : (goal.iterator-loop-order).is_finite l.order-iterator;
+  parcels : l.parcels.items ++ map (sent_of l.config) (into_iter_items l.order-iterator) ≡ l.fn.parcels.items ++ map (sent_of l.config) l.fn.orders.items;
+}

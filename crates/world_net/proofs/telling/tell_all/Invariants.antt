@@ -1,11 +1,14 @@
-use Rattle.std.proofs.Common.{◌≡◌, ◌++◌, drop}
+use Rattle.std.proofs.Common.{◌≡◌, ◌++◌}
 use Rattle.std.specs.List.{flat_map}
+use Rattle.std.specs.Vec.Iter.{into_iter_items}
 use Rattle.server_hub.specs.{settings_of}
 use Rattle.world_net.specs.{at_notes, at_sent}
 use Rattle.world_net.proofs.telling.tell_all.Given as goal
 
 abbrev pub invariant-loop-at : goal.invariant-loop-at
 invariant-loop-at l = record {
-  notes : l.notes.items ++ flat_map (at_notes (settings_of l.hub)) (drop l.at-index l.all) ≡ l.fn.notes.items ++ flat_map (at_notes (settings_of l.hub)) l.all;
-  parcels : l.parcels.items ++ flat_map (at_sent (settings_of l.hub)) (drop l.at-index l.all) ≡ l.fn.parcels.items ++ flat_map (at_sent (settings_of l.hub)) l.all;
+  can_next : (goal.iterator-loop-at).can_next l.at-iterator;
+  is_finite : (goal.iterator-loop-at).is_finite l.at-iterator;
+  notes : l.notes.items ++ flat_map (at_notes (settings_of l.hub)) (into_iter_items l.at-iterator) ≡ l.fn.notes.items ++ flat_map (at_notes (settings_of l.hub)) l.fn.all.items;
+  parcels : l.parcels.items ++ flat_map (at_sent (settings_of l.hub)) (into_iter_items l.at-iterator) ≡ l.fn.parcels.items ++ flat_map (at_sent (settings_of l.hub)) l.fn.all.items;
 }
