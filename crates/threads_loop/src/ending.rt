@@ -21,6 +21,7 @@ use rams_model::{LineFault, Status};
 use session_core::Core;
 use session_worker::run_lists;
 use std::alloc::Global;
+use std::mem;
 use std::sync::Wait;
 use std::thread::Threads;
 use trace_loop::Stop;
@@ -86,14 +87,17 @@ fn work_and_write<R: Threads + Wait + Sync, K: Sink, G: Gate + Sync>(
     };
     let core = Core::new(alloc, &config)?;
     let worked = run_lists(rt, alloc, core, dealt.lists, dealt.workers, gate)?;
-    write_worked(
+    let written = write_worked(
         alloc,
         sink,
         &config,
         &dealt.head,
         worked.book.entries(),
         &worked.drawn,
-    )
+    );
+    // The command ends here. To give its memory back block by block takes longer than to write a trace.
+    mem::forget(worked);
+    written
 }
 
 /// Reads a trace of one channel to its end, deals its events into a list of live packets, one of ticks,
