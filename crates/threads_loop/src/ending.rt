@@ -95,7 +95,7 @@ fn work_and_write<R: Threads + Wait + Sync, K: Sink, G: Gate + Sync>(
         worked.book.entries(),
         &worked.drawn,
     );
-    // The command ends here. To give its memory back block by block takes longer than to write a trace.
+    // The command ends here: to give its memory back block by block would only cost time.
     mem::forget(worked);
     written
 }
