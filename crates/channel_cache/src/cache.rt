@@ -1,6 +1,7 @@
 //! The cache of one channel.
 ghost use Rattle.std.specs.Prelude.{◌≡◌, ℕ, ◌+◌, ◌^◌, ◌<◌, ◌≤◌, ◌↔◌, List, [], Some, ◌∷◌, option_copied, IfOk, IfSome, IsSome, OnOk, OnErr};
 ghost use Rattle.rams_model.specs.Packets.{chosen, lo, hi, Arrival, live_note, stream_of};
+ghost use Rattle.rams_model.specs.Service.{heard_live, live};
 ghost use Rattle.packet_ring.specs.{packet_of, IsRing};
 ghost use Rattle.access_index.specs.{choice_of};
 ghost use Rattle.channel_cache.specs.{arrival_of, live_note_of, arrivals_after, UnlessTaken, new_cache, ring_of, StandsFor, StandsForFewer, DiffersInKept, AreInStep, Stand, Grows, total_of, kept_other, IsBare, IsWhole, AreAtLeast};
@@ -72,6 +73,21 @@ impl Cache {
         let memory = self.intake.stock.memory_for(alloc, packet.stripped_len())?;
         let incoming = Incoming::of(memory, channel, &packet)?;
         Ok(receive(&mut self.numbering, &mut self.intake, incoming))
+    }
+
+    /// `live`, of a packet that its caller has read: its bytes have no padding, and are kept where they are. It
+    /// takes no memory.
+    pub fn live_read(&mut self, incoming: Incoming) -> LiveNote
+        requires few { StandsForFewer self.old (2 ^ 40) }
+        requires read { heard_live self.old.settings.channel incoming.packet ≡ live (arrival_of incoming) }
+        requires bare { IsBare incoming.packet }
+        ensures stands { (arrivals : List Arrival) → StandsFor self.old arrivals →
+            (live_note_of self.old.settings arrivals incoming.packet ≡ Some result)
+            × StandsFor self.new (arrivals_after self.old.settings incoming.packet arrivals) }
+        ensures kept { UnlessTaken result (DiffersInKept self.old self.new) }
+        ensures settings { self.new.settings ≡ self.old.settings }
+    {
+        receive(&mut self.numbering, &mut self.intake, incoming)
     }
 
     /// The number of the oldest packet that is held; 0 while none is.

@@ -15,6 +15,7 @@ mod stock;
 pub use access_index::Choice;
 pub use cache::Cache;
 pub use channel_config::Config;
+pub use incoming::Incoming;
 pub use laws::notes_are_of_the_book;
 pub use ram_io::NoMemory;
 pub use rams_model::{Held, LiveNote};

@@ -1,11 +1,12 @@
 //! The core of one channel.
-use crate::live::answer_live;
+use crate::live::{answer_live, note_live};
 use crate::stepped::Stepped;
+use channel_cache::Incoming;
 use channel_config::Config;
 use channel_parts::Parts;
 use feedback_core::answer_feedback;
 use ram_io::NoMemory;
-use rams_model::{Answer, Event};
+use rams_model::{Answer, Event, LiveNote};
 use std::alloc::Global;
 use std::marker::Model;
 use tick_core::TickPlan;
@@ -31,8 +32,10 @@ impl Core {
     ghost use Rattle.std.specs.Prelude.{◌≡◌, ◌^◌, ◌<◌, List, [], ◌∷◌, length, IfOk, OnOk, OnErr};
     ghost use Rattle.rams_model.specs.declared.event.Event.{Event};
     ghost use Rattle.rams_model.specs.declared.event.Event.TheVariants.{Live, Feedback, Tick};
+    ghost use Rattle.rams_model.specs.declared.note.Note.TheVariants.{Live as LiveNoted};
     ghost use Rattle.rams_model.specs.Packets.{lo, hi};
-    ghost use Rattle.rams_model.specs.Service.{hold, history_of, answer};
+    ghost use Rattle.rams_model.specs.Service.{hold, history_of, answer, answered, heard_live, live};
+    ghost use Rattle.channel_cache.specs.{arrival_of, IsBare};
     ghost use Rattle.session_core.specs.{StandsFor, StandsForFewer, IsPlanOf, SendsShort, HasAtMost, IsCountable, JoinTimesAreKept, TellsAlone, most_notes_for, most_notes_in, most_orders_in};
 
     /// The core of a channel to which nothing came yet. It takes the room for the channel's live
@@ -80,6 +83,20 @@ impl Core {
         ensures same { OnErr result (self.new ≡ self.old) }
     {
         answer_live(alloc, &mut self.parts, bytes)
+    }
+
+    /// `live`, of a packet that its caller has read: its bytes have no padding, and are kept where they are. The
+    /// note is the whole answer. It takes no memory.
+    pub fn live_read(&mut self, incoming: Incoming) -> LiveNote
+        requires few { StandsForFewer self.old (2 ^ 40) }
+        requires read { heard_live self.old.settings.channel incoming.packet ≡ live (arrival_of incoming) }
+        requires bare { IsBare incoming.packet }
+        ensures stands { (events : List Event) → StandsFor self.old events →
+            (answered (LiveNoted result ∷ []) [] ≡ answer self.old.settings events (Live incoming.packet))
+            × StandsFor self.new (Live incoming.packet ∷ events) }
+        ensures settings { self.new.settings ≡ self.old.settings }
+    {
+        note_live(&mut self.parts, incoming)
     }
 
     /// A feedback datagram (RFC 4585) of a client, as it came: the answers to its messages, in their

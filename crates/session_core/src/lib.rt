@@ -9,9 +9,10 @@ mod live;
 mod stepped;
 
 pub use channel::Core;
+pub use channel_cache::Incoming;
 pub use channel_config::Config;
 pub use feedback_core::{Most, most_in};
 pub use ram_io::NoMemory;
-pub use rams_model::{Answer, Event};
+pub use rams_model::{Answer, Event, LiveNote};
 pub use stepped::Stepped;
 pub use tick_core::TickPlan;

@@ -1,10 +1,10 @@
 //! What the repairs of clients may still take.
-ghost use Rattle.std.specs.Prelude.{◌≡◌, ℕ, cond, nat_eq, Some, IfOk, OnErr};
-ghost use Rattle.std.specs.HashMap.{get};
+ghost use Rattle.std.specs.Prelude.{◌≡◌, ℕ, cond, nat_eq, Some, None, IfOk, OnErr};
 ghost use Rattle.tick_core.specs.{told_by};
 
 use crate::allowance::Allowance;
 use ram_io::NoMemory;
+use std::alloc::Global;
 use std::collections::HashMap;
 
 /// What the repairs of clients may still take that have a burst, or were sent one. A client's repairs
@@ -17,12 +17,12 @@ pub struct Allowances {
 }
 
 impl Allowances {
-    /// What is told of each client, under its number.
-    pub fn new(allowances: HashMap<u64, Allowance>) -> Allowances
-        ensures { told_by result ≡ get nat_eq allowances }
+    /// Nothing is told of any client. Takes no memory.
+    pub fn new(alloc: Global) -> Allowances
+        ensures { (client : ℕ) → told_by result client ≡ None }
     {
         Allowances {
-            others: allowances,
+            others: HashMap::new(alloc),
             last: None,
         }
     }

@@ -1,5 +1,5 @@
 //! The notes and orders of a tick, as they are made.
-ghost use Rattle.std.specs.Prelude.{◌≡◌, IfOk};
+ghost use Rattle.std.specs.Prelude.{◌≡◌, ◌<◌, IfOk, OnOk, vec_len, vec_capacity};
 ghost use Rattle.rams_model.specs.Service.{answered};
 ghost use Rattle.tick_core.specs.{new_draft, with_note, with_packet, with_end, told_end};
 
@@ -9,7 +9,7 @@ use rams_model::{Answer, Cause, Held, Info, Note, Order};
 use std::alloc::Global;
 use std::marker::Model;
 
-// Once a packet is sent there is room for as many of its size as the channel has left, up to so many.
+// There is room at once for as many packets of the present one's size as the channel has left, up to so many.
 const MOST_AT_ONCE: u64 = 256;
 
 /// The notes and orders of a tick so far, and the bytes that the channel's budget has left.
@@ -61,28 +61,15 @@ impl Draft {
         ensures { IfOk result (λ _. self.new ≡ with_packet self.old note client seq held.now) }
     {
         let packet = held.packet.clone()?;
-        if self.orders.is_empty() {
-            self.make_room(held.wire)?;
-        }
-        self.notes.push(note)?;
-        self.orders.push(Order::Rtx {
+        make_room(&mut self.notes, &mut self.orders, self.left, held.wire)?;
+        self.notes.push_reserved(note);
+        self.orders.push_reserved(Order::Rtx {
             client,
             n: held.n,
             seq,
             packet,
-        })?;
+        });
         self.left = self.left.saturating_sub(u64::from(held.wire));
-        Ok(())
-    }
-
-    // Takes room at once for what packets of `wire` bytes may follow.
-    fn make_room(&mut self, wire: u32) -> Result<(), NoMemory>
-        ensures { IfOk result (λ _. self.new ≡ self.old) }
-    {
-        let packets = self.left / u64::from(wire.max(1));
-        let room = packets.min(MOST_AT_ONCE) as usize;
-        self.notes.reserve(room)?;
-        self.orders.reserve(room)?;
         Ok(())
     }
 
@@ -106,6 +93,29 @@ impl Draft {
     {
         Answer::new(self.notes, self.orders)
     }
+}
+
+/// Room for one note and one order more. Where it is missing, it is taken at once for what packets of `wire`
+/// bytes may follow while the channel has so much left.
+fn make_room(
+    notes: &mut Vec<Note>,
+    orders: &mut Vec<Order>,
+    left: u64,
+    wire: u32,
+) -> Result<(), NoMemory>
+    ensures notes { notes.new.items ≡ notes.old.items }
+    ensures orders { orders.new.items ≡ orders.old.items }
+    ensures note { OnOk result (vec_len notes.new < vec_capacity notes.new) }
+    ensures order { OnOk result (vec_len orders.new < vec_capacity orders.new) }
+{
+    if notes.len() < notes.capacity() && orders.len() < orders.capacity() {
+        return Ok(());
+    }
+    let packets = left / u64::from(wire.max(1));
+    let room = packets.min(MOST_AT_ONCE).max(1) as usize;
+    notes.reserve(room)?;
+    orders.reserve(room)?;
+    Ok(())
 }
 
 /// What a client is told of the end of its burst (RFC 6285, 7.3), after what it was told last.

@@ -1,8 +1,7 @@
 //! The pending repairs.
-ghost use Rattle.std.specs.Prelude.{◌≡◌, ◌<◌, ◌≤◌, ◌&&◌, nat_le, nat_eq, true, false, [], ◌++◌, length, drop, replicate, Some, None, IfSome, IfOk};
-ghost use Rattle.std.specs.HashMap.{get};
+ghost use Rattle.std.specs.Prelude.{◌≡◌, ◌<◌, ◌≤◌, ◌&&◌, nat_le, true, false, [], ◌++◌, length, drop, replicate, Some, None, IfSome, IfOk};
 ghost use Rattle.client_table.specs.{AreRising};
-ghost use Rattle.tick_core.specs.{IsSpent, FitsNowhere, AreOfKnown, all_allowances, allowance_for, after_repair, waiting, with_repair, with_wanted, with_all_wanted};
+ghost use Rattle.tick_core.specs.{IsSpent, FitsNowhere, AreOfKnown, told_by, all_allowances, allowance_for, after_repair, waiting, with_repair, with_wanted, with_all_wanted};
 ghost use Rattle.packet_ring.specs.{packet_of};
 
 use crate::allowance::Allowance;
@@ -16,7 +15,6 @@ use ram_io::NoMemory;
 use rams_model::{Held, Note};
 use repair_queue::{Queue, Wanted};
 use std::alloc::Global;
-use std::collections::HashMap;
 use std::marker::Model;
 
 /// The repairs of a tick so far: what was noted, what each client's repairs may still take, and which of
@@ -58,17 +56,17 @@ impl<'a> Repairs<'a> {
         table: &'a Table,
         most: u64,
         draft: Draft,
-        allowances: HashMap<u64, Allowance>,
+        allowances: Allowances,
     ) -> Repairs<'a>
         requires rising { AreRising table.now }
-        requires known { AreOfKnown table.now (get nat_eq allowances) }
-        ensures { result ≡ record { draft = draft; allowances = all_allowances most table.now.known (get nat_eq allowances); done = [] } }
+        requires known { AreOfKnown table.now (told_by allowances) }
+        ensures { result ≡ record { draft = draft; allowances = all_allowances most table.now.known (told_by allowances); done = [] } }
     {
         Repairs {
             table,
             most,
             draft,
-            changed: Allowances::new(allowances),
+            changed: allowances,
             asked: None,
             done: Vec::new(alloc),
         }

@@ -1,11 +1,11 @@
 //! The runs of the open bursts.
-ghost use Rattle.std.specs.Prelude.{◌≡◌, ℕ, ◌+◌, ◌<◌, ◌≤◌, ◌^◌, ◌&&◌, nat_le, nat_eq, [], ◌∷◌, Some, IfOk, MatchOption, filter};
-ghost use Rattle.std.specs.HashMap.{get};
+ghost use Rattle.std.specs.Prelude.{◌≡◌, ℕ, ◌+◌, ◌<◌, ◌≤◌, ◌^◌, ◌&&◌, nat_le, [], ◌∷◌, Some, IfOk, MatchOption, filter};
 ghost use Rattle.rams_model.specs.Service.{is_before, is_lost, is_stop};
 ghost use Rattle.rams_model.specs.Packets.{hi};
-ghost use Rattle.tick_core.specs.{AreInOrder, AreInTime, IsInTime, IsNext, run_from, run_of, after_run, with_run, end_of, kept_back, allowance_of, idle_allowance, AreOfBursts, with_served, with_all_served};
+ghost use Rattle.tick_core.specs.{AreInOrder, AreInTime, IsInTime, IsNext, run_from, run_of, after_run, with_run, end_of, kept_back, allowance_of, idle_allowance, AreOfBursts, told_by, with_served, with_all_served};
 
 use crate::allowance::Allowance;
+use crate::allowances::Allowances;
 use crate::draft::Draft;
 use channel_cache::Cache;
 use channel_config::Config;
@@ -14,7 +14,6 @@ use client_table::{Burst, Entry, Table};
 use ram_io::NoMemory;
 use rams_model::{Cause, Held, Note};
 use std::alloc::Global;
-use std::collections::HashMap;
 
 /// How far a burst has come in a tick.
 #[derive(Clone, Copy, Debug, PartialEq, Eq)]
@@ -134,6 +133,7 @@ fn serve_burst(
     requires budget { burst.now.rate + burst.now.kept < 2 ^ 64 }
     requires ticks { burst.now.ticks < config.now.channel.limit }
     ensures allowance { IfOk result (λ a. a ≡ allowance_of config.now cache.now.held client entry.now (Some burst.now)) }
+    ensures client { IfOk result (λ a. a.client ≡ client) }
     ensures draft { IfOk result (λ _. draft.new ≡ with_served config.now cache.now.held client entry.now (Some burst.now) draft.old) }
 {
     if is_lost(cache, burst.next) {
@@ -177,6 +177,7 @@ fn serve_client(
     requires held { AreInOrder cache.now.held }
     requires small { IsInTime config.now entry.now.burst }
     ensures allowance { IfOk result (λ a. a ≡ allowance_of config.now cache.now.held client entry.now entry.now.burst) }
+    ensures client { IfOk result (λ a. a.client ≡ client) }
     ensures draft { IfOk result (λ _. draft.new ≡ with_served config.now cache.now.held client entry.now entry.now.burst draft.old) }
 {
     match &entry.burst {
@@ -192,16 +193,16 @@ pub fn serve_clients(
     cache: &Cache,
     table: &Table,
     draft: &mut Draft,
-) -> Result<HashMap<u64, Allowance>, NoMemory>
+) -> Result<Allowances, NoMemory>
     requires held { AreInOrder cache.now.held }
     requires small { AreInTime config.now table.now }
-    ensures allowances { IfOk result (λ allowances. AreOfBursts config.now cache.now.held table.now (get nat_eq allowances)) }
+    ensures allowances { IfOk result (λ allowances. AreOfBursts config.now cache.now.held table.now (told_by allowances)) }
     ensures draft { IfOk result (λ _. draft.new ≡ with_all_served config.now cache.now.held table.now.known draft.old) }
 {
-    let mut allowances = HashMap::new(alloc);
+    let mut allowances = Allowances::new(alloc);
     for (client, entry) in table.open_bursts() {
         let allowance = serve_client(config, cache, client, &entry, draft)?;
-        allowances.insert(client, allowance)?;
+        allowances.put(allowance)?;
     }
     Ok(allowances)
 }

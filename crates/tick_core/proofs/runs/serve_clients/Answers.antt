@@ -1,8 +1,7 @@
-use Rattle.std.proofs.Common.{ℕ, refl, ap, ◌∙◌, nat_eq}
-use Rattle.std.specs.HashMap.{get}
-use Rattle.std.specs.Map.{lookup}
+use Rattle.std.proofs.Common.{ℕ, Some, cond, refl, ap, ◌∙◌, nat_eq}
 use Rattle.client_table.specs.declared.entry.Entry.{Entry}
 use Rattle.client_table.specs.{opened_of, bursts_left}
+use Rattle.tick_core.specs.{told_by}
 use Rattle.tick_core.proofs.Walking.{all_found, first_found, others_found, served_start, served_turn, served_end, none_true, true_more, all_begin, all_more, all_end}
 use Rattle.tick_core.proofs.runs.serve_clients.Goals as goal
 
@@ -15,8 +14,8 @@ loop-client-init c =
       is_finite = tt;
       found = all_found t _ all c.open_bursts-client-items.ensures.found;
       draft = served_start c.args.config.now c.args.cache.now.held _ t c.args.draft.now all;
-      each = none_true c.args.config.now c.args.cache.now.held t (get nat_eq c.new-allowances.result) (λ k. ap (lookup (nat_eq k)) c.new-allowances.ensures.empty);
-      all = all_begin (get nat_eq c.new-allowances.result) (bursts_left c.into_iter-client-iterator.result) (opened_of t) all;
+      each = none_true c.args.config.now c.args.cache.now.held t (told_by c.new-allowances.result) c.new-allowances.ensures;
+      all = all_begin (told_by c.new-allowances.result) (bursts_left c.into_iter-client-iterator.result) (opened_of t) all;
     }
 
 pub serve_client-requires-clause-small : goal.serve_client-requires-clause-small
@@ -30,23 +29,24 @@ loop-client-preserved c =
     let e : ℕ × Entry = (c.in-Some.client, c.in-Some.entry) in
     let left = bursts_left c.loop-client.client-iterator in
     let later = bursts_left c.next.new.self in
-    let old = get nat_eq c.loop-client.allowances in
-    let new = get nat_eq c.insert.new.self in
-    let puts = c.in_ok-insert.ensures.updates.0 in
+    let old = told_by c.loop-client.allowances in
+    let new = told_by c.put.new.self in
+    let a = c.in_ok-allowance.allowance in
+    let puts = λ (j : ℕ). c.in_ok-put.ensures.put j ∙ ap (λ (k : ℕ). cond (nat_eq k j) (Some a) (old j)) c.in_ok-allowance.ensures.client in
     record {
       can_next = tt;
       is_finite = tt;
       found = others_found t e left later c.in-Some.ensures.steps c.loop-client.invariant.found;
       draft = served_turn c.args.config.now c.args.cache.now.held e left later c.loop-client.draft c.serve_client.new.draft _ c.in-Some.ensures.steps c.in_ok-allowance.ensures.draft c.loop-client.invariant.draft;
-      each = true_more old new e.0 c.in_ok-allowance.allowance puts c.args.config.now c.args.cache.now.held t e.1
+      each = true_more old new e.0 a puts c.args.config.now c.args.cache.now.held t e.1
           (first_found t e left later c.in-Some.ensures.steps c.loop-client.invariant.found) c.in_ok-allowance.ensures.allowance c.loop-client.invariant.each;
-      all = all_more old new e.0 c.in_ok-allowance.allowance puts e left later (opened_of t) c.in-Some.ensures.steps refl c.loop-client.invariant.all;
+      all = all_more old new e.0 a puts e left later (opened_of t) c.in-Some.ensures.steps refl c.loop-client.invariant.all;
     }
 
 pub returns-clause-allowances : goal.returns-clause-allowances
 returns-clause-allowances c = record {
   each = c.loop-client.invariant.each;
-  all = all_end (get nat_eq c.loop-client.allowances) (bursts_left c.loop-client.client-iterator) (opened_of c.args.table.now) c.in-None.ensures.steps.0 c.loop-client.invariant.all;
+  all = all_end (told_by c.loop-client.allowances) (bursts_left c.loop-client.client-iterator) (opened_of c.args.table.now) c.in-None.ensures.steps.0 c.loop-client.invariant.all;
 }
 
 pub returns-clause-draft : goal.returns-clause-draft

@@ -1,7 +1,6 @@
-use Rattle.std.proofs.Common.{◌≡◌, All, Some, nat_eq}
-use Rattle.std.specs.HashMap.{get}
+use Rattle.std.proofs.Common.{◌≡◌, All, Some}
 use Rattle.client_table.specs.{entry_of, opened_of, bursts_left}
-use Rattle.tick_core.specs.{with_all_served}
+use Rattle.tick_core.specs.{told_by, with_all_served}
 use Rattle.tick_core.proofs.Walking.{AreTrue, LeadToAll}
 use Rattle.tick_core.proofs.runs.serve_clients.Given as goal
 
@@ -12,6 +11,6 @@ invariant-loop-client l = record {
   is_finite : (goal.iterator-loop-client).is_finite l.client-iterator;
   found : All (λ e. entry_of l.table e.0 ≡ Some e.1) (bursts_left l.client-iterator);
   draft : with_all_served l.config l.cache.held (bursts_left l.client-iterator) l.draft ≡ with_all_served l.config l.cache.held l.table.known l.fn.draft;
-  each : AreTrue l.config l.cache.held l.table (get nat_eq l.allowances);
-  all : LeadToAll (get nat_eq l.allowances) (bursts_left l.client-iterator) (opened_of l.table);
+  each : AreTrue l.config l.cache.held l.table (told_by l.allowances);
+  all : LeadToAll (told_by l.allowances) (bursts_left l.client-iterator) (opened_of l.table);
 }
