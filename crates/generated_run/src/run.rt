@@ -4,12 +4,12 @@ ghost use Rattle.session_core.specs.{StandsFor};
 ghost use Rattle.summary.specs.{made_summary};
 ghost use Rattle.trace_gen.specs.{config};
 
-use crate::serving::count_answer;
+use crate::serving::answer_to;
 use ram_io::NoMemory;
 use session_core::Core;
 use std::alloc::Global;
 use summary::Tally;
-use trace_gen::{Made, config_of, next_event};
+use trace_gen::{Made, config_of, event_into};
 
 /// Most blocks of a generated trace.
 pub const MOST_BLOCKS: u32 = 50_000;
@@ -38,10 +38,10 @@ fn summary_by(alloc: Global, core: &mut Core, seed: u32, blocks: u32) -> Result<
     let mut tally = Tally::new();
     let mut page = Vec::new(alloc);
     for events in 0..=MOST_EVENTS {
-        let Some(next) = next_event(alloc, blocks, &mut at, &mut page)? else {
+        let Some(kind) = event_into(blocks, &mut at, &mut page)? else {
             return tally.write(alloc, seed, blocks, events);
         };
-        count_answer(alloc, core, &mut tally, next, &page)?;
+        tally.add(&answer_to(alloc, core, kind, &page)?);
     }
     unreachable!()
 }

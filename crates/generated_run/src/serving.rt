@@ -11,8 +11,7 @@ use ram_io::NoMemory;
 use rams_model::Answer;
 use session_core::Core;
 use std::alloc::Global;
-use summary::Tally;
-use trace_gen::{Kind, Next};
+use trace_gen::Kind;
 
 /// What the core answers to the event of this kind with these bytes.
 #[tactic(auto, using(crate::proofs::Short::short_are))]
@@ -37,20 +36,4 @@ pub(crate) fn answer_to(
         Kind::Feedback { client } => core.feedback(alloc, client, bytes),
         Kind::Tick => core.tick(alloc),
     }
-}
-
-/// What the core answers to an event, with its bytes on this page where it has none of its own, is counted.
-pub(crate) fn count_answer(
-    alloc: Global,
-    core: &mut Core,
-    tally: &mut Tally,
-    next: Next,
-    page: &[u8],
-) -> Result<(), NoMemory>
-{
-    match next {
-        Next::Packet(packet) => tally.add_live(core.live_shared(alloc, packet)?),
-        Next::OnPage(kind) => tally.add(&answer_to(alloc, core, kind, page)?),
-    }
-    Ok(())
 }

@@ -51,7 +51,7 @@ impl Counts {
     }
 
     /// One note more.
-    pub(crate) fn count(&mut self, note: &Note)
+    fn count(&mut self, note: &Note)
         requires { AreAtMost (2 ^ 63) self.old }
         ensures { self.new ≡ with_note self.old note.now }
     {

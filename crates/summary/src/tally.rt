@@ -7,7 +7,7 @@ ghost use Rattle.summary.specs.Text.{count_lines};
 use crate::counts::Counts;
 use book_text::append_count;
 use ram_io::NoMemory;
-use rams_model::{Answer, LiveNote, Note, Order, RTX_OVERHEAD};
+use rams_model::{Answer, Order, RTX_OVERHEAD};
 use std::alloc::Global;
 use std::marker::Model;
 
@@ -63,14 +63,6 @@ impl Tally {
     {
         self.notes = Counts::of(&answer.notes).plus(self.notes);
         self.bytes += bytes(&answer.orders);
-        self.answers += 1;
-    }
-
-    /// The answer to one live packet more, which has this note alone.
-    pub fn add_live(&mut self, note: LiveNote)
-        requires answers { self.old.answers < 1000000 }
-    {
-        self.notes.count(&Note::Live(note));
         self.answers += 1;
     }
 

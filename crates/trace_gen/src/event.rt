@@ -3,7 +3,7 @@ ghost use Rattle.std.specs.Prelude.{◌≡◌, [], IfNone, IfOk, OnErr, option_m
 ghost use Rattle.trace_gen.specs.{left, with_first, event_on};
 
 use crate::made::Made;
-use crate::page::{Kind, Next};
+use crate::page::Kind;
 use ram_io::NoMemory;
 use rams_model::Event;
 use std::alloc::Global;
@@ -51,18 +51,4 @@ pub fn event_into(blocks: u32, at: &mut Made, page: &mut Vec<u8>) -> Result<Opti
         }
     }
     Ok(Some(at.tick()))
-}
-
-/// `event_into`, with packets in memory that they share with others of their block.
-pub fn next_event(
-    alloc: Global,
-    blocks: u32,
-    at: &mut Made,
-    page: &mut Vec<u8>,
-) -> Result<Option<Next>, NoMemory>
-{
-    if at.block() < blocks && at.has_packets() {
-        return Ok(Some(Next::Packet(at.shared_packet(alloc)?)));
-    }
-    Ok(event_into(blocks, at, page)?.map(|kind| Next::OnPage(kind)))
 }

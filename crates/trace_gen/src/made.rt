@@ -5,15 +5,16 @@ ghost use Rattle.trace_gen.specs.declared.page.Kind.TheVariants as kind;
 
 use crate::channel::MEDIA;
 use crate::draw::{drawn, stepped};
-use crate::packet::{HEADER, PACKETS, append_packet, packets_from, size_of};
+use crate::packet::append_packet;
 use crate::page::Kind;
-use bytes::Bytes;
 use ram_io::NoMemory;
 use rams_model::Stop;
 use rams_tlv::{Request, append_request, append_stop};
 use rtcp_feedback::append_nack;
-use std::alloc::Global;
 use std::marker::Model;
+
+/// Packets of a block.
+const PACKETS: u8 = 10;
 
 /// A RAMS-R without TLVs.
 const PLAIN: Request<'static> = Request {
@@ -36,8 +37,6 @@ pub struct Made {
     events: u8,
     /// The client that is drawn in every fourth block.
     client: u32,
-    /// The packets of the block that are still to come, one behind another; empty until they are written.
-    ready: Bytes,
 }
 
 impl Model for Made {
@@ -66,7 +65,6 @@ impl Made {
             block: 0,
             events: 0,
             client: 0,
-            ready: Bytes::new(),
         }
     }
 
@@ -104,28 +102,10 @@ impl Made {
     {
         let state = stepped(self.state);
         let i = 10 * u64::from(self.block) + u64::from(self.events);
-        append_packet(page, i, size_of(state))?;
+        append_packet(page, i, 100 + (drawn(state) % 1300) as usize)?;
         self.state = state;
         self.events += 1;
-        self.ready.clear();
         Ok(Kind::Live)
-    }
-
-    /// The next packet, in memory that it shares with others of its block, which are written together.
-    pub(crate) fn shared_packet(&mut self, alloc: Global) -> Result<Bytes, NoMemory>
-        requires next { self.old.events < 10 }
-        ensures event { IfOk result (λ bytes. Live bytes ≡ packet self.old.seed self.old.block self.old.events) }
-        ensures place { OnOk result (self.new ≡ place self.old.seed self.old.block (self.old.events + 1)) }
-        ensures same { OnErr result (self.new ≡ self.old) }
-    {
-        if self.ready.is_empty() {
-            self.ready = packets_from(alloc, self.state, self.block, self.events)?;
-        }
-        let state = stepped(self.state);
-        let packet = self.ready.split_to(HEADER + size_of(state))?;
-        self.state = state;
-        self.events += 1;
-        Ok(packet)
     }
 
     /// The request of the block, of a client that is drawn.

@@ -2,7 +2,6 @@
 ghost use Rattle.std.specs.Prelude.{◌≡◌};
 ghost use Rattle.trace_gen.specs.{event_on};
 
-use bytes::Bytes;
 use rams_model::{Event, Octets};
 
 /// What an event is, beside its bytes.
@@ -30,11 +29,4 @@ impl Kind {
             Kind::Tick => Event::Tick,
         }
     }
-}
-
-/// An event: a packet in its own memory, or one whose bytes stand on a page.
-#[derive(Debug, Drop)]
-pub enum Next {
-    Packet(Bytes),
-    OnPage(Kind),
 }
