@@ -1,4 +1,5 @@
 pub mod Choosing
+pub mod Edge
 pub mod Halving
 pub mod Lowest
 pub mod Packets

@@ -1,9 +1,8 @@
 -- The points as an index keeps them, when packets come and when marks go.
 use Rattle.std.proofs.Common.{◌≡◌, ℕ, ◌+◌, ◌-◌, ◌<◌, ◌≤◌, min, max, Bool, true, false, ◌==◌, nat_lt, nat_le, if◌then◌else◌, List, [], ◌∷◌, ◌++◌, length, map, filter, refl, sym, ◌∙◌, ap, subst, append-nil, arith}
-use Rattle.std.proofs.lemmas.List.{map-append}
 use Rattle.std.proofs.lemmas.Bool.Decides.{nat_tests}
 use Rattle.access_index.specs.declared.point.Point.{Point}
-use Rattle.access_index.specs.{AccessPoint, more_behind, pushed, left_from, shown, seen_of, RiseIn, above}
+use Rattle.access_index.specs.{AccessPoint, more_behind, shown, RiseIn, above}
 
 -- ---- points that rise
 pub rise_numbers : (lo hi least total : ℕ) (ps : List Point) → RiseIn lo hi least total ps → lo ≤ hi
@@ -78,13 +77,6 @@ pub rise_above : (lo hi least total from : ℕ) (ps : List Point) → RiseIn lo 
 rise_above lo hi least total from [] rise = (omega arith, rise.1)
 rise_above lo hi least total from (p ∷ ps) rise = rise_step lo hi least total from p ps (nat_lt p.n from) refl rise (rise_above (p.n + 1) hi p.before total from ps rise.1)
 
--- what is shown once the first marks have gone
-pub left_is : (capacity lo hi last total from lo' : ℕ) (ps ps' : List Point) → RiseIn lo hi 0 total ps → lo' ≡ min (max lo from) hi → ps' ≡ above from ps
-    → seen_of capacity lo' hi last total ps' ≡ left_from (seen_of capacity lo hi last total ps) from
-left_is capacity lo hi last total from lo' ps ps' rise is_lo is_points =
-    ap (λ (n : ℕ). seen_of capacity n hi last total ps') is_lo
-    ∙ ap (λ qs. record { capacity = capacity; lo = min (max lo from) hi; hi = hi; last = last; total = total; points = qs }) (ap (map (shown total)) is_points ∙ shown_above lo hi 0 total from ps rise)
-
 -- the packet itself, where it is an access point
 abbrev pub own : Bool → ℕ → ℕ → ℕ → List Point
 own access n ts before = if access then record { n = n; ts = ts; before = before } ∷ [] else []
@@ -93,18 +85,7 @@ pub shown_own : (b : Bool) (n ts total wire : ℕ) → map (shown (total + wire)
 shown_own true n ts total wire = let same : total + wire - total ≡ wire = omega arith in ap (λ (m : ℕ). record { n = n; ts = ts; behind = m } ∷ []) same
 shown_own false n ts total wire = refl
 
--- what is shown once a packet has come
-pub pushed_is : (capacity lo hi last total n ts wire lo' total' : ℕ) (access : Bool) (ps ps' : List Point) → RiseIn lo hi 0 total ps → lo' ≡ (if lo == hi then n else lo) → total' ≡ total + wire → ps' ≡ ps ++ own access n ts total
-    → seen_of capacity lo' (n + 1) ts total' ps' ≡ pushed (seen_of capacity lo hi last total ps) n ts wire access
-pushed_is capacity lo hi last total n ts wire lo' total' access ps ps' rise is_lo is_total is_points =
-    let shows = map-append (shown (total + wire)) ps (own access n ts total)
-    ∙ (ap (λ qs. qs ++ map (shown (total + wire)) (own access n ts total)) (shown_more lo hi 0 total wire ps rise)
-    ∙ ap (λ qs. map (more_behind wire) (map (shown total) ps) ++ qs) (shown_own access n ts total wire)) in
-    ap (λ (m : ℕ). seen_of capacity m (n + 1) ts total' ps') is_lo
-    ∙ (ap (λ (m : ℕ). seen_of capacity (if lo == hi then n else lo) (n + 1) ts m ps') is_total
-    ∙ ap (λ qs. record { capacity = capacity; lo = if lo == hi then n else lo; hi = n + 1; last = ts; total = total + wire; points = qs }) (ap (map (shown (total + wire))) is_points ∙ shows))
-
--- and the points rise still
+-- the points rise still
 pub rise_own : (lo hi total n ts wire : ℕ) (b : Bool) (ps : List Point) → RiseIn lo hi 0 total ps → hi ≤ n → RiseIn lo (n + 1) 0 (total + wire) (ps ++ own b n ts total)
 rise_own lo hi total n ts wire true ps rise next = rise_append lo hi 0 total (n + 1) (total + wire) ps (record { n = n; ts = ts; before = total }) next (omega arith) (omega arith) (omega arith) rise
 rise_own lo hi total n ts wire false ps rise next = subst (λ (qs : List Point). RiseIn lo (n + 1) 0 (total + wire) qs) (sym (append-nil ps)) (rise_wider lo hi 0 total lo (n + 1) 0 (total + wire) ps (omega arith) (omega arith) (omega arith) (omega arith) rise)

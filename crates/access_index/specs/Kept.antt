@@ -1,5 +1,5 @@
 -- The access points as an index keeps them, each with the bytes that were pushed before it.
-use Rattle.std.specs.Prelude.{ℕ, ◌+◌, ◌-◌, ◌≤◌, nat_lt, if◌then◌else◌, List, [], ◌∷◌, map}
+use Rattle.std.specs.Prelude.{ℕ, ◌+◌, ◌-◌, ◌%◌, ◌^◌, ◌<◌, ◌≤◌, nat_lt, if◌then◌else◌, List, [], ◌∷◌, map, All}
 use Rattle.access_index.specs.declared.point.Point.{Point}
 use Rattle.access_index.specs.Seen.{AccessPoint, Seen}
 
@@ -7,9 +7,22 @@ use Rattle.access_index.specs.Seen.{AccessPoint, Seen}
 abbrev pub shown : ℕ → Point → AccessPoint
 shown total p = record { n = p.n; ts = p.ts; behind = total - p.before }
 
-abbrev pub seen_of : ℕ → ℕ → ℕ → ℕ → ℕ → List Point → Seen
-seen_of capacity lo hi last total points =
-    record { capacity = capacity; lo = lo; hi = hi; last = last; total = total; points = map (shown total) points }
+-- Timestamps are kept as they are counted from an edge (modulo 2^32; RFC 3550, 5.1): they compare as numbers
+-- until the source comes to the edge.
+abbrev pub since : ℕ → ℕ → ℕ
+since edge ts = (ts + 2 ^ 32 - edge) % 2 ^ 32
+
+-- an access point with its timestamp
+abbrev pub timed : ℕ → AccessPoint → AccessPoint
+timed edge p = record { n = p.n; ts = (p.ts + edge) % 2 ^ 32; behind = p.behind }
+
+abbrev pub seen_of : ℕ → ℕ → ℕ → ℕ → ℕ → ℕ → List Point → Seen
+seen_of edge capacity lo hi last total points =
+    record { capacity = capacity; lo = lo; hi = hi; last = last; total = total; points = map (timed edge) (map (shown total) points) }
+
+-- each timestamp has 32 bits
+abbrev pub AreTimes : List Point → Type 0
+AreTimes points = All (λ p. p.ts < 2 ^ 32) points
 
 -- the numbers rise, from `lo` on and below `hi`, and the bytes before the points rise, from `least` on up to `total`
 abbrev pub RiseIn : ℕ → ℕ → ℕ → ℕ → List Point → Type 0

@@ -5,7 +5,7 @@ pub mod Marks
 pub mod Seen
 pub mod Spans
 unfoldable pub use Rattle.access_index.specs.Asked.{roomy, start_of, choice_for}
-unfoldable pub use Rattle.access_index.specs.Kept.{shown, seen_of, RiseIn, above}
+unfoldable pub use Rattle.access_index.specs.Kept.{shown, since, timed, seen_of, AreTimes, RiseIn, above}
 unfoldable pub use Rattle.access_index.specs.Lows.{are_over, lows_of, under, IsLid, AreLids}
 unfoldable pub use Rattle.access_index.specs.Marks.{point_of, points_of, refused, choice_of}
 pub use Rattle.access_index.specs.Marks.{StandsFor}

@@ -1,9 +1,9 @@
 //! The index of one channel's access points.
-ghost use Rattle.std.specs.Prelude.{◌≡◌, ◌+◌, ◌-◌, ◌*◌, ◌^◌, ◌<◌, ◌≤◌, List, [], ◌∷◌, ◌++◌, IfOk};
+ghost use Rattle.std.specs.Prelude.{◌≡◌, ◌+◌, ◌-◌, ◌*◌, ◌^◌, ◌<◌, ◌≤◌, List, [], ◌∷◌, ◌++◌, false, IfOk};
 ghost use Rattle.rams_model.specs.declared.channel.Channel.{Channel};
 ghost use Rattle.rams_model.specs.declared.held.Held.{Held};
 ghost use Rattle.rams_model.specs.Packets.{from_number, chosen};
-ghost use Rattle.access_index.specs.{new_index, pushed, left_from, choice, StandsFor, choice_of};
+ghost use Rattle.access_index.specs.{new_index, since, pushed, left_from, choice, StandsFor, choice_of};
 
 use crate::Choice;
 use crate::point::{Ask, Point};
@@ -23,6 +23,9 @@ pub struct Index {
     hi: u64,
     /// The timestamp of the last packet that was pushed.
     last: u32,
+    /// Where the points' timestamps are counted from: half around from that of the interval's first
+    /// packet, so that they compare as numbers for as long as they can.
+    edge: u32,
     /// The wire sizes of all packets that were pushed.
     total: u64,
     points: Points,
@@ -31,17 +34,18 @@ pub struct Index {
 impl Model for Index {
     ghost use Rattle.std.specs.Prelude.{◌^◌, ◌≤◌};
     ghost use Rattle.access_index.specs.Seen.{Seen};
-    ghost use Rattle.access_index.specs.{seen_of, RiseIn};
+    ghost use Rattle.access_index.specs.{seen_of, RiseIn, AreTimes};
 
     ghost Value = { Seen };
 
-    ghost view = { λ i. seen_of i.capacity i.lo i.hi i.last i.total i.points.items };
+    ghost view = { λ i. seen_of i.edge i.capacity i.lo i.hi i.last i.total i.points.items };
 
     ghost invariant = { λ i. record {
       rise : RiseIn i.lo i.hi 0 i.total i.points.items;
       small : i.hi ≤ 2 ^ 62;
       few : i.total ≤ 2 ^ 60;
       room : i.capacity ≤ i.points.capacity;
+      times : AreTimes i.points.items;
     } };
 }
 
@@ -59,6 +63,7 @@ impl Index {
             lo: 0,
             hi: 0,
             last: 0,
+            edge: 0,
             total: 0,
             points: Points::new(alloc, capacity as usize)?,
         })
@@ -77,11 +82,12 @@ impl Index {
             StandsFor self.old marks → StandsFor self.new (marks ++ h ∷ []) }
     {
         // Where no mark is left, the interval begins anew.
+        self.edge = edge_for(self.lo == self.hi, self.edge, ts);
         self.lo = if self.lo == self.hi { n } else { self.lo };
         if access {
             self.points.push(Point {
                 n,
-                ts,
+                ts: since(self.edge, ts),
                 before: self.total,
             });
         }
@@ -114,8 +120,26 @@ impl Index {
             declared,
             min_ms,
             max_ms,
-            last: self.last,
+            last: since(self.edge, self.last),
             total: self.total,
         })
+    }
+}
+
+// How far a timestamp is behind an edge (modulo 2^32; RFC 3550, 5.1).
+fn since(edge: u32, ts: u32) -> u32
+    ensures { result ≡ since edge ts }
+{
+    ts.wrapping_sub(edge)
+}
+
+// The edge once a packet came: where it is the interval's first, half around from its timestamp.
+fn edge_for(is_first: bool, edge: u32, ts: u32) -> u32
+    ensures { is_first ≡ false → result ≡ edge }
+{
+    if is_first {
+        ts.wrapping_add(1 << 31)
+    } else {
+        edge
     }
 }

@@ -7,6 +7,7 @@ use crate::Choice;
 #[derive(Clone, Copy)]
 pub struct Point {
     pub n: u64,
+    /// Its timestamp, counted from the index's edge.
     pub ts: u32,
     /// The wire sizes of all packets that were pushed before it.
     pub before: u64,
@@ -21,7 +22,7 @@ pub struct Ask {
     /// The least and the greatest age.
     pub min_ms: u32,
     pub max_ms: Option<u32>,
-    /// The timestamp of the last mark.
+    /// The timestamp of the last mark, counted as the points' are.
     pub last: u32,
     /// The wire sizes of all packets that were pushed.
     pub total: u64,

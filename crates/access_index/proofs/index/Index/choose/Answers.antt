@@ -1,5 +1,6 @@
-use Rattle.std.proofs.Common.{◌^◌, ◌∙◌, ap, arith}
-use Rattle.access_index.specs.{choice}
+use Rattle.std.proofs.Common.{ℕ, ◌^◌, map, filter, ◌∙◌, ap, arith}
+use Rattle.access_index.specs.{leaves_room, choice_among, choice, shown}
+use Rattle.access_index.proofs.Edge.{times_shown, choice_timed}
 use Rattle.access_index.proofs.Rising.{rise_wider}
 use Rattle.access_index.proofs.Standing.{choice_stands}
 use Rattle.access_index.proofs.index.Index.choose.Goals as goal
@@ -11,7 +12,10 @@ choose-requires c =
 
 pub returns-clause-value : goal.returns-clause-value
 returns-clause-value c =
-    c.choose.ensures ∙ ap (λ v. choice v c.args.room c.args.declared c.args.min_ms c.args.max_ms) c.self.view_is
+    let i = c.self.inside in
+    c.choose.ensures ∙ (ap (λ (t : ℕ). choice_among t c.args.min_ms c.args.max_ms (filter (leaves_room c.args.room c.args.declared) (map (shown i.total) i.points.items))) c.since.ensures
+    ∙ (choice_timed i.edge i.last c.args.room c.args.declared c.args.min_ms c.args.max_ms (map (shown i.total) i.points.items) (omega arith) (omega arith) (times_shown i.total i.points.items c.self.invariant.times)
+    ∙ ap (λ v. choice v c.args.room c.args.declared c.args.min_ms c.args.max_ms) c.self.view_is))
 
 pub returns-clause-stands : goal.returns-clause-stands
 returns-clause-stands c = λ channel marks is_room is_declared stood.

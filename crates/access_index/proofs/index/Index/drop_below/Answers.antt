@@ -1,9 +1,10 @@
 use Rattle.std.proofs.Common.{ℕ, ◌^◌, List, min, max, sym, ◌∙◌, ap, subst, arith}
 use Rattle.rams_model.specs.Packets.{from_number}
 use Rattle.access_index.specs.declared.point.Point.{Point}
-use Rattle.access_index.specs.{left_from, StandsFor, RiseIn}
+use Rattle.access_index.specs.{left_from, StandsFor, AreTimes, RiseIn}
 use Rattle.access_index.specs.Seen.{Seen}
-use Rattle.access_index.proofs.Rising.{left_is, rise_above, rise_wider}
+use Rattle.access_index.proofs.Rising.{rise_above, rise_wider}
+use Rattle.access_index.proofs.Edge.{left_is, times_above}
 use Rattle.access_index.proofs.Standing.{left_stands}
 use Rattle.access_index.proofs.index.Index.drop_below.Goals as goal
 
@@ -22,13 +23,14 @@ invariant_of-self c =
       small = c.self.invariant.small;
       few = c.self.invariant.few;
       room = omega (arith, c.self.invariant.room, ap (λ r. r.capacity) c.drop_below.ensures);
+      times = subst (λ (ps : List Point). AreTimes ps) (sym (ap (λ r. r.items) c.drop_below.ensures)) (times_above c.args.lo i.points.items c.self.invariant.times);
     }
 
 pub returns-clause-step : goal.returns-clause-step
 returns-clause-step c =
     let i = c.self.inside in
     let lo = c.min-self-inside.ensures ∙ ap (λ (n : ℕ). min n i.hi) c.max.ensures in
-    left_is i.capacity i.lo i.hi i.last i.total c.args.lo c.min-self-inside.result i.points.items c.drop_below.new.self.items c.self.invariant.rise lo (ap (λ r. r.items) c.drop_below.ensures)
+    left_is i.edge i.capacity i.lo i.hi i.last i.total c.args.lo c.min-self-inside.result i.points.items c.drop_below.new.self.items c.self.invariant.times c.self.invariant.rise lo (ap (λ r. r.items) c.drop_below.ensures)
     ∙ ap (λ v. left_from v c.args.lo) c.self.view_is
 
 pub returns-clause-stands : goal.returns-clause-stands
