@@ -11,6 +11,7 @@ use crate::meeting::new_meeting;
 use ram_io::{Sink, Source};
 use rams_model::Status;
 use std::alloc::Global;
+use std::mem;
 use trace_loop::{Stop, write_text};
 
 /// Writes the text of the world's trace that the source has left, and says how it ended.
@@ -33,5 +34,8 @@ pub fn write_world<S: Source, K: Sink>(
         (λ xs. K.is_steady sink.old (length (meet_text xs).text) → OnlyMemoryStops result (Unit {0})) }
 {
     let mut meeting = new_meeting(alloc);
-    write_text(alloc, &mut meeting, b"rams-world 1\n", source, sink)
+    let ended = write_text(alloc, &mut meeting, b"rams-world 1\n", source, sink);
+    // The command ends here: to give its memory back block by block would only cost time.
+    mem::forget(meeting);
+    ended
 }

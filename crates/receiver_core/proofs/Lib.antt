@@ -3,3 +3,4 @@ pub mod Coming
 pub mod Missing
 pub mod Bounds
 pub mod Calls
+pub mod Sharing

@@ -2,7 +2,7 @@
 use Rattle.std.proofs.Common.{◌≡◌, ◌≢◌, ℕ, zero, suc, ◌+◌, ◌-◌, ◌%◌, ◌<◌, ◌≤◌, Bool, true, false, List, [], ◌∷◌, ◌++◌, length, map, take, filter, ap, ap₂, sym, ◌∙◌, arith, length-append, length-take, take_all, append-nil}
 use Rattle.std.specs.List.{range_with_len}
 use Rattle.std.proofs.lemmas.Bool.{cond-true, cond-false}
-use Rattle.std.proofs.lemmas.List.{take-append-le, length-map, map-append}
+use Rattle.std.proofs.lemmas.List.{take-append-le, length-map, map-append, nil_from_length}
 use Rattle.std.proofs.lemmas.List.Elements.{filter-append}
 
 -- the 16 bits that a NACK has of a number
@@ -23,6 +23,13 @@ module _ (test : ℕ → Bool) (most a : ℕ) where
 
   abbrev pub least_passing : ℕ → List ℕ
   least_passing m = take most (passing m)
+
+  -- none was looked at
+  pub none_yet : [] ≡ map low (least_passing (a - a))
+  none_yet =
+      let none : a - a ≡ 0 = omega arith in
+      let few : length (passing (a - a)) ≡ 0 = ap (λ (k : ℕ). length (passing k)) none in
+      sym (nil_from_length (map low (least_passing (a - a))) (omega (arith, few, length-map (least_passing (a - a)) low, length-take most (passing (a - a)))))
 
   passing_splits : (m k : ℕ) → passing (m + k) ≡ passing m ++ filter test (range_with_len (a + m) k)
   passing_splits m k = ap (filter test) (range_splits a m k) ∙ filter-append test (range_with_len a m) (range_with_len (a + m) k)

@@ -1,17 +1,16 @@
 -- What packets that wait by rising number are as pieces.
-use Rattle.std.proofs.Common.{◌≡◌, ℕ, zero, suc, ◌+◌, ◌-◌, ◌<◌, ◌≤◌, ◌≢◌, Bool, true, false, not, ◌||◌, cond, slice_index_or, List, [], ◌∷◌, length, Option, Some, None, Result, Ok, Err, MatchResult, refl, ap, sym, ◌∙◌, arith, eqb, ltb}
-use Rattle.std.specs.Prelude.{is_err}
+use Rattle.std.proofs.Common.{◌≡◌, ℕ, zero, suc, ◌+◌, ◌-◌, ◌<◌, ◌≤◌, ◌≢◌, Bool, true, false, ◌||◌, cond, slice_index_or, List, [], ◌∷◌, length, Some, None, Result, Ok, Err, MatchResult, refl, ap, sym, ◌∙◌, arith, eqb, ltb}
 use Rattle.std.specs.List.{insert}
 use Rattle.std.specs.List.Sorted.{IsSearchInRange, IsBinarySearchResult, IsNonDecreasingBy}
 use Rattle.std.specs.Ordering.{nat_cmp, ordering_index}
 use Rattle.std.proofs.lemmas.Cmp.{ranked}
 use Rattle.std.proofs.lemmas.List.{get_or_default}
 use Rattle.std.proofs.lemmas.List.Sorted.{IsNonDecreasingBy-from_default}
-use Rattle.std.proofs.lemmas.Bool.{cond-true, cond-false, eq-eqb, ne_eqb, lt-ltb, le-ltb}
+use Rattle.std.proofs.lemmas.Bool.{cond-true, cond-false, eq-eqb, eqb-true, ne_eqb, lt-ltb, le-ltb}
 use Rattle.std.proofs.lemmas.Bool.Decides.{nat_tests}
-use Rattle.rams_model.specs.declared.reception.Shown.{Shown}
+use Rattle.receiver_core.specs.declared.shown.Shown.{Shown}
 use Rattle.rams_model.specs.Receiver.{Piece, piece, has_piece, with_piece, piece_at, without_piece, last_number}
-use Rattle.receiver_core.specs.{pieces_of, Rise, number_at, IsPlace, IsGap}
+use Rattle.receiver_core.specs.{pieces_of, Rise, number_at, IsPlace, IsGap, AreBelow}
 
 -- none, which clauses write as the default
 abbrev nothing : Shown
@@ -115,11 +114,6 @@ with_gap n packet (s ∷ l) (suc i) gap =
     cond-false (ltb n s.n) (piece n packet ∷ piece s.n s.packet ∷ pieces_of l) (piece s.n s.packet ∷ with_piece (piece n packet) (pieces_of l)) (le-ltb n s.n (omega (arith, gap.below 0 (omega arith))))
     ∙ ap (λ (qs : List Piece). piece s.n s.packet ∷ qs) (with_gap n packet l i (gap_later n s l i gap))
 
--- whether it waits is what a look-up tells
-pub is_free : (n : ℕ) (l : List Shown) (r : Result ℕ ℕ) → MatchResult r (IsPlace n l) (IsGap n l) → not (has_piece n (pieces_of l)) ≡ is_err r
-is_free n l (Ok i) place = ap not (has_place n l i place)
-is_free n l (Err i) gap = ap not (has_gap n l i gap)
-
 -- it may come to wait there
 pub rise_with : (m n : ℕ) (packet : List ℕ) (l : List Shown) (i : ℕ) → Rise m l → m ≤ n → IsGap n l i → Rise m (insert l i (record { n = n; packet = packet }))
 rise_with m n packet [] zero rise le gap = (le, tt)
@@ -163,3 +157,49 @@ pub no_last : (n : ℕ) (l : List Shown) → (0 < length l → ⊥) → last_num
 unfolding last_number
 no_last n [] none = refl
 no_last n (s ∷ l) none = absurd (none (omega arith))
+
+-- ---- those with numbers below one
+pub none_passed : (n : ℕ) (l : List Shown) → Rise n l → AreBelow n l 0
+none_passed n l rise = record { within = omega arith; below = λ k lt. absurd (omega (arith, lt)); others = λ k le lt. later n l k rise lt }
+
+-- the first of the others has the number, or none has it
+pub passes_one : (n : ℕ) (l : List Shown) (i : ℕ) → Rise 0 l → AreBelow n l i → i < length l → number_at l i ≡ n → AreBelow (n + 1) l (i + 1)
+passes_one n l i rise b lt there = record {
+  within = omega (arith, lt);
+  below = λ k less. grind (arith, there, less, b.below k, λ (same : k ≡ i). ap (number_at l) same);
+  others = λ k le within. omega (arith, there, rise_at 0 l i k rise (omega (arith, le)) within);
+}
+
+pub other_gap : (n : ℕ) (l : List Shown) (i : ℕ) → Rise 0 l → AreBelow n l i → (i < length l → number_at l i ≢ n) → IsGap n l i
+other_gap n l i rise b other = record {
+  within = b.within;
+  below = b.below;
+  above = λ k le lt.
+      let here : i < length l = omega (arith, le, lt) in
+      let first : n < number_at l i = omega (arith, b.others i (omega arith) here, other here) in
+      let up : number_at l i ≤ number_at l k = grind (arith, le, lt, rise_at 0 l i k rise, λ (same : i ≡ k). ap (number_at l) same) in
+      omega (arith, first, up);
+}
+
+pub passes_none : (n : ℕ) (l : List Shown) (i : ℕ) → AreBelow n l i → IsGap n l i → AreBelow (n + 1) l i
+passes_none n l i b gap = record {
+  within = b.within;
+  below = λ k lt. omega (arith, b.below k lt);
+  others = λ k le lt. omega (arith, gap.above k le lt);
+}
+
+here_or_nowhere_by : (n : ℕ) (s : Shown) (l : List Shown) (i : ℕ) → Rise 0 l → AreBelow n l i → i < length l → s.n ≡ number_at l i
+    → (same : Bool) → eqb s.n n ≡ same → (same ≡ has_piece n (pieces_of l)) × AreBelow (n + 1) l (cond same (i + 1) i)
+here_or_nowhere_by n s l i rise b lt here true e =
+    let there : number_at l i ≡ n = sym here ∙ eqb-true s.n n e in
+    (sym (has_place n l i (record { within = lt; there = there })), passes_one n l i rise b lt there)
+here_or_nowhere_by n s l i rise b lt here false e =
+    let gap : IsGap n l i = other_gap n l i rise b (λ within same. let no : false ≡ true = sym e ∙ eq-eqb s.n n (here ∙ same) in cc) in
+    (sym (has_gap n l i gap), passes_none n l i b gap)
+
+-- the packet behind those that are below a number tells whether that number waits
+pub here_or_nowhere : (n : ℕ) (s : Shown) (l : List Shown) (i : ℕ) → Rise 0 l → AreBelow n l i → i < length l → s.n ≡ number_at l i → eqb s.n n ≡ has_piece n (pieces_of l)
+here_or_nowhere n s l i rise b lt here = (here_or_nowhere_by n s l i rise b lt here (eqb s.n n) refl).0
+
+pub passes_here : (n : ℕ) (s : Shown) (l : List Shown) (i : ℕ) → Rise 0 l → AreBelow n l i → i < length l → s.n ≡ number_at l i → AreBelow (n + 1) l (cond (eqb s.n n) (i + 1) i)
+passes_here n s l i rise b lt here = (here_or_nowhere_by n s l i rise b lt here (eqb s.n n) refl).1

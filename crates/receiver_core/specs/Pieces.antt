@@ -1,6 +1,6 @@
 -- Pieces as code has them.
 use Rattle.std.specs.Prelude.{◌≡◌, ℕ, ◌+◌, ◌<◌, ◌≤◌, List, [], ◌∷◌, length, map, slice_index_or}
-use Rattle.rams_model.specs.declared.reception.Shown.{Shown}
+use Rattle.receiver_core.specs.declared.shown.Shown.{Shown}
 use Rattle.rams_model.specs.Receiver.{Piece, piece}
 
 -- packets that wait
@@ -29,3 +29,9 @@ pub record IsGap (n : ℕ) (waits : List Shown) (place : ℕ) : Type 0 where
   pub within : place ≤ length waits
   pub below : (k : ℕ) → k < place → number_at waits k < n
   pub above : (k : ℕ) → place ≤ k → k < length waits → n < number_at waits k
+
+-- of those that wait, so many have numbers below this one
+pub record AreBelow (n : ℕ) (waits : List Shown) (count : ℕ) : Type 0 where
+  pub within : count ≤ length waits
+  pub below : (k : ℕ) → k < count → number_at waits k < n
+  pub others : (k : ℕ) → count ≤ k → k < length waits → n ≤ number_at waits k

@@ -10,8 +10,11 @@ mod numbers;
 mod playing;
 mod reading;
 mod receiver;
+mod shown;
 mod window;
 
+pub use bytes::Bytes;
 pub use ram_io::NoMemory;
-pub use rams_model::{InfoCame, MediaCame, Octets, Shown, Tuned};
+pub use rams_model::{InfoCame, MediaCame, Octets, Tuned};
 pub use receiver::Receiver;
+pub use shown::Shown;

@@ -6,9 +6,11 @@ ghost use Rattle.receiver_core.specs.{IsSafe, joining_by, as_shown};
 
 use crate::datagrams::join_datagram;
 use crate::numbers::first_number;
+use crate::shown::Shown;
 use crate::window::Window;
+use bytes::Bytes;
 use ram_io::NoMemory;
-use rams_model::{MediaCame, Octets, Shown, Tuned};
+use rams_model::{MediaCame, Tuned};
 use rtp_record::Rtp;
 use std::alloc::Global;
 
@@ -20,7 +22,7 @@ pub(crate) fn arrive_again(
     play: &mut Option<Window>,
     sequence: u16,
     low: u16,
-    packet: Octets,
+    packet: Bytes,
 ) -> Result<MediaCame, NoMemory>
     requires { IfSome play.old IsSafe }
     ensures came { IfOk result (λ c. c ≡ came_into (or_begun play.old (first_number named sequence low)) low) }
@@ -58,8 +60,8 @@ pub(crate) fn arrive_by_multicast(
     let Some(window) = play else {
         return Ok((MediaCame::BeforeFirst, None));
     };
-    let text = Octets::of(packet.strip(alloc)?);
-    arrive_and_join(alloc, tuned, window, packet.sequence(), text)
+    let stripped = Bytes::from_vec(packet.strip(alloc)?)?;
+    arrive_and_join(alloc, tuned, window, packet.sequence(), stripped)
 }
 
 // A packet of the multicast with these low 16 bits arrives, and the receiver may join with it.
@@ -68,7 +70,7 @@ fn arrive_and_join(
     tuned: &Tuned,
     window: &mut Window,
     low: u16,
-    packet: Octets,
+    packet: Bytes,
 ) -> Result<(MediaCame, Option<Vec<u8>>), NoMemory>
     requires { IsSafe window.old }
     ensures came { IfOk result (λ r. r.0 ≡ came_into (Some window.old) low) }

@@ -1,18 +1,20 @@
 //! What datagrams are to a receiver.
-ghost use Rattle.std.specs.Prelude.{◌≡◌, ◌<◌, ◌≤◌, length, option_map, IfOk};
-ghost use Rattle.rams_model.specs.Receiver.{brought_again, brought_by_multicast, told_by, first_info, if_info, is_of, tells_of_burst, info_about};
-ghost use Rattle.rams_model.specs.Formats.{original_number, spelling, original, feedback_of};
+ghost use Rattle.std.specs.Prelude.{◌≡◌, ℕ, ◌<◌, ◌≤◌, length, option_map, IfOk, IfSome};
+ghost use Rattle.rams_model.specs.Receiver.{again, brought_again, brought_by_multicast, told_by, first_info, if_info, is_of, tells_of_burst, info_about};
+ghost use Rattle.rams_model.specs.Formats.{original_number, spelling, original, packet_at, feedback_of};
+ghost use Rattle.rams_model.specs.Service.{sent_again};
 ghost use Rattle.rtcp_frame.specs.{packets_left, shown_packet};
 ghost use Rattle.rtcp_feedback.specs.{shown_feedback};
 ghost use Rattle.receiver_core.specs.{as_again, as_multicast, as_told};
 
+use bytes::Bytes;
 use ram_io::NoMemory;
-use rams_model::{FMT_RAMS, Info, InfoCame, MediaCame, Octets, SFMT_RAMS_I, Tuned};
+use rams_model::{FMT_RAMS, Info, InfoCame, MediaCame, SFMT_RAMS_I, Tuned};
 use rams_tlv::read_info;
 use rtcp_feedback::{Feedback, feedback};
 use rtcp_frame::{Packet, Packets, packets};
 use rtp_record::Rtp;
-use rtx_payload::restore;
+use rtx_payload::{append_rtx, restore};
 use std::alloc::Global;
 
 // The response code of a burst that begins.
@@ -45,11 +47,7 @@ pub(crate) fn read_again<'a>(tuned: &Tuned, bytes: &'a [u8]) -> Result<Rtp<'a>, 
 }
 
 /// The number of the packet that a retransmission brings, and the packet.
-pub(crate) fn original_of(
-    alloc: Global,
-    packet: &Rtp<'_>,
-    pt: u8,
-) -> Result<(u16, Octets), NoMemory>
+pub(crate) fn original_of(alloc: Global, packet: &Rtp<'_>, pt: u8) -> Result<(u16, Bytes), NoMemory>
     requires { pt < 128 }
     ensures number { IfOk result (λ r. r.0 ≡ original_number packet.now) }
     ensures packet { IfOk result (λ r. r.1 ≡ spelling (original packet.now pt)) }
@@ -57,7 +55,45 @@ pub(crate) fn original_of(
     let Ok((low, original)) = restore(alloc, packet, pt) else {
         return Err(NoMemory);
     };
-    Ok((low, Octets::of(original)))
+    Ok((low, Bytes::from_vec(original)?))
+}
+
+/// The sequence number of a packet whose retransmission under this payload type, whatever its sequence
+/// number, brings the packet again byte for byte. It has no padding.
+pub(crate) fn number_brought(tuned: &Tuned, bytes: &[u8], payload_type: u8) -> Option<u16>
+    requires { payload_type < 128 }
+    ensures { IfSome result (λ low. (sequence : ℕ) → sequence < 65536 → again sequence low bytes.now ≡ brought_again tuned.now (sent_again payload_type sequence (packet_at bytes.now))) }
+{
+    let Ok(packet) = Rtp::read(bytes) else {
+        return None;
+    };
+    if payload_type != tuned.rtx {
+        return None;
+    }
+    if !is_of(tuned, tuned.pt, &packet) {
+        return None;
+    }
+    if packet.stripped_len() != bytes.len() {
+        return None;
+    }
+    Some(packet.sequence())
+}
+
+/// The bytes of a packet's retransmission; none where it doesn't read as a packet.
+pub(crate) fn spell_again(
+    alloc: Global,
+    packet: &[u8],
+    payload_type: u8,
+    sequence: u16,
+) -> Result<Vec<u8>, NoMemory>
+    requires { payload_type < 128 }
+    ensures { IfOk result (λ text. text.items ≡ sent_again payload_type sequence (packet_at packet.now)) }
+{
+    let mut text = Vec::new(alloc);
+    if let Ok(original) = Rtp::read(packet) {
+        append_rtx(&mut text, &original, payload_type, sequence)?;
+    }
+    Ok(text)
 }
 
 /// The packet of the multicast that the bytes are, or what becomes of them.

@@ -4,11 +4,14 @@ use crate::datagrams::{bye_datagram, request_datagram};
 use crate::numbers::distance_from;
 use crate::playing::{arrive_again, arrive_by_multicast, present};
 use crate::reading::{
-    BURST_BEGINS, original_of, read_again, read_multicast, read_told, tells_of_burst,
+    BURST_BEGINS, number_brought, original_of, read_again, read_multicast, read_told, spell_again,
+    tells_of_burst,
 };
+use crate::shown::Shown;
 use crate::window::Window;
+use bytes::Bytes;
 use ram_io::NoMemory;
-use rams_model::{Info, InfoCame, MediaCame, Octets, Shown, Tuned};
+use rams_model::{Info, InfoCame, MediaCame, Octets, Tuned};
 use std::alloc::Global;
 use std::marker::Model;
 
@@ -47,7 +50,9 @@ impl Model for Receiver {
 
 impl Receiver {
     ghost use Rattle.std.specs.Prelude.{◌≡◌, ◌+◌, ◌<◌, ◌≤◌, ◌^◌, option_map, IfOk, IfErr, IfSome, OnOk, OnErr};
-    ghost use Rattle.rams_model.specs.Receiver.{told_by, brought_again, brought_by_multicast, after_told, after_media, told_answer, media_answer, join_answer, shown_now, after_shown, asked, request_datagram, join_datagram, bye_datagram};
+    ghost use Rattle.rams_model.specs.Formats.{packet_at};
+    ghost use Rattle.rams_model.specs.Service.{sent_again};
+    ghost use Rattle.rams_model.specs.Receiver.{told_by, again, brought_again, brought_by_multicast, after_told, after_media, told_answer, media_answer, join_answer, shown_now, after_shown, asked, request_datagram, join_datagram, bye_datagram};
     ghost use Rattle.receiver_core.specs.{just_tuned, with_got, reach, as_shown, distance_of};
 
     /// A receiver that has got nothing, and the datagram by which it asks for a burst: a RAMS-R (RFC
@@ -102,14 +107,50 @@ impl Receiver {
             Err(came) => return Ok(came),
         };
         let (low, original) = original_of(alloc, &packet, self.tuned.pt)?;
-        let came = arrive_again(
-            alloc,
-            self.named,
-            &mut self.play,
-            packet.sequence(),
-            low,
-            original,
-        )?;
+        self.come(alloc, packet.sequence(), low, original)
+    }
+
+    /// What becomes of the retransmission of a packet under this payload type, below 128, and sequence
+    /// number: what `rtx` says of its bytes (RFC 4588, 4). Where it brings the packet again byte for byte
+    /// it isn't spelled, and what waits shares the packet. After want of memory all is as before.
+    pub fn again(
+        &mut self,
+        alloc: Global,
+        packet: &Bytes,
+        payload_type: u8,
+        sequence: u16,
+    ) -> Result<MediaCame, NoMemory>
+        requires kind { payload_type < 128 }
+        requires few { reach self.old < 2 ^ 40 }
+        ensures came { IfOk result (λ c. c ≡ media_answer (brought_again self.old.tuned (sent_again payload_type sequence (packet_at packet.now))) self.old.got) }
+        ensures after { OnOk result (self.new ≡ with_got (after_media (brought_again self.old.tuned (sent_again payload_type sequence (packet_at packet.now))) self.old.got) self.old) }
+        ensures few { reach self.new ≤ reach self.old + 1 }
+        ensures same { OnErr result (self.new ≡ self.old) }
+    {
+        let Some(low) = number_brought(&self.tuned, packet, payload_type) else {
+            let bytes = spell_again(alloc, packet, payload_type, sequence)?;
+            return self.rtx(alloc, &bytes);
+        };
+        let shared = packet.clone()?;
+        self.come(alloc, sequence, low, shared)
+    }
+
+    // A retransmission with this sequence number comes, of the packet with these low 16 bits. After want
+    // of memory all is as before.
+    fn come(
+        &mut self,
+        alloc: Global,
+        sequence: u16,
+        low: u16,
+        packet: Bytes,
+    ) -> Result<MediaCame, NoMemory>
+        requires few { reach self.old < 2 ^ 40 }
+        ensures came { IfOk result (λ c. c ≡ media_answer (again sequence low packet) self.old.got) }
+        ensures after { OnOk result (self.new ≡ with_got (after_media (again sequence low packet) self.old.got) self.old) }
+        ensures few { reach self.new ≤ reach self.old + 1 }
+        ensures same { OnErr result (self.new ≡ self.old) }
+    {
+        let came = arrive_again(alloc, self.named, &mut self.play, sequence, low, packet)?;
         Ok(came)
     }
 

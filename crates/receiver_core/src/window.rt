@@ -1,11 +1,13 @@
 //! What a receiver plays.
-ghost use Rattle.std.specs.Prelude.{◌≡◌, ◌%◌, ◌^◌, ◌<◌, ◌≤◌, Some, map, take, option_map, vec_len, IfOk, OnOk, OnErr, MatchResult};
-ghost use Rattle.rams_model.specs.Receiver.{Playing, playing_from, nearest, came, with_arrival, joining, join_kept, presented, after_presenting, last_number, missing, most_named};
-ghost use Rattle.receiver_core.specs.{as_shown, Rise, IsPlace, IsGap};
+ghost use Rattle.std.specs.Prelude.{◌≡◌, ◌+◌, ◌%◌, ◌^◌, ◌<◌, ◌≤◌, if◌then◌else◌, Some, map, take, option_map, vec_len, IfOk, OnOk, OnErr, MatchResult};
+ghost use Rattle.rams_model.specs.Receiver.{Playing, playing_from, nearest, came, has_piece, with_arrival, joining, join_kept, presented, after_presenting, last_number, missing, most_named};
+ghost use Rattle.receiver_core.specs.{as_shown, pieces_of, Rise, AreBelow, IsPlace, IsGap};
 
 use crate::numbers::{ROOM, SEQUENCE_NUMBERS, nearest};
+use crate::shown::Shown;
+use bytes::Bytes;
 use ram_io::NoMemory;
-use rams_model::{MediaCame, Octets, Shown};
+use rams_model::MediaCame;
 use std::alloc::Global;
 use std::collections::VecDeque;
 use std::marker::Model;
@@ -81,7 +83,7 @@ impl Window {
 
     /// A packet with this number arrives: it is kept where it is new and has room. After want of
     /// memory all is as before.
-    pub(crate) fn arrive(&mut self, n: u64, packet: Octets) -> Result<MediaCame, NoMemory>
+    pub(crate) fn arrive(&mut self, n: u64, packet: Bytes) -> Result<MediaCame, NoMemory>
         requires { self.old.next < 2 ^ 62 }
         ensures came { IfOk result (λ c. c ≡ came self.old n) }
         ensures after { OnOk result (self.new ≡ with_arrival n packet self.old) }
@@ -142,11 +144,14 @@ impl Window {
         ensures few { IfOk result (λ v. vec_len v ≤ 256) }
     {
         let mut numbers = Vec::new(alloc);
+        let mut passed = 0;
         for n in self.next..self.last() {
             if numbers.len() == MOST_NAMED {
                 break;
             }
-            if place_in(&self.waits, n).is_err() {
+            if waits_at(&self.waits, passed, n) {
+                passed += 1;
+            } else {
                 numbers.push((n % SEQUENCE_NUMBERS) as u16)?;
             }
         }
@@ -161,6 +166,19 @@ impl Window {
             Some(last) => last.n,
             None => self.next,
         }
+    }
+}
+
+// Whether the packet with a number waits, where so many wait with numbers below it.
+fn waits_at(waits: &VecDeque<Shown>, passed: usize, n: u64) -> bool
+    requires rise { Rise 0 waits.now.items }
+    requires below { AreBelow n waits.now.items passed }
+    ensures waits { result ≡ has_piece n (pieces_of waits.now.items) }
+    ensures below { AreBelow (n + 1) waits.now.items (if result then passed + 1 else passed) }
+{
+    match waits.get(passed) {
+        Some(shown) => shown.n == n,
+        None => false,
     }
 }
 

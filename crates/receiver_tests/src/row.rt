@@ -223,7 +223,7 @@ fn expect_shown(
         let expected = bytes_of(alloc, packet)?;
         same(
             rt,
-            &(piece.n, piece.packet.bytes()),
+            &(piece.n, piece.packet.as_slice()),
             &(*n, expected.as_slice()),
             n,
         );

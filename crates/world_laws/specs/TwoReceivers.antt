@@ -1,5 +1,5 @@
 -- Two receivers on one channel, each of which loses packets of its burst and of the multicast. The checker computes it.
-use Rattle.std.specs.Prelude.{◌≡◌, ℕ, Bool, true, false, ◌==◌, List, [], ◌∷◌, ◌++◌, if◌then◌else◌, map, codes}
+use Rattle.std.specs.Prelude.{◌≡◌, ℕ, true, false, ◌==◌, List, [], ◌∷◌, ◌++◌, if◌then◌else◌, map, codes}
 use Rattle.rams_model.specs.declared.note.Note.{Note}
 use Rattle.rams_model.specs.declared.note.Cause.TheVariants.{Stopped}
 use Rattle.rams_model.specs.declared.note.Note.TheVariants as noted

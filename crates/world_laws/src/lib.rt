@@ -11,7 +11,7 @@ pub mod rows;
 mod sent_bytes;
 mod world;
 
-pub use rams_model::{InfoCame, MediaCame, Note, Octets};
-pub use sent_bytes::SentBytes;
+pub use rams_model::{InfoCame, MediaCame, Note};
+pub use sent_bytes::{Repeat, SentBytes};
 pub use server_hub::HubEvent;
 pub use world::{WorldEvent, WorldItem, WorldNote};

@@ -1,12 +1,12 @@
 //! The bytes of a datagram that a server sends.
-ghost use Rattle.std.specs.Prelude.{◌≡◌, ◌<◌, ◌++◌, IfOk, OnErr, OnOk};
+ghost use Rattle.std.specs.Prelude.{◌≡◌, ◌<◌, ◌++◌, IfOk, IfSome, OnErr, OnOk};
 ghost use Rattle.rams_model.specs.Formats.{packet_at};
 ghost use Rattle.rams_model.specs.Service.{sent_again};
 
 use bytes::Bytes;
 use ram_io::NoMemory;
 use rtp_record::Rtp;
-use rtx_payload::append_rtx;
+use rtx_payload::{append_plain, append_rtx, is_plain};
 use std::marker::Model;
 
 /// What a retransmission has in place of its packet's own (RFC 4588, 4).
@@ -70,6 +70,19 @@ impl SentBytes {
         })
     }
 
+    /// The packet that they repeat, where they were made of one.
+    pub fn repeat(&self) -> Option<Repeat<'_>>
+        ensures bytes { IfSome result (λ r. self.now ≡ sent_again r.payload_type r.sequence (packet_at r.packet.now)) }
+        ensures kind { IfSome result (λ r. r.payload_type < 128) }
+    {
+        let again = self.again?;
+        Some(Repeat {
+            packet: &self.bytes,
+            payload_type: again.payload_type,
+            sequence: again.sequence,
+        })
+    }
+
     /// Appends them to a text. An error changes nothing.
     pub fn append_to(&self, text: &mut Vec<u8>) -> Result<(), NoMemory>
         ensures text { OnOk result (text.new.items ≡ text.old.items ++ self.now) }
@@ -80,6 +93,15 @@ impl SentBytes {
             None => Ok(text.extend_from_slice(&self.bytes)?),
         }
     }
+}
+
+/// A retransmission by its packet (RFC 4588, 4).
+#[derive(Clone, Copy, Debug)]
+pub struct Repeat<'a> {
+    pub packet: &'a Bytes,
+    /// Below 128.
+    pub payload_type: u8,
+    pub sequence: u16,
 }
 
 // The retransmission of a packet, where it reads as one.
@@ -93,6 +115,9 @@ fn append_again(
     ensures text { OnOk result (text.new.items ≡ text.old.items ++ sent_again payload_type sequence (packet_at packet.now)) }
     ensures same { OnErr result (text.new.items ≡ text.old.items) }
 {
+    if is_plain(packet) {
+        return append_plain(text, packet, payload_type, sequence);
+    }
     match Rtp::read(packet) {
         Ok(original) => append_rtx(text, &original, payload_type, sequence),
         Err(_) => Ok(()),

@@ -1,7 +1,7 @@
 //! What happens in a world, and what is said of it.
 use crate::sent_bytes::SentBytes;
 use bytes::Bytes;
-use rams_model::{InfoCame, MediaCame, Note, Octets};
+use rams_model::{InfoCame, MediaCame, Note};
 use server_hub::HubEvent;
 
 /// One event of a world.
@@ -37,7 +37,7 @@ pub enum WorldItem {
     /// What became of a retransmission or a multicast packet that was delivered.
     Media { client: u64, came: MediaCame },
     /// A receiver presents this packet, under the receiver's number of it.
-    Show { client: u64, n: u64, packet: Octets },
+    Show { client: u64, n: u64, packet: Bytes },
     /// This client was tuned to the channel before.
     TunedBefore(u64),
     /// This client has no receiver of the channel.

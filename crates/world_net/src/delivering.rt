@@ -101,16 +101,9 @@ impl Parts {
         if self.seats[place].is_too_far(n) {
             return say(notes, id, WorldItem::TooFar(client));
         }
-        self.parcels[at].spell(&mut self.room)?;
-        hear_again(
-            alloc,
-            &mut self.seats[place],
-            id,
-            client,
-            n,
-            &self.room,
-            notes,
-        )
+        let seat = &mut self.seats[place];
+        let bytes = self.parcels[at].bytes();
+        hear_again(alloc, seat, id, client, n, bytes, &mut self.room, notes)
     }
 
     // One above the number of the newest packet that a channel holds, which has room for one; `None`

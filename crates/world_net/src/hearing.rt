@@ -1,10 +1,10 @@
 //! What is delivered to a receiver.
-ghost use Rattle.std.specs.Prelude.{◌≡◌, ◌∷◌, [], ◌<◌, ◌≤◌, ◌+◌, ◌^◌, ℕ, OnOk, IsSome, IfSome, option_map};
+ghost use Rattle.std.specs.Prelude.{◌≡◌, ◌∷◌, [], ◌<◌, ◌≤◌, ◌+◌, ◌^◌, ℕ, IfOk, OnOk, IsSome, IfSome, option_map};
 ghost use Rattle.std.specs.Option.{option_to_list};
-ghost use Rattle.rams_model.specs.Receiver.{hears, delivers, told_by, told_answer, brought_again, brought_by_multicast, media_answer, join_answer, join_datagram, reception};
+ghost use Rattle.rams_model.specs.Receiver.{hears, delivers, told_by, told_answer, brought_again, brought_by_multicast, media_answer, after_media, join_answer, join_datagram, reception};
 ghost use Rattle.world_laws.specs.World.{Listener};
 ghost use Rattle.world_laws.specs.declared.world.WorldItem.TheVariants as item;
-ghost use Rattle.receiver_core.specs.{reach, distance_of};
+ghost use Rattle.receiver_core.specs.{reach, distance_of, with_got};
 ghost use Rattle.world_net.specs.{Follows, IsAt, Took, HasFew, first_with};
 
 use crate::parcel::Parcel;
@@ -13,9 +13,9 @@ use crate::presenting::present_all;
 use crate::seat::{Seat, first_with};
 use crate::telling::say;
 use ram_io::NoMemory;
-use receiver_core::Receiver;
+use receiver_core::{MediaCame, Receiver};
 use std::alloc::Global;
-use world_laws::{WorldItem, WorldNote};
+use world_laws::{SentBytes, WorldItem, WorldNote};
 
 /// A RAMS-I (RFC 6285, 7.3) is delivered to the client's receiver.
 pub(crate) fn hear_info(
@@ -39,14 +39,16 @@ pub(crate) fn hear_info(
     present_all(receiver, id, client, notes)
 }
 
-/// A retransmission (RFC 4588) of the source's packet `x` is delivered to it.
+/// A retransmission (RFC 4588) of the source's packet `x` is delivered to it. Where it is spelled, it is
+/// in `room`.
 pub(crate) fn hear_again(
     alloc: Global,
     seat: &mut Seat,
     id: u16,
     client: u64,
     x: u64,
-    bytes: &[u8],
+    bytes: &SentBytes,
+    room: &mut Vec<u8>,
     notes: &mut Vec<WorldNote>,
 ) -> Result<(), NoMemory>
     requires there { IsSome seat.old.receiver }
@@ -59,11 +61,39 @@ pub(crate) fn hear_again(
     let Some(receiver) = &mut seat.receiver else {
         unreachable!()
     };
-    let first = first_after(seat.first, receiver, x, bytes);
-    let came = receiver.rtx(alloc, bytes)?;
+    let (came, first) = come_again(alloc, receiver, seat.first, x, bytes, room)?;
     seat.first = first;
     say(notes, id, WorldItem::Media { client, came })?;
     present_all(receiver, id, client, notes)
+}
+
+// What becomes of a retransmission of the source's packet `x`, and the source's number of the first packet
+// then. Once that is fixed, the retransmission of a packet needn't be spelled.
+fn come_again(
+    alloc: Global,
+    receiver: &mut Receiver,
+    first: Option<u64>,
+    x: u64,
+    bytes: &SentBytes,
+    room: &mut Vec<u8>,
+) -> Result<(MediaCame, Option<u64>), NoMemory>
+    requires few { reach receiver.old < 2 ^ 40 }
+    ensures came { IfOk result (λ r. r.0 ≡ media_answer (brought_again receiver.old.tuned bytes.now) receiver.old.got) }
+    ensures first { IfOk result (λ r. r.1 ≡ first_with first x (distance_of (brought_again receiver.old.tuned bytes.now) receiver.old.got)) }
+    ensures after { OnOk result (receiver.new ≡ with_got (after_media (brought_again receiver.old.tuned bytes.now) receiver.old.got) receiver.old) }
+    ensures few { reach receiver.new ≤ reach receiver.old + 1 }
+{
+    if first.is_some()
+        && let Some(repeat) = bytes.repeat()
+    {
+        let came = receiver.again(alloc, repeat.packet, repeat.payload_type, repeat.sequence)?;
+        return Ok((came, first));
+    }
+    room.clear();
+    bytes.append_to(room)?;
+    let first = first_after(first, receiver, x, room);
+    let came = receiver.rtx(alloc, room)?;
+    Ok((came, first))
 }
 
 // The source's number of the first packet once a retransmission of its packet `x` comes, which may fix

@@ -87,6 +87,12 @@ impl Parcel {
         self.way
     }
 
+    pub(crate) fn bytes(&self) -> &SentBytes
+        ensures { result.now ≡ self.now.bytes }
+    {
+        &self.bytes
+    }
+
     /// Its bytes stand in `room` then; what stood there goes.
     pub(crate) fn spell(&self, room: &mut Vec<u8>) -> Result<(), NoMemory>
         ensures { OnOk result (room.new.items ≡ self.now.bytes) }

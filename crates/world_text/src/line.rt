@@ -31,7 +31,7 @@ pub fn append_world_note(
         WorldItem::Info { client, came } => append_info(text, event, id, *client, *came),
         WorldItem::Media { client, came } => append_media(text, event, id, *client, *came),
         WorldItem::Show { client, n, packet } => {
-            append_show(text, event, id, *client, *n, packet.bytes())
+            append_show(text, event, id, *client, *n, packet)
         }
         WorldItem::TunedBefore(client) => append_named(text, event, id, b"tuned-before", *client),
         WorldItem::NoReceiver(client) => append_named(text, event, id, b"no-receiver", *client),

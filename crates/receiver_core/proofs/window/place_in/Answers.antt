@@ -1,5 +1,5 @@
 -- A binary search, where the last doesn't tell the place.
-use Rattle.std.proofs.Common.{◌≡◌, ◌-◌, ◌<◌, true, false, length, refl, sym, ◌∙◌, subst, arith, rules, slice_index_or}
+use Rattle.std.proofs.Common.{◌≡◌, ◌-◌, ◌<◌, true, false, length, sym, ◌∙◌, subst, arith, rules, slice_index_or}
 use Rattle.std.specs.List.Sorted.{IsSearchInRange}
 use Rattle.std.proofs.lemmas.List.Sorted.{answers_always}
 use Rattle.receiver_core.specs.{IsGap, number_at}

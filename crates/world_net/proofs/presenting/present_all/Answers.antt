@@ -1,5 +1,5 @@
 use Rattle.std.proofs.Common.{ap, ◌∙◌}
-use Rattle.rams_model.specs.declared.reception.Shown.{Shown}
+use Rattle.receiver_core.specs.declared.shown.Shown.{Shown}
 use Rattle.world_laws.specs.{note}
 use Rattle.world_laws.specs.declared.world.WorldItem.TheVariants as item
 use Rattle.world_net.specs.{show_at}

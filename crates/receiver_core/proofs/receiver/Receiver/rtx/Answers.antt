@@ -1,10 +1,8 @@
 -- What was got, and the bounds of its numbers.
-use Rattle.std.proofs.Common.{◌≡◌, ℕ, ◌+◌, ◌<◌, ◌≤◌, ◌^◌, List, Option, IfSome, option_map, sym, ap, ◌∙◌, subst, arith}
-use Rattle.rams_model.specs.Formats.{original_number}
-use Rattle.rams_model.specs.Receiver.{Playing, again, after_media, arrived, brought_again, first_number, or_begun}
-use Rattle.receiver_core.specs.{Seen, IsBounded, played, reach, with_got}
-use Rattle.receiver_core.proofs.Bounds.{again_bounded, reached, at_most, within}
-use Rattle.receiver_core.proofs.Calls.{after_unfit, after_again}
+use Rattle.std.proofs.Common.{◌≡◌, subst}
+use Rattle.rams_model.specs.Receiver.{after_media, brought_again}
+use Rattle.receiver_core.specs.{Seen, with_got}
+use Rattle.receiver_core.proofs.Calls.{after_unfit}
 use Rattle.receiver_core.proofs.receiver.Receiver.rtx.Goals as goal
 
 pub returns-in-Err-clause-after : goal.returns-in-Err-clause-after
@@ -13,36 +11,3 @@ returns-in-Err-clause-after c =
     let s : Seen = record { tuned = i.tuned; got = record { named = i.named; ended = i.ended; play = i.play } } in
     subst (λ (t : Seen). t ≡ with_got (after_media (brought_again t.tuned c.args.bytes.now) t.got) t) c.self.view_is
     (after_unfit s (brought_again s.tuned c.args.bytes.now) c.in-Err.came c.in-Err.ensures)
-
-pub invariant_of-self-2 : goal.invariant_of-self-2
-invariant_of-self-2 c =
-    let i = c.self.inside in
-    let few = subst (λ (s : Seen). played s.got.play < 2 ^ 40 → played i.play < 2 ^ 40) c.self.view_is (λ f. f) c.requires.few in
-    let bounded = again_bounded (played i.play) i.named c.sequence.result c.in_ok-low.low c.in_ok-low.original i.play (reached (2 ^ 40) i.play c.self.invariant.play) in
-    record {
-      media = c.self.invariant.media;
-      again = c.self.invariant.again;
-      play = subst (λ (play : Option Playing). IfSome play (IsBounded (2 ^ 40))) (sym c.in_ok-came.ensures.after)
-          (within (played i.play + 1) (2 ^ 40) (option_map (arrived c.in_ok-low.low c.in_ok-low.original) (or_begun i.play (first_number i.named c.sequence.result c.in_ok-low.low))) (omega (arith, few)) bounded);
-    }
-
-pub returns-clause-few : goal.returns-clause-few
-returns-clause-few c =
-    let i = c.self.inside in
-    let bounded = again_bounded (played i.play) i.named c.sequence.result c.in_ok-low.low c.in_ok-low.original i.play (reached (2 ^ 40) i.play c.self.invariant.play) in
-    let few = subst (λ (play : Option Playing). IfSome play (IsBounded (played i.play + 1))) (sym c.in_ok-came.ensures.after) bounded in
-    subst (λ (s : Seen). played c.arrive_again.new.play ≤ reach s + 1) c.self.view_is (at_most (played i.play + 1) c.arrive_again.new.play few)
-
-pub returns-clause-after : goal.returns-clause-after
-returns-clause-after c =
-    let i = c.self.inside in
-    let s : Seen = record { tuned = i.tuned; got = record { named = i.named; ended = i.ended; play = i.play } } in
-    let low = c.in_ok-low.low in
-    let packet = c.in_ok-low.original in
-    let read : again c.sequence.result low packet ≡ brought_again s.tuned c.args.bytes.now =
-    ap (λ (n : ℕ). again n low packet) c.sequence.ensures
-    ∙ ap (λ (n : ℕ). again c.in-Ok.packet.sequence n packet) c.in_ok-low.ensures.number
-    ∙ ap (λ (bytes : List ℕ). again c.in-Ok.packet.sequence (original_number c.in-Ok.packet) bytes) c.in_ok-low.ensures.packet
-    ∙ c.in-Ok.ensures in
-    subst (λ (t : Seen). with_got (record s.got { play = c.arrive_again.new.play }) s ≡ with_got (after_media (brought_again t.tuned c.args.bytes.now) t.got) t) c.self.view_is
-    (after_again s (brought_again s.tuned c.args.bytes.now) c.sequence.result low packet c.arrive_again.new.play read c.in_ok-came.ensures.after)

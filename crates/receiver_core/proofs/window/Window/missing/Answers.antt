@@ -1,15 +1,21 @@
 -- Each number is looked at once.
-use Rattle.std.proofs.Common.{◌≡◌, ℕ, ◌+◌, ◌-◌, ◌%◌, ◌≤◌, Bool, true, false, not, map, take, Result, Ok, Err, MatchResult, refl, sym, ap, ◌∙◌, subst, arith}
-use Rattle.std.specs.Prelude.{is_err}
+use Rattle.std.proofs.Common.{◌≡◌, ℕ, ◌+◌, ◌-◌, ◌%◌, ◌≤◌, Bool, not, cond, map, take, sym, ap, ◌∙◌, subst, arith}
 use Rattle.rams_model.specs.Receiver.{Playing, has_piece, last_number, missing, most_named}
-use Rattle.receiver_core.specs.{pieces_of, IsPlace, IsGap}
-use Rattle.receiver_core.proofs.Missing.{least_passing, at_most, looked_at_free, looked_at_other, enough}
-use Rattle.receiver_core.proofs.Waiting.{rise_from, is_free}
+use Rattle.receiver_core.specs.{pieces_of, AreBelow}
+use Rattle.receiver_core.proofs.Missing.{least_passing, none_yet, at_most, looked_at_free, looked_at_other, enough}
+use Rattle.receiver_core.proofs.Waiting.{rise_from, none_passed}
 use Rattle.receiver_core.proofs.window.Window.missing.Goals as goal
-use Rattle.receiver_core.proofs.window.Window.missing.Goals.{then-is_err+in_ok-push, else-is_err, else-loop-n-test, then-loop-n-test+then-len-eq-MOST_NAMED}
+use Rattle.receiver_core.proofs.window.Window.missing.Goals.{then-waits_at, else-waits_at+in_ok-push, else-loop-n-test, then-loop-n-test+then-len-eq-MOST_NAMED}
 
-pub place_in-requires : goal.place_in-requires
-place_in-requires c = rise_from 0 c.self.inside.next c.self.inside.waits.items (omega arith) c.self.invariant
+pub loop-n-init : goal.loop-n-init
+loop-n-init c = record {
+  found = c.new-numbers.ensures.items ∙ none_yet (λ (n : ℕ). not (has_piece n (pieces_of c.self.inside.waits.items))) most_named c.self.inside.next;
+  within = omega arith;
+  below = none_passed c.self.inside.next c.self.inside.waits.items c.self.invariant;
+}
+
+pub waits_at-requires-clause-rise : goal.waits_at-requires-clause-rise
+waits_at-requires-clause-rise c = rise_from 0 c.self.inside.next c.self.inside.waits.items (omega arith) c.self.invariant
 
 pub loop-n-preserved : goal.loop-n-preserved
 loop-n-preserved c =
@@ -20,18 +26,19 @@ loop-n-preserved c =
     let numbers = c.loop-n.numbers.items in
     let above : next ≤ n = c.loop-n.auto.n in
     let found = c.loop-n.invariant.found in
-    let here : free n ≡ is_err c.place_in.result = is_free n waits c.place_in.result c.place_in.ensures in
     let goes : n + 1 - next ≤ c.last-n-end.result - next = omega (arith, c.loop-n-test.true, above) in
-    elim c.if-is_err.branch [
-      | then-is_err+in_ok-push w ↦ record {
+    elim c.if-waits_at.branch [
+      | then-waits_at w ↦ record {
+        found = ap (λ v. v.items) w.numbers-is ∙ looked_at_other free most_named next numbers n above found (ap not (sym c.waits_at.ensures.waits ∙ w.if-waits_at.true));
+        within = goes;
+        below = subst (AreBelow (n + 1) waits) (sym w.passed-is) (subst (λ (b : Bool). AreBelow (n + 1) waits (cond b (c.loop-n.passed + 1) c.loop-n.passed)) w.if-waits_at.true c.waits_at.ensures.below);
+      }
+      | else-waits_at+in_ok-push w ↦ record {
         found = ap (λ v. v.items) w.numbers-is ∙ w.in_ok-push.ensures.items
-            ∙ looked_at_free free most_named next numbers n above found (here ∙ sym c.is_err.ensures.value ∙ w.if-is_err.true)
+            ∙ looked_at_free free most_named next numbers n above found (ap not (sym c.waits_at.ensures.waits ∙ w.if-waits_at.false))
             (λ e. c.if-len-eq-MOST_NAMED.false (omega (arith, e, c.len.ensures, c.loop-n.numbers.ok.0)));
         within = goes;
-      }
-      | else-is_err w ↦ record {
-        found = ap (λ v. v.items) w.numbers-is ∙ looked_at_other free most_named next numbers n above found (here ∙ sym c.is_err.ensures.value ∙ w.if-is_err.false);
-        within = goes;
+        below = subst (AreBelow (n + 1) waits) (sym w.passed-is) (subst (λ (b : Bool). AreBelow (n + 1) waits (cond b (c.loop-n.passed + 1) c.loop-n.passed)) w.if-waits_at.false c.waits_at.ensures.below);
       }
     ]
 

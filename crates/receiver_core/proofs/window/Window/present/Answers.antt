@@ -1,7 +1,7 @@
 -- The piece with the next number is the first that waits, if any is.
-use Rattle.std.proofs.Common.{◌≡◌, ◌≢◌, ◌+◌, ◌<◌, List, ◌∷◌, length, Some, None, Option, option_map, refl, sym, ap, ◌∙◌, subst, arith}
+use Rattle.std.proofs.Common.{◌≡◌, ◌+◌, ◌<◌, List, ◌∷◌, length, Some, None, Option, option_map, refl, sym, ap, ◌∙◌, subst, arith}
 use Rattle.rams_model.specs.Receiver.{Piece, piece, Playing, presented, past, after_presenting}
-use Rattle.rams_model.specs.declared.reception.Shown.{Shown}
+use Rattle.receiver_core.specs.declared.shown.Shown.{Shown}
 use Rattle.receiver_core.specs.{pieces_of, as_shown, number_at}
 use Rattle.receiver_core.proofs.Waiting.{read_at, front_other, front_at, without_front}
 use Rattle.receiver_core.proofs.window.Window.present.Goals as goal

@@ -36,15 +36,15 @@ returns-then-is_too_far-clause-goes c = λ w d k is.
     (is_listening v w _ _ _ s x (f d.bytes) (Went v old new) (too_far v w c.id-id.result c.client-client.result c.args.n (brought_again x.listener.tuned d.bytes) x.listener old new k x.at far said)) in
     record { notes = r.0; stands = r.1 })
 
-pub index_mut-requires : goal.index_mut-requires
-index_mut-requires c = let s = sits (kept_of c.args.self.now) _ _ c.in-Some.place c.in-Some.ensures in omega (arith, s.within, c.args.self.now.seats.ok.0)
+pub index_mut-seat-requires : goal.index_mut-seat-requires
+index_mut-seat-requires c = let s = sits (kept_of c.args.self.now) _ _ c.in-Some.place c.in-Some.ensures in omega (arith, s.within, c.args.self.now.seats.ok.0)
 
 pub hear_again-requires-clause-there : goal.hear_again-requires-clause-there
-hear_again-requires-clause-there c = let s = sits (kept_of c.args.self.now) _ _ c.in-Some.place c.in-Some.ensures in seat_there _ _ _ _ s _ c.index_mut.ensures.value
+hear_again-requires-clause-there c = let s = sits (kept_of c.args.self.now) _ _ c.in-Some.place c.in-Some.ensures in seat_there _ _ _ _ s _ c.index_mut-seat.ensures.value
 
 pub hear_again-requires-clause-few : goal.hear_again-requires-clause-few
 hear_again-requires-clause-few c =
-    let s = sits (kept_of c.args.self.now) _ _ c.in-Some.place c.in-Some.ensures in seat_few (kept_of c.args.self.now) _ _ _ s _ c.index_mut.ensures.value c.requires.few.seats
+    let s = sits (kept_of c.args.self.now) _ _ c.in-Some.place c.in-Some.ensures in seat_few (kept_of c.args.self.now) _ _ _ s _ c.index_mut-seat.ensures.value c.requires.few.seats
 
 pub returns-clause-goes : goal.returns-clause-goes
 returns-clause-goes c = λ w d k is.
@@ -53,15 +53,15 @@ returns-clause-goes c = λ w d k is.
     let new = c.hear_again.new.notes.items in
     let i : c.id-id.result ≡ d.id = c.id-id.ensures ∙ ap (λ (x : Datagram). x.id) (parcel_is _ _ d _ c.requires.there is c.index.ensures) in
     let n : c.client-client.result ≡ d.client = c.client-client.ensures ∙ ap (λ (x : Datagram). x.client) (parcel_is _ _ d _ c.requires.there is c.index-2.ensures) in
-    let b : c.deref.result.now ≡ d.bytes = c.deref.ensures.value ∙ c.in_ok-spell.ensures ∙ ap (λ (x : Datagram). x.bytes) (parcel_is _ _ d _ c.requires.there is c.index-4.ensures) in
+    let b : c.bytes-bytes.result.now ≡ d.bytes = c.bytes-bytes.ensures ∙ ap (λ (x : Datagram). x.bytes) (parcel_is _ _ d _ c.requires.there is c.index-4.ensures) in
     let s = sits v c.id-id.result c.client-client.result c.in-Some.place c.in-Some.ensures in
     let x = listens_there v w _ _ _ s k in
     let f : List ℕ → Listener → Step = λ y l. delivering_near c.args.n (brought_again l.tuned y) l w in
     let later : Kept = record { hub = v.hub; packets = v.packets; parcels = v.parcels; places = v.places; seats = set v.seats c.in-Some.place c.hear_again.new.seat } in
     let far = far_so v w _ _ _ s x c.args.n _ _ _ c.index-3.ensures c.is_too_far.ensures c.if-is_too_far.false in
-    ok_then c.hear_again.result (c.hear_again.ensures.takes x.listener (follows_so v w _ _ _ s x _ c.index_mut.ensures.value) x.at) (λ t.
+    ok_then c.hear_again.result (c.hear_again.ensures.takes x.listener (follows_so v w _ _ _ s x _ c.index_mut-seat.ensures.value) x.at) (λ t.
     let r = of_three (Went later old new) (λ (a m : ℕ) (y : List ℕ). if_listening a m (listener_of a m w) w (f y)) _ _ _ _ _ _ i n b
-    (is_listening v w _ _ _ s x (f c.deref.result.now) (Went later old new)
-    (near later w c.args.n (brought_again x.listener.tuned c.deref.result.now) x.listener old new far
-    (again_delivers later w c.args.n c.deref.result.now x.listener old new (turned v w _ _ _ s x _ _ [] _ old new [] [] v.parcels k t (sym (append-nil v.parcels)))))) in
+    (is_listening v w _ _ _ s x (f c.bytes-bytes.result.now) (Went later old new)
+    (near later w c.args.n (brought_again x.listener.tuned c.bytes-bytes.result.now) x.listener old new far
+    (again_delivers later w c.args.n c.bytes-bytes.result.now x.listener old new (turned v w _ _ _ s x _ _ [] _ old new [] [] v.parcels k t (sym (append-nil v.parcels)))))) in
     record { notes = r.0; stands = r.1 })
