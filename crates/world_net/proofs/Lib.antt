@@ -9,3 +9,4 @@ pub mod HighPackets
 pub mod Answered
 pub mod Steps
 pub mod Fresh
+pub mod Spanned

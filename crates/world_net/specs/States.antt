@@ -21,6 +21,7 @@ use Rattle.world_laws.specs.declared.world.WorldNote.{WorldNote}
 use Rattle.world_net.specs.declared.parts.Parts.{Parts}
 use Rattle.world_net.specs.declared.seat.Seat.{Seat}
 use Rattle.world_net.specs.Seats.{Follows, HasFew}
+use Rattle.world_net.specs.Spans.{at_pair}
 
 -- what a world keeps
 pub record Kept : Type 0 where
@@ -33,20 +34,12 @@ pub record Kept : Type 0 where
   pub seats : List Seat
 
 abbrev pub kept_of : Parts → Kept
-kept_of v = record { hub = v.hub; packets = v.packets.entries; parcels = v.parcels.items; places = v.places.entries; seats = v.seats.items }
+kept_of v = record { hub = v.hub; packets = v.packets; parcels = v.parcels.items; places = v.places; seats = v.seats.items }
 
 pub record Seen : Type 0 where
   pub kept : Kept
   -- an event was cut off
   pub cut_off : Bool
-
--- pairs of numbers are ordered by the first, and then by the second
-abbrev pub pair_cmp : ℕ × ℕ → ℕ × ℕ → Ordering
-pair_cmp a b = ordering_then (nat_cmp a.0 b.0) (nat_cmp a.1 b.1)
-
--- what some entries have at two numbers
-abbrev pub at_pair : {A : Type 0} → List ((ℕ × ℕ) × A) → ℕ → ℕ → Option A
-at_pair entries a b = lookup (is_at (pair_cmp (a, b))) entries
 
 -- a place whose receiver hasn't left
 abbrev pub if_there : ℕ → Option Seat → Option ℕ

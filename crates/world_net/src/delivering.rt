@@ -1,5 +1,5 @@
 //! What is delivered in a world.
-ghost use Rattle.std.specs.Prelude.{◌≡◌, ℕ, ◌+◌, ◌-◌, ◌^◌, ◌<◌, List, OnOk, length, slice_get, Some, option_copied};
+ghost use Rattle.std.specs.Prelude.{◌≡◌, ℕ, ◌+◌, ◌-◌, ◌^◌, ◌<◌, List, OnOk, length, slice_get, Some, option_map};
 ghost use Rattle.server_hub.specs.{channel_of};
 ghost use Rattle.server_hub.specs.Served.{Served};
 ghost use Rattle.server_hub.specs.Seen as hubs;
@@ -8,14 +8,13 @@ ghost use Rattle.world_laws.specs.World.{World, Datagram};
 ghost use Rattle.world_net.specs.{Stands, Goes, AreFew, EndsSo, at_pair, packet_below};
 
 use crate::hearing::{hear_again, hear_info, hear_multicast};
+use crate::packets::Packets;
 use crate::parcel::Way;
 use crate::parts::Parts;
 use crate::telling::{say, tell};
-use bytes::Bytes;
 use ram_io::NoMemory;
 use server_hub::Heard;
 use std::alloc::Global;
-use std::collections::BTreeMap;
 use world_laws::{WorldItem, WorldNote};
 
 impl Parts {
@@ -103,7 +102,9 @@ impl Parts {
         }
         let seat = &mut self.seats[place];
         let bytes = self.parcels[at].bytes();
-        hear_again(alloc, seat, id, client, n, bytes, &mut self.room, notes)
+        let heard = hear_again(alloc, seat, id, client, n, bytes, &mut self.room, notes);
+        self.places.keep(id, client, place);
+        heard
     }
 
     // One above the number of the newest packet that a channel holds, which has room for one; `None`
@@ -147,11 +148,11 @@ impl Parts {
 }
 
 // The packet of this number as it came, where it is below the end of what the channel holds.
-fn source_packet(packets: &BTreeMap<(u16, u64), Bytes>, id: u16, n: u64, hi: u64) -> Option<&Bytes>
-    ensures { option_copied result ≡ packet_below (at_pair packets.now.entries id n) n hi }
+fn source_packet(packets: &Packets, id: u16, n: u64, hi: u64) -> Option<&[u8]>
+    ensures { option_map (λ packet. packet.now) result ≡ packet_below (at_pair packets.now id n) n hi }
 {
     if n >= hi {
         return None;
     }
-    packets.get(&(id, n))
+    packets.get(id, n)
 }

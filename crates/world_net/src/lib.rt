@@ -7,8 +7,10 @@
 mod asking;
 mod delivering;
 mod hearing;
+mod packets;
 mod parcel;
 mod parts;
+mod places;
 mod posting;
 mod presenting;
 mod seat;

@@ -2,22 +2,22 @@
 ghost use Rattle.std.specs.Prelude.{◌≡◌};
 ghost use Rattle.world_net.specs.{kept_of, listening_at};
 
+use crate::packets::Packets;
 use crate::parcel::Parcel;
+use crate::places::Places;
 use crate::seat::Seat;
-use bytes::Bytes;
 use server_hub::Hub;
-use std::collections::BTreeMap;
 
 /// What a world keeps.
 #[derive(Drop)]
 pub(crate) struct Parts {
     pub hub: Hub,
     /// The live packets that were taken, as they came, by their channel's number and their own.
-    pub packets: BTreeMap<(u16, u64), Bytes>,
+    pub packets: Packets,
     /// The datagrams, in the order in which they were sent.
     pub parcels: Vec<Parcel>,
     /// Where the receivers are, by their channel's number and their client.
-    pub places: BTreeMap<(u16, u64), usize>,
+    pub places: Places,
     /// The receivers, in the order in which they were tuned.
     pub seats: Vec<Seat>,
     /// A datagram is spelled here where it is delivered.
@@ -29,7 +29,7 @@ impl Parts {
     pub(crate) fn listening(&self, id: u16, client: u64) -> Option<usize>
         ensures { result ≡ listening_at (kept_of self.now) id client }
     {
-        let place = *self.places.get(&(id, client))?;
+        let place = self.places.find(id, client)?;
         let seat = self.seats.get(place)?;
         if seat.receiver.is_none() {
             return None;

@@ -5,14 +5,13 @@ ghost use Rattle.world_laws.specs.{serving};
 ghost use Rattle.world_laws.specs.World.{World};
 ghost use Rattle.world_net.specs.{Stands, Goes, AreFew, taken_number, Keeps, KeepsHeard};
 
+use crate::packets::Packets;
 use crate::parts::Parts;
 use crate::telling::tell;
-use bytes::Bytes;
 use ram_io::NoMemory;
 use rams_model::{LiveNote, Note};
 use server_hub::{At, Heard, HubAnswer};
 use std::alloc::Global;
-use std::collections::BTreeMap;
 use std::slice;
 use world_laws::WorldNote;
 
@@ -29,38 +28,27 @@ impl Parts {
         ensures few { (n : ℕ) → AreFew n self.old → AreFew (n + 1) self.new }
     {
         let answer = self.hub.hear(alloc, heard)?;
-        keep_live(alloc, &mut self.packets, heard, &answer)?;
+        keep_live(&mut self.packets, heard, &answer)?;
         tell(alloc, &self.hub, answer, notes, &mut self.parcels)
     }
 }
 
 // Keeps what is heard, where it is a live packet that its channel took.
-fn keep_live(
-    alloc: Global,
-    packets: &mut BTreeMap<(u16, u64), Bytes>,
-    heard: Heard<'_>,
-    answer: &HubAnswer,
-) -> Result<(), NoMemory>
-    ensures { OnOk result (KeepsHeard (event_of heard.entry) (told answer.now) packets.old.entries packets.new.entries) }
+fn keep_live(packets: &mut Packets, heard: Heard<'_>, answer: &HubAnswer) -> Result<(), NoMemory>
+    ensures { OnOk result (KeepsHeard (event_of heard.entry) (told answer.now) packets.old packets.new) }
 {
     match heard {
-        Heard::Live { id, bytes } => keep(alloc, packets, id, bytes, answer),
+        Heard::Live { id, bytes } => keep(packets, id, bytes, answer),
         _ => Ok(()),
     }
 }
 
 // Keeps a live packet, where the channel took it.
-fn keep(
-    alloc: Global,
-    packets: &mut BTreeMap<(u16, u64), Bytes>,
-    id: u16,
-    bytes: &[u8],
-    answer: &HubAnswer,
-) -> Result<(), NoMemory>
-    ensures { OnOk result (Keeps id bytes.now (taken_number (told answer.now)) packets.old.entries packets.new.entries) }
+fn keep(packets: &mut Packets, id: u16, bytes: &[u8], answer: &HubAnswer) -> Result<(), NoMemory>
+    ensures { OnOk result (Keeps id bytes.now (taken_number (told answer.now)) packets.old packets.new) }
 {
     if let Some(n) = number_taken(answer) {
-        packets.insert((id, n), Bytes::copy_from_slice(alloc, bytes)?)?;
+        packets.add(id, n, bytes)?;
     }
     Ok(())
 }

@@ -31,7 +31,7 @@ impl Parts {
         let Some(config) = self.hub.config(id) else {
             return say(notes, id, WorldItem::NoChannel(id));
         };
-        if self.places.contains_key(&(id, client)) {
+        if self.places.contains(id, client) {
             return say(notes, id, WorldItem::TunedBefore(client));
         }
         let channel = config.channel();
@@ -43,7 +43,7 @@ impl Parts {
             rtx: channel.rtx,
         };
         let (receiver, request) = Receiver::tune(alloc, tuned)?;
-        self.places.insert((id, client), self.seats.len())?;
+        self.places.add(id, client, self.seats.len())?;
         self.seats.push(Seat {
             receiver: Some(receiver),
             first: None,

@@ -1,9 +1,10 @@
 //! The world.
+use crate::packets::Packets;
 use crate::parts::Parts;
+use crate::places::Places;
 use ram_io::NoMemory;
 use server_hub::{AddFault, Config, Hub};
 use std::alloc::Global;
-use std::collections::BTreeMap;
 use std::marker::Model;
 use world_laws::{WorldEvent, WorldNote};
 
@@ -43,9 +44,9 @@ impl World {
         World {
             parts: Parts {
                 hub,
-                packets: BTreeMap::new(alloc),
+                packets: Packets::new(alloc),
                 parcels: Vec::new(alloc),
-                places: BTreeMap::new(alloc),
+                places: Places::new(alloc),
                 seats: Vec::new(alloc),
                 room: Vec::new(alloc),
             },

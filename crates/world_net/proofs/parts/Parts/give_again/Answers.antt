@@ -1,8 +1,8 @@
-use Rattle.std.proofs.Common.{◌≡◌, ℕ, List, [], set, refl, sym, ap, ◌∙◌, append-nil, arith}
+use Rattle.std.proofs.Common.{◌≡◌, ℕ, List, [], set, refl, sym, ap, ◌∙◌, subst, append-nil, arith}
 use Rattle.rams_model.specs.Receiver.{brought_again}
-use Rattle.world_laws.specs.World.{Datagram, Listener, Step}
-use Rattle.world_laws.specs.{if_listening, listener_of, delivering_near}
-use Rattle.world_net.specs.{Kept, kept_of}
+use Rattle.world_laws.specs.World.{repeats, Datagram, Listener, Step}
+use Rattle.world_laws.specs.{giving_by, if_listening, listener_of, delivering_near}
+use Rattle.world_net.specs.{Kept, KeptFor, kept_of}
 use Rattle.world_net.proofs.Steps.{sits, seat_there, seat_few, listens_there, turned, ok_then, parcel_is, not_listening, is_listening, follows_so, far_so, too_far, near, Went, of_three, again_delivers}
 use Rattle.world_net.proofs.parts.Parts.give_again.Goals as goal
 
@@ -39,29 +39,32 @@ returns-then-is_too_far-clause-goes c = λ w d k is.
 pub index_mut-seat-requires : goal.index_mut-seat-requires
 index_mut-seat-requires c = let s = sits (kept_of c.args.self.now) _ _ c.in-Some.place c.in-Some.ensures in omega (arith, s.within, c.args.self.now.seats.ok.0)
 
-pub hear_again-requires-clause-there : goal.hear_again-requires-clause-there
-hear_again-requires-clause-there c = let s = sits (kept_of c.args.self.now) _ _ c.in-Some.place c.in-Some.ensures in seat_there _ _ _ _ s _ c.index_mut-seat.ensures.value
+pub hear_again-heard-requires-clause-there : goal.hear_again-heard-requires-clause-there
+hear_again-heard-requires-clause-there c = let s = sits (kept_of c.args.self.now) _ _ c.in-Some.place c.in-Some.ensures in seat_there _ _ _ _ s _ c.index_mut-seat.ensures.value
 
-pub hear_again-requires-clause-few : goal.hear_again-requires-clause-few
-hear_again-requires-clause-few c =
+pub hear_again-heard-requires-clause-few : goal.hear_again-heard-requires-clause-few
+hear_again-heard-requires-clause-few c =
     let s = sits (kept_of c.args.self.now) _ _ c.in-Some.place c.in-Some.ensures in seat_few (kept_of c.args.self.now) _ _ _ s _ c.index_mut-seat.ensures.value c.requires.few.seats
+
+pub keep-requires : goal.keep-requires
+keep-requires c = (sits (kept_of c.args.self.now) _ _ c.in-Some.place c.in-Some.ensures).key
 
 pub returns-clause-goes : goal.returns-clause-goes
 returns-clause-goes c = λ w d k is.
     let v = kept_of c.args.self.now in
     let old = c.args.notes.now.items in
-    let new = c.hear_again.new.notes.items in
+    let new = c.hear_again-heard.new.notes.items in
     let i : c.id-id.result ≡ d.id = c.id-id.ensures ∙ ap (λ (x : Datagram). x.id) (parcel_is _ _ d _ c.requires.there is c.index.ensures) in
     let n : c.client-client.result ≡ d.client = c.client-client.ensures ∙ ap (λ (x : Datagram). x.client) (parcel_is _ _ d _ c.requires.there is c.index-2.ensures) in
     let b : c.bytes-bytes.result.now ≡ d.bytes = c.bytes-bytes.ensures ∙ ap (λ (x : Datagram). x.bytes) (parcel_is _ _ d _ c.requires.there is c.index-4.ensures) in
     let s = sits v c.id-id.result c.client-client.result c.in-Some.place c.in-Some.ensures in
     let x = listens_there v w _ _ _ s k in
     let f : List ℕ → Listener → Step = λ y l. delivering_near c.args.n (brought_again l.tuned y) l w in
-    let later : Kept = record { hub = v.hub; packets = v.packets; parcels = v.parcels; places = v.places; seats = set v.seats c.in-Some.place c.hear_again.new.seat } in
+    let later : Kept = record { hub = v.hub; packets = v.packets; parcels = v.parcels; places = v.places; seats = set v.seats c.in-Some.place c.hear_again-heard.new.seat } in
     let far = far_so v w _ _ _ s x c.args.n _ _ _ c.index-3.ensures c.is_too_far.ensures c.if-is_too_far.false in
-    ok_then c.hear_again.result (c.hear_again.ensures.takes x.listener (follows_so v w _ _ _ s x _ c.index_mut-seat.ensures.value) x.at) (λ t.
+    ok_then c.hear_again-heard.result (c.hear_again-heard.ensures.takes x.listener (follows_so v w _ _ _ s x _ c.index_mut-seat.ensures.value) x.at) (λ t.
     let r = of_three (Went later old new) (λ (a m : ℕ) (y : List ℕ). if_listening a m (listener_of a m w) w (f y)) _ _ _ _ _ _ i n b
     (is_listening v w _ _ _ s x (f c.bytes-bytes.result.now) (Went later old new)
     (near later w c.args.n (brought_again x.listener.tuned c.bytes-bytes.result.now) x.listener old new far
     (again_delivers later w c.args.n c.bytes-bytes.result.now x.listener old new (turned v w _ _ _ s x _ _ [] _ old new [] [] v.parcels k t (sym (append-nil v.parcels)))))) in
-    record { notes = r.0; stands = r.1 })
+    record { notes = r.0; stands = subst (λ (p : List ((ℕ × ℕ) × ℕ)). KeptFor (record later { places = p }) (giving_by (repeats c.args.n) d w).world) (sym c.keep.ensures) r.1 })

@@ -10,9 +10,9 @@ returns-clause-stands c = λ channels hub fresh. record {
   whole = refl;
   kept = record {
     hub = hub;
-    packets = λ id n. ap (λ (es : List ((ℕ × ℕ) × List ℕ)). at_pair es id n) c.new.ensures.empty ∙ new_came channels id n fresh;
+    packets = λ id n. c.new.ensures id n ∙ new_came channels id n fresh;
     parcels = c.new-2.ensures.items;
-    places = λ id client. ap (λ (es : List ((ℕ × ℕ) × ℕ)). at_pair es id client) c.new-3.ensures.empty ∙ no_place id client;
+    places = λ id client. c.new-3.ensures id client ∙ no_place id client;
     apart = tt;
     seats = subst (λ (xs : List Seat). Pairwise Follows xs []) (sym c.new-4.ensures.items) tt;
   };
