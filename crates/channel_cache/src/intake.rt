@@ -48,6 +48,7 @@ impl Intake {
     }
 
     /// Takes a packet under its number, and holds all that need not wait any longer.
+    #[inline(always)]
     pub fn place(&mut self, held: Held) -> Came
         requires settled { IsSettled self.old }
         requires small { held.n < 2 ^ 62 }
@@ -73,6 +74,7 @@ impl Intake {
     }
 
     // Holds a packet that need not wait, while no other waits.
+    #[inline(always)]
     fn pass(&mut self, held: Held)
         requires settled { IsSettled self.old }
         requires next { IsAwaited self.old.window held.n }

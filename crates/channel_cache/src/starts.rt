@@ -14,6 +14,7 @@ use reorder_window::Came;
 
 impl Intake {
     /// Takes a packet of the present start under its number.
+    #[inline(always)]
     pub fn continue_with(&mut self, n: u64, incoming: Incoming) -> LiveNote
         requires settled { IsSettled self.old }
         requires small { n < 2 ^ 62 }

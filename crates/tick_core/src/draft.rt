@@ -57,6 +57,7 @@ impl Draft {
 
     /// Makes a note that sends the packet to the client, under this number of its retransmission stream
     /// (RFC 4588, 4).
+    #[inline(always)]
     pub fn send(&mut self, note: Note, client: u64, seq: u16, held: &Held) -> Result<(), NoMemory>
         ensures { IfOk result (λ _. self.new ≡ with_packet self.old note client seq held.now) }
     {
