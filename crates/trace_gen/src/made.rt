@@ -5,8 +5,10 @@ ghost use Rattle.trace_gen.specs.declared.page.Kind.TheVariants as kind;
 
 use crate::channel::MEDIA;
 use crate::draw::{drawn, stepped};
-use crate::packet::{HEADER, PACKETS, append_packet, packets_from, size_of};
-use crate::page::Kind;
+use crate::packet::{
+    HEADER, PACKETS, append_packet, is_marked, sequence_of, size_of, timestamp_of, write_packets,
+};
+use crate::page::{Kind, Packet};
 use bytes::Bytes;
 use ram_io::NoMemory;
 use rams_model::Stop;
@@ -36,8 +38,6 @@ pub struct Made {
     events: u8,
     /// The client that is drawn in every fourth block.
     client: u32,
-    /// The packets of the block that are still to come, one behind another; empty until they are written.
-    ready: Bytes,
 }
 
 impl Model for Made {
@@ -52,7 +52,8 @@ impl Model for Made {
 
 impl Made {
     ghost use Rattle.std.specs.Prelude.{ℕ};
-    ghost use Rattle.trace_gen.specs.{Place, place, left, made, packet, request, nack, stop};
+    ghost use Rattle.rams_model.specs.declared.event.Event.TheVariants.{Live};
+    ghost use Rattle.trace_gen.specs.{Place, place, left, made, packet, request, nack, stop, IsReady, IsRead};
 
     /// The place before the first event of this seed.
     #[tactic(auto, unfolding(crate::specs::Draws::state))]
@@ -66,7 +67,6 @@ impl Made {
             block: 0,
             events: 0,
             client: 0,
-            ready: Bytes::new(),
         }
     }
 
@@ -107,25 +107,37 @@ impl Made {
         append_packet(page, i, size_of(state))?;
         self.state = state;
         self.events += 1;
-        self.ready.clear();
         Ok(Kind::Live)
     }
 
-    /// The next packet, in memory that it shares with others of its block, which are written together.
-    pub(crate) fn shared_packet(&mut self, alloc: Global) -> Result<Bytes, NoMemory>
+    /// The next packet, of those of its block that are written on `ready`: all that are still to come, one behind
+    /// another, or none yet. They share their memory.
+    #[tactic(auto, using(crate::proofs::Drawing::state_more, crate::proofs::Drawing::draws_in))]
+    pub(crate) fn shared_packet(
+        &mut self,
+        alloc: Global,
+        ready: &mut Bytes,
+    ) -> Result<Packet, NoMemory>
         requires next { self.old.events < 10 }
-        ensures event { IfOk result (λ bytes. Live bytes ≡ packet self.old.seed self.old.block self.old.events) }
+        requires ready { IsReady self.old ready.old }
+        ensures event { IfOk result (λ p. Live p.bytes ≡ packet self.old.seed self.old.block self.old.events) }
+        ensures read { IfOk result IsRead }
         ensures place { OnOk result (self.new ≡ place self.old.seed self.old.block (self.old.events + 1)) }
+        ensures ready { OnOk result (IsReady self.new ready.new) }
         ensures same { OnErr result (self.new ≡ self.old) }
     {
-        if self.ready.is_empty() {
-            self.ready = packets_from(alloc, self.state, self.block, self.events)?;
-        }
+        write_packets(alloc, ready, self.state, self.block, self.events)?;
         let state = stepped(self.state);
-        let packet = self.ready.split_to(HEADER + size_of(state))?;
+        let bytes = ready.split_to(HEADER + size_of(state))?;
+        let i = 10 * u64::from(self.block) + u64::from(self.events);
         self.state = state;
         self.events += 1;
-        Ok(packet)
+        Ok(Packet {
+            sequence: sequence_of(i),
+            timestamp: timestamp_of(i),
+            marker: is_marked(i),
+            bytes,
+        })
     }
 
     /// The request of the block, of a client that is drawn.
