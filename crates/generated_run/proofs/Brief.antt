@@ -11,10 +11,10 @@ use Rattle.trace_gen.specs.{Place, packet, request, nack, stop, feedback, block,
 use Rattle.trace_gen.proofs.Coming.{by_turn, turn_is}
 use Rattle.generated_run.specs.{IsBrief}
 
-abbrev payload : ℕ → List ℕ
+abbrev pub payload : ℕ → List ℕ
 payload n = replicate n 0 ++ []
 
-packet_length : (i n : ℕ) → length (spelling (numbered i n)) ≡ 12 + length (payload n)
+pub packet_length : (i n : ℕ) → length (spelling (numbered i n)) ≡ 12 + length (payload n)
 unfolding header spelling
 packet_length i n = omega arith
 

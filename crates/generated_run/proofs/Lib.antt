@@ -1,3 +1,4 @@
 pub mod Brief
+pub mod Heard
 pub mod Short
 pub mod Steps

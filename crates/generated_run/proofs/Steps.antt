@@ -2,7 +2,7 @@
 use Rattle.std.proofs.Common.{◌≡◌, ℕ, ◌+◌, ◌≤◌, List, [], ◌∷◌, ◌++◌, reverse, length, refl, sym, ap, ◌∙◌, arith, append_assoc, length-append}
 use Rattle.std.proofs.lemmas.List.{reverse-append, reverse-reverse, length-reverse, length-map, append-nil}
 use Rattle.rams_model.specs.declared.event.Event.{Event}
-use Rattle.rams_model.specs.Service.{Answered, answer, book}
+use Rattle.rams_model.specs.Service.{answer, book}
 use Rattle.session_core.specs.{StandsFor}
 use Rattle.session_core.specs.Seen.{Seen}
 use Rattle.summary.specs.{Tallied, tally_of, answers_in}
@@ -32,22 +32,21 @@ begins seed blocks at core tally all settings stands told = record {
 }
 
 -- One event more.
-pub goes_on : (seed blocks events : ℕ) (at later : Place) (core now : Seen) (tally more : Tallied) (event : Event) (a : Answered)
+pub goes_on : (seed blocks events : ℕ) (at later : Place) (core now : Seen) (tally more : Tallied) (event : Event)
     → (r : IsRunning seed blocks events at core tally)
     → left at blocks ≡ event ∷ left later blocks
     → now.settings ≡ core.settings
-    → (a ≡ answer core.settings r.came event) × StandsFor now (event ∷ r.came)
-    → ((answers : List Answered) → tally ≡ tally_of answers → more ≡ tally_of (a ∷ answers))
+    → StandsFor now (event ∷ r.came) × (more ≡ tally_of (answer core.settings r.came event ∷ answers_in config r.came))
     → IsRunning seed blocks (events + 1) later now more
-goes_on seed blocks events at later core now tally more event a r next settings stands counts = record {
+goes_on seed blocks events at later core now tally more event r next settings counted = record {
   came = event ∷ r.came;
   all = moved event r.came (left later blocks) ∙ ap (λ (l : List Event). reverse r.came ++ l) (sym next) ∙ r.all;
   counted = omega (arith, r.counted);
   settings = settings ∙ r.settings;
-  stands = stands.1;
+  stands = counted.0;
   told =
-      counts (answers_in config r.came) r.told
-      ∙ ap (λ (x : Answered). tally_of (x ∷ answers_in config r.came)) (stands.0 ∙ ap (λ s. answer s r.came event) r.settings)
+      counted.1
+      ∙ ap (λ s. tally_of (answer s r.came event ∷ answers_in config r.came)) r.settings
       ∙ ap tally_of (sym (answers_more config event r.came));
 }
 

@@ -4,7 +4,8 @@ ghost use Rattle.session_core.specs.{StandsFor};
 ghost use Rattle.summary.specs.{made_summary};
 ghost use Rattle.trace_gen.specs.{config};
 
-use crate::serving::answer_to;
+use crate::serving::count_answer;
+use bytes::Bytes;
 use ram_io::NoMemory;
 use session_core::Core;
 use std::alloc::Global;
@@ -36,9 +37,10 @@ fn summary_by(alloc: Global, core: &mut Core, seed: u32, blocks: u32) -> Result<
 {
     let mut at = Made::new(seed);
     let mut tally = Tally::new();
+    let mut ready = Bytes::new();
     let mut page = Vec::new(alloc);
     for events in 0..=MOST_EVENTS {
-        let Some(kind) = event_into(blocks, &mut at, &mut page)? else {
+        let Some(next) = next_event(alloc, blocks, &mut at, &mut ready, &mut page)? else {
             return tally.write(alloc, seed, blocks, events);
         };
         tally.add(&answer_to(alloc, core, kind, &page)?);

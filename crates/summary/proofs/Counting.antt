@@ -47,7 +47,7 @@ counts_few notes = record {
   end = count_by-le-length end notes;
 }
 
-at_most : (less most : ℕ) (c : Counts) → less ≤ most → AreAtMost less c → AreAtMost most c
+pub at_most : (less most : ℕ) (c : Counts) → less ≤ most → AreAtMost less c → AreAtMost most c
 at_most less most c more few = record {
   took = omega (arith, few.took, more);
   accept = omega (arith, few.accept, more);

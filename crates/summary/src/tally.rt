@@ -34,7 +34,8 @@ impl Model for Tally {
 
 impl Tally {
     ghost use Rattle.std.specs.Prelude.{List, [], ◌∷◌, reverse};
-    ghost use Rattle.rams_model.specs.Service.{Answered};
+    ghost use Rattle.rams_model.specs.Service.{Answered, answered};
+    ghost use Rattle.rams_model.specs.declared.note.Note.TheVariants.{Live};
     ghost use Rattle.summary.specs.Counts.{tally_of};
     ghost use Rattle.summary.specs.Text.{summary, answers_in, made_summary};
     ghost use Rattle.trace_gen.specs.{config, made};
@@ -63,6 +64,17 @@ impl Tally {
     {
         self.notes = Counts::of(&answer.notes).plus(self.notes);
         self.bytes += bytes(&answer.orders);
+        self.answers += 1;
+    }
+
+    /// The answer to one live packet more, which has this note alone.
+    #[tactic(auto, using(crate::proofs::Tallying::tally_live))]
+    pub fn add_live(&mut self, note: LiveNote)
+        requires answers { self.old.answers < 1000000 }
+        ensures counts { (answers : List Answered) → self.old ≡ tally_of answers → self.new ≡ tally_of (answered (Live note ∷ []) [] ∷ answers) }
+        ensures answers { self.new.answers ≡ self.old.answers + 1 }
+    {
+        self.notes.count(&Note::Live(note));
         self.answers += 1;
     }
 

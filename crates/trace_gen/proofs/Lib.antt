@@ -1,3 +1,4 @@
 pub mod Drawing
 pub mod Coming
 pub mod Few
+pub mod Texts

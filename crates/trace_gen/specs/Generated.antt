@@ -62,9 +62,16 @@ numbered i size = record {
   padding = [];
 }
 
+-- the bytes of packet j of block b, and of n packets from it on, one behind another
+abbrev pub text : ℕ → ℕ → ℕ → List ℕ
+text seed b j = spelling (numbered (10 * b + j) (size seed b j))
+
+abbrev pub texts_from : ℕ → ℕ → ℕ → ℕ → List ℕ
+texts_from seed b j n = flat_map (text seed b) (range_with_len j n)
+
 -- packet j of block b
 unfoldable pub packet : ℕ → ℕ → ℕ → Event
-packet seed b j = Live (spelling (numbered (10 * b + j) (size seed b j)))
+packet seed b j = Live (text seed b j)
 
 -- the client of block b: it is drawn in the last block before it whose number is 1 modulo 4, or in b itself
 abbrev pub client : ℕ → ℕ → ℕ

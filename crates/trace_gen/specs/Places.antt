@@ -1,12 +1,16 @@
 -- How far the events of a seed have come.
-use Rattle.std.specs.Prelude.{◌≡◌, ◌≢◌, ℕ, ◌+◌, ◌-◌, ◌%◌, ◌≤◌, min, ◌&&◌, ◌||◌, ◌==◌, if◌then◌else◌, List, ◌∷◌, drop, Option, Some, None}
+use Rattle.std.specs.Prelude.{◌≡◌, ◌≢◌, ℕ, ◌+◌, ◌-◌, ◌*◌, ◌%◌, ◌^◌, ◌<◌, ◌≤◌, length, min, ◌&&◌, ◌||◌, ◌==◌, if◌then◌else◌, List, ◌∷◌, drop, Option, Some, None}
 use Rattle.std.specs.List.{flat_map, range_with_len}
 use Rattle.rams_model.specs.declared.event.Event.{Event}
 use Rattle.rams_model.specs.declared.event.Event.TheVariants.{Live, Feedback, Tick}
 use Rattle.trace_gen.specs.declared.page.Kind.{Kind}
 use Rattle.trace_gen.specs.declared.page.Kind.TheVariants as kind
+use Rattle.rams_model.specs.Formats.{spelling}
+use Rattle.trace_gen.specs.declared.page.Next.{Next}
+use Rattle.trace_gen.specs.declared.page.Next.TheVariants as next
+use Rattle.trace_gen.specs.declared.page.Packet.{Packet}
 use Rattle.trace_gen.specs.Draws.{state}
-use Rattle.trace_gen.specs.Generated.{draws_before, client, block}
+use Rattle.trace_gen.specs.Generated.{draws_before, client, block, numbered, texts_from}
 
 -- the whole blocks of a seed that have come, and the events of the next
 pub record Place : Type 0 where
@@ -45,3 +49,30 @@ abbrev pub event_on : Kind → List ℕ → Event
 event_on kind.Live bytes = Live bytes
 event_on (kind.Feedback client) bytes = Feedback client bytes
 event_on kind.Tick bytes = Tick
+
+-- Where bytes are ready, they are those of the packets of block b from packet e on.
+abbrev pub AreReady : ℕ → ℕ → ℕ → List ℕ → Type 0
+AreReady seed b e ready = 0 < length ready → ready ≡ texts_from seed b e (10 - e)
+
+-- of the packets that are still to come of the block
+abbrev pub IsReady : Place → List ℕ → Type 0
+IsReady p ready = AreReady p.seed p.block p.events ready
+
+-- What is told of the packet is what is written in it: its number is i, and its payload so many zeros.
+pub record IsRead (p : Packet) : Type 0 where
+  pub i : ℕ
+  pub size : ℕ
+  pub short : size ≤ 1399
+  pub bytes : p.bytes ≡ spelling (numbered i size)
+  pub sequence : p.sequence ≡ i % 65536
+  pub timestamp : p.timestamp ≡ 450 * i % 2 ^ 32
+  pub marker : p.marker ≡ (i % 50 == 0)
+
+abbrev pub IsReadNext : Next → Type 0
+IsReadNext (next.Packet p) = IsRead p
+IsReadNext (next.OnPage kind) = Unit {0}
+
+-- the event, where this stands on the page
+abbrev pub next_on : Next → List ℕ → Event
+next_on (next.Packet p) page = Live p.bytes
+next_on (next.OnPage kind) page = event_on kind page

@@ -1,9 +1,10 @@
 //! The events of a seed, one after another.
-ghost use Rattle.std.specs.Prelude.{◌≡◌, [], IfNone, IfOk, OnErr, option_map};
-ghost use Rattle.trace_gen.specs.{left, with_first, event_on};
+ghost use Rattle.std.specs.Prelude.{◌≡◌, [], IfNone, IfSome, IfOk, OnOk, OnErr, option_map};
+ghost use Rattle.trace_gen.specs.{left, with_first, event_on, next_on, IsReady, IsReadNext};
 
 use crate::made::Made;
-use crate::page::Kind;
+use crate::page::{Kind, Next};
+use bytes::Bytes;
 use ram_io::NoMemory;
 use rams_model::Event;
 use std::alloc::Global;
@@ -51,4 +52,31 @@ pub fn event_into(blocks: u32, at: &mut Made, page: &mut Vec<u8>) -> Result<Opti
         }
     }
     Ok(Some(at.tick()))
+}
+
+/// The next event, with a packet in memory that it shares with others of its block, which stand on `ready` until they
+/// come, and with the bytes of another on `page`. After the last event `at` is as before.
+#[tactic(auto, using(crate::proofs::Coming::packet_comes))]
+pub fn next_event(
+    alloc: Global,
+    blocks: u32,
+    at: &mut Made,
+    ready: &mut Bytes,
+    page: &mut Vec<u8>,
+) -> Result<Option<Next>, NoMemory>
+    requires { IsReady at.old ready.old }
+    ensures next { IfOk result (λ e. left at.old blocks ≡ with_first (option_map (λ n. next_on n page.new.items) e) (left at.new blocks)) }
+    ensures last { IfOk result (λ e. IfNone e ((left at.old blocks ≡ []) × (at.new ≡ at.old))) }
+    ensures read { IfOk result (λ e. IfSome e IsReadNext) }
+    ensures ready { OnOk result (IsReady at.new ready.new) }
+    ensures seed { at.new.seed ≡ at.old.seed }
+{
+    if at.block() < blocks && at.has_packets() {
+        return Ok(Some(Next::Packet(at.shared_packet(alloc, ready)?)));
+    }
+    ready.clear();
+    match event_into(blocks, at, page)? {
+        Some(kind) => Ok(Some(Next::OnPage(kind))),
+        None => Ok(None),
+    }
 }

@@ -17,6 +17,6 @@ pub use channel_config::Config;
 pub use event::{event_into, event_of};
 pub use examples::{draws_of_a_seed, events_of_a_seed};
 pub use made::Made;
-pub use page::Kind;
+pub use page::{Kind, Next, Packet};
 pub use ram_io::NoMemory;
 pub use rams_model::Event;

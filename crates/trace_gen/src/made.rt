@@ -5,8 +5,11 @@ ghost use Rattle.trace_gen.specs.declared.page.Kind.TheVariants as kind;
 
 use crate::channel::MEDIA;
 use crate::draw::{drawn, stepped};
-use crate::packet::append_packet;
-use crate::page::Kind;
+use crate::packet::{
+    HEADER, PACKETS, append_packet, is_marked, sequence_of, size_of, timestamp_of, write_packets,
+};
+use crate::page::{Kind, Packet};
+use bytes::Bytes;
 use ram_io::NoMemory;
 use rams_model::Stop;
 use rams_tlv::{Request, append_request, append_stop};
@@ -51,7 +54,8 @@ impl Model for Made {
 
 impl Made {
     ghost use Rattle.std.specs.Prelude.{ℕ};
-    ghost use Rattle.trace_gen.specs.{Place, place, left, made, packet, request, nack, stop};
+    ghost use Rattle.rams_model.specs.declared.event.Event.TheVariants.{Live};
+    ghost use Rattle.trace_gen.specs.{Place, place, left, made, packet, request, nack, stop, IsReady, IsRead};
 
     /// The place before the first event of this seed.
     #[tactic(auto, unfolding(crate::specs::Draws::state))]
@@ -106,6 +110,36 @@ impl Made {
         self.state = state;
         self.events += 1;
         Ok(Kind::Live)
+    }
+
+    /// The next packet, of those of its block that are written on `ready`: all that are still to come, one behind
+    /// another, or none yet. They share their memory.
+    #[tactic(auto, using(crate::proofs::Drawing::state_more, crate::proofs::Drawing::draws_in))]
+    pub(crate) fn shared_packet(
+        &mut self,
+        alloc: Global,
+        ready: &mut Bytes,
+    ) -> Result<Packet, NoMemory>
+        requires next { self.old.events < 10 }
+        requires ready { IsReady self.old ready.old }
+        ensures event { IfOk result (λ p. Live p.bytes ≡ packet self.old.seed self.old.block self.old.events) }
+        ensures read { IfOk result IsRead }
+        ensures place { OnOk result (self.new ≡ place self.old.seed self.old.block (self.old.events + 1)) }
+        ensures ready { OnOk result (IsReady self.new ready.new) }
+        ensures same { OnErr result (self.new ≡ self.old) }
+    {
+        write_packets(alloc, ready, self.state, self.block, self.events)?;
+        let state = stepped(self.state);
+        let bytes = ready.split_to(HEADER + size_of(state))?;
+        let i = 10 * u64::from(self.block) + u64::from(self.events);
+        self.state = state;
+        self.events += 1;
+        Ok(Packet {
+            sequence: sequence_of(i),
+            timestamp: timestamp_of(i),
+            marker: is_marked(i),
+            bytes,
+        })
     }
 
     /// The request of the block, of a client that is drawn.

@@ -30,3 +30,20 @@ impl Kind {
         }
     }
 }
+
+/// A packet of the multicast, with what is read of it.
+#[derive(Debug, Drop)]
+pub struct Packet {
+    pub sequence: u16,
+    /// In units of 1/90,000 s.
+    pub timestamp: u32,
+    pub marker: bool,
+    pub bytes: Bytes,
+}
+
+/// An event: a packet in memory of its own, or one whose bytes stand on a page.
+#[derive(Debug, Drop)]
+pub enum Next {
+    Packet(Packet),
+    OnPage(Kind),
+}
