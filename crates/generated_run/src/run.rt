@@ -10,7 +10,7 @@ use ram_io::NoMemory;
 use session_core::Core;
 use std::alloc::Global;
 use summary::Tally;
-use trace_gen::{Made, config_of, event_into};
+use trace_gen::{Made, config_of, next_event};
 
 /// Most blocks of a generated trace.
 pub const MOST_BLOCKS: u32 = 50_000;
@@ -43,7 +43,7 @@ fn summary_by(alloc: Global, core: &mut Core, seed: u32, blocks: u32) -> Result<
         let Some(next) = next_event(alloc, blocks, &mut at, &mut ready, &mut page)? else {
             return tally.write(alloc, seed, blocks, events);
         };
-        tally.add(&answer_to(alloc, core, kind, &page)?);
+        count_answer(alloc, core, &mut tally, next, &page)?;
     }
     unreachable!()
 }

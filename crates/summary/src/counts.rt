@@ -51,7 +51,7 @@ impl Counts {
     }
 
     /// One note more.
-    fn count(&mut self, note: &Note)
+    pub(crate) fn count(&mut self, note: &Note)
         requires { AreAtMost (2 ^ 63) self.old }
         ensures { self.new ≡ with_note self.old note.now }
     {

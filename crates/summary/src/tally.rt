@@ -7,7 +7,7 @@ ghost use Rattle.summary.specs.Text.{count_lines};
 use crate::counts::Counts;
 use book_text::append_count;
 use ram_io::NoMemory;
-use rams_model::{Answer, Order, RTX_OVERHEAD};
+use rams_model::{Answer, LiveNote, Note, Order, RTX_OVERHEAD};
 use std::alloc::Global;
 use std::marker::Model;
 

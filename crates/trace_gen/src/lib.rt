@@ -14,7 +14,7 @@ mod page;
 
 pub use channel::config_of;
 pub use channel_config::Config;
-pub use event::{event_into, event_of};
+pub use event::{event_into, event_of, next_event};
 pub use examples::{draws_of_a_seed, events_of_a_seed};
 pub use made::Made;
 pub use page::{Kind, Next, Packet};

@@ -14,10 +14,8 @@ use ram_io::NoMemory;
 use rams_model::Stop;
 use rams_tlv::{Request, append_request, append_stop};
 use rtcp_feedback::append_nack;
+use std::alloc::Global;
 use std::marker::Model;
-
-/// Packets of a block.
-const PACKETS: u8 = 10;
 
 /// A RAMS-R without TLVs.
 const PLAIN: Request<'static> = Request {
@@ -106,7 +104,7 @@ impl Made {
     {
         let state = stepped(self.state);
         let i = 10 * u64::from(self.block) + u64::from(self.events);
-        append_packet(page, i, 100 + (drawn(state) % 1300) as usize)?;
+        append_packet(page, i, size_of(state))?;
         self.state = state;
         self.events += 1;
         Ok(Kind::Live)

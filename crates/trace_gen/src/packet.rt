@@ -5,6 +5,8 @@ ghost use Rattle.trace_gen.specs.Draws as draws;
 ghost use Rattle.trace_gen.specs.{draws_before, numbered, texts_from, AreReady};
 
 use crate::channel::MEDIA;
+use crate::draw::{drawn, stepped};
+use bytes::Bytes;
 use ram_io::NoMemory;
 use std::alloc::Global;
 

@@ -2,6 +2,7 @@
 ghost use Rattle.std.specs.Prelude.{◌≡◌};
 ghost use Rattle.trace_gen.specs.{event_on};
 
+use bytes::Bytes;
 use rams_model::{Event, Octets};
 
 /// What an event is, beside its bytes.
