@@ -1,5 +1,4 @@
-use Rattle.std.proofs.Common.{◌+◌, ◌*◌, ◌^◌, ap, ◌∙◌, arith}
-use Rattle.summary.specs.{Tallied}
+use Rattle.std.proofs.Common.{◌*◌, ◌^◌, arith}
 use Rattle.summary.proofs.Counting.{at_most}
 use Rattle.summary.proofs.tally.Tally.add_live.Goals as goal
 
