@@ -1,15 +1,18 @@
--- The lines of what is said of an event, from one note on.
-use Rattle.std.proofs.Common.{◌≡◌, ℕ, ◌+◌, ◌<◌, ◌≤◌, List, [], ◌++◌, length, get_or, drop, sym, ap, ◌∙◌}
-use Rattle.std.proofs.lemmas.List.{drop_more, drop_all}
+-- The lines of what is said of an event, part by part.
+use Rattle.std.proofs.Common.{◌≡◌, ℕ, List, [], ◌++◌, length, take, drop, sym, ap, ap₂, ◌∙◌}
+use Rattle.std.proofs.lemmas.Grind.{flat_map-append}
+use Rattle.std.proofs.lemmas.List.{take-append-drop, nil_from_length}
 use Rattle.world_laws.specs.declared.world.WorldNote.{WorldNote}
 use Rattle.world_text.specs.{notes_lines, world_line}
 
-pub notes_lines-more : (event : ℕ) (notes : List WorldNote) (i : ℕ) (note : WorldNote) → i < length notes → note ≡ get_or notes i note
-    → notes_lines event (drop i notes) ≡ world_line event note ++ notes_lines event (drop (i + 1) notes)
+pub notes_lines-split : (event : ℕ) (left part rest : List WorldNote) (count : ℕ) → part ≡ take count left → rest ≡ drop count left
+    → notes_lines event left ≡ notes_lines event part ++ notes_lines event rest
 unfolding notes_lines
-notes_lines-more event notes i note below is =
-    ap (notes_lines event) (drop_more notes i note below) ∙ ap (λ x. world_line event x ++ notes_lines event (drop (i + 1) notes)) (sym is)
+notes_lines-split event left part rest count front back =
+    ap (notes_lines event) (sym (take-append-drop count left))
+    ∙ flat_map-append (world_line event) (take count left) (drop count left)
+    ∙ ap₂ (λ (a b : List WorldNote). notes_lines event a ++ notes_lines event b) (sym front) (sym back)
 
-pub notes_lines-past : (event : ℕ) (notes : List WorldNote) (i : ℕ) → length notes ≤ i → notes_lines event (drop i notes) ≡ []
+pub notes_lines-none : (event : ℕ) (left : List WorldNote) → length left ≡ 0 → notes_lines event left ≡ []
 unfolding notes_lines
-notes_lines-past event notes i end = ap (notes_lines event) (drop_all i notes end)
+notes_lines-none event left none = ap (notes_lines event) (nil_from_length left none)

@@ -1,13 +1,13 @@
 //! What is said of an event on its way to the sink, note by note.
-ghost use Rattle.std.specs.Prelude.{◌≡◌, ℕ, ◌+◌, ◌++◌, IfErr, OnOk, length};
+ghost use Rattle.std.specs.Prelude.{◌≡◌, ℕ, ◌+◌, ◌<◌, ◌≤◌, ◌++◌, IfErr, OnOk, length};
 ghost use Rattle.line_io.specs.Passes.{Passes};
 ghost use Rattle.trace_loop.specs.{IsStoppedByWrite, OnlyMemoryStops, StopsIn};
-ghost use Rattle.world_text.specs.{notes_lines, world_line};
+ghost use Rattle.world_text.specs.{notes_lines};
 
 use ram_io::Sink;
 use trace_loop::{Stop, Writer, settle};
-use world_net::WorldNote;
-use world_text::append_world_note;
+use world_net::{WorldItem, WorldNote};
+use world_text::append_world_part;
 
 /// Adds the lines of what is said of an event.
 pub(crate) fn write_notes<K: Sink>(
@@ -22,31 +22,57 @@ pub(crate) fn write_notes<K: Sink>(
     ensures steady { (room : ℕ) → K.is_steady sink.old (length writer.old.gather + length (notes_lines event notes.now) + room)
         → OnlyMemoryStops result (K.is_steady sink.new (length writer.new.gather + room)) }
 {
-    for note in notes.iter() {
-        write_note(writer, sink, event, note)?;
+    let mut left = notes;
+    while !left.is_empty() {
+        let (part, rest) = left.split_at(part_len(left));
+        write_part(writer, sink, event, part)?;
+        left = rest;
     }
     Ok(())
 }
 
-/// Adds the line of a note.
-fn write_note<K: Sink>(
+/// How many of some notes are written at once: a channel's note with its datagram behind it, or one.
+fn part_len(notes: &[WorldNote]) -> usize
+    requires { 0 < length notes.now }
+    ensures some { 0 < result }
+    ensures few { result ≤ 2 }
+    ensures there { result ≤ length notes.now }
+{
+    match notes {
+        [first, second, ..] if is_told(first, second) => 2,
+        _ => 1,
+    }
+}
+
+/// Whether the first is a channel's note, and the second a datagram.
+fn is_told(first: &WorldNote, second: &WorldNote) -> bool {
+    match (&first.item, &second.item) {
+        (WorldItem::Note(_), WorldItem::Send { .. }) => true,
+        _ => false,
+    }
+}
+
+/// Adds the lines of one note or two.
+fn write_part<K: Sink>(
     writer: &mut Writer,
     sink: &mut K,
     event: u64,
-    note: &WorldNote,
+    part: &[WorldNote],
 ) -> Result<(), Stop>
-    ensures all { OnOk result (Passes (K.held sink.old) (K.held sink.new) (writer.old.gather ++ world_line event note.now) writer.new.gather) }
-    ensures front { IfErr result (StopsIn (K.held sink.old) (K.held sink.new) (writer.old.gather ++ world_line event note.now) writer.new.gather) }
+    requires some { 0 < length part.now }
+    requires few { length part.now ≤ 2 }
+    ensures all { OnOk result (Passes (K.held sink.old) (K.held sink.new) (writer.old.gather ++ notes_lines event part.now) writer.new.gather) }
+    ensures front { IfErr result (StopsIn (K.held sink.old) (K.held sink.new) (writer.old.gather ++ notes_lines event part.now) writer.new.gather) }
     ensures cause { IsStoppedByWrite (K.faults sink.old) (K.faults sink.new) result }
-    ensures steady { (room : ℕ) → K.is_steady sink.old (length writer.old.gather + length (world_line event note.now) + room)
+    ensures steady { (room : ℕ) → K.is_steady sink.old (length writer.old.gather + length (notes_lines event part.now) + room)
         → OnlyMemoryStops result (K.is_steady sink.new (length writer.new.gather + room)) }
 {
-    append_world_note(
+    append_world_part(
         &mut writer.pen,
         writer.gather.text(),
         &mut writer.datagram,
         event,
-        note,
+        part,
     )?;
     settle(&mut writer.gather, sink)
 }

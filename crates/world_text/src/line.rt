@@ -1,13 +1,13 @@
 //! The lines of what is said in a world.
-ghost use Rattle.std.specs.Prelude.{◌≡◌, ◌∷◌, ◌++◌, ◌+◌, ◌≤◌, OnErr, OnOk, codes, length};
-ghost use Rattle.rams_model.specs.Texts.{spaced, of_word, hex_word, book_line, send_line};
-ghost use Rattle.world_text.specs.{info_words, media_word, bytes_line, named_line, item_line, world_line};
+ghost use Rattle.std.specs.Prelude.{◌≡◌, ◌∷◌, ◌++◌, ◌+◌, ◌<◌, ◌≤◌, OnErr, OnOk, codes, length};
+ghost use Rattle.rams_model.specs.Texts.{spaced, of_word, hex_word, book_line, note_line, send_line};
+ghost use Rattle.world_text.specs.{info_words, media_word, bytes_line, named_line, item_line, world_line, notes_lines};
 ghost use Rattle.world_laws.specs.declared.world.WorldItem.TheVariants as item;
 
 use book_text::{Pen, Tail, append_no_channel, append_send, append_with_hex, begin};
 use ram_io::NoMemory;
 use rams_model::{InfoCame, MediaCame};
-use world_laws::{SentBytes, WorldItem, WorldNote};
+use world_laws::{Note, SentBytes, WorldItem, WorldNote};
 
 /// The line of a note: `EVENT ID`, and its words, as `9 7 info 5 taken`; `EVENT no-datagram NUMBER`
 /// of a datagram that isn't there. A datagram that the server sends is made in `room`.
@@ -39,6 +39,93 @@ pub fn append_world_note(
         WorldItem::NoPacket(n) => append_named(text, event, id, b"no-packet", *n),
         WorldItem::TooFar(client) => append_named(text, event, id, b"too-far", *client),
     }
+}
+
+/// The lines of one note or two. A channel's note is written together with its datagram behind it. An
+/// error changes nothing of the text.
+#[tactic(auto, unfolding(crate::specs::WorldLines::notes_lines))]
+pub fn append_world_part(
+    pen: &mut Pen,
+    text: &mut Vec<u8>,
+    room: &mut Vec<u8>,
+    event: u64,
+    part: &[WorldNote],
+) -> Result<(), NoMemory>
+    requires some { 0 < length part.now }
+    requires few { length part.now ≤ 2 }
+    ensures text { OnOk result (text.new.items ≡ text.old.items ++ notes_lines event part.now) }
+    ensures err { OnErr result (text.new.items ≡ text.old.items) }
+{
+    match part {
+        [note] => append_world_note(pen, text, room, event, note),
+        [first, second] => append_pair(pen, text, room, event, first, second),
+        _ => unreachable!(),
+    }
+}
+
+// The lines of two notes.
+#[tactic(auto, unfolding(crate::specs::WorldLines::world_line))]
+fn append_pair(
+    pen: &mut Pen,
+    text: &mut Vec<u8>,
+    room: &mut Vec<u8>,
+    event: u64,
+    first: &WorldNote,
+    second: &WorldNote,
+) -> Result<(), NoMemory>
+    ensures text { OnOk result (text.new.items ≡ text.old.items ++ (world_line event first.now ++ world_line event second.now)) }
+    ensures err { OnErr result (text.new.items ≡ text.old.items) }
+{
+    let id = first.id;
+    if second.id != id {
+        return append_both(pen, text, room, event, first, second);
+    }
+    match (&first.item, &second.item) {
+        (WorldItem::Note(note), WorldItem::Send { client, bytes }) => {
+            append_told(pen, text, room, event, id, note, *client, bytes)
+        }
+        _ => append_both(pen, text, room, event, first, second),
+    }
+}
+
+// The lines of a channel's note and of a datagram.
+fn append_told(
+    pen: &mut Pen,
+    text: &mut Vec<u8>,
+    room: &mut Vec<u8>,
+    event: u64,
+    id: u16,
+    note: &Note,
+    client: u64,
+    bytes: &SentBytes,
+) -> Result<(), NoMemory>
+    ensures text { OnOk result (text.new.items ≡ text.old.items ++ (note_line event id note.now ++ send_line event id client bytes.now)) }
+    ensures err { OnErr result (text.new.items ≡ text.old.items) }
+{
+    room.clear();
+    bytes.append_to(room)?;
+    pen.append_told(text, event, id, note, client, room)
+}
+
+// The lines of two notes, each of its own.
+fn append_both(
+    pen: &mut Pen,
+    text: &mut Vec<u8>,
+    room: &mut Vec<u8>,
+    event: u64,
+    first: &WorldNote,
+    second: &WorldNote,
+) -> Result<(), NoMemory>
+    ensures text { OnOk result (text.new.items ≡ text.old.items ++ (world_line event first.now ++ world_line event second.now)) }
+    ensures err { OnErr result (text.new.items ≡ text.old.items) }
+{
+    let start = text.len();
+    append_world_note(pen, text, room, event, first)?;
+    let appended = append_world_note(pen, text, room, event, second);
+    if appended.is_err() {
+        text.truncate(start);
+    }
+    appended
 }
 
 // A datagram that the server sends: `EVENT ID send CLIENT HEX`, with `-` for no bytes.

@@ -1,39 +1,40 @@
-use Rattle.std.proofs.Common.{◌+◌, ◌++◌, ap, length, Result, sym, IfErr, ◌∙◌, subst, length-append}
+use Rattle.std.proofs.Common.{◌+◌, ◌++◌, ap, length, Result, sym, IfErr, ◌∙◌, subst, length-append, eqb-true}
 use Rattle.std.proofs.lemmas.Result.{err_from_is_err_and}
 use Rattle.trace_loop.specs.declared.stop.Stop.{Stop}
 use Rattle.trace_loop.specs.{OnlyMemoryStops, StopsIn}
 use Rattle.world_text.specs.{notes_lines}
 use Rattle.trace_loop.proofs.Writing.{writing_has_room, writing_goes_on, writing_stops, writing_ends, writing_ends_steadily}
-use Rattle.meet_loop.proofs.Writing.{notes_lines-more, notes_lines-past}
+use Rattle.meet_loop.proofs.Writing.{notes_lines-split, notes_lines-none}
 use Rattle.meet_loop.proofs.writer.write_notes.Goals as goal
 
-pub returns-in_err-write_note-clause-front : goal.returns-in_err-write_note-clause-front
-returns-in_err-write_note-clause-front g c =
-    let e = notes_lines-more c.args.event c.args.notes.now c.loop-note.note-index c.note-item.result c.loop-note-test.true c.note-item.is in
+pub returns-in_err-write_part-clause-front : goal.returns-in_err-write_part-clause-front
+returns-in_err-write_part-clause-front g c =
+    let e = notes_lines-split c.args.event c.loop-left.left.now _ _ _ c.split_at.ensures.front c.split_at.ensures.back in
     let p = err_from_is_err_and c.from_residual.result c.from_residual.ensures.1 in
     let whole = c.args.writer.now.gather ++ notes_lines c.args.event c.args.notes.now in
-    let stops = writing_stops _ _ _ _ _ _ (g.K.Sink.held c.write_note.new.sink) whole _ _ _ _ c.write_note.new.writer.gather c.in_err-write_note.field-0.0 c.loop-note.invariant e c.in_err-write_note.ensures.front in
-    subst (λ (r : Result (Unit {0}) Stop). IfErr r (StopsIn (g.K.Sink.held c.args.sink.now) (g.K.Sink.held c.write_note.new.sink) whole c.write_note.new.writer.gather)) (sym p.1)
-    (subst (StopsIn (g.K.Sink.held c.args.sink.now) (g.K.Sink.held c.write_note.new.sink) whole c.write_note.new.writer.gather) (sym p.2) stops)
+    let stops = writing_stops _ _ _ _ _ _ (g.K.Sink.held c.write_part.new.sink) whole _ _ _ _ c.write_part.new.writer.gather c.in_err-write_part.field-0.0 c.loop-left.invariant e c.in_err-write_part.ensures.front in
+    subst (λ (r : Result (Unit {0}) Stop). IfErr r (StopsIn (g.K.Sink.held c.args.sink.now) (g.K.Sink.held c.write_part.new.sink) whole c.write_part.new.writer.gather)) (sym p.1)
+    (subst (StopsIn (g.K.Sink.held c.args.sink.now) (g.K.Sink.held c.write_part.new.sink) whole c.write_part.new.writer.gather) (sym p.2) stops)
 
-pub returns-in_err-write_note-clause-steady : goal.returns-in_err-write_note-clause-steady
-returns-in_err-write_note-clause-steady g c = λ room s.
-    let e = notes_lines-more c.args.event c.args.notes.now c.loop-note.note-index c.note-item.result c.loop-note-test.true c.note-item.is in
+pub returns-in_err-write_part-clause-steady : goal.returns-in_err-write_part-clause-steady
+returns-in_err-write_part-clause-steady g c = λ room s.
+    let e = notes_lines-split c.args.event c.loop-left.left.now _ _ _ c.split_at.ensures.front c.split_at.ensures.back in
     let all = subst (g.K.Sink.is_steady c.args.sink.now) (ap (λ n. n + room) (sym (length-append c.args.writer.now.gather (notes_lines c.args.event c.args.notes.now)))) s in
     let p = err_from_is_err_and c.from_residual.result c.from_residual.ensures.1 in
-    let stop = c.in_err-write_note.ensures.steady _ (writing_has_room _ _ _ _ _ _ _ _ _ _ _ c.loop-note.invariant e room all) in
-    subst (λ (r : Result (Unit {0}) Stop). OnlyMemoryStops r (g.K.Sink.is_steady c.write_note.new.sink (length c.write_note.new.writer.gather + room))) (sym p.1) (p.2 ∙ stop)
+    let stop = c.in_err-write_part.ensures.steady _ (writing_has_room _ _ _ _ _ _ _ _ _ _ _ c.loop-left.invariant e room all) in
+    subst (λ (r : Result (Unit {0}) Stop). OnlyMemoryStops r (g.K.Sink.is_steady c.write_part.new.sink (length c.write_part.new.writer.gather + room))) (sym p.1) (p.2 ∙ stop)
 
-pub loop-note-preserved : goal.loop-note-preserved
-loop-note-preserved g c =
-    let e = notes_lines-more c.args.event c.args.notes.now c.loop-note.note-index c.note-item.result c.loop-note-test.true c.note-item.is in
-    writing_goes_on _ _ _ _ _ _ (g.K.Sink.held c.write_note.new.sink) (g.K.Sink.faults c.write_note.new.sink) (g.K.Sink.is_steady c.write_note.new.sink) _ _ _ _ _ _
-    c.loop-note.invariant e c.in_ok-write_note.ensures.all c.write_note.ensures.cause.later c.in_ok-write_note.ensures.steady
+pub loop-left-preserved : goal.loop-left-preserved
+loop-left-preserved g c =
+    let e = notes_lines-split c.args.event c.loop-left.left.now _ _ _ c.split_at.ensures.front c.split_at.ensures.back in
+    writing_goes_on _ _ _ _ _ _ (g.K.Sink.held c.write_part.new.sink) (g.K.Sink.faults c.write_part.new.sink) (g.K.Sink.is_steady c.write_part.new.sink) _ _ _ _ _ _
+    c.loop-left.invariant e c.in_ok-write_part.ensures.all c.write_part.ensures.cause.later c.in_ok-write_part.ensures.steady
 
 pub returns-clause-all : goal.returns-clause-all
-returns-clause-all g c = writing_ends _ _ _ _ _ _ _ _ _ c.loop-note.invariant (notes_lines-past _ _ _ c.loop-note-test.false)
+returns-clause-all g c =
+    writing_ends _ _ _ _ _ _ _ _ _ c.loop-left.invariant (notes_lines-none c.args.event c.loop-left.left.now (eqb-true (length c.loop-left.left.now) 0 (sym c.is_empty.ensures ∙ c.loop-left-test.false)))
 
 pub returns-clause-steady : goal.returns-clause-steady
 returns-clause-steady g c = λ room s.
-    writing_ends_steadily _ _ _ _ _ _ _ _ _ c.loop-note.invariant (notes_lines-past _ _ _ c.loop-note-test.false) room
+    writing_ends_steadily _ _ _ _ _ _ _ _ _ c.loop-left.invariant (notes_lines-none c.args.event c.loop-left.left.now (eqb-true (length c.loop-left.left.now) 0 (sym c.is_empty.ensures ∙ c.loop-left-test.false))) room
     (subst (g.K.Sink.is_steady c.args.sink.now) (ap (λ n. n + room) (sym (length-append c.args.writer.now.gather (notes_lines c.args.event c.args.notes.now)))) s)
