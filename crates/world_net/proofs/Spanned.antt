@@ -29,7 +29,7 @@ module _ (x y : List ℕ) where
         ap (take (s.end - s.start)) behind ∙ take_all (s.end - s.start) y (omega (arith, starts, ends, length-append x y))
 
     module _ (old new : List ((ℕ × ℕ) × Span)) (id n : ℕ) (all : AreWithin (length x) old)
-      (more : (a b : ℕ) → at_pair new a b ≡ cond (eqb id a && eqb n b) (Some s) (at_pair old a b)) where
+        (more : (a b : ℕ) → at_pair new a b ≡ cond (eqb id a && eqb n b) (Some s) (at_pair old a b)) where
       within_by : (t : Bool) (o : Option Span) → IfSome o (IsWithin (length x)) → IfSome (cond t (Some s) o) (IsWithin (length (x ++ y)))
       within_by true o w = record { rises = omega (arith, starts, ends, length-append x y); ends = omega (arith, ends) }
       within_by false None w = tt
