@@ -1,7 +1,7 @@
-use Rattle.std.proofs.Common.{ℕ, List, [], refl, sym, ap, ◌∙◌, subst}
+use Rattle.std.proofs.Common.{List, [], refl, sym, ◌∙◌, subst}
 use Rattle.server_hub.specs.{Pairwise}
 use Rattle.world_net.specs.declared.seat.Seat.{Seat}
-use Rattle.world_net.specs.{Follows, at_pair}
+use Rattle.world_net.specs.{Follows}
 use Rattle.world_net.proofs.Fresh.{new_came, no_place}
 use Rattle.world_net.proofs.world.World.new.Goals as goal
 
