@@ -49,7 +49,7 @@ pub use rams::{
     TLV_FIRST_SEQUENCE, TLV_JOIN_TIME, TLV_MAX_BUFFER_FILL, TLV_MAX_RECEIVE_BITRATE,
     TLV_MAX_TRANSMIT_BITRATE, TLV_MEDIA_SENDERS, TLV_MIN_BUFFER_FILL, TLV_PREAMBLE_ONLY,
 };
-pub use reception::{InfoCame, MediaCame, Shown, Tuned};
+pub use reception::{InfoCame, MediaCame, Tuned};
 pub use receptions::receptions_of_datagrams;
 pub use rtcp::{BYE, FMT_NACK, FMT_RAMS, PSFB, RR, RTPFB, SDES};
 pub use status::Status;

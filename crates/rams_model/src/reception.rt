@@ -1,5 +1,4 @@
 //! A receiver, and what becomes of the datagrams that come to it.
-use crate::octets::Octets;
 
 /// What a receiver is tuned to, and as whom. The payload types are below 128.
 #[derive(Clone, Copy, Debug, PartialEq, Eq)]
@@ -52,13 +51,4 @@ pub enum InfoCame {
     Foreign,
     /// No RAMS-I is read of it, or one of a burst without its first sequence number.
     Bad,
-}
-
-/// A packet that a receiver presents.
-#[derive(Debug, Drop)]
-pub struct Shown {
-    /// The receiver's number of it.
-    pub n: u64,
-    /// The packet, without its padding.
-    pub packet: Octets,
 }
