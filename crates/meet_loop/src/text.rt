@@ -14,15 +14,6 @@ use std::alloc::Global;
 use std::mem;
 use trace_loop::{Stop, write_text};
 
-/// Lets memory that is given back stay at hand, where small blocks' would go back to the system at once: a
-/// block is taken, and given back.
-fn grow(alloc: Global) {
-    let _room = Vec::<u8>::with_capacity(alloc, AT_HAND);
-}
-
-/// Twice so much memory stays at hand.
-const AT_HAND: usize = 1 << 20;
-
 /// Writes the text of the world's trace that the source has left, and says how it ended.
 ///
 /// Its first line goes to the sink before the first byte is taken. Where the source fails, the sink gets
@@ -42,7 +33,6 @@ pub fn write_world<S: Source, K: Sink>(
     ensures steady { S.is_steady source.old → IfTold (S.left source.old)
         (λ xs. K.is_steady sink.old (length (meet_text xs).text) → OnlyMemoryStops result (Unit {0})) }
 {
-    grow(alloc);
     let mut meeting = new_meeting(alloc);
     let ended = write_text(alloc, &mut meeting, b"rams-world 1\n", source, sink);
     // The command ends here: to give its memory back block by block would only cost time.

@@ -1,5 +1,6 @@
 //! What a receiver plays.
-ghost use Rattle.std.specs.Prelude.{◌≡◌, ◌+◌, ◌%◌, ◌^◌, ◌<◌, ◌≤◌, if◌then◌else◌, Some, map, take, option_map, vec_len, IfOk, OnOk, OnErr, MatchResult};
+ghost use Rattle.std.specs.Prelude.{◌≡◌, ◌+◌, ◌%◌, ◌^◌, ◌<◌, ◌≤◌, if◌then◌else◌, Some, map, take, option_map, vec_len, length, IfOk, OnOk, OnErr, MatchResult};
+ghost use Rattle.std.specs.List.{insert};
 ghost use Rattle.rams_model.specs.Receiver.{Playing, playing_from, nearest, came, has_piece, with_arrival, joining, join_kept, presented, after_presenting, last_number, missing, most_named};
 ghost use Rattle.receiver_core.specs.{as_shown, pieces_of, Rise, AreBelow, IsPlace, IsGap};
 
@@ -98,7 +99,7 @@ impl Window {
         match place_in(&self.waits, n) {
             Ok(_) => Ok(MediaCame::Twice),
             Err(place) => {
-                self.waits.insert(place, Shown { n, packet })?;
+                put(&mut self.waits, place, Shown { n, packet })?;
                 Ok(MediaCame::Took)
             }
         }
@@ -180,6 +181,20 @@ fn waits_at(waits: &VecDeque<Shown>, passed: usize, n: u64) -> bool
         Some(shown) => shown.n == n,
         None => false,
     }
+}
+
+// Puts a packet at this place among those that wait. Most come in order, and go behind the last.
+fn put(waits: &mut VecDeque<Shown>, place: usize, shown: Shown) -> Result<(), NoMemory>
+    requires { place ≤ length waits.old.items }
+    ensures items { OnOk result (waits.new.items ≡ insert waits.old.items place shown) }
+    ensures same { OnErr result (waits.new.items ≡ waits.old.items) }
+{
+    if place == waits.len() {
+        waits.push_back(shown)?;
+    } else {
+        waits.insert(place, shown)?;
+    }
+    Ok(())
 }
 
 // Where the packet with a number waits, or where it would.

@@ -1,8 +1,10 @@
 -- Dropping what is marked, in place.
-use Rattle.std.proofs.Common.{◌≡◌, ℕ, zero, suc, ◌+◌, ◌-◌, ◌<◌, ◌≤◌, Bool, true, false, cond, List, [], ◌∷◌, ◌++◌, length, take, drop, get_or, set, refl, ap, sym, ◌∙◌, arith, length-set, append-nil}
+use Rattle.std.proofs.Common.{◌≡◌, ℕ, zero, suc, ◌+◌, ◌-◌, ◌<◌, ◌≤◌, Bool, true, false, cond, List, [], ◌∷◌, ◌++◌, length, take, drop, get_or, refl, ap, sym, ◌∙◌, subst, arith, append_assoc, append-nil, length-drop}
 use Rattle.std.specs.List.{list_any}
 use Rattle.repair_queue.proofs.Pending.{unmarked_none}
-use Rattle.std.proofs.lemmas.List.{take_more, drop_more, drop_all, drop_at, drop-drop, drop-set, take-set-le, take-take, get_or-take, length-take-le, nil_from_length}
+use Rattle.std.proofs.lemmas.List.{take_more, drop_more, drop_all, drop_at, drop-drop, take-take, drop-take, take_at as take_front, length-take-le, nil_from_length}
+use Rattle.std.proofs.lemmas.List.Edits.{length-paste}
+use Rattle.std.proofs.Math.Seq.{paste}
 use Rattle.rams_model.specs.Service.{Wanted, wanted}
 use Rattle.repair_queue.specs.{unmarked}
 
@@ -61,26 +63,57 @@ moved_more_done ws now done start i so_far flag = record {
   flags = so_far.flags;
 }
 
--- a repair in front stands where it stood
-same_place : (ws now : List Wanted) (i : ℕ) (w : Wanted) → take (i + 1) now ≡ take (i + 1) ws → i < length ws → get_or now i w ≡ get_or ws i w
-same_place ws now i w front short =
-    sym (get_or-take (i + 1) now i w (omega arith)) ∙ (ap (λ (l : List Wanted). get_or l i w) front ∙ get_or-take (i + 1) ws i w (omega arith))
+-- where the first flags are unset, as many stay
+unmarked_front : (n : ℕ) (ws : List Wanted) (done : List Bool) → n ≤ length done → n ≤ length ws → list_any (λ is_done. is_done) (take n done) ≡ false → unmarked ws done ≡ take n ws ++ unmarked (drop n ws) (drop n done)
+unmarked_front zero ws done flags short unset = refl
+unmarked_front (suc n) [] done flags short unset = absurd (omega arith)
+unmarked_front (suc n) (w ∷ ws) [] flags short unset = absurd (omega arith)
+unmarked_front (suc n) (w ∷ ws) (true ∷ done) flags short unset = cc
+unmarked_front (suc n) (w ∷ ws) (false ∷ done) flags short unset = ap (λ (vs : List Wanted). w ∷ vs) (unmarked_front n ws done (omega arith) (omega arith) unset)
 
-pub moved_more_kept : (ws now : List Wanted) (done : List Bool) (start i : ℕ) (w : Wanted) → MovedUp ws now done start (i + 1) → get_or done i false ≡ false → w ≡ get_or now i w → MovedUp ws (set now (start - 1) w) done (start - 1) i
-moved_more_kept ws now done start i w so_far flag at =
-    let stands : w ≡ get_or ws i w = at ∙ same_place ws now i w so_far.front (omega (arith, so_far.order, so_far.within, so_far.flags)) in
-    let next : start - 1 + 1 ≡ start = omega (arith, so_far.order) in
+-- a run of unmarked ones moves up
+pub moved_run : (ws now : List Wanted) (done : List Bool) (start from end to : ℕ) → from ≤ end → to ≡ start - (end - from) → MovedUp ws now done start end
+    → list_any (λ is_done. is_done) (drop from (take end done)) ≡ false → MovedUp ws (paste now to (drop from now) (end - from)) done to from
+moved_run ws now done start from end to low is so_far unset =
+    let n = end - from in
+    let ends : from + n ≡ end = omega (arith, low) in
+    let starts : to + n ≡ start = omega (arith, low, is, so_far.order) in
+    let room : to ≤ length now = omega (arith, is, so_far.within, so_far.flags, so_far.long) in
+    let few : n ≤ length (drop from now) = omega (arith, length-drop from now, so_far.order, so_far.within, so_far.flags, so_far.long) in
+    let run : take n (drop from now) ≡ take n (drop from ws) =
+    sym (drop-take from n now) ∙ (ap (λ (m : ℕ). drop from (take m now)) ends ∙ (ap (drop from) so_far.front ∙ (ap (λ (m : ℕ). drop from (take m ws)) (sym ends) ∙ drop-take from n ws))) in
+    let flags : take n (drop from done) ≡ drop from (take end done) = sym (drop-take from n done) ∙ ap (λ (m : ℕ). drop from (take m done)) ends in
+    let rest : unmarked (drop from ws) (drop from done) ≡ take n (drop from ws) ++ unmarked (drop end ws) (drop end done) =
+    unmarked_front n (drop from ws) (drop from done) (omega (arith, length-drop from done, so_far.order, so_far.within)) (omega (arith, length-drop from ws, so_far.order, so_far.within, so_far.flags)) (ap (list_any (λ is_done. is_done)) flags ∙ unset)
+    ∙ (ap (λ (l : List Wanted). take n (drop from ws) ++ unmarked l (drop n (drop from done))) (drop-drop n from ws ∙ ap (λ (m : ℕ). drop m ws) ends)
+    ∙ ap (λ (l : List Bool). take n (drop from ws) ++ unmarked (drop end ws) l) (drop-drop n from done ∙ ap (λ (m : ℕ). drop m done) ends)) in
     record {
-      front = take-set-le i now (start - 1) w (omega (arith, so_far.order)) ∙ take_fewer ws now i so_far.front;
-      rest = drop-set now (start - 1) w (omega (arith, so_far.order, so_far.within, so_far.flags, so_far.long))
-          ∙ (ap (λ (l : List Wanted). w ∷ l) (ap (λ (n : ℕ). drop n now) next ∙ so_far.rest)
-          ∙ sym (unmarked_from ws done i w (omega (arith, so_far.order, so_far.within, so_far.flags)) (omega (arith, so_far.order, so_far.within))
-          ∙ (ap (λ (b : Bool). unmarked (get_or ws i w ∷ drop (i + 1) ws) (b ∷ drop (i + 1) done)) flag ∙ ap (λ (v : Wanted). v ∷ unmarked (drop (i + 1) ws) (drop (i + 1) done)) (sym stands))));
-      order = omega (arith, so_far.order);
-      within = omega (arith, so_far.within);
-      long = length-set now (start - 1) w ∙ so_far.long;
+      front = front_kept ws now from end to n low (omega (arith, low, is, so_far.order)) room few so_far.front;
+      rest = pasted now to (drop from now) n room few ∙ (ap (λ (l : List Wanted). l ++ drop (to + n) now) run ∙ (ap (λ (m : ℕ). take n (drop from ws) ++ drop m now) starts ∙ (ap (λ (l : List Wanted). take n (drop from ws) ++ l) so_far.rest ∙ sym rest)));
+      order = omega (arith, low, is, so_far.order);
+      within = omega (arith, is, so_far.within);
+      long = length-paste now to (drop from now) n (omega (arith, starts, so_far.within, so_far.flags, so_far.long)) few ∙ so_far.long;
       flags = so_far.flags;
     }
+  where
+    pasted : (d : List Wanted) (at : ℕ) (s : List Wanted) (n : ℕ) → at ≤ length d → n ≤ length s → drop at (paste d at s n) ≡ take n s ++ drop (at + n) d
+    pasted d at s n room few = ap (drop at) (append_assoc (take at d) (take n s) (drop (at + n) d)) ∙ drop_at (take at d) (take n s ++ drop (at + n) d) at (length-take-le at d room)
+
+    front_at : (d : List Wanted) (at : ℕ) (s : List Wanted) (n : ℕ) → at ≤ length d → take at (paste d at s n) ≡ take at d
+    front_at d at s n room = ap (take at) (append_assoc (take at d) (take n s) (drop (at + n) d)) ∙ take_front (take at d) (take n s ++ drop (at + n) d) at (length-take-le at d room)
+
+    front_kept : (ws now : List Wanted) (from end to n : ℕ) → from ≤ end → from ≤ to → to ≤ length now → n ≤ length (drop from now) → take end now ≡ take end ws → take from (paste now to (drop from now) n) ≡ take from ws
+    front_kept ws now from end to n low below room few same =
+        sym (take-take from to (paste now to (drop from now) n) below) ∙ (ap (take from) (front_at now to (drop from now) n room) ∙ (take-take from to now below
+        ∙ (sym (take-take from end now low) ∙ (ap (take from) same ∙ take-take from end ws low))))
+
+-- and the marked one in front of them goes
+pub moved_past : (ws now : List Wanted) (done : List Bool) (start from next : ℕ) → next ≡ from - 1 → MovedUp ws now done start from → (0 < from → get_or done (from - 1) false ≡ true) → MovedUp ws now done start next
+moved_past ws now done start zero next is so_far flag = subst (MovedUp ws now done start) (sym is) so_far
+moved_past ws now done start (suc i) next is so_far flag =
+    let more : suc i ≡ i + 1 = omega arith in
+    let place : i ≡ suc i - 1 = omega arith in
+    subst (MovedUp ws now done start) (sym (is ∙ sym place)) (moved_more_done ws now done start i (subst (MovedUp ws now done start) more so_far) (ap (λ (n : ℕ). get_or done n false) place ∙ flag (omega arith)))
 
 -- the places behind the first, after the ones behind those were written
 pub drop_written : (xs written post : List Wanted) (from n : ℕ) → from ≤ length xs → length post ≡ 0 → drop (from + n) (take from xs ++ (written ++ post)) ≡ drop n written

@@ -3,6 +3,7 @@ ghost use Rattle.std.specs.Prelude.{◌≡◌, ◌<◌, ◌≤◌, ◌++◌, [],
 ghost use Rattle.rams_model.specs.Service.{wanted};
 ghost use Rattle.repair_queue.specs.{unmarked, without};
 
+use crate::flags::end_of_set;
 use crate::wanted::{MOST_PENDING, Wanted};
 use ram_io::NoMemory;
 use std::alloc::Global;
@@ -92,12 +93,12 @@ fn move_unmarked(pending: &mut [Wanted], done: &[bool]) -> usize
     ensures pending { drop result pending.new ≡ unmarked pending.old done.now }
 {
     let mut start = done.len();
-    for i in (0..done.len()).rev() {
-        if done[i] {
-            continue;
-        }
-        start -= 1;
-        pending[start] = pending[i];
+    let mut end = done.len();
+    while end > 0 {
+        let from = end_of_set(&done[..end]);
+        start -= end - from;
+        pending.copy_within(from..end, start);
+        end = from.saturating_sub(1);
     }
     start
 }

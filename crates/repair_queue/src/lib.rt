@@ -7,6 +7,7 @@
 mod backlog;
 mod block;
 mod counts;
+mod flags;
 mod index;
 mod marks;
 mod queue;

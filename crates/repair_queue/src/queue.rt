@@ -1,6 +1,6 @@
 //! The queue of pending repairs.
 use crate::backlog::Backlog;
-use crate::block::{BLOCK, is_any_set};
+use crate::flags::end_of_set;
 use crate::index::Index;
 use crate::span::Span;
 use crate::wanted::{Asked, MOST_PENDING, Wanted};
@@ -135,37 +135,4 @@ impl Queue {
         self.pending.drop_client(client);
         self.index.mend(self.pending.as_slice());
     }
-}
-
-ghost use Rattle.std.specs.Prelude.{◌≡◌, ◌≤◌, false, length, drop};
-ghost use Rattle.std.specs.List.{list_any};
-
-// One above the place of the last flag that is set; 0 where none is.
-fn end_of_set(done: &[bool]) -> usize
-    ensures within { result ≤ length done.now }
-    ensures unset { list_any (λ is_done. is_done) (drop result done.now) ≡ false }
-{
-    let mut end = end_of_blocks(done);
-    while end > 0 {
-        if done[end - 1] {
-            return end;
-        }
-        end -= 1;
-    }
-    end
-}
-
-// The flags without the last whole blocks in which none is set: how many there are.
-fn end_of_blocks(done: &[bool]) -> usize
-    ensures within { result ≤ length done.now }
-    ensures unset { list_any (λ is_done. is_done) (drop result done.now) ≡ false }
-{
-    let mut end = done.len();
-    while end >= BLOCK {
-        if is_any_set(&done[end - BLOCK..end]) {
-            return end;
-        }
-        end -= BLOCK;
-    }
-    end
 }

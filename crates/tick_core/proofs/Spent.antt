@@ -1,5 +1,5 @@
 -- The pending repairs that do not fit: the channel has less left than their packets take, or their clients may take less.
-use Rattle.std.proofs.Common.{◌≡◌, ℕ, zero, suc, ◌-◌, ◌<◌, ◌≤◌, Bool, true, false, List, [], ◌∷◌, ◌++◌, length, take, drop, length-drop, replicate, Option, Some, None, is_some, IfSome, refl, ap, sym, ◌∙◌, subst, arith, eqb, leb, append_assoc, append-nil}
+use Rattle.std.proofs.Common.{◌≡◌, ℕ, zero, suc, ◌-◌, ◌<◌, ◌≤◌, Bool, true, false, List, [], ◌∷◌, ◌++◌, length, take, drop, length-drop, replicate, Option, Some, None, is_some, IfSome, refl, ap, sym, ◌∙◌, subst, arith, eqb, leb, append_assoc, append-nil, get_or}
 use Rattle.std.specs.List.{AllByRecursion}
 use Rattle.std.proofs.lemmas.Bool.{cond_both, cond-false, lt-leb, and_left, and_right}
 use Rattle.std.proofs.lemmas.List.{length-take-le}
@@ -8,7 +8,7 @@ use Rattle.rams_model.specs.Service.{Wanted}
 use Rattle.channel_cache.specs.{AreAtLeast}
 use Rattle.packet_ring.specs.{packet_of}
 use Rattle.tick_core.specs.declared.allowance.Allowance.{Allowance}
-use Rattle.tick_core.specs.{Drafted, Repaired, allowance_for, fits, waiting, with_repair, with_wanted, with_all_wanted, IsSpent, FitsNowhere, AreHeld}
+use Rattle.tick_core.specs.{Drafted, Repaired, allowance_for, fits, waiting, with_repair, with_wanted, with_all_wanted, IsSpent, FitsNowhere, AreHeld, IsGone}
 use Rattle.tick_core.proofs.Within.{some_there}
 
 -- less is left than the least size
@@ -92,6 +92,38 @@ rest_waits held (w ∷ ws) r spent all =
     ap (with_all_wanted held ws) (held_waits w (packet_of w.n held) r (none_fits held w r spent) (some_there (packet_of w.n held) all.0))
     ∙ (rest_waits held ws (waiting r) spent all.1
     ∙ ap (λ (l : List Bool). record r { done = l }) (append_assoc r.done (false ∷ []) (replicate (length ws) false)))
+
+-- the first of them wait where these are held
+pub front_waits : (held : List Held) (k : ℕ) (ws : List Wanted) (r r2 : Repaired) → k ≤ length ws → IsSpent held r → AreHeld held (take k ws) → r2 ≡ record r { done = r.done ++ replicate k false }
+    → with_all_wanted held (drop k ws) r2 ≡ with_all_wanted held ws r
+unfolding with_all_wanted
+front_waits held zero ws r r2 within spent all made = ap (with_all_wanted held ws) (made ∙ ap (λ (l : List Bool). record r { done = l }) (append-nil r.done))
+front_waits held (suc k) [] r r2 within spent all made = absurd (omega arith)
+front_waits held (suc k) (w ∷ ws) r r2 within spent all made =
+    front_waits held k ws (waiting r) r2 (omega arith) spent all.1 (made ∙ sym (ap (λ (l : List Bool). record r { done = l }) (append_assoc r.done (false ∷ []) (replicate k false))))
+    ∙ sym (ap (with_all_wanted held ws) (held_waits w (packet_of w.n held) r (none_fits held w r spent) (some_there (packet_of w.n held) all.0)))
+
+-- the first of these is gone
+pub first_none : (held : List Held) (ws : List Wanted) (r : Repaired) → length ws < 1 → r ≡ with_all_wanted held (take 1 ws) r
+unfolding with_all_wanted
+first_none held [] r short = refl
+first_none held (w ∷ ws) r short = absurd (omega arith)
+
+pub first_is : (held : List Held) (ws : List Wanted) (w : Wanted) (r r2 : Repaired) → 0 < length ws → w ≡ get_or ws 0 w → IsGone held ws → r2 ≡ with_wanted w None r → r2 ≡ with_all_wanted held (take 1 ws) r
+unfolding with_all_wanted
+first_is held [] w r r2 some is gone made = absurd (omega arith)
+first_is held (v ∷ ws) w r r2 some is gone made = made ∙ (ap (λ (x : Wanted). with_wanted x None r) is ∙ ap (λ (o : Option Held). with_wanted v o r) (sym gone))
+
+-- and then the first of those that are left
+pub first_goes : (held : List Held) (ws : List Wanted) (r r2 : Repaired) → r2 ≡ with_all_wanted held (take 1 ws) r → with_all_wanted held (drop 1 ws) r2 ≡ with_all_wanted held ws r
+unfolding with_all_wanted
+first_goes held [] r r2 made = made
+first_goes held (w ∷ ws) r r2 made = ap (with_all_wanted held ws) made
+
+pub first_leaves : (held : List Held) (ws : List Wanted) (r r2 : Repaired) → r2 ≡ with_all_wanted held (take 1 ws) r → IsSpent held r → IsSpent held r2
+unfolding with_all_wanted
+first_leaves held [] r r2 made spent = subst (IsSpent held) (sym made) spent
+first_leaves held (w ∷ ws) r r2 made spent = spent_still held w r r2 made spent
 
 held_rest : (held : List Held) (i : ℕ) (ws : List Wanted) → AreHeld held ws → AreHeld held (drop i ws)
 held_rest held zero ws all = all

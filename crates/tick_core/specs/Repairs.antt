@@ -67,6 +67,11 @@ FitsNowhere held w r = IfSome (packet_of w.n held) (λ h. IfSome (allowance_for 
 abbrev pub AreHeld : List Held → List Wanted → Type 0
 AreHeld held ws = AllByRecursion (λ w. IsSome (packet_of w.n held)) ws
 
+-- the packet of the first of these repairs isn't held, where there is one
+abbrev pub IsGone : List Held → List Wanted → Type 0
+IsGone held [] = Unit {0}
+IsGone held (w ∷ ws) = packet_of w.n held ≡ None
+
 -- these repairs, one after another
 unfoldable pub with_all_wanted : List Held → List Wanted → Repaired → Repaired
 with_all_wanted held [] r = r

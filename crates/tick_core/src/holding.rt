@@ -1,12 +1,12 @@
 //! What a channel holds, as a pass over its pending repairs asks for it.
-ghost use Rattle.std.specs.Prelude.{◌≡◌, true, is_some, option_copied};
+ghost use Rattle.std.specs.Prelude.{◌≡◌, ◌≤◌, true, length, take, drop, is_some, option_copied};
 ghost use Rattle.packet_ring.specs.{packet_of};
 ghost use Rattle.channel_cache.specs.{AreAtLeast};
-ghost use Rattle.tick_core.specs.{AreHeld};
+ghost use Rattle.tick_core.specs.{AreHeld, IsGone};
 
 use channel_cache::Cache;
 use rams_model::Held;
-use repair_queue::Queue;
+use repair_queue::{Queue, Wanted};
 use std::marker::Model;
 
 /// The packets that a cache holds. What it says of all of them was asked once.
@@ -71,6 +71,22 @@ impl<'a> Holding<'a> {
         ensures { result ≡ is_some (packet_of n self.now) }
     {
         self.oldest <= n && n < self.end
+    }
+
+    /// How many of these repairs, from the first on, have their packets held.
+    pub fn held_front(&self, pending: &[Wanted]) -> usize
+        ensures within { result ≤ length pending.now }
+        ensures held { AreHeld self.now (take result pending.now) }
+        ensures gone { IsGone self.now (drop result pending.now) }
+    {
+        let mut count = 0;
+        for wanted in pending {
+            if !self.has(wanted.n) {
+                return count;
+            }
+            count += 1;
+        }
+        count
     }
 
     /// Whether the packets of all pending repairs are held. It looks at none of them, and may say no

@@ -1,7 +1,7 @@
 //! The pending repairs.
-ghost use Rattle.std.specs.Prelude.{◌≡◌, ◌<◌, ◌≤◌, ◌&&◌, nat_le, true, false, [], ◌++◌, length, drop, replicate, Some, None, IfSome, IfOk};
+ghost use Rattle.std.specs.Prelude.{◌≡◌, ◌<◌, ◌≤◌, ◌&&◌, nat_le, true, false, [], ◌++◌, length, take, drop, replicate, Some, None, IfSome, IfOk};
 ghost use Rattle.client_table.specs.{AreRising};
-ghost use Rattle.tick_core.specs.{IsSpent, FitsNowhere, AreOfKnown, told_by, all_allowances, allowance_for, after_repair, waiting, with_repair, with_wanted, with_all_wanted};
+ghost use Rattle.tick_core.specs.{IsSpent, FitsNowhere, AreOfKnown, IsGone, told_by, all_allowances, allowance_for, after_repair, waiting, with_repair, with_wanted, with_all_wanted};
 ghost use Rattle.packet_ring.specs.{packet_of};
 
 use crate::allowance::Allowance;
@@ -228,13 +228,36 @@ impl<'a> Repairs<'a> {
 
     /// These repairs wait on but for those whose packets are gone.
     fn pass_over(&mut self, holding: &Holding<'_>, pending: &[Wanted]) -> Result<(), NoMemory>
-        requires { IsSpent holding.now self.old }
+        requires spent { IsSpent holding.now self.old }
+        requires few { length pending.now ≤ 4096 }
         ensures { IfOk result (λ _. self.new ≡ with_all_wanted holding.now pending.now self.old) }
     {
-        for wanted in pending {
-            self.pass(holding, wanted)?;
+        let mut left = pending;
+        while !left.is_empty() {
+            let held = holding.held_front(left);
+            self.wait_all(held)?;
+            left = self.drop_first(holding, &left[held..])?;
         }
         Ok(())
+    }
+
+    /// The packet of the first of these repairs, if there is one, is no longer held. It answers those behind it.
+    fn drop_first<'b>(
+        &mut self,
+        _holding: &Holding<'_>,
+        pending: &'b [Wanted],
+    ) -> Result<&'b [Wanted], NoMemory>
+        requires { IsGone _holding.now pending.now }
+        ensures rest { IfOk result (λ rest. rest.now ≡ drop 1 pending.now) }
+        ensures first { IfOk result (λ _. self.new ≡ with_all_wanted _holding.now (take 1 pending.now) self.old) }
+    {
+        match pending {
+            [gone, rest @ ..] => {
+                self.drop_gone(gone)?;
+                Ok(rest)
+            }
+            [] => Ok(pending),
+        }
     }
 
     /// What was noted, and a flag for each repair that is over.

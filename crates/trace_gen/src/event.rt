@@ -55,7 +55,7 @@ pub fn event_into(blocks: u32, at: &mut Made, page: &mut Vec<u8>) -> Result<Opti
 }
 
 /// The next event, with a packet in memory that it shares with others of its block, which stand on `ready` until they
-/// come, and with the bytes of another on `page`. After the last event `at` is as before.
+/// come, and with the bytes of another on `page`. After want of memory, and after the last event, `at` is as before.
 #[tactic(auto, using(crate::proofs::Coming::packet_comes))]
 pub fn next_event(
     alloc: Global,
@@ -70,6 +70,7 @@ pub fn next_event(
     ensures read { IfOk result (λ e. IfSome e IsReadNext) }
     ensures ready { OnOk result (IsReady at.new ready.new) }
     ensures seed { at.new.seed ≡ at.old.seed }
+    ensures same { OnErr result (at.new ≡ at.old) }
 {
     if at.block() < blocks && at.has_packets() {
         return Ok(Some(Next::Packet(at.shared_packet(alloc, ready)?)));

@@ -16,6 +16,15 @@ use ram_io::{Sink, Source};
 use rams_model::Status;
 use std::alloc::Global;
 
+/// Lets memory that is given back stay at hand, where it would go back to the system after each tick: a block
+/// is taken, and given back.
+fn keep_at_hand(alloc: Global) {
+    let _room = Vec::<u8>::with_capacity(alloc, AT_HAND);
+}
+
+/// Twice so much memory stays at hand.
+const AT_HAND: usize = 1 << 20;
+
 /// Puts what waits when a run ends, whatever ended it but the sink's own failure.
 pub fn close<K: Sink>(
     gather: &mut Gather,
@@ -67,6 +76,7 @@ pub fn write_text<V: TraceServer, S: Source, K: Sink>(
     ensures steady { S.is_steady source.old → IfTold (S.left source.old)
         (λ xs. K.is_steady sink.old (length (served_text V.serving xs).text) → OnlyMemoryStops result (Unit {0})) }
 {
+    keep_at_hand(alloc);
     let mut writer = new_writer(alloc)?;
     put(&mut writer.gather, sink, first_line)?;
     flush(&mut writer.gather, sink)?;

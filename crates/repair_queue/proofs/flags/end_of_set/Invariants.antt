@@ -1,6 +1,6 @@
 use Rattle.std.proofs.Common.{◌≡◌, ◌≤◌, false, length, drop}
 use Rattle.std.specs.List.{list_any}
-use Rattle.repair_queue.proofs.queue.end_of_set.Given as goal
+use Rattle.repair_queue.proofs.flags.end_of_set.Given as goal
 
 -- none is set from here on
 abbrev pub invariant-loop-end : goal.invariant-loop-end

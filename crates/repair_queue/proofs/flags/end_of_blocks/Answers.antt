@@ -1,6 +1,6 @@
 use Rattle.std.proofs.Common.{◌-◌, ◌∙◌, sym, arith}
 use Rattle.repair_queue.proofs.Marked.{unset_block}
-use Rattle.repair_queue.proofs.queue.end_of_blocks.Goals as goal
+use Rattle.repair_queue.proofs.flags.end_of_blocks.Goals as goal
 
 pub loop-end-preserved : goal.loop-end-preserved
 loop-end-preserved c =
