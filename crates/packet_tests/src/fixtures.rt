@@ -1,8 +1,7 @@
-//! What the tests of several crates begin with: bytes in words, and the drivers of tables.
-use std::alloc::{AllocError, Global};
+//! What the tests of several crates begin with, and what is compared.
 use std::fmt::Debug;
 use std::process::Abort;
-use std::test::Fail;
+use test_words::Words;
 
 /// The SSRC of the client that sends feedback.
 pub const CLIENT: u32 = 0x0000_c001;
@@ -10,28 +9,8 @@ pub const CLIENT: u32 = 0x0000_c001;
 /// The SSRC of the media source.
 pub const MEDIA: u32 = 0x1122_3344;
 
-/// Bytes, as words of hexadecimal digits.
-pub type Words = &'static [&'static str];
-
 /// A name, bytes, and the text of what they are read as.
 pub type Reading = (&'static str, Words, &'static str);
-
-/// The bytes of words of hexadecimal digits.
-pub fn bytes_of(alloc: Global, words: &[&str]) -> Result<Vec<u8>, Fail> {
-    let mut bytes = Vec::new(alloc);
-    for word in words {
-        let piece = hex::decode(alloc, word.as_bytes())?;
-        bytes.extend_from_slice(&piece)?;
-    }
-    Ok(bytes)
-}
-
-/// So many times the same byte, and then the end.
-pub fn run(alloc: Global, byte: u8, count: usize, end: &[u8]) -> Result<Vec<u8>, AllocError> {
-    let mut bytes = vec![in alloc; byte; count]?;
-    bytes.extend_from_slice(end)?;
-    Ok(bytes)
-}
 
 /// The value is the one that is wanted of this.
 pub fn same<T: Debug + PartialEq, C: Debug>(rt: &impl Abort, got: &T, want: &T, of: &C) {

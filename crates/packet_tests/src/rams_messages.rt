@@ -1,5 +1,5 @@
 //! RAMS messages, byte for byte, and each fault at its edge (RFC 6285, 7).
-use crate::fixtures::{CLIENT, MEDIA, Words, bytes_of, fci_of, holds, is_twice, same};
+use crate::fixtures::{CLIENT, MEDIA, fci_of, holds, is_twice, same};
 use rams_tlv::{
     Info, Request, Stop, TlvFault, append_info, append_request, append_stop, names, read_info,
     read_request, read_stop, write_info, write_request, write_stop,
@@ -7,6 +7,7 @@ use rams_tlv::{
 use std::alloc::Global;
 use std::process::Abort;
 use std::test::Fail;
+use test_words::{Words, bytes_of};
 
 const SENDER: u32 = 0xaabb_ccdd;
 

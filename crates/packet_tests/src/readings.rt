@@ -1,9 +1,10 @@
 //! Bytes, and the text of what they are read as: the tables of all crates, and what reads each.
-use crate::fixtures::{Reading, bytes_of, same};
+use crate::fixtures::{Reading, same};
 use crate::{nacks, retransmissions, rtcp_packets, rtp_packets};
 use std::alloc::Global;
 use std::process::Abort;
 use std::test::Fail;
+use test_words::bytes_of;
 
 /// What bytes are read as.
 #[derive(Clone, Copy)]
