@@ -1,5 +1,5 @@
 use Rattle.std.proofs.Common.{◌≡◌, length}
-use Rattle.state_tests.proofs.reordering.drain.Given as goal
+use Rattle.cache_tests.proofs.reordering.drain.Given as goal
 
 abbrev pub invariant-loop-item : goal.invariant-loop-item
 invariant-loop-item l = l.window.ended ≡ l.fn.window.ended

@@ -1,29 +1,20 @@
-//! Tests of the state layer, on public calls alone: tables that were worked out by hand.
+//! Tests of what a channel keeps of its packets, on public calls alone: tables that were worked out by hand.
 //!
 //! Each module but `fixtures` has the tests of one crate: `sequence_numbers` those of `ext_seq`,
 //! `access_flags` of `ts_access`, `reordering` of `reorder_window`, `rings` of `packet_ring`,
-//! `burst_starts` of `access_index`, `live_packets` of `channel_cache`, `burst_plans` of `burst_plan`,
-//! `budgets` of `link_budget`, `repairs` of `repair_queue`, `clients` of `client_table`.
+//! `burst_starts` of `access_index`, `live_packets` of `channel_cache`.
 #![tactic(auto)]
 
 #[cfg(test)]
 mod access_flags;
 #[cfg(test)]
-mod budgets;
-#[cfg(test)]
-mod burst_plans;
-#[cfg(test)]
 mod burst_starts;
-#[cfg(test)]
-mod clients;
 #[cfg(test)]
 mod fixtures;
 #[cfg(test)]
 mod live_packets;
 #[cfg(test)]
 mod reordering;
-#[cfg(test)]
-mod repairs;
 #[cfg(test)]
 mod rings;
 #[cfg(test)]

@@ -1,6 +1,6 @@
 use Rattle.std.proofs.Common.{ℕ, ◌+◌}
 use Rattle.channel_cache.specs.{StandsForFewer}
-use Rattle.state_tests.proofs.live_packets.expect_noted.Given as goal
+use Rattle.cache_tests.proofs.live_packets.expect_steps.Given as goal
 
 -- each packet so far was counted
 abbrev pub invariant-loop-sequence : goal.invariant-loop-sequence

@@ -1,5 +1,5 @@
 use Rattle.std.proofs.Common.{◌+◌, arith}
-use Rattle.state_tests.proofs.live_packets.expect_steps.Goals as goal
+use Rattle.cache_tests.proofs.live_packets.expect_noted.Goals as goal
 
 pub loop-sequence-init : goal.loop-sequence-init
 loop-sequence-init g c = λ most s. record { arrivals = s.arrivals; stands = s.stands; few = omega (arith, s.few) }

@@ -1,5 +1,5 @@
 use Rattle.std.proofs.Common.{◌≡◌, ◌+◌, ◌*◌, ◌^◌, ◌<◌, ◌≤◌}
-use Rattle.state_tests.proofs.burst_starts.index_of.Given as goal
+use Rattle.cache_tests.proofs.burst_starts.index_of.Given as goal
 
 -- each packet is a mark, and the next number is one above the last mark's
 abbrev pub invariant-loop-ts : goal.invariant-loop-ts
