@@ -1,5 +1,5 @@
 //! Worked datagrams, byte for byte.
-use crate::fixtures::{CHANNEL, SOURCE, bytes_of, holds, same};
+use crate::fixtures::{holds, same};
 use bytes::Bytes;
 use channel_config::Config;
 use order_datagrams::{Order, append_order, render_order, renders};
@@ -7,6 +7,7 @@ use rams_model::Info;
 use std::alloc::Global;
 use std::process::Abort;
 use std::test::Fail;
+use test_channel::{CHANNEL, SOURCE, bytes_of};
 
 /// The server's SSRC.
 const SERVER: u32 = 0xaabb_ccdd;

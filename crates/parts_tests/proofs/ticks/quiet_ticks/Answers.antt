@@ -1,6 +1,6 @@
 use Rattle.std.proofs.Common.{[], ◌∷◌}
 use Rattle.rams_model.specs.declared.event.Event.TheVariants.{Tick}
-use Rattle.server_tests.proofs.ticks.quiet_ticks.Goals as goal
+use Rattle.parts_tests.proofs.ticks.quiet_ticks.Goals as goal
 
 pub plan_tick-requires-2 : goal.plan_tick-requires-2
 plan_tick-requires-2 c d =
