@@ -1,12 +1,13 @@
 //! Settings from descriptions, and descriptions of channels: from a head's bytes to what is written.
 use crate::descriptions::{MEDIA, REPAIRS, SESSION};
-use crate::fixtures::{joined, same};
+use crate::fixtures::same;
 use description_loop::{Status, Stop, write_description, write_settings};
 use ram_io::{MemSink, MemSource};
 use std::alloc::{AllocError, Global};
 use std::process::Abort;
 use std::str;
 use std::test::Fail;
+use test_words::joined;
 
 const HEAD: &str = "rams-trace 1 tick 10 link 100000\n";
 
