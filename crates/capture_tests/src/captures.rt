@@ -1,11 +1,12 @@
 //! Captures, written as traces.
-use crate::fixtures::{Words, bytes_of, joined, same};
+use crate::fixtures::same;
 use capture_loop::{Status, Stop, write_capture};
 use ram_io::{MemSink, MemSource, Open};
 use std::alloc::Global;
 use std::process::Abort;
 use std::str;
 use std::test::Fail;
+use test_words::{Words, bytes_of, joined};
 
 const HEAD: &str = "rams-trace 1 tick 10 link 100000";
 

@@ -1,10 +1,10 @@
 //! What is told of a capture that is refused.
-use crate::fixtures::{Words, bytes_of, joined};
 use capture_loop::{CaptureFault, CaptureWatch, FileKind, write_capture};
 use ram_io::{MemSink, MemSource};
 use std::alloc::Global;
 use std::cell::Cell;
 use std::test::Fail;
+use test_words::{Words, bytes_of, joined};
 
 const HEAD: Words = &[
     "rams-trace 1 tick 10 link 100000",

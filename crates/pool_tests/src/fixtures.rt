@@ -2,49 +2,22 @@
 ghost use Rattle.std.specs.Prelude.{IfOk};
 ghost use Rattle.pool_run.specs.{IsFresh};
 
-use channel_config::{Access, Channel, Config};
+use channel_config::{Channel, Config};
 use pool_run::Lane;
 use rams_model::{Event, Octets};
 use session_core::Core;
 use std::alloc::{AllocError, Global};
 use std::process::Abort;
 use std::test::Fail;
-
-/// The media source of the channel.
-const SOURCE: u32 = 0x1122_3344;
+use test_channel::{CHANNEL, SOURCE, bytes_of};
 
 /// Settings of a channel that sends at most one packet of 1,500 bytes in a tick.
-const CHANNEL: Channel = Channel {
-    id: 7,
-    ssrc: SOURCE,
-    pt: 33,
-    rtx: 99,
-    server: 0xaabb_ccdd,
-    seq0: 500,
-    ring: 64,
-    window: 0,
-    access: Access::Marker,
-    share: 10000,
-    reserve: 1500,
+const NARROW: Channel = Channel {
     burst: 1500,
     declared: 0,
     minwire: 1500,
-    limit: 100,
-    idle: 100,
-    clients: 4,
-    depth: 0,
-    swell: 0,
+    ..CHANNEL
 };
-
-/// Words in network byte order, with so many zeros behind them.
-fn bytes_of(alloc: Global, words: &[u32], zeros: usize) -> Result<Octets, AllocError> {
-    let mut bytes = Vec::new(alloc);
-    for word in words {
-        bytes.extend_from_slice(&word.to_be_bytes())?;
-    }
-    bytes.extend_from_slice(&vec![in alloc; 0u8; zeros]?)?;
-    Ok(Octets::of(bytes))
-}
 
 /// Three packets of 1,500 bytes on the wire, of which the second is an access point; a RAMS-R; two
 /// ticks, each of which sends a packet of the burst.
@@ -57,13 +30,13 @@ fn burst_of_two(alloc: Global) -> Result<Vec<Event>, AllocError> {
         [0x8021_000c, 1800, SOURCE],
     ];
     for words in packets {
-        events.push(Event::Live(bytes_of(alloc, &words, 1458)?))?;
+        events.push(Event::Live(Octets::of(bytes_of(alloc, &words, 1458)?)))?;
     }
     // RFC 6285, 7.2: v=2, p=0, FMT=6 (RAMS), RTPFB, length 3; sender; media source; SFMT=1 (RAMS-R)
     let request = [0x86cd_0003, 0x0000_c001, SOURCE, 0x0100_0000];
     events.push(Event::Feedback {
         client: 5,
-        bytes: bytes_of(alloc, &request, 0)?,
+        bytes: Octets::of(bytes_of(alloc, &request, 0)?),
     })?;
     events.push(Event::Tick)?;
     events.push(Event::Tick)?;
@@ -74,7 +47,7 @@ fn burst_of_two(alloc: Global) -> Result<Vec<Event>, AllocError> {
 pub fn sends_two(rt: &impl Abort, alloc: Global) -> Result<Lane, Fail>
     ensures { IfOk result IsFresh }
 {
-    let config = Config::check(CHANNEL, 10)?;
+    let config = Config::check(NARROW, 10)?;
     let events = burst_of_two(alloc)?;
     assert!(rt; events.len() <= 200_000, "few events");
     Ok(Lane {

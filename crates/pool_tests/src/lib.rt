@@ -1,4 +1,4 @@
-//! Tests of a link that several channels share, on public calls alone.
+//! Tests of channels that share a link, on public calls alone.
 //!
 //! `fixtures` has a channel's settings and what comes to it, `gates` the gate at which threads meet.
 #![tactic(auto)]
@@ -13,6 +13,3 @@ mod lanes;
 // pool_loop
 #[cfg(test)]
 mod traces;
-// link_pool
-#[cfg(test)]
-mod links;

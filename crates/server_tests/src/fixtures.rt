@@ -1,8 +1,7 @@
-//! What is compared, a channel's settings, and the bytes of what comes to it.
-use channel_config::{Access, Channel};
-use std::alloc::{AllocError, Global};
+//! What is compared, and the words of messages.
 use std::fmt::Debug;
 use std::process::Abort;
+use test_channel::SOURCE;
 
 /// The value is the one that is wanted of this.
 pub fn same<T: Debug + PartialEq, C: Debug>(rt: &impl Abort, got: &T, want: &T, of: &C) {
@@ -13,9 +12,6 @@ pub fn same<T: Debug + PartialEq, C: Debug>(rt: &impl Abort, got: &T, want: &T, 
 pub fn holds<C: Debug>(rt: &impl Abort, is_so: bool, of: &C) {
     assert!(rt; is_so, "{of:?}");
 }
-
-/// The media source of the channel.
-pub const SOURCE: u32 = 0x1122_3344;
 
 /// The SSRC of a client.
 pub const SENDER: u32 = 0x0000_c001;
@@ -46,36 +42,3 @@ pub const BYE: [u32; 2] = [
 
 /// The first word of a generic NACK of one entry (RFC 4585, 6.2.1): v=2, p=0, FMT=1, RTPFB, length 3.
 pub const NACK: u32 = 0x81cd_0003;
-
-/// Settings of a channel.
-pub const CHANNEL: Channel = Channel {
-    id: 7,
-    ssrc: SOURCE,
-    pt: 33,
-    rtx: 99,
-    server: 0xaabb_ccdd,
-    seq0: 500,
-    ring: 64,
-    window: 0,
-    access: Access::Marker,
-    share: 10000,
-    reserve: 1500,
-    burst: 4000,
-    declared: 100,
-    minwire: 42,
-    limit: 100,
-    idle: 100,
-    clients: 4,
-    depth: 0,
-    swell: 0,
-};
-
-/// Words in network byte order, with so many zeros behind them.
-pub fn bytes_of(alloc: Global, words: &[u32], zeros: usize) -> Result<Vec<u8>, AllocError> {
-    let mut bytes = Vec::new(alloc);
-    for word in words {
-        bytes.extend_from_slice(&word.to_be_bytes())?;
-    }
-    bytes.extend_from_slice(&vec![in alloc; 0u8; zeros]?)?;
-    Ok(bytes)
-}

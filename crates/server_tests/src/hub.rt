@@ -1,7 +1,7 @@
 //! Two channels, worked out by hand.
 ghost use Rattle.std.specs.Prelude.{◌≡◌, ◌+◌, ◌<◌, OnOk, length};
 
-use crate::fixtures::{CHANNEL, holds, same};
+use crate::fixtures::{holds, same};
 use crate::row::Given::{Asks, Start, Tick};
 use crate::row::{Given, event_of, text_of};
 use channel_config::Config;
@@ -11,6 +11,7 @@ use std::alloc::Global;
 use std::fmt::Write;
 use std::process::Abort;
 use std::test::Fail;
+use test_channel::CHANNEL;
 
 /// The channel that an event names, the event, and the notes of each channel that answers it.
 type Step = (u16, Given, &'static str);

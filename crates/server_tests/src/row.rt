@@ -3,13 +3,14 @@ ghost use Rattle.std.specs.Prelude.{◌+◌, ◌<◌, ◌^◌, List, [], IfOk, l
 ghost use Rattle.rams_model.specs.declared.event.Event.{Event};
 ghost use Rattle.session_core.specs.{StandsFor};
 
-use crate::fixtures::{REQUEST, SOURCE, bytes_of, same};
+use crate::fixtures::{REQUEST, same};
 use channel_config::{Channel, Config};
 use rams_model::{Answer, Event, Info, Octets, Order};
 use session_core::{Core, Stepped};
 use std::alloc::{AllocError, Global};
 use std::process::Abort;
 use std::test::Fail;
+use test_channel::{SOURCE, bytes_of};
 
 /// What comes to a channel.
 #[derive(Clone, Copy, Debug)]

@@ -1,9 +1,10 @@
 //! A channel's events, worked out by hand.
-use crate::fixtures::{BYE, CHANNEL, NACK, SENDER, SOURCE, STOP};
+use crate::fixtures::{BYE, NACK, SENDER, STOP};
 use crate::row::Given::{Asks, Heard, Next, Start, Tick};
 use crate::row::{Case, Row, expect_all};
 use rams_model::Info;
 use std::test::Fail;
+use test_channel::{CHANNEL, SOURCE};
 
 /// A repair is sent behind the burst; what the burst will send isn't repaired.
 const EVENTS: &[Row] = &[

@@ -1,11 +1,11 @@
 //! Ticks of a channel, worked out by hand.
-use crate::fixtures::{CHANNEL, NACK, SENDER, SOURCE, STOP, same};
+use crate::fixtures::{NACK, SENDER, STOP};
 use crate::row::Given::{Asks, Heard, Next, Start, Tick};
 use crate::row::{Case, Row, expect_all};
-use channel_config::{Channel, Config};
+use channel_config::Channel;
 use rams_model::Info;
 use std::test::Fail;
-use tick_core::{Parts, commit_tick, plan_tick};
+use test_channel::{CHANNEL, SOURCE};
 
 /// What a client is told of a burst of 4,000 bytes a tick, which lasts 1,000 ms at most.
 const ACCEPTED: Info = Info {
@@ -195,11 +195,6 @@ const REPAIRED: &[Row] = &[
     (Tick, "[Forgot { client: 5 }]", 0, None),
 ];
 
-const SWELLING: Channel = Channel {
-    swell: 1400,
-    ..CHANNEL
-};
-
 const CASES: &[Case] = &[
     (CHANNEL, STOPPED),
     (KEEPING, KEPT),
@@ -211,23 +206,4 @@ const CASES: &[Case] = &[
 #[test]
 fn bursts_and_repairs_are_sent(rt: HostRuntime) -> Result<(), Fail> {
     expect_all(&rt, rt.alloc(), CASES)
-}
-
-// Ticks of a channel to which nothing came: its budget keeps up to the swell.
-#[test]
-fn quiet_ticks(rt: HostRuntime) -> Result<(), Fail> {
-    let mut parts = Parts::new(rt.alloc(), &Config::check(SWELLING, 10)?)?;
-    let first = plan_tick(rt.alloc(), &parts)?;
-    same(
-        &rt,
-        &(first.answer.notes.as_slice().len(), first.done.len()),
-        &(0, 0),
-        &"the first tick",
-    );
-    commit_tick(&mut parts, &first);
-    same(&rt, &parts.budget.left(), &10000, &"the first tick");
-    let second = plan_tick(rt.alloc(), &parts)?;
-    commit_tick(&mut parts, &second);
-    same(&rt, &parts.budget.left(), &11400, &"the second tick");
-    Ok(())
 }

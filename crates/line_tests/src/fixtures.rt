@@ -1,0 +1,21 @@
+//! What is compared, and long runs of a byte.
+use std::alloc::{AllocError, Global};
+use std::fmt::Debug;
+use std::process::Abort;
+
+/// The value is the one that is wanted of this.
+pub fn same<T: Debug + PartialEq, C: Debug>(rt: &impl Abort, got: &T, want: &T, of: &C) {
+    assert_eq!(rt; *got, *want, "{of:?}");
+}
+
+/// It holds of this.
+pub fn holds<C: Debug>(rt: &impl Abort, is_so: bool, of: &C) {
+    assert!(rt; is_so, "{of:?}");
+}
+
+/// So many times the same byte, and then the end.
+pub fn run(alloc: Global, byte: u8, count: usize, end: &[u8]) -> Result<Vec<u8>, AllocError> {
+    let mut bytes = vec![in alloc; byte; count]?;
+    bytes.extend_from_slice(end)?;
+    Ok(bytes)
+}

@@ -1,0 +1,129 @@
+//! Worked retransmissions, and what is restored of them (RFC 4588, 4).
+use crate::fixtures::{Reading, holds, is_twice};
+use rtx_payload::{Rtp, append_rtx, restore, restoring_gives_the_original, write_rtx};
+use std::alloc::Global;
+use std::process::Abort;
+use std::test::Fail;
+use test_words::{Words, bytes_of};
+
+/// Packets, and their retransmissions under payload type 99 and sequence number 500.
+const ROWS: &[(&str, Words, Words)] = &[
+    (
+        "every part",
+        &[
+            "b2a1000a", // v=2, p=1, x=1, count=2, m=1, type 33, sequence number 10
+            "00000000", // timestamp
+            "11223344", // SSRC
+            "00000001", // CSRC
+            "00000002", // CSRC
+            "bede0001", // extension: profile, one word
+            "10ff0000", // its word
+            "aabb0002", // payload of two bytes, padding of two
+        ],
+        &[
+            "92e301f4", // v=2, p=0, x=1, count=2, m=1, type 99, sequence number 500
+            "00000000", // timestamp
+            "11223344", // SSRC
+            "00000001", // CSRC
+            "00000002", // CSRC
+            "bede0001", // extension
+            "10ff0000", // its word
+            "000aaabb", // original sequence number 10, payload
+        ],
+    ),
+    (
+        "a header alone",
+        &[
+            "8021ffff", // v=2, p=0, x=0, count=0, m=0, type 33, sequence number 65,535
+            "00000384", // timestamp 900
+            "11223344", // SSRC
+        ],
+        &[
+            "806301f4", // v=2, p=0, x=0, count=0, m=0, type 99, sequence number 500
+            "00000384", // timestamp
+            "11223344", // SSRC
+            "ffff", // original sequence number 65,535, no payload
+        ],
+    ),
+];
+
+/// The packet of these bytes.
+fn packet_of<'a>(bytes: &'a [u8]) -> Result<Rtp<'a>, Fail> {
+    Ok(Rtp::read(bytes).ok().ok_or("a packet")?)
+}
+
+/// The packet is sent again as these bytes, alone and behind others.
+fn goes_again(alloc: Global, packet: &[u8], again: &[u8]) -> Result<bool, Fail> {
+    let original = packet_of(packet)?;
+    let mut text = write_rtx(alloc, &original, 99, 500)?;
+    append_rtx(&mut text, &original, 99, 500)?;
+    Ok(is_twice(&text, again))
+}
+
+/// The bytes bring the packet's number, and the packet without its padding.
+fn comes_back(alloc: Global, packet: &[u8], again: &[u8]) -> Result<bool, Fail> {
+    let original = packet_of(packet)?;
+    let again = packet_of(again)?;
+    let (number, restored) = restore(alloc, &again, 33).ok().ok_or("an original")?;
+    Ok(number == original.sequence() && restored == original.strip(alloc)?)
+}
+
+/// The packet is sent again as these bytes, and they bring it back.
+fn expect_back(
+    rt: &impl Abort,
+    alloc: Global,
+    name: &str,
+    packet: &[u8],
+    again: &[u8],
+) -> Result<(), Fail> {
+    holds(rt, goes_again(alloc, packet, again)?, &name);
+    holds(rt, comes_back(alloc, packet, again)?, &name);
+    Ok(())
+}
+
+#[test]
+fn packets_go_there_and_back(rt: HostRuntime) -> Result<(), Fail> {
+    restoring_gives_the_original();
+    for (name, words, again) in ROWS {
+        let packet = bytes_of(rt.alloc(), words)?;
+        let again = bytes_of(rt.alloc(), again)?;
+        expect_back(&rt, rt.alloc(), name, &packet, &again)?;
+    }
+    Ok(())
+}
+
+/// Retransmissions, and why nothing is restored.
+pub const PAYLOADS: &[Reading] = &[
+    (
+        "one byte",
+        &["806301f4", "00000000", "00000001", "07"],
+        "Some(Short)",
+    ),
+    (
+        "two bytes",
+        &["806301f4", "00000000", "00000001", "0708"],
+        "None",
+    ),
+    (
+        "one byte, and padding of one",
+        &["a06301f4", "00000000", "00000001", "0701"],
+        "Some(Short)",
+    ),
+    (
+        "two bytes, and padding of one",
+        &["a06301f4", "00000000", "00000001", "070801"],
+        "None",
+    ),
+    (
+        "one byte behind an extension",
+        &["906301f4", "00000000", "00000001", "00000000", "07"],
+        "Some(Short)",
+    ),
+];
+
+/// Why nothing is restored of a retransmission.
+pub fn fault(alloc: Global, bytes: &[u8]) -> Result<String, Fail> {
+    let packet = packet_of(bytes)?;
+    let fault = restore(alloc, &packet, 33).err();
+    Ok(format!(in alloc; "{fault:?}")?)
+}

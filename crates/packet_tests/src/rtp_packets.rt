@@ -1,0 +1,227 @@
+//! A packet with every part, and each fault at its edge (RFC 3550, 5.1).
+use crate::fixtures::{Reading, holds, is_twice, same};
+use rtp_record::{Rtp, RtpFields, append_rtp, append_rtp_behind, write_rtp};
+use std::alloc::{AllocError, Global};
+use std::fmt::Write;
+use std::test::Fail;
+use test_words::{Words, bytes_of};
+
+const PADDED: Words = &[
+    "b2a1000a", // v=2, p=1, x=1, count=2, m=1, type 33, sequence number 10
+    "00000384", // timestamp 900
+    "11223344", // SSRC
+    "00000001", // CSRC
+    "00000002", // CSRC
+    "bede0001", // extension: profile, one word
+    "10ff0000", // its word
+    "aabb0002", // payload of two bytes, padding of two
+];
+
+const STRIPPED: Words = &[
+    "92a1000a", // p=0
+    "00000384", // timestamp
+    "11223344", // SSRC
+    "00000001", // CSRC
+    "00000002", // CSRC
+    "bede0001", // extension
+    "10ff0000", // its word
+    "aabb", // payload
+];
+
+/// A packet, and what its calls say.
+pub const PARTS: &[Reading] = &[(
+    "every part",
+    PADDED,
+    "(true, 33, 10, 900, 287454020) \
+        0000000100000002 bede000110ff0000 aabb 30",
+)];
+
+/// Marker, payload type, sequence number, timestamp and SSRC of a packet.
+fn header(alloc: Global, packet: &Rtp<'_>) -> Result<String, AllocError> {
+    let header = (
+        packet.marker(),
+        packet.payload_type(),
+        packet.sequence(),
+        packet.timestamp(),
+        packet.ssrc(),
+    );
+    format!(in alloc; "{header:?}")
+}
+
+/// Writes a space and the digits of bytes.
+fn append_digits(alloc: Global, text: &mut String, bytes: &[u8]) -> Result<(), AllocError> {
+    let digits = hex::encode(alloc, bytes)?;
+    write!(text, " {digits}")
+}
+
+/// A packet's header; its contributing sources, its extension and its payload, and how long it is without
+/// padding.
+pub fn parts(alloc: Global, bytes: &[u8]) -> Result<String, Fail> {
+    let packet = Rtp::read(bytes).ok().ok_or("a packet")?;
+    let mut text = header(alloc, &packet)?;
+    append_digits(alloc, &mut text, packet.csrc())?;
+    append_digits(alloc, &mut text, packet.extension())?;
+    append_digits(alloc, &mut text, packet.payload())?;
+    write!(text, " {}", packet.stripped_len())?;
+    Ok(text)
+}
+
+/// The packet without its padding: twice, and what its fields are written as.
+fn stripped(alloc: Global, padded: &[u8]) -> Result<(Vec<u8>, Vec<u8>), Fail> {
+    let packet = Rtp::read(padded).ok().ok_or("a packet")?;
+    let mut text = packet.strip(alloc)?;
+    packet.append_stripped(&mut text)?;
+    Ok((text, write_rtp(alloc, &packet.fields())?))
+}
+
+#[test]
+fn padding_is_left_out(rt: HostRuntime) -> Result<(), Fail> {
+    let want = bytes_of(rt.alloc(), STRIPPED)?;
+    let (text, fields) = stripped(rt.alloc(), &bytes_of(rt.alloc(), PADDED)?)?;
+    holds(&rt, is_twice(&text, &want), &"strip");
+    same(&rt, &fields, &want, &"fields");
+    Ok(())
+}
+
+const PLAIN: RtpFields<'static> = RtpFields {
+    marker: false,
+    payload_type: 127,
+    sequence: 0xfffe,
+    timestamp: 0x0102_0304,
+    ssrc: 5,
+    csrc: &[],
+    extension: &[],
+    payload: &[7],
+};
+
+/// `PLAIN` without its payload.
+const BARE: RtpFields<'static> = RtpFields {
+    payload: &[],
+    ..PLAIN
+};
+
+const SPELLED: Words = &[
+    "807ffffe", // v=2, p=0, x=0, count=0, m=0, type 127, sequence number 65,534
+    "01020304", // timestamp
+    "00000005", // SSRC
+    "07", // payload
+];
+
+/// Two packets behind a front, of which the second has the first's payload.
+fn written_behind(alloc: Global) -> Result<Vec<u8>, Fail> {
+    let mut text = b"front".to_vec(alloc)?;
+    append_rtp(&mut text, &PLAIN)?;
+    append_rtp_behind(&mut text, &BARE, PLAIN.payload)?;
+    Ok(text)
+}
+
+#[test]
+fn packets_are_written_behind_what_is_there(rt: HostRuntime) -> Result<(), Fail> {
+    let text = written_behind(rt.alloc())?;
+    let written = text.strip_prefix(b"front").ok_or("the front")?;
+    let want = bytes_of(rt.alloc(), SPELLED)?;
+    holds(&rt, is_twice(written, &want), &"behind");
+    Ok(())
+}
+
+/// Packets whose header is of zeros but for its first byte, and the fault.
+pub const PACKETS: &[Reading] = &[
+    ("no bytes", &[], "Some(Short)"),
+    (
+        "eleven bytes",
+        &["00000000", "00000000", "000000"],
+        "Some(Short)",
+    ),
+    (
+        "a header alone",
+        &["80000000", "00000000", "00000000"],
+        "None",
+    ),
+    (
+        "version 1",
+        &["40000000", "00000000", "00000000"],
+        "Some(Version)",
+    ),
+    (
+        "version 3",
+        &["c0000000", "00000000", "00000000"],
+        "Some(Version)",
+    ),
+    (
+        "one contributing source in three bytes",
+        &["81000000", "00000000", "00000000", "000000"],
+        "Some(Csrc)",
+    ),
+    (
+        "one contributing source",
+        &["81000000", "00000000", "00000000", "00000000"],
+        "None",
+    ),
+    (
+        "an extension in three bytes",
+        &["90000000", "00000000", "00000000", "000000"],
+        "Some(Extension)",
+    ),
+    (
+        "an extension of no words",
+        &["90000000", "00000000", "00000000", "00000000"],
+        "None",
+    ),
+    (
+        "an extension of a word, in three bytes",
+        &["90000000", "00000000", "00000000", "00000001", "000000"],
+        "Some(Extension)",
+    ),
+    (
+        "an extension of a word",
+        &["90000000", "00000000", "00000000", "00000001", "00000000"],
+        "None",
+    ),
+    (
+        "padding of no bytes",
+        &["a0000000", "00000000", "00000000", "00"],
+        "Some(Padding)",
+    ),
+    (
+        "padding of one byte",
+        &["a0000000", "00000000", "00000000", "01"],
+        "None",
+    ),
+    (
+        "padding of two bytes, in one",
+        &["a0000000", "00000000", "00000000", "02"],
+        "Some(Padding)",
+    ),
+    (
+        "padding of two bytes",
+        &["a0000000", "00000000", "00000000", "0902"],
+        "None",
+    ),
+    (
+        "padding into the extension",
+        &["b0000000", "00000000", "00000000", "00000000", "0903"],
+        "Some(Padding)",
+    ),
+    // the first fault that is true
+    (
+        "version 1, and no contributing sources",
+        &["4f000000", "00000000", "00000000"],
+        "Some(Version)",
+    ),
+    (
+        "neither contributing sources nor an extension",
+        &["bf000000", "00000000", "00000000"],
+        "Some(Csrc)",
+    ),
+    (
+        "an extension and padding in three bytes",
+        &["b0000000", "00000000", "00000000", "000000"],
+        "Some(Extension)",
+    ),
+];
+
+/// Why bytes are no packet.
+pub fn fault(alloc: Global, bytes: &[u8]) -> Result<String, Fail> {
+    let fault = Rtp::read(bytes).err();
+    Ok(format!(in alloc; "{fault:?}")?)
+}

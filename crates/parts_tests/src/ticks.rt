@@ -1,0 +1,30 @@
+//! Ticks of a channel's parts.
+use crate::fixtures::same;
+use channel_config::{Channel, Config};
+use std::test::Fail;
+use test_channel::CHANNEL;
+use tick_core::{Parts, commit_tick, plan_tick};
+
+const SWELLING: Channel = Channel {
+    swell: 1400,
+    ..CHANNEL
+};
+
+// Ticks of a channel to which nothing came: its budget keeps up to the swell.
+#[test]
+fn quiet_ticks(rt: HostRuntime) -> Result<(), Fail> {
+    let mut parts = Parts::new(rt.alloc(), &Config::check(SWELLING, 10)?)?;
+    let first = plan_tick(rt.alloc(), &parts)?;
+    same(
+        &rt,
+        &(first.answer.notes.as_slice().len(), first.done.len()),
+        &(0, 0),
+        &"the first tick",
+    );
+    commit_tick(&mut parts, &first);
+    same(&rt, &parts.budget.left(), &10000, &"the first tick");
+    let second = plan_tick(rt.alloc(), &parts)?;
+    commit_tick(&mut parts, &second);
+    same(&rt, &parts.budget.left(), &11400, &"the second tick");
+    Ok(())
+}
