@@ -1,7 +1,7 @@
 //! Settings and numbers at their bounds: as many clients and packets as a channel may have.
-use crate::row::{ACCESS_POINT, BOOK, Row, opening_with};
 use std::alloc::{AllocError, Global};
 use std::fmt::Write;
+use trace_rows::{ACCESS_POINT, BOOK, Row, opening_with};
 
 /// Channel 65,535, client 2^48 - 1, packets 65,535 and 0 of the source, and the same numbers of
 /// retransmissions.

@@ -1,5 +1,5 @@
 //! What bursts, a client and a channel may send in a tick, and how many clients a channel knows.
-use crate::row::{ACCESS_POINT, REQUEST, REQUEST_OF_6, Row};
+use trace_rows::{ACCESS_POINT, REQUEST, REQUEST_OF_6, Row};
 
 pub const ROWS: &[Row] = &[
     // Two bursts of 4,000 bytes a tick and a reserve of 1,500 make 9,500.

@@ -1,37 +1,5 @@
 //! Bursts from their request to their end, and the time at which they catch up (RFC 6285).
-use crate::row::{ACCESS_POINT, REQUEST, Row};
-
-/// Three packets of 1,500 bytes on the wire, the second of them the access point, and a rate of
-/// 1,500 bytes a tick: 3,000 bytes behind the second are caught up by 1 byte a tick.
-pub const ONE_PACKET_PER_TICK: Row = Row {
-    name: "one packet per tick",
-    changes: &[
-        ("burst 4000", "burst 1500"),
-        ("declared 100", "declared 0"),
-        ("minwire 42", "minwire 1500"),
-    ],
-    lines: &[
-        "live 7 8021000a0000000011223344<1458>",
-        "live 7 80a1000b0000038411223344<1458>",
-        "live 7 8021000c0000070811223344<1458>",
-        REQUEST,
-        "tick",
-        "tick",
-        "end",
-    ],
-    book: &[
-        "1 7 took 65546",
-        "2 7 took 65547",
-        "3 7 took 65548",
-        "4 7 accept 5 first 65547 rate 1500 join 3000",
-        "4 7 send 5 86cd000caabbccdd11223344020000c82000000201f40000210000040000753022000004000003e8230000080000000000124f80",
-        "5 7 burst 5 65547 500",
-        "5 7 send 5 80e301f40000038411223344000b<1458>",
-        "6 7 burst 5 65548 501",
-        "6 7 send 5 806301f50000070811223344000c<1458>",
-        "done 6",
-    ],
-};
+use trace_rows::{ACCESS_POINT, ONE_PACKET_PER_TICK, REQUEST, Row};
 
 pub const ROWS: &[Row] = &[
     ONE_PACKET_PER_TICK,

@@ -1,6 +1,6 @@
 //! Traces of several channels.
-use crate::row::{BOOK, REQUEST, Row, opening_with};
 use std::alloc::{AllocError, Global};
+use trace_rows::{BOOK, REQUEST, Row, opening_with};
 
 pub const ROWS: &[Row] = &[
     // An event of a channel that isn't there isn't looked at.

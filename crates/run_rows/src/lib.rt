@@ -1,8 +1,7 @@
-//! Traces of the commands `run` and `meet` and their books, worked out by hand, as tables; and runs of the
-//! other commands.
+//! Traces of the commands `run` and `meet` and their books, worked out by hand, as tables.
 //!
-//! `row` says what a row is, and runs it; `tables` names all rows, and runs them. Each of the other modules
-//! has the rows of one subject: tables of data, and where a trace is long the few functions that write it out.
+//! `row` runs a row; `tables` names all rows, and runs them. Each of the other modules has the rows of one
+//! subject: tables of data, and where a trace is long the few functions that write it out.
 #![tactic(auto)]
 
 #[cfg(test)]
@@ -14,7 +13,7 @@ mod bursts;
 #[cfg(test)]
 mod channels;
 #[cfg(test)]
-mod faults;
+mod datagrams;
 #[cfg(test)]
 mod live;
 #[cfg(test)]
@@ -30,16 +29,8 @@ mod requests;
 #[cfg(test)]
 mod row;
 #[cfg(test)]
-mod settings;
-#[cfg(test)]
 mod stops;
 #[cfg(test)]
-mod summaries;
-#[cfg(test)]
 mod tables;
-#[cfg(test)]
-mod threads;
-#[cfg(test)]
-mod words;
 #[cfg(test)]
 mod worlds;

@@ -1,5 +1,5 @@
 //! Packets of the source: their numbers, and why one isn't taken (RFC 3550, 5.1 and appendix A.1).
-use crate::row::{ACCESS_POINT, REQUEST, Row};
+use trace_rows::{ACCESS_POINT, REQUEST, Row};
 
 pub const ROWS: &[Row] = &[
     Row {

@@ -1,7 +1,7 @@
 //! A burst at a steady load: in each tick 10,864 bytes come, and up to 20,000 go to the client.
-use crate::row::{BOOK, opening_with, zeros};
 use std::alloc::{AllocError, Global};
 use std::fmt::Write;
+use trace_rows::{BOOK, opening_with, zeros};
 
 const CHANGES: &[(&str, &str)] = &[
     ("share 10000", "share 100000"),

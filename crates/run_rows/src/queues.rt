@@ -1,7 +1,7 @@
 //! Pending repairs: a client has at most 256, a channel at most 4,096.
-use crate::row::{BOOK, opening_with};
 use std::alloc::{AllocError, Global};
 use std::fmt::Write;
+use trace_rows::{BOOK, opening_with};
 
 /// A NACK of packets 10 to 265: fifteen words of 17 packets each, and one of one packet.
 const ASKS_256: &str =

@@ -1,8 +1,9 @@
 //! Lines that a trace may not have, or not there.
-use crate::row::{BOOK, OPENING, RUN, Row, check, opening_with};
+use crate::row::check;
 use std::alloc::Global;
 use std::process::Abort;
 use std::test::Fail;
+use trace_rows::{BOOK, OPENING, RUN, Row, opening_with};
 
 pub const ROWS: &[Row] = &[
     Row {

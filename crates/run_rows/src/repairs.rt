@@ -1,6 +1,6 @@
 //! Repairs of lost packets, asked for by generic NACKs (RFC 4585, 6.2.1) and sent as
 //! retransmissions (RFC 4588).
-use crate::row::{REQUEST, Row};
+use trace_rows::{REQUEST, Row};
 
 pub const ROWS: &[Row] = &[
     // Asked for are 65,535 and 0, which hasn't come.

@@ -1,5 +1,5 @@
 //! Requests for a burst (RFC 6285, RAMS-R) and other feedback, and what each is answered.
-use crate::row::{ACCESS_POINT, REQUEST, Row};
+use trace_rows::{ACCESS_POINT, REQUEST, Row};
 
 pub const ROWS: &[Row] = &[
     Row {

@@ -1,5 +1,5 @@
 //! The runs of all rows, and of the traces that are too long for a row.
-use crate::row::{Command, MEET, RUN, Row, check, check_row};
+use crate::row::{check, check_row};
 use crate::{
     bounds, budgets, bursts, channels, live, load, queues, refusals, repairs, requests, stops,
     worlds,
@@ -7,6 +7,7 @@ use crate::{
 use std::alloc::{AllocError, Global};
 use std::process::Abort;
 use std::test::Fail;
+use trace_rows::{Command, MEET, RUN, Row};
 
 /// Each row's trace has its book.
 fn check_rows(rt: &impl Abort, alloc: Global, command: Command, rows: &[Row]) -> Result<(), Fail> {

@@ -1,10 +1,11 @@
 //! Worlds of set-tops: traces of the command `meet` and their books.
-use crate::row::{ACCESS_POINT, Calls, MEET, OPENING, Row, WHOLE, ran, same};
+use crate::row::same;
 use rams_replay::Status;
 use std::alloc::{AllocError, Global};
 use std::fmt::Write;
 use std::process::Abort;
 use std::test::Fail;
+use trace_rows::{ACCESS_POINT, Calls, MEET, OPENING, Row, WHOLE, ran};
 
 /// Packets 10 to 15 of the source; client 5 is tuned, and its request comes to the server. The request
 /// is datagram 0, the RAMS-I datagram 1.
@@ -249,48 +250,6 @@ fn most_events_of_a_world(rt: HostRuntime) -> Result<(), Fail> {
         let (got, text) = ran(rt.alloc(), MEET, trace.as_bytes(), WHOLE, WHOLE)?;
         same(&rt, &got, status, count);
         same(&rt, &(text.as_slice() == book.as_bytes()), &true, count);
-    }
-    Ok(())
-}
-
-/// Two deliveries of nothing, and their book.
-const NOTHING: &str = "give 99\ngive 98\nend\n";
-
-const NOTHING_BOOK: &str = "rams-world 1\n1 no-datagram 99\n2 no-datagram 98\ndone 2\n";
-
-/// How the command ends over the opening and these, and how many bytes of the book are written, and no others.
-fn front(
-    rt: &impl Abort,
-    alloc: Global,
-    takes: Calls<'_>,
-    puts: Calls<'_>,
-) -> Result<(Status, usize), Fail> {
-    let trace = format!(in alloc; "{OPENING}{NOTHING}")?;
-    let (status, text) = ran(alloc, MEET, trace.as_bytes(), takes, puts)?;
-    assert!(rt; NOTHING_BOOK.as_bytes().starts_with(&text));
-    Ok((status, text.len()))
-}
-
-/// A source that fails leaves a front of the book of the lines that were read.
-#[test]
-fn worlds_are_cut_off(rt: HostRuntime) -> Result<(), Fail> {
-    for call in 0..OPENING.len() + NOTHING.len() {
-        let fails = &[call as u64];
-        let (status, length) = front(&rt, rt.alloc(), Calls { most: 1, fails }, WHOLE)?;
-        same(&rt, &status, &Status::ReadFault, &call);
-        let is_short = OPENING.len() <= call || length <= MEET.first.len();
-        same(&rt, &is_short, &true, &call);
-    }
-    Ok(())
-}
-
-/// A sink that fails leaves a front of the book.
-#[test]
-fn books_of_worlds_are_cut_off(rt: HostRuntime) -> Result<(), Fail> {
-    for call in 0..NOTHING_BOOK.len() {
-        let fails = &[call as u64];
-        let got = front(&rt, rt.alloc(), WHOLE, Calls { most: 1, fails })?;
-        same(&rt, &got, &(Status::WriteFault, call), &call);
     }
     Ok(())
 }

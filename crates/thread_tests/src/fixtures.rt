@@ -2,53 +2,27 @@
 ghost use Rattle.std.specs.Prelude.{◌≡◌, [], IfOk, length};
 ghost use Rattle.session_core.specs.{StandsFor};
 
-use channel_config::{Access, Channel, Config};
+use channel_config::{Channel, Config};
 use rams_model::{Event, Octets};
 use session_core::Core;
 use std::alloc::{AllocError, Global};
 use std::test::Fail;
-
-/// The media source of the channel.
-const SOURCE: u32 = 0x1122_3344;
+use test_channel::{CHANNEL, SOURCE, bytes_of};
 
 /// Settings of a channel that may send all that its ring holds in one tick.
-const CHANNEL: Channel = Channel {
-    id: 7,
-    ssrc: SOURCE,
-    pt: 33,
-    rtx: 99,
-    server: 0xaabb_ccdd,
-    seq0: 500,
+const WIDE: Channel = Channel {
     ring: 32_768,
-    window: 0,
-    access: Access::Marker,
     share: 1_000_000_000,
-    reserve: 1500,
     burst: 900_000_000,
-    declared: 100,
-    minwire: 42,
-    limit: 100,
-    idle: 100,
-    clients: 4,
-    depth: 0,
-    swell: 0,
+    ..CHANNEL
 };
 
 /// A channel to which nothing came, with ticks of 10 ms.
 pub fn new_core(alloc: Global) -> Result<Core, Fail>
     ensures { IfOk result (λ core. StandsFor core []) }
 {
-    let config = Config::check(CHANNEL, 10)?;
+    let config = Config::check(WIDE, 10)?;
     Ok(Core::new(alloc, &config)?)
-}
-
-/// Words in network byte order.
-fn octets_of(alloc: Global, words: &[u32]) -> Result<Octets, AllocError> {
-    let mut bytes = Vec::new(alloc);
-    for word in words {
-        bytes.extend_from_slice(&word.to_be_bytes())?;
-    }
-    Ok(Octets::of(bytes))
 }
 
 /// A packet (RFC 3550, 5.1) with this number and four bytes of payload. Only number 0 has the marker.
@@ -60,13 +34,14 @@ pub fn packet(alloc: Global, number: u16) -> Result<Event, AllocError> {
         0x8021_0000
     };
     let words = [head | u32::from(number), 0, SOURCE, 0];
-    Ok(Event::Live(octets_of(alloc, &words)?))
+    Ok(Event::Live(Octets::of(bytes_of(alloc, &words, 0)?)))
 }
 
 /// A RAMS-R without TLVs (RFC 6285, 7.2).
 pub fn request(alloc: Global, client: u64) -> Result<Event, AllocError> {
     // v=2, p=0, FMT=6 (RAMS), RTPFB, length 3; sender; media source; SFMT=1 (RAMS-R)
-    let bytes = octets_of(alloc, &[0x86cd_0003, 0x0000_c001, SOURCE, 0x0100_0000])?;
+    let words = [0x86cd_0003, 0x0000_c001, SOURCE, 0x0100_0000];
+    let bytes = Octets::of(bytes_of(alloc, &words, 0)?);
     Ok(Event::Feedback { client, bytes })
 }
 

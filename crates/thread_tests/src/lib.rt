@@ -1,4 +1,4 @@
-//! Tests of the callers of one channel, on threads and by hand, on public calls alone.
+//! Tests of the lists of one channel on threads, on public calls alone.
 //!
 //! `fixtures` has a channel's settings and what comes to it, `gates` the gate at which threads meet.
 #![tactic(auto)]
@@ -10,6 +10,3 @@ mod gates;
 // session_worker, live_writer
 #[cfg(test)]
 mod lists;
-// channel_lock
-#[cfg(test)]
-mod locks;

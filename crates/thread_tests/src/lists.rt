@@ -112,18 +112,22 @@ fn are_same(some: &[Octets], others: &[Octets]) -> bool {
             .all(|(one, other)| one.bytes() == other.bytes())
 }
 
+/// There is a place for each event, with the same datagrams in both; the tick's has the whole burst.
+fn expect_same(rt: &impl Abort, alone: &Worked, beside: &Worked) {
+    assert_eq!(rt; alone.drawn.len(), 20_002, "a place for each event");
+    assert_eq!(rt; beside.drawn.len(), 20_002, "a place for each event");
+    for (some, others) in alone.drawn.iter().zip(beside.drawn.iter()) {
+        assert!(rt; are_same(some, others), "the same at each place");
+    }
+    let tick = alone.drawn.last().expect(rt, "the tick");
+    assert_eq!(rt; tick.len(), 20_000, "the whole burst");
+}
+
 /// The same datagrams at each place, however many threads render.
 #[test]
 fn the_threads_of_rendering_change_nothing(rt: HostRuntime) -> Result<(), Fail> {
-    let alloc = rt.alloc();
-    let alone = worked(&rt, alloc, 1)?;
-    let beside = worked(&rt, alloc, 4)?;
-    assert_eq!(&rt; alone.drawn.len(), 20_002, "a place for each event");
-    assert_eq!(&rt; beside.drawn.len(), 20_002, "a place for each event");
-    for (some, others) in alone.drawn.iter().zip(beside.drawn.iter()) {
-        assert!(&rt; are_same(some, others), "the same at each place");
-    }
-    let tick = alone.drawn.last().expect(&rt, "the tick");
-    assert_eq!(&rt; tick.len(), 20_000, "the whole burst");
+    let alone = worked(&rt, rt.alloc(), 1)?;
+    let beside = worked(&rt, rt.alloc(), 4)?;
+    expect_same(&rt, &alone, &beside);
     Ok(())
 }

@@ -1,5 +1,4 @@
 //! The top call over a source and a sink in memory.
-use crate::row::{OPENING, octets_of};
 use ram_io::{Gate, MemClock, MemSink, MemSource, MemWire};
 use rams_replay::{CaptureWatch, Octets, Status, Watch, run};
 use std::alloc::{AllocError, Global};
@@ -7,6 +6,7 @@ use std::str;
 use std::sync::Wait;
 use std::test::Fail;
 use std::thread::Threads;
+use trace_rows::{OPENING, octets_of};
 
 /// A source of the opening and of what stands behind it, whose calls of these numbers fail.
 fn source_of(alloc: Global, rest: &str, fails: &[u64]) -> Result<MemSource, AllocError> {

@@ -1,7 +1,8 @@
 //! Summaries of generated traces: the numbers are those of an independent model.
-use crate::row::{PIECES, same, written};
+use crate::fixtures::same;
 use rams_replay::Status;
 use std::test::Fail;
+use trace_rows::{PIECES, written};
 
 const ONE_BLOCK: &str =
     "rams-made 7 1\nevents 11\ntook 10\naccept 0\nagain 0\nrefuse 0\nburst 0\nrepair 0\nend 0\nbytes 0\ndone\n";

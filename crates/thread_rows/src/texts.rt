@@ -1,6 +1,6 @@
 //! What is written of whole traces.
-use super::run::ran;
-use crate::row::{OPENING, same};
+use crate::fixtures::same;
+use crate::run::ran;
 use ram_io::Open;
 use rams_replay::Status;
 use std::alloc::Global;
@@ -8,6 +8,7 @@ use std::process::Abort;
 use std::sync::Wait;
 use std::test::Fail;
 use std::thread::Threads;
+use trace_rows::OPENING;
 
 /// Packets 65,534, with the marker, and 65,535; the second is asked for twice; a request for a burst; the
 /// first is asked for; and a tick.

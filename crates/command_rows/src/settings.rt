@@ -1,9 +1,10 @@
 //! The commands `sdp`, `describe` and `pcap`: their words, and a run of each.
-use crate::row::{OPENING, PIECES, same, written};
+use crate::fixtures::same;
 use rams_replay::Status;
 use std::alloc::Global;
 use std::str;
 use std::test::Fail;
+use trace_rows::{OPENING, PIECES, written};
 
 const OFFER: &str = "end
 v=0

@@ -1,10 +1,10 @@
 //! The words of the command line.
-use crate::row::{RUN, book_of, same, trace_of};
-use crate::stops::STOP_ACROSS_THE_WRAP;
-use crate::threads::run::{sink_of, status_of};
+use crate::fixtures::same;
+use crate::run::{sink_of, status_of};
 use ram_io::{MemSource, Open};
 use rams_replay::Status;
 use std::test::Fail;
+use trace_rows::{RUN, STOP_ACROSS_THE_WRAP, book_of, trace_of};
 
 /// Words, how they end, and whether the whole book is then written.
 const CASES: &[(&[&str], Status, bool)] = &[

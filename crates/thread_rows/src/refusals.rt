@@ -1,6 +1,6 @@
 //! Traces and words that are refused, faults, and one event too many.
-use super::run::ran;
-use crate::row::same;
+use crate::fixtures::same;
+use crate::run::ran;
 use ram_io::Open;
 use rams_replay::Status;
 use std::alloc::{AllocError, Global};

@@ -1,8 +1,8 @@
 //! Lists that wait for each other inside the top call: none of them is served before the other begins.
-use super::gates::{Point, Sign, Stop, Stops};
-use super::run::ran;
-use super::texts::EARLY_AND_ALREADY;
-use crate::row::same;
+use crate::fixtures::same;
+use crate::gates::{Point, Sign, Stop, Stops};
+use crate::run::ran;
+use crate::texts::EARLY_AND_ALREADY;
 use rams_replay::Status;
 use std::alloc::Global;
 use std::process::Abort;

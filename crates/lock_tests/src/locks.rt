@@ -1,12 +1,23 @@
 //! A lock of three seats.
-ghost use Rattle.std.specs.Prelude.{◌≡◌, ◌<◌, All, IfErr, IfOk};
+ghost use Rattle.std.specs.Prelude.{◌≡◌, ◌<◌, [], All, IfErr, IfOk};
+ghost use Rattle.session_core.specs.{StandsFor};
 
-use crate::fixtures::new_core;
+use channel_config::Config;
 use channel_lock::{Book, ChannelLock, CloseFault, Pass};
+use session_core::Core;
 use std::alloc::Global;
 use std::process::Abort;
 use std::sync::Wait;
 use std::test::Fail;
+use test_channel::CHANNEL;
+
+/// A channel to which nothing came, with ticks of 10 ms.
+fn new_core(alloc: Global) -> Result<Core, Fail>
+    ensures { IfOk result (λ core. StandsFor core []) }
+{
+    let config = Config::check(CHANNEL, 10)?;
+    Ok(Core::new(alloc, &config)?)
+}
 
 /// A lock of three seats, and their passes.
 fn three_seats(rt: &impl Abort, alloc: Global) -> Result<(ChannelLock, Pass, Pass, Pass), Fail>
