@@ -23,5 +23,5 @@ pub use link_budget::Budget;
 pub use parts::Parts;
 pub use ram_io::NoMemory;
 pub use rams_model::Held;
-pub use repair_queue::{Asked, Queue, Wanted};
+pub use repair_queue::{Asked, Piece, Queue, Wanted};
 pub use stop::is_before_stop;

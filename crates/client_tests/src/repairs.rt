@@ -62,10 +62,19 @@ fn queue_of(rt: &impl Abort, alloc: Global) -> Result<Queue, Fail> {
 // What is pending, each its client and its number.
 fn pending(alloc: Global, queue: &Queue) -> Result<Vec<(u64, u64)>, AllocError> {
     let mut pairs = Vec::new(alloc);
-    for Wanted { client, n } in queue.pending() {
+    let (pieces, last) = queue.parts();
+    for piece in pieces {
+        add_pairs(&mut pairs, piece.pending())?;
+    }
+    add_pairs(&mut pairs, last)?;
+    Ok(pairs)
+}
+
+fn add_pairs(pairs: &mut Vec<(u64, u64)>, pending: &[Wanted]) -> Result<(), AllocError> {
+    for Wanted { client, n } in pending {
         pairs.push((*client, *n))?;
     }
-    Ok(pairs)
+    Ok(())
 }
 
 // A client asks for as many as it may have pending, and is told that it can't have more.
@@ -92,7 +101,7 @@ fn full_queue(rt: &impl Abort, alloc: Global) -> Result<Queue, Fail> {
 
 // How many repairs are pending.
 fn count(queue: &Queue) -> usize {
-    queue.pending().len()
+    queue.len()
 }
 
 // Each client may have 256 pending repairs and the channel 4,096: a client that asks for one more is
@@ -131,7 +140,7 @@ fn ask_again(rt: &impl Abort, queue: &mut Queue, done: &[bool; 5]) {
 
 // The marked ones go.
 fn settle(rt: &impl Abort, queue: &mut Queue, done: &[bool]) {
-    assert!(rt; queue.pending().len() == done.len());
+    assert!(rt; queue.len() == done.len());
     queue.settle(done);
 }
 
@@ -159,7 +168,7 @@ fn settle_places(
     places: (usize, usize),
 ) -> Result<(), Fail> {
     let mut done = Vec::new(alloc);
-    for place in 0..queue.pending().len() {
+    for place in 0..queue.len() {
         done.push(places.0 <= place && place < places.1)?;
     }
     settle(rt, queue, &done);

@@ -38,7 +38,7 @@ fn amounts_of(parts: &Parts) -> Amounts {
     Amounts {
         cache: (parts.cache.lo(), parts.cache.hi()),
         clients: parts.table.count(),
-        repairs: parts.queue.pending().len(),
+        repairs: parts.queue.len(),
         reserved: parts.budget.reserved(),
         left: parts.budget.left(),
     }

@@ -2,3 +2,4 @@ pub mod Pending
 pub mod Indexed
 pub mod Marked
 pub mod Blocks
+pub mod Pieces

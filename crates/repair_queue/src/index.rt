@@ -4,6 +4,8 @@ ghost use Rattle.std.specs.List.{list_any};
 ghost use Rattle.rams_model.specs.Service.{Wanted as Repair, wanted, is_wanted};
 ghost use Rattle.repair_queue.specs.{count_of, asked_of, answered, unmarked, without, AreOnce, Indexes, Owes, marked};
 
+use crate::backlog::Backlog;
+use crate::block::is_any_set;
 use crate::counts::Counts;
 use crate::marks::Marks;
 use crate::wanted::{Asked, MOST_OF_CLIENT, MOST_PENDING, Wanted};
@@ -42,7 +44,7 @@ impl Index {
     }
 
     // Whether this number is pending for this client.
-    fn has(&self, pending: &[Wanted], client: u64, n: u64) -> bool
+    fn has(&self, pending: &Backlog, client: u64, n: u64) -> bool
         requires { Indexes self.now pending.now }
         ensures { result ≡ list_any (is_wanted client n) pending.now }
     {
@@ -54,7 +56,7 @@ impl Index {
     }
 
     /// How many numbers are pending for this client.
-    pub(crate) fn count(&self, pending: &[Wanted], client: u64) -> u32
+    pub(crate) fn count(&self, pending: &Backlog, client: u64) -> u32
         requires indexed { Indexes self.now pending.now }
         requires few { length pending.now ≤ 4096 }
         ensures { result ≡ count_of client pending.now }
@@ -68,7 +70,7 @@ impl Index {
 
     /// The answer to an ask. Where it is `Queued`, the pair is among the others from here on. Where the
     /// index can't take the pair in, the answer comes from what is pending.
-    pub(crate) fn claim(&mut self, pending: &[Wanted], client: u64, n: u64) -> Asked
+    pub(crate) fn claim(&mut self, pending: &Backlog, client: u64, n: u64) -> Asked
         requires few { length pending.now ≤ 4096 }
         requires indexed { Indexes self.old pending.now }
         ensures answer { result ≡ asked_of pending.now client n }
@@ -84,7 +86,7 @@ impl Index {
     }
 
     // The answer to an ask, with no pair put in.
-    fn answer(&self, pending: &[Wanted], client: u64, n: u64) -> Asked
+    fn answer(&self, pending: &Backlog, client: u64, n: u64) -> Asked
         requires few { length pending.now ≤ 4096 }
         requires indexed { Indexes self.now pending.now }
         ensures { result ≡ asked_of pending.now client n }
@@ -133,6 +135,7 @@ impl Index {
     fn remove(&mut self, run: Run, w: Wanted) -> Run
         requires { run.len < 4096 }
         ensures removed { (front back : List Repair) → AreOnce (front ++ w ∷ back) → Owes self.old (front ++ w ∷ back) run → Owes self.new (front ++ back) result }
+        ensures client { result.client ≡ w.client }
         ensures len { result.len ≤ run.len + 1 }
     {
         self.take_mark(w.client, w.n);
@@ -162,7 +165,7 @@ impl Index {
     }
 
     /// An index that isn't whole is built anew, where there is memory.
-    pub(crate) fn mend(&mut self, pending: &[Wanted])
+    pub(crate) fn mend(&mut self, pending: &Backlog)
         requires few { length pending.now ≤ 4096 }
         requires indexed { Indexes self.old pending.now }
         ensures { Indexes self.new pending.now }
@@ -173,63 +176,139 @@ impl Index {
     }
 
     // The index of these.
-    fn rebuild(&mut self, pending: &[Wanted])
+    fn rebuild(&mut self, pending: &Backlog)
         requires few { length pending.now ≤ 4096 }
         ensures { Indexes self.new pending.now }
     {
         self.pairs.clear();
         self.counts.clear();
         self.whole = true;
+        let (pieces, last) = pending.parts();
+        for piece in pieces {
+            self.add_all(piece.pending());
+        }
+        self.add_all(last);
+    }
+
+    // These pairs more.
+    fn add_all(&mut self, pending: &[Wanted])
+        ensures { (ws : List Repair) → length (ws ++ pending.now) ≤ 4096 → Indexes self.old ws → Indexes self.new (ws ++ pending.now) }
+    {
         for w in pending {
             self.add(w.client, w.n);
         }
     }
 
-    /// The pairs of the marked repairs go. Those behind the flags stay.
-    pub(crate) fn drop_marked(&mut self, pending: &[Wanted], done: &[bool])
+    /// The pairs of the marked repairs go. There is one flag for each.
+    pub(crate) fn drop_marked(&mut self, pending: &Backlog, done: &[bool])
         requires few { length pending.now ≤ 4096 }
-        requires within { length done.now ≤ length pending.now }
+        requires one_each { length done.now ≡ length pending.now }
         requires once { AreOnce pending.now }
         requires indexed { Indexes self.old pending.now }
         ensures { Indexes self.new (unmarked pending.now done.now) }
     {
+        let (pieces, last) = pending.parts();
         let mut run = Run { client: 0, len: 0 };
+        let mut left = done;
+        for piece in pieces {
+            let pending = piece.pending();
+            let (flags, later) = left.split_at(pending.len());
+            run = self.drop_of(run, pending, flags);
+            left = later;
+        }
+        run = self.drop_of(run, last, left);
+        self.counts.take(run.client, run.len);
+    }
+
+    // The pairs of the marked ones of these go, with one flag for each. Where none is marked, none is looked at.
+    fn drop_of(&mut self, run: Run, pending: &[Wanted], done: &[bool]) -> Run
+        requires few { run.len + length pending.now ≤ 4096 }
+        requires one_each { length done.now ≡ length pending.now }
+        ensures removed { (front back : List Repair) → AreOnce (front ++ pending.now ++ back) → Owes self.old (front ++ pending.now ++ back) run → Owes self.new (front ++ unmarked pending.now done.now ++ back) result }
+        ensures len { result.len ≤ run.len + length pending.now }
+    {
+        if !is_any_set(done) {
+            return run;
+        }
+        let mut run = run;
         for (i, is_done) in done.iter().enumerate() {
             if !*is_done {
                 continue;
             }
             run = self.remove(run, pending[i]);
         }
-        self.counts.take(run.client, run.len);
+        run
     }
 
     /// The pairs of a client go.
-    pub(crate) fn drop_client(&mut self, pending: &[Wanted], client: u64)
+    pub(crate) fn drop_client(&mut self, pending: &Backlog, client: u64)
         requires few { length pending.now ≤ 4096 }
         requires once { AreOnce pending.now }
         requires indexed { Indexes self.old pending.now }
         ensures { Indexes self.new (without client pending.now) }
     {
+        let (pieces, last) = pending.parts();
         let mut run = Run { client, len: 0 };
+        for piece in pieces {
+            run = self.drop_client_of(run, piece.pending());
+        }
+        run = self.drop_client_of(run, last);
+        self.counts.take(run.client, run.len);
+    }
+
+    // The pairs of the run's client among these go.
+    fn drop_client_of(&mut self, run: Run, pending: &[Wanted]) -> Run
+        requires few { run.len + length pending.now ≤ 4096 }
+        ensures removed { (front back : List Repair) → AreOnce (front ++ pending.now ++ back) → Owes self.old (front ++ pending.now ++ back) run → Owes self.new (front ++ without run.client pending.now ++ back) result }
+        ensures client { result.client ≡ run.client }
+        ensures len { result.len ≤ run.len + length pending.now }
+    {
+        let mut run = run;
         for w in pending {
-            if w.client != client {
+            if w.client != run.client {
                 continue;
             }
             run = self.remove(run, *w);
         }
-        self.counts.take(run.client, run.len);
+        run
     }
 }
 
 // Whether this number is pending for this client, by a walk.
-fn is_pending(pending: &[Wanted], client: u64, n: u64) -> bool
+fn is_pending(pending: &Backlog, client: u64, n: u64) -> bool
+    ensures { result ≡ list_any (is_wanted client n) pending.now }
+{
+    let (pieces, last) = pending.parts();
+    for piece in pieces {
+        if is_among(piece.pending(), client, n) {
+            return true;
+        }
+    }
+    is_among(last, client, n)
+}
+
+// Whether this number is among these for this client.
+fn is_among(pending: &[Wanted], client: u64, n: u64) -> bool
     ensures { result ≡ list_any (is_wanted client n) pending.now }
 {
     pending.iter().any(|w| w.client == client && w.n == n)
 }
 
 // How many numbers are pending for this client, by a walk.
-fn count_pending(pending: &[Wanted], client: u64) -> u32
+fn count_pending(pending: &Backlog, client: u64) -> u32
+    requires { length pending.now ≤ 4096 }
+    ensures { result ≡ count_of client pending.now }
+{
+    let (pieces, last) = pending.parts();
+    let mut count = 0;
+    for piece in pieces {
+        count += count_among(piece.pending(), client);
+    }
+    count + count_among(last, client)
+}
+
+// How many of these are the client's.
+fn count_among(pending: &[Wanted], client: u64) -> u32
     requires { length pending.now ≤ 4096 }
     ensures { result ≡ count_of client pending.now }
 {

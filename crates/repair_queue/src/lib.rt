@@ -10,10 +10,14 @@ mod counts;
 mod flags;
 mod index;
 mod marks;
+mod piece;
+mod places;
 mod queue;
 mod span;
+mod tail;
 mod wanted;
 
+pub use piece::Piece;
 pub use queue::Queue;
 pub use ram_io::NoMemory;
 pub use wanted::{Asked, Wanted};

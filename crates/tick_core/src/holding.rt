@@ -6,7 +6,7 @@ ghost use Rattle.tick_core.specs.{AreHeld, IsGone};
 
 use channel_cache::Cache;
 use rams_model::Held;
-use repair_queue::{Queue, Wanted};
+use repair_queue::{Piece, Wanted};
 use std::marker::Model;
 
 /// The packets that a cache holds. What it says of all of them was asked once.
@@ -89,11 +89,11 @@ impl<'a> Holding<'a> {
         count
     }
 
-    /// Whether the packets of all pending repairs are held. It looks at none of them, and may say no
+    /// Whether the packets of all repairs of a piece are held. It looks at none of them, and may say no
     /// although they are.
-    pub fn has_all(&self, queue: &Queue) -> bool
-        ensures { result ≡ true → AreHeld self.now queue.now }
+    pub fn has_all(&self, piece: &Piece) -> bool
+        ensures { result ≡ true → AreHeld self.now piece.now }
     {
-        queue.are_from(self.oldest, self.end)
+        piece.are_from(self.oldest, self.end)
     }
 }

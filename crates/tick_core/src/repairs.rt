@@ -13,7 +13,7 @@ use channel_cache::Cache;
 use client_table::Table;
 use ram_io::NoMemory;
 use rams_model::{Held, Note};
-use repair_queue::{Queue, Wanted};
+use repair_queue::{Piece, Queue, Wanted};
 use std::alloc::Global;
 use std::marker::Model;
 
@@ -188,31 +188,58 @@ impl<'a> Repairs<'a> {
         ensures { IfOk result (λ _. self.new ≡ with_all_wanted holding.now queue.now self.old) }
     {
         let least = holding.least_wire();
-        for (i, wanted) in queue.pending().iter().enumerate() {
+        let (pieces, last) = queue.parts();
+        for (i, piece) in pieces.iter().enumerate() {
             if self.draft.left() < least {
-                return self.pass_rest(holding, queue, i);
+                return self.pass_rest(holding, &pieces[i..], last);
+            }
+            self.repair_some(holding, piece.pending())?;
+        }
+        self.repair_some(holding, last)
+    }
+
+    /// Sends some of the pending repairs.
+    fn repair_some(&mut self, holding: &Holding<'_>, pending: &[Wanted]) -> Result<(), NoMemory>
+        requires few { length pending.now ≤ 4096 }
+        ensures { IfOk result (λ _. self.new ≡ with_all_wanted holding.now pending.now self.old) }
+    {
+        let least = holding.least_wire();
+        for (i, wanted) in pending.iter().enumerate() {
+            if self.draft.left() < least {
+                return self.pass_over(holding, &pending[i..]);
             }
             self.repair(holding, wanted)?;
         }
         Ok(())
     }
 
-    /// Nothing fits any more, from this place on: the others wait but for those whose packets are gone.
+    /// Nothing fits any more: these wait but for those whose packets are gone.
     fn pass_rest(
         &mut self,
         holding: &Holding<'_>,
-        queue: &Queue,
-        from: usize,
+        pieces: &[Piece],
+        last: &[Wanted],
     ) -> Result<(), NoMemory>
         requires spent { IsSpent holding.now self.old }
-        requires within { from ≤ length queue.now }
-        ensures { IfOk result (λ _. self.new ≡ with_all_wanted holding.now (drop from queue.now) self.old) }
+        requires few { length (all_of pieces.now ++ last.now) ≤ 4096 }
+        ensures { IfOk result (λ _. self.new ≡ with_all_wanted holding.now (all_of pieces.now ++ last.now) self.old) }
     {
-        let rest = &queue.pending()[from..];
-        if holding.has_all(queue) {
-            self.wait_all(rest.len())
+        for piece in pieces {
+            self.pass_piece(holding, piece)?;
+        }
+        self.pass_over(holding, last)
+    }
+
+    /// The same of a piece.
+    fn pass_piece(&mut self, holding: &Holding<'_>, piece: &Piece) -> Result<(), NoMemory>
+        requires spent { IsSpent holding.now self.old }
+        requires few { length piece.now ≤ 4096 }
+        ensures { IfOk result (λ _. self.new ≡ with_all_wanted holding.now piece.now self.old) }
+    {
+        if holding.has_all(piece) {
+            self.wait_all(piece.pending().len())
         } else {
-            self.pass_over(holding, rest)
+            self.pass_over(holding, piece.pending())
         }
     }
 

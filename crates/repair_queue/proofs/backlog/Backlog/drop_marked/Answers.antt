@@ -1,34 +1,35 @@
-use Rattle.std.proofs.Common.{◌≡◌, ◌+◌, ◌-◌, ◌≤◌, List, ◌++◌, length, take, drop, take_all, length-take-le, length-drop, length-append, ap, ◌∙◌, arith}
-use Rattle.std.proofs.lemmas.List.{with_items_is}
+use Rattle.std.proofs.Common.{◌≡◌, List, Bool, ◌++◌, ◌≤◌, length, take, length-append, ap, sym, ◌∙◌, arith}
+use Rattle.std.proofs.lemmas.List.{take-append-drop, length-take-le}
 use Rattle.rams_model.specs.Service.{Wanted}
-use Rattle.repair_queue.specs.{unmarked}
-use Rattle.repair_queue.proofs.Marked.{drop_written}
+use Rattle.repair_queue.specs.{all_of, unmarked}
+use Rattle.repair_queue.proofs.Pending.{length-unmarked-le}
+use Rattle.repair_queue.proofs.Pieces.{unmarked_split}
 use Rattle.repair_queue.proofs.backlog.Backlog.drop_marked.Goals as goal
 
-pub returns-else-self-ge-MOST_GONE : goal.returns-else-self-ge-MOST_GONE
-returns-else-self-ge-MOST_GONE c =
-    let places = c.deref_mut.result.now in
-    let from = c.self.inside.from in
-    let gone = c.move_unmarked-gone.result in
-    let behind = drop from places in
-    let written = c.move_unmarked-gone.new.pending in
-    let post = drop (length places - from) behind in
-    let within : from ≤ length places = omega (arith, c.self.invariant.within, c.deref_mut.ensures.len) in
-    let none : length post ≡ 0 = omega (arith, length-drop (length places - from) behind, length-drop from places) in
-    let is : take (length places - from) behind ≡ c.args.self.now =
-    take_all (length places - from) behind (omega (arith, length-drop from places)) ∙ (ap (drop from) c.deref_mut.ensures.value ∙ c.self.view_is) in
-    let whole = take from places ++ (written ++ post) in
-    let long : length whole ≡ c.self.inside.places.len =
+pub count_of_pieces-self-inside-requires : goal.count_of_pieces-self-inside-requires
+count_of_pieces-self-inside-requires c =
+    let all = all_of c.self.inside.pieces.items in
     omega (
       arith,
-      length-append (take from places) (written ++ post),
-      length-append written post,
-      length-take-le from places within,
-      none,
-      within,
-      c.move_unmarked-gone.auto.pending,
-      length-take-le (length places - from) behind (omega (arith, length-drop from places)),
-      c.deref_mut.ensures.len,
-    ) in
-    ap (drop (from + gone)) (with_items_is c.self.inside.places whole long)
-    ∙ (drop_written places written post from gone within none ∙ (c.move_unmarked-gone.ensures.pending ∙ ap (λ (l : List Wanted). unmarked l c.args.done.now) is))
+      ap (λ (ps : List (List Wanted)). length (all_of ps)) c.deref.ensures.value,
+      ap length c.drop_of_pieces.ensures,
+      length-unmarked-le all c.split_at.result.0.now,
+      length-append all c.self.inside.last,
+      ap length c.self.view_is,
+      c.requires.few,
+    )
+
+pub returns : goal.returns
+returns c =
+    let all = all_of c.self.inside.pieces.items in
+    let last = c.self.inside.last in
+    let done = c.args.done.now in
+    let n = c.self.inside.in_pieces in
+    let f = c.split_at.result.0.now in
+    let g = c.split_at.result.1.now in
+    let split : f ++ g ≡ done = ap (λ (l : List Bool). l ++ g) c.split_at.ensures.front ∙ (ap (λ (l : List Bool). take n done ++ l) c.split_at.ensures.back ∙ take-append-drop n done) in
+    let some : n ≤ length done = omega (arith, c.self.invariant, c.requires.one_each, length-append all last, ap length c.self.view_is) in
+    let same : length f ≡ length all = ap length c.split_at.ensures.front ∙ (length-take-le n done some ∙ c.self.invariant) in
+    ap (λ (l : List Wanted). l ++ c.drop_marked.new.self) c.drop_of_pieces.ensures
+    ∙ (ap (λ (l : List Wanted). unmarked all f ++ l) c.drop_marked.ensures
+    ∙ (sym (unmarked_split all last f g same) ∙ (ap (unmarked (all ++ last)) split ∙ ap (λ (l : List Wanted). unmarked l done) c.self.view_is)))

@@ -1,10 +1,14 @@
-use Rattle.std.proofs.Common.{take, drop, ◌++◌, ◌≤◌}
-use Rattle.repair_queue.specs.{without, Owes}
+use Rattle.std.proofs.Common.{◌≡◌, ◌+◌, ◌≤◌, ◌++◌, List, length, drop}
+use Rattle.rams_model.specs.Service.{Wanted}
+use Rattle.repair_queue.specs.{all_of, without, AreOnce, Owes}
 use Rattle.repair_queue.proofs.index.Index.drop_client.Given as goal
 
--- Of those so far the client's are gone.
-abbrev pub invariant-loop-w : goal.invariant-loop-w
-invariant-loop-w l = record {
-  owes : Owes l.self (without l.client (take l.w-index l.pending) ++ drop l.w-index l.pending) l.run;
-  short : l.run.len ≤ l.w-index;
+-- Of the pieces so far the client's are gone.
+abbrev pub invariant-loop-piece : goal.invariant-loop-piece
+invariant-loop-piece l = (front : List Wanted) × record {
+  owes : Owes l.self (front ++ all_of (drop l.piece-index l.pieces) ++ l.last) l.run;
+  gone : without l.client l.pending ≡ front ++ without l.client (all_of (drop l.piece-index l.pieces) ++ l.last);
+  once : AreOnce (front ++ all_of (drop l.piece-index l.pieces) ++ l.last);
+  client : l.run.client ≡ l.client;
+  few : l.run.len + length (all_of (drop l.piece-index l.pieces) ++ l.last) ≤ 4096;
 }

@@ -1,5 +1,5 @@
 use Rattle.repair_queue.proofs.Marked.{MovedUp}
-use Rattle.repair_queue.proofs.backlog.move_unmarked.Given as goal
+use Rattle.repair_queue.proofs.places.move_unmarked.Given as goal
 
 -- The unmarked ones from here on stand right before the rest, and what is in front is as it was.
 abbrev pub invariant-loop-end : goal.invariant-loop-end

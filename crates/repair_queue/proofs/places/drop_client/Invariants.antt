@@ -1,7 +1,7 @@
 use Rattle.std.proofs.Common.{◌≡◌, vec_capacity, not}
 use Rattle.std.proofs.lemmas.List.Filters.{FiltersInPlace}
 use Rattle.repair_queue.specs.{is_of}
-use Rattle.repair_queue.proofs.backlog.drop_client.Given as goal
+use Rattle.repair_queue.proofs.places.drop_client.Given as goal
 
 -- The other clients' repairs so far stand in front, and the rest is as it was.
 abbrev pub invariant-loop-i : goal.invariant-loop-i

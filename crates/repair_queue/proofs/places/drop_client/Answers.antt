@@ -3,7 +3,7 @@ use Rattle.std.proofs.lemmas.Bool.Decides.{nat_tests}
 use Rattle.std.proofs.lemmas.List.Filters.{FiltersInPlace-more_no, FiltersInPlace-more_set}
 use Rattle.rams_model.specs.Service.{Wanted}
 use Rattle.repair_queue.specs.{is_of}
-use Rattle.repair_queue.proofs.backlog.drop_client.Goals as goal
+use Rattle.repair_queue.proofs.places.drop_client.Goals as goal
 
 pub loop-i-preserved-then-w-client : goal.loop-i-preserved-then-w-client
 loop-i-preserved-then-w-client c =

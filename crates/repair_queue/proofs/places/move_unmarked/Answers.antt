@@ -2,7 +2,7 @@ use Rattle.std.proofs.Common.{◌≤◌, ◌-◌, List, false, refl, sym, ◌∙
 use Rattle.std.proofs.lemmas.List.{get_or-take, length-take-le}
 use Rattle.rams_model.specs.Service.{Wanted}
 use Rattle.repair_queue.proofs.Marked.{MovedUp, moved_none, moved_run, moved_past}
-use Rattle.repair_queue.proofs.backlog.move_unmarked.Goals as goal
+use Rattle.repair_queue.proofs.places.move_unmarked.Goals as goal
 
 pub loop-end-init : goal.loop-end-init
 loop-end-init c = moved_none c.args.pending.now c.args.done.now c.requires

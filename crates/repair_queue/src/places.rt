@@ -1,0 +1,61 @@
+//! Repairs that move within a vector.
+ghost use Rattle.std.specs.Prelude.{◌≡◌, ◌≤◌, length, drop, vec_len, vec_capacity};
+ghost use Rattle.repair_queue.specs.{unmarked, without};
+
+use crate::flags::end_of_set;
+use crate::wanted::Wanted;
+
+/// Moves those of the first ones whose flag isn't set up to right before the first that has no flag.
+/// How many places are free in front of them then.
+pub(crate) fn move_unmarked(pending: &mut [Wanted], done: &[bool]) -> usize
+    requires { length done.now ≤ length pending.old }
+    ensures within { result ≤ length done.now }
+    ensures pending { drop result pending.new ≡ unmarked pending.old done.now }
+{
+    let mut start = done.len();
+    let mut end = done.len();
+    while end > 0 {
+        let from = end_of_set(&done[..end]);
+        start -= end - from;
+        pending.copy_within(from..end, start);
+        end = from.saturating_sub(1);
+    }
+    start
+}
+
+/// Moves those behind the first places to the front.
+pub(crate) fn move_down(places: &mut Vec<Wanted>, from: usize)
+    requires { from ≤ vec_len places.old }
+    ensures items { places.new.items ≡ drop from places.old.items }
+    ensures capacity { vec_capacity places.new ≡ vec_capacity places.old }
+{
+    let len = places.len() - from;
+    places.copy_within(from.., 0);
+    places.truncate(len);
+}
+
+/// Moves the other clients' repairs to the front, and drops the rest.
+pub(crate) fn drop_client(places: &mut Vec<Wanted>, client: u64)
+    ensures items { places.new.items ≡ without client places.old.items }
+    ensures capacity { vec_capacity places.new ≡ vec_capacity places.old }
+{
+    let mut kept = 0;
+    for i in 0..places.len() {
+        let w = places[i];
+        if w.client == client {
+            continue;
+        }
+        places[kept] = w;
+        kept += 1;
+    }
+    places.truncate(kept);
+}
+
+/// Moves those whose flag isn't set, and those behind the flags, to the front, and drops the rest.
+pub(crate) fn drop_marked(places: &mut Vec<Wanted>, done: &[bool])
+    requires { length done.now ≤ length places.old.items }
+    ensures { places.new.items ≡ unmarked places.old.items done.now }
+{
+    let gone = move_unmarked(places, done);
+    move_down(places, gone);
+}
