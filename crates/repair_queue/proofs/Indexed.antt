@@ -1,6 +1,6 @@
 -- What one more pair and one less do to the index.
-use Rattle.std.proofs.Common.{◌≡◌, ℕ, ◌+◌, ◌-◌, ◌<◌, ◌≤◌, Bool, true, false, cond, not, ◌||◌, ◌&&◌, nat_eq, List, [], ◌∷◌, ◌++◌, length, take, drop, get_or, refl, ap, sym, ◌∙◌, subst, arith, append_assoc, append-nil}
-use Rattle.std.proofs.lemmas.List.{drop_more, take_more, take-append-drop}
+use Rattle.std.proofs.Common.{◌≡◌, ℕ, ◌+◌, ◌-◌, ◌<◌, ◌≤◌, Bool, true, false, cond, not, ◌||◌, ◌&&◌, nat_eq, List, [], ◌∷◌, ◌++◌, length, take, drop, get_or, refl, ap, sym, ◌∙◌, arith, append-nil}
+use Rattle.std.proofs.lemmas.List.{drop_more, take_more}
 use Rattle.std.proofs.lemmas.List.Elements.{filter-append}
 use Rattle.std.specs.List.{list_any, filter}
 use Rattle.std.proofs.lemmas.Bool.Decides.{nat_tests}
@@ -50,27 +50,8 @@ count_less client n k run len front back was same is =
 pub count_ended : (client n k run len : ℕ) (front back : List Wanted) (was is : ℕ) → was ≡ count_of k (front ++ wanted client n ∷ back) + cond (nat_eq run k) len 0 → is ≡ was - cond (nat_eq run k) len 0 → is ≡ count_of k (front ++ back) + cond (nat_eq client k) 1 0
 count_ended client n k run len front back was is owes ended = omega (arith, filter_middle (is_of k) front back (wanted client n))
 
--- no pair is twice among some of the first and all others
-pub once_front : (ws front : List Wanted) (i : ℕ) → ((p : Wanted → Bool) → length (filter p front) ≤ length (filter p (take i ws))) → AreOnce ws → AreOnce (front ++ drop i ws)
-once_front ws front i less once = λ k m.
-    let p = is_wanted k m in
-    let all : length (filter p ws) ≡ length (filter p (take i ws)) + length (filter p (drop i ws)) = ap (λ (l : List Wanted). length (filter p l)) (sym (take-append-drop i ws)) ∙ filter_append p (take i ws) (drop i ws) in
-    omega (arith, less p, once k m, filter_append p front (drop i ws))
-
 pub rest_is : (ws : List Wanted) (i : ℕ) (w : Wanted) → i < length ws → get_or ws i w ≡ w → drop i ws ≡ w ∷ drop (i + 1) ws
 rest_is ws i w lt at = drop_more ws i w lt ∙ ap (λ (x : Wanted). x ∷ drop (i + 1) ws) at
-
-pub turn_same : (P : List Wanted → Type 0) (ws front next : List Wanted) (i : ℕ) (w : Wanted) → i < length ws → get_or ws i w ≡ w → next ≡ front ++ w ∷ [] → P (front ++ drop i ws) → P (next ++ drop (i + 1) ws)
-turn_same P ws front next i w lt at is so_far =
-    subst P (ap (λ (l : List Wanted). front ++ l) (rest_is ws i w lt at) ∙ (sym (append_assoc front (w ∷ []) (drop (i + 1) ws)) ∙ ap (λ (l : List Wanted). l ++ drop (i + 1) ws) (sym is))) so_far
-
--- one more of the first is gone
-pub turn_less : (P Q : List Wanted → Type 0) (ws front next : List Wanted) (i : ℕ) (w : Wanted) → ((f back : List Wanted) → AreOnce (f ++ w ∷ back) → P (f ++ w ∷ back) → Q (f ++ back))
-    → i < length ws → w ≡ get_or ws i w → next ≡ front → AreOnce (front ++ drop i ws) → P (front ++ drop i ws) → Q (next ++ drop (i + 1) ws)
-turn_less P Q ws front next i w removes lt at is once so_far =
-    let split = rest_is ws i w lt (sym at) in
-    let made = removes front (drop (i + 1) ws) (subst (λ (l : List Wanted). AreOnce (front ++ l)) split once) (subst (λ (l : List Wanted). P (front ++ l)) split so_far) in
-    subst (λ (l : List Wanted). Q (l ++ drop (i + 1) ws)) (sym is) made
 
 -- the first and one more of the client, without the client's
 pub without_more : (client i : ℕ) (ws : List Wanted) (w : Wanted) → i < length ws → w ≡ get_or ws i w → w.client ≡ client → without client (take (i + 1) ws) ≡ without client (take i ws)

@@ -1,7 +1,6 @@
 -- Dropping what is marked, in place.
 use Rattle.std.proofs.Common.{◌≡◌, ℕ, zero, suc, ◌+◌, ◌-◌, ◌<◌, ◌≤◌, Bool, true, false, cond, List, [], ◌∷◌, ◌++◌, length, take, drop, get_or, refl, ap, sym, ◌∙◌, subst, arith, append_assoc, append-nil, length-drop}
 use Rattle.std.specs.List.{list_any}
-use Rattle.repair_queue.proofs.Pending.{unmarked_none}
 use Rattle.std.proofs.lemmas.List.{take_more, drop_more, drop_all, drop_at, drop-drop, take-take, drop-take, take_at as take_front, length-take-le, nil_from_length}
 use Rattle.std.proofs.lemmas.List.Edits.{length-paste}
 use Rattle.std.proofs.Math.Seq.{paste}
@@ -120,15 +119,6 @@ pub drop_written : (xs written post : List Wanted) (from n : ℕ) → from ≤ l
 drop_written xs written post from n within none =
     sym (drop-drop n from (take from xs ++ (written ++ post)))
     ∙ ap (drop n) (drop_at (take from xs) (written ++ post) from (length-take-le from xs within) ∙ (ap (λ (l : List Wanted). written ++ l) (nil_from_length post none) ∙ append-nil written))
-
--- flags that are unset say no more than missing ones
-pub unmarked_short : (ws : List Wanted) (done : List Bool) (end : ℕ) → list_any (λ is_done. is_done) (drop end done) ≡ false → unmarked ws (take end done) ≡ unmarked ws done
-unmarked_short [] done end unset = refl
-unmarked_short (w ∷ ws) [] zero unset = refl
-unmarked_short (w ∷ ws) [] (suc end) unset = refl
-unmarked_short (w ∷ ws) (d ∷ done) zero unset = sym (unmarked_none (w ∷ ws) (d ∷ done) unset)
-unmarked_short (w ∷ ws) (true ∷ done) (suc end) unset = unmarked_short ws done end unset
-unmarked_short (w ∷ ws) (false ∷ done) (suc end) unset = ap (λ (vs : List Wanted). w ∷ vs) (unmarked_short ws done end unset)
 
 -- those behind the flags stay
 pub unmarked_rest : (ws : List Wanted) (done : List Bool) → length done ≤ length ws → unmarked (take (length done) ws) (take (length done) done) ++ drop (length done) ws ≡ unmarked ws done

@@ -23,3 +23,4 @@ pub mod Sending
 pub mod Sized
 pub mod Sizing
 pub mod DueClients
+pub mod Piecewise

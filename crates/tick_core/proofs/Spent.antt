@@ -1,8 +1,7 @@
 -- The pending repairs that do not fit: the channel has less left than their packets take, or their clients may take less.
-use Rattle.std.proofs.Common.{◌≡◌, ℕ, zero, suc, ◌-◌, ◌<◌, ◌≤◌, Bool, true, false, List, [], ◌∷◌, ◌++◌, length, take, drop, length-drop, replicate, Option, Some, None, is_some, IfSome, refl, ap, sym, ◌∙◌, subst, arith, eqb, leb, append_assoc, append-nil, get_or}
+use Rattle.std.proofs.Common.{◌≡◌, ℕ, zero, suc, ◌<◌, ◌≤◌, Bool, true, false, List, [], ◌∷◌, ◌++◌, length, take, drop, replicate, Option, Some, None, is_some, IfSome, refl, ap, sym, ◌∙◌, subst, arith, eqb, leb, append_assoc, append-nil, get_or}
 use Rattle.std.specs.List.{AllByRecursion}
 use Rattle.std.proofs.lemmas.Bool.{cond_both, cond-false, lt-leb, and_left, and_right}
-use Rattle.std.proofs.lemmas.List.{length-take-le}
 use Rattle.rams_model.specs.declared.held.Held.{Held}
 use Rattle.rams_model.specs.Service.{Wanted}
 use Rattle.channel_cache.specs.{AreAtLeast}
@@ -85,7 +84,7 @@ spent_still held w r r2 made spent =
     subst (λ (n : ℕ). AllByRecursion (λ h. n < h.wire) held) (sym (ap (λ (x : Repaired). x.draft.left) made ∙ left_stays w (packet_of w.n held) r (none_fits held w r spent))) spent
 
 -- ---- all the rest waits where all of it is held
-rest_waits : (held : List Held) (ws : List Wanted) (r : Repaired) → IsSpent held r → AreHeld held ws → with_all_wanted held ws r ≡ record r { done = r.done ++ replicate (length ws) false }
+pub rest_waits : (held : List Held) (ws : List Wanted) (r : Repaired) → IsSpent held r → AreHeld held ws → with_all_wanted held ws r ≡ record r { done = r.done ++ replicate (length ws) false }
 unfolding with_all_wanted
 rest_waits held [] r spent all = ap (λ (l : List Bool). record r { done = l }) (sym (append-nil r.done))
 rest_waits held (w ∷ ws) r spent all =
@@ -124,18 +123,3 @@ pub first_leaves : (held : List Held) (ws : List Wanted) (r r2 : Repaired) → r
 unfolding with_all_wanted
 first_leaves held [] r r2 made spent = subst (IsSpent held) (sym made) spent
 first_leaves held (w ∷ ws) r r2 made spent = spent_still held w r r2 made spent
-
-held_rest : (held : List Held) (i : ℕ) (ws : List Wanted) → AreHeld held ws → AreHeld held (drop i ws)
-held_rest held zero ws all = all
-held_rest held (suc i) [] all = all
-held_rest held (suc i) (w ∷ ws) all = held_rest held i ws all.1
-
--- so many waited
-pub waited : (held : List Held) (ws : List Wanted) (i count : ℕ) (r r2 : Repaired) → count ≡ length (drop i ws) → IsSpent held r → AreHeld held ws → r2 ≡ record r { done = r.done ++ replicate count false }
-    → r2 ≡ with_all_wanted held (drop i ws) r
-waited held ws i count r r2 same spent all made =
-    made ∙ (ap (λ (k : ℕ). record r { done = r.done ++ replicate k false }) same ∙ sym (rest_waits held (drop i ws) r spent (held_rest held i ws all)))
-
--- the rest of a list as it is shown
-pub rest_length : (ws shown : List Wanted) (i : ℕ) → shown ≡ ws → i ≤ length ws → length (take (length shown - i) (drop i shown)) ≡ length (drop i ws)
-rest_length ws shown i same within = omega (arith, ap length same, length-drop i ws, length-drop i shown, length-take-le (length shown - i) (drop i shown))

@@ -3,6 +3,7 @@ ghost use Rattle.std.specs.Prelude.{◌≡◌, ◌<◌, ◌≤◌, ◌&&◌, nat
 ghost use Rattle.client_table.specs.{AreRising};
 ghost use Rattle.tick_core.specs.{IsSpent, FitsNowhere, AreOfKnown, IsGone, told_by, all_allowances, allowance_for, after_repair, waiting, with_repair, with_wanted, with_all_wanted};
 ghost use Rattle.packet_ring.specs.{packet_of};
+ghost use Rattle.repair_queue.specs.{all_of};
 
 use crate::allowance::Allowance;
 use crate::allowances::Allowances;
@@ -187,10 +188,9 @@ impl<'a> Repairs<'a> {
     fn repair_held(&mut self, holding: &Holding<'_>, queue: &Queue) -> Result<(), NoMemory>
         ensures { IfOk result (λ _. self.new ≡ with_all_wanted holding.now queue.now self.old) }
     {
-        let least = holding.least_wire();
         let (pieces, last) = queue.parts();
         for (i, piece) in pieces.iter().enumerate() {
-            if self.draft.left() < least {
+            if self.is_spent(holding) {
                 return self.pass_rest(holding, &pieces[i..], last);
             }
             self.repair_some(holding, piece.pending())?;
@@ -203,14 +203,20 @@ impl<'a> Repairs<'a> {
         requires few { length pending.now ≤ 4096 }
         ensures { IfOk result (λ _. self.new ≡ with_all_wanted holding.now pending.now self.old) }
     {
-        let least = holding.least_wire();
         for (i, wanted) in pending.iter().enumerate() {
-            if self.draft.left() < least {
+            if self.is_spent(holding) {
                 return self.pass_over(holding, &pending[i..]);
             }
             self.repair(holding, wanted)?;
         }
         Ok(())
+    }
+
+    /// Whether the channel has less left than any packet takes.
+    fn is_spent(&self, holding: &Holding<'_>) -> bool
+        ensures { result ≡ true → IsSpent holding.now self.now }
+    {
+        self.draft.left() < holding.least_wire()
     }
 
     /// Nothing fits any more: these wait but for those whose packets are gone.
