@@ -141,7 +141,7 @@ impl Core {
         tick_core::plan_tick(alloc, &self.parts)
     }
 
-    /// Does what was planned for a tick, and answers it. It takes no memory.
+    /// Does what was planned for a tick, and answers it. It can't fail for want of memory.
     pub fn commit_tick(&mut self, plan: TickPlan) -> Answer
         requires plan { IsPlanOf self.old plan }
         ensures stands { (events : List Event) → StandsFor self.old events →

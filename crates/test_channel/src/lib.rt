@@ -1,6 +1,9 @@
 //! A channel's settings, and words of packets.
 #![tactic(auto)]
 
+ghost use Rattle.std.specs.Prelude.{◌≡◌, ◌++◌, flat_map, IfOk, replicate};
+ghost use Rattle.std.specs.Int.{to_be_bytes, w32};
+
 use channel_config::{Access, Channel};
 use std::alloc::{AllocError, Global};
 
@@ -31,7 +34,9 @@ pub const CHANNEL: Channel = Channel {
 };
 
 /// Words in network byte order, with so many zeros behind them.
-pub fn bytes_of(alloc: Global, words: &[u32], zeros: usize) -> Result<Vec<u8>, AllocError> {
+pub fn bytes_of(alloc: Global, words: &[u32], zeros: usize) -> Result<Vec<u8>, AllocError>
+    ensures { IfOk result (λ bytes. bytes.items ≡ flat_map (to_be_bytes w32) words.now ++ replicate zeros 0) }
+{
     let mut bytes = Vec::new(alloc);
     for word in words {
         bytes.extend_from_slice(&word.to_be_bytes())?;

@@ -1,6 +1,9 @@
 //! What tests begin with: bytes in words, and texts in lines.
 #![tactic(auto)]
 
+ghost use Rattle.std.specs.Prelude.{◌≡◌, ◌++◌, flat_map, IfOk};
+ghost use Rattle.test_words.specs.{bytes_in};
+
 use std::alloc::{AllocError, Global};
 use std::test::Fail;
 
@@ -8,7 +11,9 @@ use std::test::Fail;
 pub type Words = &'static [&'static str];
 
 /// The bytes of words of hexadecimal digits.
-pub fn bytes_of(alloc: Global, words: &[&str]) -> Result<Vec<u8>, Fail> {
+pub fn bytes_of(alloc: Global, words: &[&str]) -> Result<Vec<u8>, Fail>
+    ensures { IfOk result (λ bytes. bytes.items ≡ flat_map (λ word. bytes_in word.now) words.now) }
+{
     let mut bytes = Vec::new(alloc);
     for word in words {
         let piece = hex::decode(alloc, word.as_bytes())?;
@@ -18,7 +23,9 @@ pub fn bytes_of(alloc: Global, words: &[&str]) -> Result<Vec<u8>, Fail> {
 }
 
 /// Lines, each with this end.
-pub fn joined(alloc: Global, lines: &[&str], end: &str) -> Result<Vec<u8>, AllocError> {
+pub fn joined(alloc: Global, lines: &[&str], end: &str) -> Result<Vec<u8>, AllocError>
+    ensures { IfOk result (λ text. text.items ≡ flat_map (λ line. line.now ++ end.now) lines.now) }
+{
     let mut text = Vec::new(alloc);
     for line in lines {
         text.extend_from_slice(line.as_bytes())?;

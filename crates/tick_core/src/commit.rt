@@ -182,7 +182,7 @@ fn commit_notes(
     commit_sent(table, budget, sent);
 }
 
-/// Does what a tick's plan says. It takes no memory.
+/// Does what a tick's plan says. It can't fail for want of memory.
 pub fn commit_tick(parts: &mut Parts, plan: &TickPlan)
     // The parts stand for some events, and the plan is that of the tick after them.
     requires plan { (events : List Event) × StandsFor parts.old events × IsPlanFor parts.old events plan.now }
