@@ -63,53 +63,37 @@ fn after_line(alloc: Global, channels: &mut Channels, line: Line<'_>) -> Result<
     ensures same { Halting result (IsSame channels.old.hub channels.new.hub channels.old.ids.items channels.new.ids.items channels.old.events channels.new.events channels.old.state channels.new.state) }
     ensures count { result ≡ Ok steps.GoesOn → count_of channels.new.hub channels.new.ids.items channels.new.events ≡ count_of channels.old.hub channels.old.ids.items channels.old.events + 1 }
 {
+    if let Line::Channel { version, channel } = line {
+        return open(alloc, channels, version, channel);
+    }
+    let Channels {
+        hub,
+        events,
+        state,
+        bytes,
+        ..
+    } = channels;
     match line {
         Line::Head {
             version,
             tick_ms,
             link,
-        } => {
-            let hub = &mut channels.hub;
-            begin(alloc, hub, &mut channels.state, version, tick_ms, link)
-        }
-        Line::Channel { version, channel } => open(alloc, channels, version, channel),
+        } => begin(alloc, hub, state, version, tick_ms, link),
         Line::Live { id, hex } => {
-            decode_to(hex, &mut channels.bytes)?;
-            let bytes = &channels.bytes;
+            decode_to(hex, bytes)?;
             let heard = Heard::Live { id, bytes };
-            serve(
-                alloc,
-                &mut channels.hub,
-                &mut channels.events,
-                &mut channels.state,
-                heard,
-                &line,
-            )
+            serve(alloc, hub, events, state, heard, &line)
         }
         Line::Feedback { id, client, hex } => {
-            decode_to(hex, &mut channels.bytes)?;
-            let bytes = &channels.bytes;
+            decode_to(hex, bytes)?;
             let heard = Heard::Feedback { id, client, bytes };
-            serve(
-                alloc,
-                &mut channels.hub,
-                &mut channels.events,
-                &mut channels.state,
-                heard,
-                &line,
-            )
+            serve(alloc, hub, events, state, heard, &line)
         }
-        Line::Tick => serve(
-            alloc,
-            &mut channels.hub,
-            &mut channels.events,
-            &mut channels.state,
-            Heard::Tick,
-            &line,
-        ),
+        Line::Tick => serve(alloc, hub, events, state, Heard::Tick, &line),
         Line::End => Ok(Step::Ends),
-        // No journal has these.
-        Line::Tune { .. }
+        // A channel's line was taken above, and no journal has the others.
+        Line::Channel { .. }
+        | Line::Tune { .. }
         | Line::Give { .. }
         | Line::Mcast { .. }
         | Line::Ask { .. }
