@@ -102,27 +102,24 @@ numbers_snoc first (suc n) =
     let more : suc n + 1 ≡ suc (n + 1) = omega arith in
     ap (numbers_from first) more ∙ ap (λ (l : List ℕ). first ∷ l) (numbers_snoc (first + 1) n ∙ ap (λ (k : ℕ). numbers_from (first + 1) n ++ k ∷ []) e)
 
-pub nothing_drawn : (s : Settings) (place : ℕ) (old : List Placed) → HasDrawn s place [] old old
-nothing_drawn s place old = record {
+pub nothing_drawn : (place : ℕ) (old : List Placed) → HasDrawn place [] old old
+nothing_drawn place old = record {
   placed = [];
   items = sym (append-nil old);
-  answers_are = refl;
   places_are = refl;
-  drawn = refl;
+  drawn_are = refl;
 }
 
-pub draws_on : (s : Settings) (place : ℕ) (answers : List Answered) (old all : List Placed) (p : Placed) → HasDrawn s place answers old all → p.place ≡ place + length answers
-    → p.datagrams.items ≡ datagrams_of s p.answer → HasDrawn s place (answers ++ p.answer ∷ []) old (all ++ p ∷ [])
-draws_on s place answers old all p h at drawn = record {
+pub draws_on : (place : ℕ) (drawn : List (List (List ℕ))) (old all : List Placed) (p : Placed) → HasDrawn place drawn old all → p.place ≡ place + length drawn
+    → HasDrawn place (drawn ++ p.datagrams.items ∷ []) old (all ++ p ∷ [])
+draws_on place drawn old all p h at = record {
   placed = h.placed ++ p ∷ [];
   items = ap (λ (l : List Placed). l ++ p ∷ []) h.items ∙ append_assoc old h.placed (p ∷ []);
-  answers_are = map-append (λ (x : Placed). x.answer) h.placed (p ∷ []) ∙ ap (λ (l : List Answered). l ++ p.answer ∷ []) h.answers_are;
   places_are = map-append (λ (x : Placed). x.place) h.placed (p ∷ []) ∙ ap (λ (l : List ℕ). l ++ p.place ∷ []) h.places_are
-      ∙ ap (λ (k : ℕ). numbers_from place (length answers) ++ k ∷ []) at
-      ∙ sym (numbers_snoc place (length answers))
-      ∙ ap (numbers_from place) (sym (length-append answers (p.answer ∷ [])));
-  drawn = map-append (λ (x : Placed). x.datagrams.items) h.placed (p ∷ []) ∙ ap (λ (l : List (List (List ℕ))). l ++ p.datagrams.items ∷ []) h.drawn
-      ∙ ap (λ (d : List (List ℕ)). map (datagrams_of s) answers ++ d ∷ []) drawn ∙ sym (map-append (datagrams_of s) answers (p.answer ∷ []));
+      ∙ ap (λ (k : ℕ). numbers_from place (length drawn) ++ k ∷ []) at
+      ∙ sym (numbers_snoc place (length drawn))
+      ∙ ap (numbers_from place) (sym (length-append drawn (p.datagrams.items ∷ [])));
+  drawn_are = map-append (λ (x : Placed). x.datagrams.items) h.placed (p ∷ []) ∙ ap (λ (l : List (List (List ℕ))). l ++ p.datagrams.items ∷ []) h.drawn_are;
 }
 
 -- ---- a piece
@@ -133,7 +130,7 @@ drawn_entries s (e ∷ made) = ap (λ (l : List (List (List ℕ))). datagrams_of
 
 -- its answers and their datagrams
 writes_piece : (list : ℕ) (s : Settings) (events : List Event) (old : List Entry) (place : ℕ) (answers : List Answered) (new : List Entry) (before after : List Placed)
-    → HasAnsweredAll list events old place answers new → HasDrawn s place answers before after → HasWrittenPiece list s events old before after new
+    → HasAnsweredAll list events old place answers new → HasDrawn place (map (datagrams_of s) answers) before after → HasWrittenPiece list s events old before after new
 writes_piece list s events old place answers new before after h d = record {
   placed = d.placed;
   items = d.items;
@@ -142,9 +139,9 @@ writes_piece list s events old place answers new before after h d = record {
     events_are = h.calls.events_are;
     own = h.own;
     starts = starts_answered list events old place answers new h;
-    answers = d.answers_are ∙ sym h.calls.answers_are;
-    places = placed_last list events old place answers new h ∙ ap (λ (l : List ℕ). places_by list old ++ l) (sym d.places_are);
-    drawn = d.drawn ∙ (ap (map (datagrams_of s)) (sym h.calls.answers_are) ∙ drawn_entries s h.made);
+    places = placed_last list events old place answers new h
+        ∙ ap (λ (l : List ℕ). places_by list old ++ l) (ap (numbers_from place) (sym (length-map answers (datagrams_of s))) ∙ sym d.places_are);
+    drawn = d.drawn_are ∙ (ap (map (datagrams_of s)) (sym h.calls.answers_are) ∙ drawn_entries s h.made);
   };
 }
 
@@ -166,7 +163,7 @@ length_answers list events old place answers new h =
 
 -- what a piece tells, by whether all was drawn
 pub piece_told : {A E : Type 0} (list : ℕ) (s : Settings) (events : List Event) (old : List Entry) (place : ℕ) (answers : List Answered) (new : List Entry) (before after : List Placed) (r : Result A E)
-    → HasAnsweredAll list events old place answers new → OnOk r (HasDrawn s place answers before after)
+    → HasAnsweredAll list events old place answers new → OnOk r (HasDrawn place (map (datagrams_of s) answers) before after)
     → MatchResult r (λ _. HasWrittenPiece list s events old before after new) (λ _. HasWrittenFront list events old new)
 piece_told list s events old place answers new before after (Ok x) h drawn = writes_piece list s events old place answers new before after h drawn
 piece_told list s events old place answers new before after (Err e) h drawn = answers_front list events old place answers new h
@@ -179,7 +176,6 @@ nothing_written list s old = record {
   events_are = refl;
   own = sym (append-nil (calls_by list old));
   starts = record { rest = []; is = sym (append-nil old) };
-  answers = refl;
   places = sym (append-nil (places_by list old));
   drawn = refl;
 }
@@ -194,8 +190,6 @@ writes_on list s events more old all after middle new w piece =
       events_are = map-append (λ (x : Entry). x.event) w.made h.made ∙ ap (λ (l : List Event). l ++ map (λ (x : Entry). x.event) h.made) w.events_are ∙ ap (λ (l : List Event). events ++ l) h.events_are;
       own = h.own ∙ ap (λ (l : List Entry). l ++ h.made) w.own ∙ append_assoc (calls_by list old) w.made h.made;
       starts = starts_over new middle old h.starts w.starts;
-      answers = map-append (λ (x : Placed). x.answer) all p ∙ ap (λ (l : List Answered). l ++ map (λ (x : Placed). x.answer) p) w.answers
-          ∙ ap (λ (l : List Answered). map (λ (x : Entry). x.answer) w.made ++ l) h.answers ∙ sym (map-append (λ (x : Entry). x.answer) w.made h.made);
       places = h.places ∙ ap (λ (l : List ℕ). l ++ map (λ (x : Placed). x.place) p) w.places
           ∙ append_assoc (places_by list old) (map (λ (x : Placed). x.place) all) (map (λ (x : Placed). x.place) p)
           ∙ ap (λ (l : List ℕ). places_by list old ++ l) (sym (map-append (λ (x : Placed). x.place) all p));

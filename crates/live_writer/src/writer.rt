@@ -21,10 +21,9 @@ const AT_HAND: usize = 1 << 20;
 /// What became of an event.
 #[derive(Drop)]
 pub struct Placed {
-    /// Its place in the history.
+    /// Its place in the history, where its answer stands.
     pub place: u64,
-    pub answer: Answer,
-    /// The datagram of each order of the answer.
+    /// The datagram of each order of its answer.
     pub datagrams: Vec<Octets>,
 }
 
@@ -46,27 +45,15 @@ fn draw_after<G: Gate>(gate: &G, list: u16, first: usize, count: usize)
     }
 }
 
-/// Adds answers, from this place on, each with its datagrams.
-fn place_all(
-    _config: &Config,
-    place: u64,
-    answers: Vec<Answer>,
-    drawn: Vec<Vec<Octets>>,
-    all: &mut Vec<Placed>,
-) -> Result<(), NoMemory>
-    requires places { place + length answers.items ≤ 2 ^ 40 }
-    requires drawn { map (λ d. d.items) drawn.items ≡ map (datagrams_of _config.now) answers.items }
-    ensures { OnOk result (HasDrawn _config.now place answers.items all.old.items all.new.items) }
+/// Adds the datagrams of answers, the first of which has this place.
+fn place_all(place: u64, drawn: Vec<Vec<Octets>>, all: &mut Vec<Placed>) -> Result<(), NoMemory>
+    requires { place + length drawn.items ≤ 2 ^ 40 }
+    ensures { OnOk result (HasDrawn place (map (λ d. d.items) drawn.items) all.old.items all.new.items) }
 {
     let mut next = place;
-    let mut drawn = drawn.into_iter();
-    for answer in answers {
-        let Some(datagrams) = drawn.next() else {
-            unreachable!()
-        };
+    for datagrams in drawn {
         all.push(Placed {
             place: next,
-            answer,
             datagrams,
         })?;
         next += 1;
@@ -74,7 +61,7 @@ fn place_all(
     Ok(())
 }
 
-/// Adds the answers of a piece, from this place on, each with its datagrams. No turn is held.
+/// Adds the datagrams of the answers of a piece, the first of which has this place. No turn is held.
 fn draw_all<R: Threads + Sync, G: Gate>(
     rt: &R,
     alloc: Global,
@@ -88,11 +75,11 @@ fn draw_all<R: Threads + Sync, G: Gate>(
 ) -> Result<(), NoMemory>
     requires workers { 0 < workers }
     requires places { place + length answers.items ≤ 2 ^ 40 }
-    ensures { OnOk result (HasDrawn config.now place answers.items all.old.items all.new.items) }
+    ensures { OnOk result (HasDrawn place (map (datagrams_of config.now) answers.items) all.old.items all.new.items) }
 {
     draw_after(gate, list, all.len(), answers.len());
     let drawn = render_each(rt, alloc, config, &answers, workers)?;
-    place_all(config, place, answers, drawn, all)
+    place_all(place, drawn, all)
 }
 
 /// The next events of a list, so many where there are as many.
@@ -147,8 +134,8 @@ fn write_piece<R: Threads + Wait + Sync, S: Shared, G: Gate>(
     draw_all(rt, alloc, list, place, answers, config, workers, gate, all)
 }
 
-/// Takes the events of a list, one after another: the place of each in the history, its answer, and
-/// the datagrams of its orders, by at most so many threads at once. May wait.
+/// Takes the events of a list, one after another: the place of each in the history, which has its
+/// answer, and the datagrams of the answer's orders, by at most so many threads at once. May wait.
 ///
 /// Events are taken in pieces, each in one turn: the first event, the next two, the next four, and so
 /// on up to 1,024. The gate is passed before the turn in which a call is stepped, and again when that

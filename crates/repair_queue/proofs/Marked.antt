@@ -1,9 +1,9 @@
 -- Dropping what is marked, in place.
-use Rattle.std.proofs.Common.{◌≡◌, ℕ, zero, suc, ◌+◌, ◌-◌, ◌<◌, ◌≤◌, Bool, true, false, cond, List, [], ◌∷◌, ◌++◌, length, take, drop, get_or, refl, ap, sym, ◌∙◌, subst, arith, append_assoc, append-nil, length-drop}
+use Rattle.std.proofs.Common.{◌≡◌, ℕ, zero, suc, ◌+◌, ◌-◌, ◌<◌, ◌≤◌, Bool, true, false, cond, List, [], ◌∷◌, ◌++◌, length, take, drop, get_or, refl, ap, sym, ◌∙◌, subst, arith, append_assoc, append-nil, length-drop, set, length-set}
 use Rattle.std.specs.List.{list_any}
-use Rattle.std.proofs.lemmas.List.{take_more, drop_more, drop_all, drop_at, drop-drop, take-take, drop-take, take_at as take_front, length-take-le, nil_from_length}
+use Rattle.std.proofs.lemmas.List.{get_or-drop, drop-set-lt, take_more, drop_more, drop_all, drop_at, drop-drop, take-take, drop-take, take_at as take_front, length-take-le, nil_from_length}
 use Rattle.std.proofs.lemmas.List.Edits.{length-paste}
-use Rattle.std.proofs.Math.Seq.{paste}
+use Rattle.std.proofs.Math.Seq.{paste, take-suc-set}
 use Rattle.rams_model.specs.Service.{Wanted, wanted}
 use Rattle.repair_queue.specs.{unmarked}
 
@@ -138,3 +138,42 @@ any_split (false ∷ flags) (suc n) front back = any_split flags n front back
 pub unset_block : (done : List Bool) (start n end : ℕ) → start + n ≡ end → list_any (λ is_done. is_done) (take n (drop start done)) ≡ false → list_any (λ is_done. is_done) (drop end done) ≡ false → list_any (λ is_done. is_done) (drop start done) ≡ false
 unset_block done start n end ends block unset =
     any_split (drop start done) n block (ap (list_any (λ is_done. is_done)) (drop-drop n start done ∙ ap (λ (m : ℕ). drop m done) ends) ∙ unset)
+
+-- Of the first i those that aren't marked stand in front, and from i on all is as it was.
+pub record MovedDown (ws now : List Wanted) (done : List Bool) (kept i : ℕ) : Type 0 where
+  pub front : take kept now ≡ unmarked (take i ws) (take i done)
+  pub rest : drop i now ≡ drop i ws
+  pub behind : kept ≤ i
+  pub long : length now ≡ length ws
+
+module _ (ws now : List Wanted) (done : List Bool) (kept i : ℕ) (w : Wanted) (so_far : MovedDown ws now done kept i) (short : i < length ws) (short_flags : i < length done) (is : w ≡ get_or now i w) where
+  as_it_was : get_or ws i w ≡ w
+  as_it_was =
+      let here : i + 0 ≡ i = omega arith in
+      sym (is ∙ (ap (λ (n : ℕ). get_or now n w) (sym here) ∙ (sym (get_or-drop i now 0 w) ∙ (ap (λ (l : List Wanted). get_or l 0 w) so_far.rest ∙ (get_or-drop i ws 0 w ∙ ap (λ (n : ℕ). get_or ws n w) here)))))
+
+  rest_more : drop (i + 1) now ≡ drop (i + 1) ws
+  rest_more = sym (drop-drop 1 i now) ∙ (ap (drop 1) so_far.rest ∙ drop-drop 1 i ws)
+
+  -- the next one is marked
+  pub moved_down_past : get_or done i false ≡ true → MovedDown ws now done kept (i + 1)
+  moved_down_past flag = record {
+    front = so_far.front ∙ sym (unmarked_more ws done i w true short short_flags as_it_was flag ∙ append-nil (unmarked (take i ws) (take i done)));
+    rest = rest_more;
+    behind = omega (arith, so_far.behind);
+    long = so_far.long;
+  }
+
+  -- or moves behind those in front
+  pub kept_more : take (kept + 1) (set now kept w) ≡ take kept now ++ w ∷ []
+  kept_more =
+      let next : suc kept ≡ kept + 1 = omega arith in
+      ap (λ (n : ℕ). take n (set now kept w)) (sym next) ∙ take-suc-set now kept w (omega (arith, so_far.behind, so_far.long, short))
+
+  pub moved_down : get_or done i false ≡ false → MovedDown ws (set now kept w) done (kept + 1) (i + 1)
+  moved_down flag = record {
+    front = kept_more ∙ (ap (λ (l : List Wanted). l ++ w ∷ []) so_far.front ∙ sym (unmarked_more ws done i w false short short_flags as_it_was flag));
+    rest = drop-set-lt (i + 1) now kept w (omega (arith, so_far.behind)) ∙ rest_more;
+    behind = omega (arith, so_far.behind);
+    long = length-set now kept w ∙ so_far.long;
+  }

@@ -1,9 +1,9 @@
 //! Some pending repairs, one after another.
-ghost use Rattle.std.specs.Prelude.{◌≡◌, ◌≤◌, true, length};
+ghost use Rattle.std.specs.Prelude.{◌≡◌, true, length};
 ghost use Rattle.repair_queue.specs.{unmarked, without, AreFrom, Spans};
 
 use crate::block::is_any_set;
-use crate::places::{drop_client, drop_marked};
+use crate::places::drop_client;
 use crate::span::Span;
 use crate::wanted::Wanted;
 use std::marker::Model;
@@ -55,14 +55,13 @@ impl Piece {
         self.span.is_within(lo, hi)
     }
 
-    /// The repairs whose flag is set go. Where there are any, the span is anew.
+    /// The repairs whose flag is set go. There is one flag for each. Where any go, the span is anew.
     pub(crate) fn drop_marked(&mut self, done: &[bool])
-        requires { length done.now ≤ length self.old }
+        requires { length done.now ≡ length self.old }
         ensures { self.new ≡ unmarked self.old done.now }
     {
         if is_any_set(done) {
-            drop_marked(&mut self.wanted, done);
-            self.span = span_of(&self.wanted);
+            self.span = drop_marked(&mut self.wanted, done);
         }
     }
 
@@ -82,5 +81,26 @@ fn span_of(pending: &[Wanted]) -> Span
     for wanted in pending {
         span = span.with(wanted.n);
     }
+    span
+}
+
+// Moves those whose flag isn't set to the front, and drops the rest. The least span of those that stay.
+fn drop_marked(wanted: &mut Vec<Wanted>, done: &[bool]) -> Span
+    requires { length done.now ≡ length wanted.old.items }
+    ensures items { wanted.new.items ≡ unmarked wanted.old.items done.now }
+    ensures span { Spans result wanted.new.items }
+{
+    let mut span = Span::new();
+    let mut kept = 0;
+    for i in 0..done.len() {
+        if done[i] {
+            continue;
+        }
+        let w = wanted[i];
+        wanted[kept] = w;
+        kept += 1;
+        span = span.with(w.n);
+    }
+    wanted.truncate(kept);
     span
 }

@@ -50,12 +50,3 @@ pub(crate) fn drop_client(places: &mut Vec<Wanted>, client: u64)
     }
     places.truncate(kept);
 }
-
-/// Moves those whose flag isn't set, and those behind the flags, to the front, and drops the rest.
-pub(crate) fn drop_marked(places: &mut Vec<Wanted>, done: &[bool])
-    requires { length done.now ≤ length places.old.items }
-    ensures { places.new.items ≡ unmarked places.old.items done.now }
-{
-    let gone = move_unmarked(places, done);
-    move_down(places, gone);
-}
