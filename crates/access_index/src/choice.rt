@@ -1,7 +1,7 @@
 //! Where a burst may begin.
 
 /// Where a burst begins, or why it can't.
-#[derive(Clone, Copy, Debug, PartialEq, Eq)]
+#[derive(Clone, Copy, PartialEq, Eq)]
 pub enum Choice {
     /// At the packet of this number. The packets from it on, itself among them, take `behind` bytes on
     /// the wire.

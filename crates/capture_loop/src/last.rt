@@ -12,7 +12,7 @@ use rams_model::Status;
 use trace_loop::{Stop, settle};
 
 /// How a capture file ends the text of its records.
-#[derive(Clone, Copy, Debug, PartialEq, Eq)]
+#[derive(Clone, Copy, PartialEq, Eq)]
 pub(crate) enum End {
     /// Behind a whole record, or its head.
     Whole,

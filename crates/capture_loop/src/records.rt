@@ -17,7 +17,7 @@ use ram_io::{Failed, Source};
 const MOST_RECORDS: u64 = 10_000_000;
 
 /// What stands where a record may.
-#[derive(Clone, Copy, Debug, PartialEq, Eq)]
+#[derive(Clone, Copy, PartialEq, Eq)]
 pub(crate) enum Next {
     /// A whole record: the intake has its header and its bytes in front.
     Whole(Record),

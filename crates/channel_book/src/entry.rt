@@ -2,7 +2,7 @@
 use rams_model::{Answer, Event};
 
 /// An event of a channel, by which list it came, and the answer that was given.
-#[derive(Debug, Drop)]
+#[derive(Drop)]
 pub struct Entry {
     /// The number of the list.
     pub list: u16,

@@ -20,7 +20,7 @@ const LEAST_ON_WIRE: u64 = 42;
 const LEAST_IN_A_TICK: u64 = MOST_ON_WIRE as u64;
 
 /// A channel's settings with the length of a tick, checked to be lawful.
-#[derive(Clone, Copy, Debug, PartialEq, Eq)]
+#[derive(Clone, Copy, PartialEq, Eq)]
 pub struct Config {
     channel: Channel,
     tick_ms: u32,

@@ -31,7 +31,7 @@ impl Model for ChannelLock {
 }
 
 /// Why a lock isn't closed.
-#[derive(Clone, Copy, Debug, PartialEq, Eq)]
+#[derive(Clone, Copy, PartialEq, Eq)]
 pub enum CloseFault {
     /// Fewer passes were given back than were made.
     Passes { made: u32, given: u32 },

@@ -7,7 +7,7 @@ use rams_model::Info;
 use std::alloc::{AllocError, AllocFailed};
 
 /// An open burst (RFC 6285, 6.2): the packets that a client is sent ahead of the multicast.
-#[derive(Clone, Copy, Debug, PartialEq, Eq)]
+#[derive(Clone, Copy, PartialEq, Eq)]
 pub struct Burst {
     /// The extended sequence number of its first packet.
     pub first: u64,
@@ -26,7 +26,7 @@ pub struct Burst {
 }
 
 /// What the server keeps of a client.
-#[derive(Clone, Copy, Debug, PartialEq, Eq)]
+#[derive(Clone, Copy, PartialEq, Eq)]
 pub struct Entry {
     /// The SSRC under which the client reports.
     pub ssrc: u32,
@@ -53,7 +53,7 @@ impl Entry {
 }
 
 /// Why a client isn't admitted.
-#[derive(Clone, Copy, Debug, PartialEq, Eq)]
+#[derive(Clone, Copy, PartialEq, Eq)]
 pub enum AdmitFault {
     /// As many clients are known as the channel may have.
     Full,

@@ -6,7 +6,7 @@ use crate::entry::{Burst, Entry};
 
 /// An entry as the table keeps it: in place of the idle count, which each tick would change, it has the
 /// tick from which that counts.
-#[derive(Clone, Copy, Debug, PartialEq, Eq)]
+#[derive(Clone, Copy, PartialEq, Eq)]
 pub(crate) struct Stored {
     pub ssrc: u32,
     pub seq: u16,

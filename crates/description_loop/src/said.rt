@@ -9,7 +9,7 @@ use rams_model::LineFault;
 use trace_text::{Judged, Line, State};
 
 /// What a line says to a head.
-#[derive(Clone, Copy, Debug, PartialEq, Eq)]
+#[derive(Clone, Copy, PartialEq, Eq)]
 pub enum Said {
     /// The version of the text, and the bytes per tick of all channels together.
     Head { version: u8, link: u64 },
@@ -21,7 +21,7 @@ pub enum Said {
 }
 
 /// What a head says.
-#[derive(Clone, Copy, Debug, PartialEq, Eq)]
+#[derive(Clone, Copy, PartialEq, Eq)]
 pub struct Heading {
     /// The version of the text: 1 or 2.
     pub version: u8,
@@ -32,7 +32,7 @@ pub struct Heading {
 }
 
 /// What was read of a head.
-#[derive(Clone, Copy, Debug, PartialEq, Eq)]
+#[derive(Clone, Copy, PartialEq, Eq)]
 pub enum Head {
     Lawful(Heading),
     /// The line of this number is refused.

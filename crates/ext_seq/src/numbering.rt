@@ -13,7 +13,7 @@ const MAX_DROPOUT: u64 = 3000;
 const MAX_MISORDER: u64 = 100;
 
 /// What the numbering makes of a sequence number.
-#[derive(Clone, Copy, Debug, PartialEq, Eq)]
+#[derive(Clone, Copy, PartialEq, Eq)]
 pub enum Noted {
     /// The first packet of all has this number.
     First(u64),
@@ -28,7 +28,7 @@ pub enum Noted {
 }
 
 /// The numbering of a channel's live packets, each from its sequence number (RFC 3550, A.1).
-#[derive(Debug, Drop)]
+#[derive(Drop)]
 pub struct Numbering {
     /// The greatest number of the present start.
     greatest: Option<u64>,

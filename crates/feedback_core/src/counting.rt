@@ -9,7 +9,7 @@ use crate::framing::{Message, message_of};
 use rtcp_frame::{Packets, packets};
 
 /// How much an answer has at most.
-#[derive(Clone, Copy, Debug)]
+#[derive(Clone, Copy)]
 pub struct Most {
     pub notes: usize,
     pub orders: usize,

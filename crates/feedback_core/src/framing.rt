@@ -10,7 +10,7 @@ use rtcp_feedback::{Feedback, feedback};
 use rtcp_frame::Packet;
 
 /// A message that is answered.
-#[derive(Clone, Copy, Debug)]
+#[derive(Clone, Copy)]
 pub(crate) enum Message<'a> {
     /// A BYE (RFC 3550, 6.6).
     Bye(Packet<'a>),

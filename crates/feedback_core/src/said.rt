@@ -4,7 +4,7 @@ use client_table::Info;
 use rams_model::{Cause, Note};
 
 /// The answer to a message that gets one note, which may end the client's burst.
-#[derive(Clone, Copy, Debug)]
+#[derive(Clone, Copy)]
 pub(crate) struct Said {
     pub note: Note,
     /// Why the burst ends.

@@ -19,7 +19,7 @@ pub(crate) struct Visitor {
 }
 
 /// An open burst, with what is kept of its client.
-#[derive(Clone, Copy, Debug)]
+#[derive(Clone, Copy)]
 pub(crate) struct Open {
     pub entry: Entry,
     pub burst: Burst,

@@ -42,7 +42,7 @@ pub enum Head {
 }
 
 /// What a line of a head does.
-#[derive(Clone, Copy, Debug, PartialEq, Eq)]
+#[derive(Clone, Copy, PartialEq, Eq)]
 pub enum HeadLine {
     GoesOn,
     /// It is `end`.

@@ -7,7 +7,7 @@ use std::marker::Model;
 
 /// The bytes of one channel: its share of each tick, what bursts have reserved of it, and what is
 /// left to be sent.
-#[derive(Clone, Copy, Debug, PartialEq, Eq)]
+#[derive(Clone, Copy, PartialEq, Eq)]
 pub struct Budget {
     share: u64,
     reserve: u64,

@@ -2,7 +2,7 @@
 
 /// Bytes of the link that a taker has claimed: so many from byte `from` on, counted from the first that
 /// was ever claimed.
-#[derive(Clone, Copy, Debug, PartialEq, Eq)]
+#[derive(Clone, Copy, PartialEq, Eq)]
 pub struct Claim {
     /// The number of the taker.
     pub taker: u32,

@@ -9,7 +9,7 @@ use ram_io::NoMemory;
 use std::alloc::Global;
 
 /// What became of a link.
-#[derive(Debug, Drop)]
+#[derive(Drop)]
 pub struct Ledger {
     /// The bytes that were granted.
     pub granted: u64,

@@ -30,7 +30,7 @@ impl Model for Pool {
 }
 
 /// Why a pool isn't closed.
-#[derive(Clone, Copy, Debug, PartialEq, Eq)]
+#[derive(Clone, Copy, PartialEq, Eq)]
 pub enum PoolFault {
     /// Fewer takers were given back than were made.
     Passes { made: u32, given: u32 },

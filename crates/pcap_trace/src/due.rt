@@ -6,7 +6,7 @@ use std::marker::Model;
 
 /// The ticks of a clock that starts at the first moment that it is told: the first is due one tick
 /// after that moment, and each other one tick after the one before.
-#[derive(Debug, Drop)]
+#[derive(Drop)]
 pub struct Due {
     // In ms.
     tick: u64,
@@ -14,7 +14,7 @@ pub struct Due {
 }
 
 // The first moment that was told, and the greatest.
-#[derive(Clone, Copy, Debug)]
+#[derive(Clone, Copy)]
 struct Span {
     first: u64,
     top: u64,

@@ -15,7 +15,7 @@ const IPV4: u16 = 0x0800;
 const UDP: u8 = 17;
 
 /// A UDP datagram that lies in a frame.
-#[derive(Clone, Copy, Debug, PartialEq, Eq)]
+#[derive(Clone, Copy, PartialEq, Eq)]
 pub struct Udp<'a> {
     /// The sender: its IPv4 address times 65,536, plus its port.
     pub from: u64,

@@ -15,14 +15,14 @@ pub(crate) const MICROSECONDS: u32 = 0xa1b2c3d4;
 pub(crate) const ETHERNET: u32 = 1;
 
 /// The byte order of a file, in which its magic reads.
-#[derive(Clone, Copy, Debug, PartialEq, Eq)]
+#[derive(Clone, Copy, PartialEq, Eq)]
 pub enum Endian {
     Little,
     Big,
 }
 
 /// Why a capture file is refused.
-#[derive(Clone, Copy, Debug, PartialEq, Eq)]
+#[derive(Clone, Copy, PartialEq, Eq)]
 pub enum CaptureFault {
     /// The head has fewer than 24 bytes.
     Short,

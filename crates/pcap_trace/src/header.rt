@@ -12,7 +12,7 @@ pub const HEADER_SIZE: usize = 16;
 pub const MOST_CAPTURED: u32 = 262144;
 
 /// When a record's bytes came, and how many were captured.
-#[derive(Clone, Copy, Debug, PartialEq, Eq)]
+#[derive(Clone, Copy, PartialEq, Eq)]
 pub struct Record {
     /// In ms, rounded down.
     pub ms: u64,

@@ -13,7 +13,7 @@ const SECTION_HEADER: u32 = 0x0a0d0d0a;
 const NANOSECONDS: u32 = 0xa1b23c4d;
 
 /// What a capture file is, by its first 24 bytes.
-#[derive(Clone, Copy, Debug, PartialEq, Eq)]
+#[derive(Clone, Copy, PartialEq, Eq)]
 pub enum FileKind {
     /// Classic, of microseconds, of Ethernet frames.
     Ethernet,

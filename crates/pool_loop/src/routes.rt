@@ -3,7 +3,7 @@ ghost use Rattle.std.specs.Prelude.{◌≡◌, ◌≤◌, length, filter};
 ghost use Rattle.pool_loop.specs.{is_for_all, reaches};
 
 /// Where an event goes.
-#[derive(Clone, Copy, Debug, PartialEq, Eq)]
+#[derive(Clone, Copy, PartialEq, Eq)]
 pub enum Route {
     /// To the channel of this number, where there is one.
     To(u16),

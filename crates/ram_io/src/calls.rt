@@ -6,7 +6,7 @@ use crate::failed::Failed;
 use std::marker::Model;
 
 // Counts the calls of an object and its faults.
-#[derive(Debug, Drop)]
+#[derive(Drop)]
 pub(crate) struct Calls {
     // The numbers, from 0, of the calls that fail.
     fails: Vec<u64>,

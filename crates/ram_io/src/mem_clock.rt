@@ -7,7 +7,7 @@ use std::marker::Model;
 
 /// A clock of the moments that it was made with. It repeats the last one, and answers 0 where
 /// there is none.
-#[derive(Debug, Drop)]
+#[derive(Drop)]
 pub struct MemClock {
     moments: Vec<u64>,
     // The place of the next moment; it stays at the last one.

@@ -11,7 +11,7 @@ use crate::source::Source;
 use std::marker::Model;
 
 /// A source of the bytes that it was made with.
-#[derive(Debug, Drop)]
+#[derive(Drop)]
 pub struct MemSource {
     bytes: Vec<u8>,
     // How many of the bytes were taken.

@@ -14,7 +14,7 @@ const MOST: usize = 2_000;
 
 /// A datagram that went to `to` from the local port `port`. Its bytes are the `len` bytes of
 /// `sent_bytes` from place `start` on.
-#[derive(Clone, Copy, Debug, PartialEq, Eq)]
+#[derive(Clone, Copy, PartialEq, Eq)]
 pub struct Sent {
     pub to: u64,
     pub port: u16,
@@ -23,7 +23,7 @@ pub struct Sent {
 }
 
 /// A wire that brings the answers that it was made with, and then none, and holds what was sent.
-#[derive(Debug, Drop)]
+#[derive(Drop)]
 pub struct MemWire {
     arrivals: Vec<Incoming>,
     // How many of the arrivals were taken.

@@ -9,7 +9,7 @@ const LAST_MOMENT: u128 = (1 << 62) - 1;
 
 /// The time since some start, in ms, by the clock that never goes back. It tells no moments. Where
 /// the clock can't be read it repeats its last moment, and answers 0 before there is one.
-#[derive(Debug, Drop)]
+#[derive(Drop)]
 pub struct StdClock<R> {
     rt: R,
     // The last moment that was given, in ms.

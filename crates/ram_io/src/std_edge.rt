@@ -43,7 +43,7 @@ fn write_through<W: Write>(writer: &mut W, piece: &[u8]) -> io::Result<usize>
 
 /// A source over a reader. It tells what the reader tells: one over standard input tells nothing. A read
 /// that a signal interrupts is made again, up to 1,000 times; one that fails is a fault.
-#[derive(Debug, Drop)]
+#[derive(Drop)]
 pub struct StdSource<R> {
     reader: R,
     faults: u64,
@@ -77,7 +77,7 @@ impl<R: Read> Source for StdSource<R> {
 
 /// A sink over a writer. It tells what the writer tells: one over standard output tells nothing. A write
 /// that a signal interrupts is made again, up to 1,000 times; one that fails or takes 0 bytes is a fault.
-#[derive(Debug, Drop)]
+#[derive(Drop)]
 pub struct StdSink<W> {
     writer: W,
     faults: u64,

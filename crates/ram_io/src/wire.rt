@@ -6,7 +6,7 @@ use crate::failed::Failed;
 use rams_model::Octets;
 
 /// A datagram that came: its sender, the local port that it came to, and its length in bytes.
-#[derive(Clone, Copy, Debug, PartialEq, Eq)]
+#[derive(Clone, Copy, PartialEq, Eq)]
 pub struct Arrival {
     /// The IPv4 address times 65536, plus the port.
     pub from: u64,
@@ -15,7 +15,7 @@ pub struct Arrival {
 }
 
 /// What a wire answers to one call of `receive`.
-#[derive(Debug, Drop)]
+#[derive(Drop)]
 pub enum Incoming {
     /// No datagram is ready.
     Nothing,

@@ -10,7 +10,7 @@ use std::alloc::Global;
 use std::marker::Model;
 
 /// A datagram that an answer asks to send.
-#[derive(Debug, Drop)]
+#[derive(Drop)]
 pub enum Order {
     /// The retransmission of this packet (RFC 4588).
     Rtx {
@@ -27,7 +27,7 @@ pub enum Order {
 }
 
 /// The notes of an event, in order, and the datagrams that they ask for, in the notes' order.
-#[derive(Debug, Drop)]
+#[derive(Drop)]
 pub struct Answer {
     pub notes: Notes,
     pub orders: Vec<Order>,

@@ -1,14 +1,14 @@
 //! The settings of one channel.
 
 /// What lets a decoder start: the packet's marker, or the random access flag of a TS packet in it.
-#[derive(Clone, Copy, Debug, PartialEq, Eq)]
+#[derive(Clone, Copy, PartialEq, Eq)]
 pub enum Access {
     Marker,
     Ts,
 }
 
 /// A channel's settings, as its line in a trace gives them. Amounts are bytes per tick on the wire.
-#[derive(Clone, Copy, Debug, PartialEq, Eq)]
+#[derive(Clone, Copy, PartialEq, Eq)]
 pub struct Channel {
     /// The channel's number in traces and books.
     pub id: u16,

@@ -2,7 +2,7 @@
 use crate::octets::Octets;
 
 /// One event of a channel.
-#[derive(Debug, Drop)]
+#[derive(Drop)]
 pub enum Event {
     /// A packet of the multicast, as it came.
     Live(Octets),

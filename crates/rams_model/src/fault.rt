@@ -1,7 +1,7 @@
 //! Why settings and lines are refused.
 
 /// Why settings are refused.
-#[derive(Clone, Copy, Debug, PartialEq, Eq)]
+#[derive(Clone, Copy, PartialEq, Eq)]
 pub enum ConfigFault {
     /// A field or the tick is out of its range.
     Range,
@@ -10,7 +10,7 @@ pub enum ConfigFault {
 }
 
 /// Why a trace's line is refused.
-#[derive(Clone, Copy, Debug, PartialEq, Eq)]
+#[derive(Clone, Copy, PartialEq, Eq)]
 pub enum LineFault {
     /// The line is longer than 4,096 bytes, or no line of a trace.
     Form,
@@ -25,7 +25,7 @@ pub enum LineFault {
 }
 
 /// Why bytes are no RTP packet (RFC 3550, 5.1).
-#[derive(Clone, Copy, Debug, PartialEq, Eq)]
+#[derive(Clone, Copy, PartialEq, Eq)]
 pub enum RtpFault {
     /// They are fewer than the 12 of the fixed header.
     Short,
@@ -40,7 +40,7 @@ pub enum RtpFault {
 }
 
 /// Why a datagram is no compound RTCP packet (RFC 3550, 6.1).
-#[derive(Clone, Copy, Debug, PartialEq, Eq)]
+#[derive(Clone, Copy, PartialEq, Eq)]
 pub enum FrameFault {
     /// It has no bytes.
     Empty,
@@ -57,7 +57,7 @@ pub enum FrameFault {
 }
 
 /// Why the feedback control information of a generic NACK isn't read (RFC 4585, 6.2.1).
-#[derive(Clone, Copy, Debug, PartialEq, Eq)]
+#[derive(Clone, Copy, PartialEq, Eq)]
 pub enum NackFault {
     /// It has no bytes.
     Empty,
@@ -66,7 +66,7 @@ pub enum NackFault {
 }
 
 /// Why the feedback control information of a RAMS message isn't read (RFC 6285, 7).
-#[derive(Clone, Copy, Debug, PartialEq, Eq)]
+#[derive(Clone, Copy, PartialEq, Eq)]
 pub enum TlvFault {
     /// It has fewer than four bytes, or is another message.
     Form,

@@ -2,7 +2,7 @@
 use bytes::Bytes;
 
 /// A packet of the source, under its number.
-#[derive(Debug, Drop)]
+#[derive(Drop)]
 pub struct Held {
     /// Its extended sequence number (RFC 3550, A.1).
     pub n: u64,

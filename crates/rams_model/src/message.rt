@@ -1,7 +1,7 @@
 //! What RAMS messages say (RFC 6285, 7).
 
 /// The fields of a RAMS-I message (RFC 6285, 7.3). Those that are `None` aren't sent.
-#[derive(Clone, Copy, Debug, PartialEq, Eq)]
+#[derive(Clone, Copy, PartialEq, Eq)]
 pub struct Info {
     /// Message sequence number.
     pub msn: u8,
@@ -18,7 +18,7 @@ pub struct Info {
 }
 
 /// The fields of a RAMS-T message (RFC 6285, 7.4).
-#[derive(Clone, Copy, Debug, PartialEq, Eq)]
+#[derive(Clone, Copy, PartialEq, Eq)]
 pub struct Stop {
     /// The extended number of the first multicast packet that the client has.
     pub first_multicast: Option<u32>,

@@ -1,7 +1,7 @@
 //! What a trace is read for, and what its lines are to the order of a trace.
 
 /// What a trace is read for, which decides the lines that it may have.
-#[derive(Clone, Copy, Debug, PartialEq, Eq)]
+#[derive(Clone, Copy, PartialEq, Eq)]
 pub enum Mode {
     /// Live packets, feedback and ticks, for any number of channels.
     Run,
@@ -16,7 +16,7 @@ pub enum Mode {
 }
 
 /// What a line is to the order of a trace.
-#[derive(Clone, Copy, Debug, PartialEq, Eq)]
+#[derive(Clone, Copy, PartialEq, Eq)]
 pub enum LineKind {
     Head,
     Channel,

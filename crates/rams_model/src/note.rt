@@ -2,7 +2,7 @@
 use crate::fault::{FrameFault, RtpFault};
 
 /// What became of a live packet.
-#[derive(Clone, Copy, Debug, PartialEq, Eq)]
+#[derive(Clone, Copy, PartialEq, Eq)]
 pub enum LiveNote {
     /// It came in time, under this number.
     Took(u64),
@@ -25,7 +25,7 @@ pub enum LiveNote {
 }
 
 /// Why a burst ended.
-#[derive(Clone, Copy, Debug, PartialEq, Eq)]
+#[derive(Clone, Copy, PartialEq, Eq)]
 pub enum Cause {
     /// It has sent all up to the packet that the client named.
     Stopped,
@@ -39,7 +39,7 @@ pub enum Cause {
 
 /// One decision of a channel. `n` is a packet's extended number, `seq` a sequence number of the
 /// client's retransmissions (RFC 4588).
-#[derive(Clone, Copy, Debug, PartialEq, Eq)]
+#[derive(Clone, Copy, PartialEq, Eq)]
 pub enum Note {
     Live(LiveNote),
     /// The client's RAMS-R begins a burst: its first packet, its bytes per tick, and after how many

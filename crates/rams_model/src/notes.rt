@@ -7,12 +7,12 @@ use std::ops::DerefSlice;
 use std::slice;
 
 /// Some notes, in order. Where there is one, as most answers have, it takes no memory.
-#[derive(Debug, Drop)]
+#[derive(Drop)]
 pub struct Notes {
     kept: Kept,
 }
 
-#[derive(Debug, Drop)]
+#[derive(Drop)]
 pub(crate) enum Kept {
     One(Note),
     Many(Vec<Note>),

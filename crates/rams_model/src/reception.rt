@@ -1,7 +1,7 @@
 //! A receiver, and what becomes of the datagrams that come to it.
 
 /// What a receiver is tuned to, and as whom. The payload types are below 128.
-#[derive(Clone, Copy, Debug, PartialEq, Eq)]
+#[derive(Clone, Copy, PartialEq, Eq)]
 pub struct Tuned {
     /// An IPv4 address times 65536, plus a port.
     pub client: u64,
@@ -16,7 +16,7 @@ pub struct Tuned {
 }
 
 /// What became of a retransmission or a multicast packet.
-#[derive(Clone, Copy, Debug, PartialEq, Eq)]
+#[derive(Clone, Copy, PartialEq, Eq)]
 pub enum MediaCame {
     /// It arrived: it was presented since, or waits.
     Took,
@@ -35,7 +35,7 @@ pub enum MediaCame {
 }
 
 /// What became of a datagram of feedback with a RAMS-I (RFC 6285, 7.3). Codes are response codes.
-#[derive(Clone, Copy, Debug, PartialEq, Eq)]
+#[derive(Clone, Copy, PartialEq, Eq)]
 pub enum InfoCame {
     /// It is the first that tells of a burst.
     Taken,

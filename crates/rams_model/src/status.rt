@@ -1,7 +1,7 @@
 //! How a command ends.
 
 /// How a command ends; the program ends with its number.
-#[derive(Clone, Copy, Debug, PartialEq, Eq)]
+#[derive(Clone, Copy, PartialEq, Eq)]
 pub enum Status {
     Done,
     NoMemory,

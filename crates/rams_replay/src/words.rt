@@ -6,7 +6,7 @@ use ram_io::Octets;
 use trace_text::number;
 
 /// What the words ask for.
-#[derive(Clone, Copy, Debug, PartialEq, Eq)]
+#[derive(Clone, Copy, PartialEq, Eq)]
 pub enum Command {
     /// The book of a trace.
     Run,

@@ -18,7 +18,7 @@ use rams_model::{
 use std::alloc::Global;
 
 /// The fields of a RAMS-R. Those that are `None` aren't sent.
-#[derive(Clone, Copy, Debug, PartialEq, Eq)]
+#[derive(Clone, Copy, PartialEq, Eq)]
 pub struct Request<'a> {
     /// The media sources that are asked for, an SSRC of four bytes each; all of them where there is
     /// no list or an empty one.

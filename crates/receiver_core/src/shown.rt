@@ -2,7 +2,7 @@
 use bytes::Bytes;
 
 /// A packet that a receiver presents.
-#[derive(Debug, Drop)]
+#[derive(Drop)]
 pub struct Shown {
     /// The receiver's number of it.
     pub n: u64,

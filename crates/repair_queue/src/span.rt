@@ -4,7 +4,7 @@ ghost use Rattle.rams_model.specs.Service.{Wanted as Repair, wanted};
 ghost use Rattle.repair_queue.specs.{AreFrom, Spans};
 
 /// The least and the greatest number of the repairs that were asked for since none was pending.
-#[derive(Clone, Copy, Debug, PartialEq, Eq)]
+#[derive(Clone, Copy, PartialEq, Eq)]
 pub(crate) struct Span {
     least: u64,
     most: u64,

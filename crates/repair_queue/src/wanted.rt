@@ -8,7 +8,7 @@ pub(crate) const MOST_PENDING: usize = 4096;
 pub(crate) const MOST_OF_CLIENT: u32 = 256;
 
 /// A repair that a client waits for.
-#[derive(Clone, Copy, Debug, PartialEq, Eq)]
+#[derive(Clone, Copy, PartialEq, Eq)]
 pub struct Wanted {
     /// The client: its IPv4 address times 65536, plus its port.
     pub client: u64,
@@ -27,7 +27,7 @@ impl Model for Wanted {
 }
 
 /// The answer to an ask: the first of these that is true.
-#[derive(Clone, Copy, Debug, PartialEq, Eq)]
+#[derive(Clone, Copy, PartialEq, Eq)]
 pub enum Asked {
     /// None of the others: the repair is pending from here on.
     Queued,

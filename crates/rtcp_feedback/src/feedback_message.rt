@@ -1,7 +1,7 @@
 //! A feedback message.
 
 /// A transport layer feedback message (RFC 4585, 6.1).
-#[derive(Clone, Copy, Debug)]
+#[derive(Clone, Copy)]
 pub struct Feedback<'a> {
     /// The SSRC of the packet's sender.
     pub sender: u32,

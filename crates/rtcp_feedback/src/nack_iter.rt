@@ -5,7 +5,7 @@ ghost use Rattle.rtcp_feedback.specs.Numbers.{numbers_from};
 use byteorder::{BigEndian, ByteOrder};
 
 /// The numbers that a generic NACK names, in their order (RFC 4585, 6.2.1).
-#[derive(Clone, Copy, Debug)]
+#[derive(Clone, Copy)]
 pub struct NackIter<'a> {
     // the words behind the present one.
     pub(crate) words: &'a [u8],

@@ -6,7 +6,7 @@ use crate::header::cut;
 use crate::packet::Packet;
 
 /// The packets of a datagram, in their order.
-#[derive(Clone, Copy, Debug)]
+#[derive(Clone, Copy)]
 pub struct Packets<'a> {
     pub(crate) bytes: &'a [u8],
     ghost whole: { is_ok (packets_in bytes.now) ≡ true },

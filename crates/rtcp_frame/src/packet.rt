@@ -1,7 +1,7 @@
 //! A packet of a datagram (RFC 3550, 6.1).
 
 /// A packet of a datagram.
-#[derive(Clone, Copy, Debug)]
+#[derive(Clone, Copy)]
 pub struct Packet<'a> {
     /// Its type, as `rams_model::BYE`.
     pub kind: u8,

@@ -8,7 +8,7 @@ use ram_io::NoMemory;
 use std::alloc::Global;
 
 /// The fields of a packet without padding.
-#[derive(Clone, Copy, Debug)]
+#[derive(Clone, Copy)]
 pub struct RtpFields<'a> {
     pub marker: bool,
     /// 0 to 127.

@@ -11,7 +11,7 @@ use std::alloc::Global;
 use std::marker::Model;
 
 /// An RTP packet in the bytes that it was read of, seen by contracts as its fields.
-#[derive(Debug, Drop)]
+#[derive(Drop)]
 pub struct Rtp<'a> {
     bytes: &'a [u8],
     // where the parts behind the contributing sources begin

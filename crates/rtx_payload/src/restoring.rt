@@ -9,7 +9,7 @@ use rtp_record::{Rtp, RtpFields, write_rtp};
 use std::alloc::Global;
 
 /// Why a retransmission brings no packet.
-#[derive(Clone, Copy, Debug, PartialEq, Eq)]
+#[derive(Clone, Copy, PartialEq, Eq)]
 pub enum RtxFault {
     /// Its payload has fewer than the two bytes of the original number.
     Short,

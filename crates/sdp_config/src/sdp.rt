@@ -1,7 +1,7 @@
 //! What a session description tells of a channel, and why it is refused.
 
 /// The settings of a channel that its session description gives.
-#[derive(Clone, Copy, Debug, PartialEq, Eq)]
+#[derive(Clone, Copy, PartialEq, Eq)]
 pub struct Sdp {
     /// Payload type of the media.
     pub pt: u8,
@@ -12,7 +12,7 @@ pub struct Sdp {
 }
 
 /// Why a session description is refused.
-#[derive(Clone, Copy, Debug, PartialEq, Eq)]
+#[derive(Clone, Copy, PartialEq, Eq)]
 pub enum SdpFault {
     /// The line of this number, from 1, isn't a letter, `=` and any bytes, or has more than 4,096 bytes.
     Form(u32),

@@ -8,7 +8,7 @@ use rams_model::{Answer, Octets};
 use std::alloc::{AllocError, AllocFailed};
 
 /// One event of a server.
-#[derive(Debug, Drop)]
+#[derive(Drop)]
 pub enum HubEvent {
     /// A packet of the multicast of the channel `id`, as it came.
     Live { id: u16, bytes: Octets },
@@ -19,7 +19,7 @@ pub enum HubEvent {
 }
 
 /// One event of a server, with its bytes where they stand.
-#[derive(Clone, Copy, Debug)]
+#[derive(Clone, Copy)]
 pub enum Heard<'a> {
     /// A packet of the multicast of the channel `id`, as it came.
     Live {
@@ -57,14 +57,14 @@ impl HubEvent {
 }
 
 /// What the channel `id` answers.
-#[derive(Debug, Drop)]
+#[derive(Drop)]
 pub struct At {
     pub id: u16,
     pub answer: Answer,
 }
 
 /// What a server answers to an event.
-#[derive(Debug, Drop)]
+#[derive(Drop)]
 pub enum HubAnswer {
     /// There is no channel of this number.
     NoChannel(u16),
@@ -87,7 +87,7 @@ impl HubAnswer {
 }
 
 /// Why a channel isn't added.
-#[derive(Clone, Copy, Debug, PartialEq, Eq)]
+#[derive(Clone, Copy, PartialEq, Eq)]
 pub enum AddFault {
     /// A channel has this number.
     Twice,

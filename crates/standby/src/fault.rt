@@ -8,7 +8,7 @@ use rams_model::LineFault;
 use std::alloc::AllocError;
 
 /// Why a piece of a journal isn't followed.
-#[derive(Clone, Copy, Debug, PartialEq, Eq)]
+#[derive(Clone, Copy, PartialEq, Eq)]
 pub enum FeedFault {
     /// The line of this number, from 1, is refused.
     Line { line: u64, fault: LineFault },
@@ -38,7 +38,7 @@ pub(crate) fn lasting(fault: FeedFault) -> Option<FeedFault>
 }
 
 /// What a line does that is followed.
-#[derive(Clone, Copy, Debug, PartialEq, Eq)]
+#[derive(Clone, Copy, PartialEq, Eq)]
 pub enum Step {
     GoesOn,
     /// It is `end`.

@@ -6,7 +6,7 @@ ghost use Rattle.summary.specs.Steps.{AreAtMost, with_note, sum_of};
 use rams_model::{LiveNote, Note};
 
 /// How many notes of each kind there are.
-#[derive(Clone, Copy, Debug, PartialEq, Eq)]
+#[derive(Clone, Copy, PartialEq, Eq)]
 pub struct Counts {
     /// Packets that came in time.
     pub took: u64,

@@ -16,7 +16,7 @@ use trace_text::{Judged, Line, Mode, State, decode};
 const MOST_EVENTS: u64 = 200_000;
 
 /// What a line of a trace does.
-#[derive(Clone, Copy, Debug, PartialEq, Eq)]
+#[derive(Clone, Copy, PartialEq, Eq)]
 pub enum Does {
     GoesOn,
     /// It is `end`.

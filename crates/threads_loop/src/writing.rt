@@ -31,7 +31,7 @@ struct Writer {
 }
 
 /// What is written for each entry.
-#[derive(Clone, Copy, Debug, PartialEq, Eq)]
+#[derive(Clone, Copy, PartialEq, Eq)]
 enum Part {
     /// Its event's line.
     Trace,

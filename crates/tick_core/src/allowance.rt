@@ -1,7 +1,7 @@
 //! What the repairs of a client may take in a tick.
 
 /// What the repairs of a client may take in a tick, after the runs.
-#[derive(Clone, Copy, Debug, PartialEq, Eq)]
+#[derive(Clone, Copy, PartialEq, Eq)]
 pub struct Allowance {
     pub client: u64,
     /// Bytes.

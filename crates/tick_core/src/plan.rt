@@ -15,7 +15,7 @@ use rams_model::Answer;
 use std::alloc::Global;
 
 /// What a tick does: its notes and orders, and a flag for each pending repair, set where it is over.
-#[derive(Debug, Drop)]
+#[derive(Drop)]
 pub struct TickPlan {
     pub answer: Answer,
     pub done: Vec<bool>,

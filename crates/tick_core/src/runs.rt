@@ -16,7 +16,7 @@ use rams_model::{Cause, Held, Note};
 use std::alloc::Global;
 
 /// How far a burst has come in a tick.
-#[derive(Clone, Copy, Debug, PartialEq, Eq)]
+#[derive(Clone, Copy, PartialEq, Eq)]
 pub struct Sent {
     /// The number of the packet that is sent next.
     pub next: u64,

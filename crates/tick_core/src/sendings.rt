@@ -3,7 +3,7 @@ ghost use Rattle.std.specs.Prelude.{◌≡◌, IfSome};
 ghost use Rattle.tick_core.specs.{one_sending, both_sendings};
 
 /// Packets that were sent to one client, with nothing noted between them.
-#[derive(Clone, Copy, Debug, PartialEq, Eq)]
+#[derive(Clone, Copy, PartialEq, Eq)]
 pub struct Sendings {
     pub client: u64,
     /// How many they are.

@@ -6,7 +6,7 @@ use bytes::Bytes;
 use rams_model::{Event, Octets};
 
 /// What an event is, beside its bytes.
-#[derive(Clone, Copy, Debug, PartialEq, Eq)]
+#[derive(Clone, Copy, PartialEq, Eq)]
 pub enum Kind {
     /// A packet of the multicast.
     Live,
@@ -33,7 +33,7 @@ impl Kind {
 }
 
 /// A packet of the multicast, with what is read of it.
-#[derive(Debug, Drop)]
+#[derive(Drop)]
 pub struct Packet {
     pub sequence: u16,
     /// In units of 1/90,000 s.
@@ -43,7 +43,7 @@ pub struct Packet {
 }
 
 /// An event: a packet in memory of its own, or one whose bytes stand on a page.
-#[derive(Debug, Drop)]
+#[derive(Drop)]
 pub enum Next {
     Packet(Packet),
     OnPage(Kind),

@@ -5,7 +5,7 @@ ghost use Rattle.trace_loop.specs.declared.stop.Stop.TheVariants.{Memory};
 use ram_io::NoMemory;
 
 /// What stopped a command.
-#[derive(Clone, Copy, Debug, PartialEq, Eq)]
+#[derive(Clone, Copy, PartialEq, Eq)]
 pub enum Stop {
     Memory,
     /// The source failed.

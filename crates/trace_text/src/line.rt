@@ -3,7 +3,7 @@ use channel_config::Config;
 use rams_model::Channel;
 
 /// One line of a trace.
-#[derive(Clone, Copy, Debug, PartialEq, Eq)]
+#[derive(Clone, Copy, PartialEq, Eq)]
 pub enum Line<'a> {
     /// The version of the text, 1 or 2, the length of a tick in ms, and the bytes per tick of all
     /// channels together.
@@ -60,7 +60,7 @@ pub enum Line<'a> {
 }
 
 /// One line that may come where it stands.
-#[derive(Clone, Copy, Debug, PartialEq, Eq)]
+#[derive(Clone, Copy, PartialEq, Eq)]
 pub enum Judged<'a> {
     /// A channel line, with its settings checked for the tick of the trace.
     Channel { version: u8, config: Config },

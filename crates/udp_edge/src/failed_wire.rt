@@ -8,7 +8,7 @@ use std::marker::Model;
 
 /// The wire in place of one that couldn't be bound: each of its calls is a counted fault. Contracts
 /// see it as its count of faults.
-#[derive(Debug, Drop)]
+#[derive(Drop)]
 pub struct FailedWire {
     faults: Faults,
 }

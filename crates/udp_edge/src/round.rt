@@ -6,7 +6,7 @@ ghost use Rattle.udp_edge.specs.{IsNext, SetsBit};
 pub(crate) const PLACES: usize = 128;
 
 // The sockets that are ready as far as is known, each by its place, and the place whose turn it is.
-#[derive(Debug, Drop)]
+#[derive(Drop)]
 pub(crate) struct Round {
     // The bit of a place is 1 where its socket is ready.
     ready: u128,

@@ -20,7 +20,7 @@ use std::time::Duration;
 /// Datagrams over UDP, by IPv4, to and from local ports on 127.0.0.1. It tells no content. In each
 /// call of `receive` it asks the system which sockets became ready, and they take turns by a
 /// datagram each; where none is ready it waits, until one is or the time of its wait is over.
-#[derive(Debug, Drop)]
+#[derive(Drop)]
 pub struct UdpWire<R> {
     rt: R,
     poll: Poll,

@@ -10,7 +10,7 @@ use rtx_payload::{append_plain, append_rtx, is_plain};
 use std::marker::Model;
 
 /// What a retransmission has in place of its packet's own (RFC 4588, 4).
-#[derive(Clone, Copy, Debug)]
+#[derive(Clone, Copy)]
 struct Again {
     payload_type: u8,
     sequence: u16,
@@ -18,7 +18,7 @@ struct Again {
 
 /// The bytes of a datagram. A retransmission shares the packet that it repeats, and is spelled only
 /// where it is read.
-#[derive(Debug, Drop)]
+#[derive(Drop)]
 pub struct SentBytes {
     bytes: Bytes,
     /// The bytes are the packet of a retransmission.
@@ -96,7 +96,7 @@ impl SentBytes {
 }
 
 /// A retransmission by its packet (RFC 4588, 4).
-#[derive(Clone, Copy, Debug)]
+#[derive(Clone, Copy)]
 pub struct Repeat<'a> {
     pub packet: &'a Bytes,
     /// Below 128.

@@ -5,7 +5,7 @@ use rams_model::{InfoCame, MediaCame, Note};
 use server_hub::HubEvent;
 
 /// One event of a world.
-#[derive(Debug, Drop)]
+#[derive(Drop)]
 pub enum WorldEvent {
     /// Something comes to the server.
     Hub(HubEvent),
@@ -22,7 +22,7 @@ pub enum WorldEvent {
 }
 
 /// What is said of an event of a world.
-#[derive(Debug, Drop)]
+#[derive(Drop)]
 pub enum WorldItem {
     /// There is no channel of this number.
     NoChannel(u16),
@@ -51,7 +51,7 @@ pub enum WorldItem {
 }
 
 /// What is said, and of which channel; the number is 0 where a datagram isn't there.
-#[derive(Debug, Drop)]
+#[derive(Drop)]
 pub struct WorldNote {
     pub id: u16,
     pub item: WorldItem,

@@ -8,7 +8,7 @@ use std::collections::BTreeMap;
 use std::marker::Model;
 
 /// Where the bytes of a packet begin, and where they end.
-#[derive(Clone, Copy, Debug)]
+#[derive(Clone, Copy)]
 struct Span {
     start: usize,
     end: usize,

@@ -14,7 +14,7 @@ use std::marker::Model;
 use world_laws::{SentBytes, WorldItem};
 
 /// Why a datagram was sent.
-#[derive(Clone, Copy, Debug)]
+#[derive(Clone, Copy)]
 pub(crate) enum Way {
     /// A receiver posted it to the feedback target (RFC 4585).
     Posts,

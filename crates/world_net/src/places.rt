@@ -8,7 +8,7 @@ use std::collections::BTreeMap;
 use std::marker::Model;
 
 /// A client's receiver of a channel, and where it is.
-#[derive(Clone, Copy, Debug)]
+#[derive(Clone, Copy)]
 struct Near {
     id: u16,
     client: u64,
