@@ -4,9 +4,11 @@
 //! lacks room for the line, and a text never loses room.
 #![tactic(auto)]
 
+pub mod answer_text;
 mod line;
 mod named;
 mod note;
+pub mod order_datagrams;
 mod pen;
 mod piece;
 mod tail;

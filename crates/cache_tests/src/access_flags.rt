@@ -1,9 +1,9 @@
 //! Payloads of TS packets, written by hand (ISO/IEC 13818-1, 2.4.3).
 use crate::fixtures::same;
+use channel_cache::ts_access::has_access;
 use std::alloc::{AllocError, Global};
 use std::process::Abort;
 use std::test::Fail;
-use ts_access::has_access;
 
 // The first six bytes of a TS packet: sync byte, packet identifier 0, control byte, length of the
 // adaptation field, its flags.

@@ -1,6 +1,6 @@
 //! Choices among packets that are worked out by hand.
 use crate::fixtures::same;
-use access_index::{Choice, Index};
+use channel_cache::access_index::{Choice, Index};
 use std::alloc::Global;
 use std::process::Abort;
 use std::test::Fail;

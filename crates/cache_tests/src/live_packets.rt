@@ -12,7 +12,7 @@ use rams_model::RtpFault::{Short, Version};
 use std::alloc::{AllocError, Global};
 use std::process::Abort;
 use std::test::Fail;
-use test_channel::CHANNEL;
+use test_fixtures::test_channel::CHANNEL;
 
 // A sequence number, its note, and what is held after it: the number of the oldest packet, and one
 // above that of the newest.

@@ -1,9 +1,9 @@
 //! Items out of order, and what goes out after each of them.
 ghost use Rattle.std.specs.Prelude.{◌≡◌, ◌<◌, ◌^◌, [], None, true, false, OnOk};
-ghost use Rattle.reorder_window.specs.{first_free};
+ghost use Rattle.channel_cache.specs.reorder_window.{first_free};
 
 use crate::fixtures::same;
-use reorder_window::{Came, Window};
+use channel_cache::reorder_window::{Came, Window};
 use std::alloc::{AllocError, Global};
 use std::process::Abort;
 use std::test::Fail;

@@ -1,7 +1,7 @@
 //! Packets under rising numbers, and those of them that are held.
 use crate::fixtures::{holds, same};
 use bytes::Bytes;
-use packet_ring::{Held, Ring};
+use channel_cache::packet_ring::{Held, Ring};
 use std::alloc::{AllocError, Global};
 use std::process::Abort;
 use std::test::Fail;

@@ -1,6 +1,6 @@
 //! Sequence numbers as the channel meets them (RFC 3550, A.1), and numbers named by 16 bits.
 use crate::fixtures::same;
-use ext_seq::{Noted, Numbering, age_ms, least_from, resolve_in};
+use reckoning::ext_seq::{Noted, Numbering, age_ms, least_from, resolve_in};
 use std::process::Abort;
 
 // Lists of sequence numbers, each with what it becomes. A list goes to a numbering of its own.

@@ -2,8 +2,8 @@
 use Rattle.std.proofs.Common.{◌≡◌, ℕ, zero, suc, ◌+◌, ◌-◌, ◌<◌, ◌≤◌, min, inl, inr, List, [], ◌∷◌, ◌++◌, take, drop, replicate, slice_range, Option, None, Some, option_to_list, append-nil, sym, ap, subst, ◌∙◌, arith}
 use Rattle.std.specs.Prelude.{All, IfSome}
 use Rattle.std.proofs.lemmas.List.Elements.{All-nil, All-cons, All-append}
-use Rattle.pcap_trace.specs.declared.header.Record.{Record}
-use Rattle.pcap_trace.specs.{Elapsed, ticks_between}
+use Rattle.capture_loop.specs.declared.pcap_trace.header.Record.{Record}
+use Rattle.capture_loop.specs.pcap_trace.{Elapsed, ticks_between}
 use Rattle.server_hub.specs.declared.event.HubEvent.{HubEvent}
 use Rattle.server_hub.specs.declared.event.HubEvent.TheVariants.{Tick}
 use Rattle.server_hub.specs.Served.{Served}

@@ -7,12 +7,12 @@ use Rattle.rams_model.specs.declared.status.Status.{Status}
 use Rattle.rams_model.specs.declared.status.Status.TheVariants.{Done}
 use Rattle.server_hub.specs.declared.event.HubEvent.{HubEvent}
 use Rattle.journal_book.specs.{event_lines}
-use Rattle.trace_serving.specs.{Outcome, after_text}
+use Rattle.trace_book.specs.trace_serving.{Outcome, after_text}
 use Rattle.trace_loop.specs.declared.stop.Stop.{Stop}
 use Rattle.trace_loop.specs.declared.stop.Stop.TheVariants.{Memory, Read, Write, Wire}
 use Rattle.std.specs.Prelude.{◌≤◌, IsOkAnd, MatchResult}
 use Rattle.trace_loop.specs.{EndsAs, Ends, IfBothTold, IfTold, IsStop, IsStoppedByWrite, IsWriteStop, StopsIn}
-use Rattle.pcap_trace.specs.declared.head.CaptureFault.{CaptureFault}
+use Rattle.capture_loop.specs.declared.pcap_trace.head.CaptureFault.{CaptureFault}
 use Rattle.trace_loop.proofs.Reading.{passes_whole, rose_since}
 use Rattle.trace_loop.proofs.Stopping.{err_so}
 use Rattle.capture_loop.specs.declared.last.End.{End}

@@ -4,11 +4,11 @@ use Rattle.std.specs.Io.KnownBytes.{IsAtEnd, prepend_known}
 use Rattle.std.proofs.Math.Seq.{drop-append_seam}
 use Rattle.std.proofs.lemmas.Bool.Decides.{nat_tests}
 use Rattle.std.proofs.lemmas.List.{take-append-le, drop-append-le}
-use Rattle.pcap_trace.specs.declared.head.CaptureFault.{CaptureFault}
-use Rattle.pcap_trace.specs.declared.head.CaptureFault.TheVariants.{Cut, Short}
-use Rattle.pcap_trace.specs.declared.head.Endian.{Endian}
-use Rattle.pcap_trace.specs.declared.header.Record.{Record}
-use Rattle.pcap_trace.specs.{head_at, record_at}
+use Rattle.capture_loop.specs.declared.pcap_trace.head.CaptureFault.{CaptureFault}
+use Rattle.capture_loop.specs.declared.pcap_trace.head.CaptureFault.TheVariants.{Cut, Short}
+use Rattle.capture_loop.specs.declared.pcap_trace.head.Endian.{Endian}
+use Rattle.capture_loop.specs.declared.pcap_trace.header.Record.{Record}
+use Rattle.capture_loop.specs.pcap_trace.{head_at, record_at}
 use Rattle.trace_loop.specs.{IfTold}
 use Rattle.capture_loop.specs.{Captured, Records, whole, broken, too_many, captured_in, cut_by, record_in, ended_by, with_first, records_in, order_in}
 

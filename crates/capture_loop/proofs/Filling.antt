@@ -2,11 +2,11 @@
 use Rattle.std.proofs.Common.{◌≡◌, ℕ, ◌<◌, ◌≤◌, Bool, true, false, MatchBool, List, ◌++◌, length, take, drop, Option, None, Some, Result, Ok, Err, IfOk, refl, sym, ap, subst, ◌∙◌}
 use Rattle.std.specs.Io.KnownBytes.{IsAtEnd, Keeps, prepend_known}
 use Rattle.std.proofs.lemmas.List.{take-append-le, drop-append-le}
-use Rattle.pcap_trace.specs.declared.head.CaptureFault.{CaptureFault}
-use Rattle.pcap_trace.specs.declared.head.CaptureFault.TheVariants.{Short}
-use Rattle.pcap_trace.specs.declared.head.Endian.{Endian}
-use Rattle.pcap_trace.specs.declared.header.Record.{Record}
-use Rattle.pcap_trace.specs.{head_at, record_at}
+use Rattle.capture_loop.specs.declared.pcap_trace.head.CaptureFault.{CaptureFault}
+use Rattle.capture_loop.specs.declared.pcap_trace.head.CaptureFault.TheVariants.{Short}
+use Rattle.capture_loop.specs.declared.pcap_trace.head.Endian.{Endian}
+use Rattle.capture_loop.specs.declared.pcap_trace.header.Record.{Record}
+use Rattle.capture_loop.specs.pcap_trace.{head_at, record_at}
 use Rattle.ram_io.specs.declared.failed.Failed.{Failed}
 use Rattle.capture_loop.specs.declared.records.Next.{Next}
 use Rattle.capture_loop.specs.declared.records.Next.TheVariants as next

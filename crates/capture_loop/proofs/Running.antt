@@ -6,14 +6,14 @@ use Rattle.std.proofs.lemmas.List.Elements.{All-nil, All-append}
 use Rattle.std.proofs.lemmas.Slice.{between_is}
 use Rattle.line_io.specs.Passes.{Passes}
 use Rattle.line_io.proofs.Passing.{Passes-none, Passes-put}
-use Rattle.pcap_trace.specs.declared.head.CaptureFault.{CaptureFault}
-use Rattle.pcap_trace.specs.declared.head.CaptureFault.TheVariants.{Cut}
-use Rattle.pcap_trace.specs.declared.head.Endian.{Endian}
-use Rattle.pcap_trace.specs.declared.header.Record.{Record}
-use Rattle.pcap_trace.specs.{Elapsed, record_at}
+use Rattle.capture_loop.specs.declared.pcap_trace.head.CaptureFault.{CaptureFault}
+use Rattle.capture_loop.specs.declared.pcap_trace.head.CaptureFault.TheVariants.{Cut}
+use Rattle.capture_loop.specs.declared.pcap_trace.head.Endian.{Endian}
+use Rattle.capture_loop.specs.declared.pcap_trace.header.Record.{Record}
+use Rattle.capture_loop.specs.pcap_trace.{Elapsed, record_at}
 use Rattle.server_hub.specs.declared.event.HubEvent.{HubEvent}
 use Rattle.server_hub.specs.Served.{Served}
-use Rattle.trace_serving.specs.{Outcome, after_text, too_long}
+use Rattle.trace_book.specs.trace_serving.{Outcome, after_text, too_long}
 use Rattle.trace_loop.specs.declared.stop.Stop.{Stop}
 use Rattle.trace_loop.specs.{IfBothTold, IfTold, StopsIn}
 use Rattle.trace_loop.proofs.Writing.{IsWriting, writing_breaks, writing_stops, writing_has_room}

@@ -1,10 +1,10 @@
 -- The records of a capture file, as its bytes are cut into them.
 use Rattle.std.specs.Prelude.{ℕ, zero, suc, ◌+◌, nat_lt, if◌then◌else◌, List, [], ◌∷◌, length, take, drop, Result, Ok, Err}
-use Rattle.pcap_trace.specs.declared.head.CaptureFault.{CaptureFault}
-use Rattle.pcap_trace.specs.declared.head.CaptureFault.TheVariants.{Cut}
-use Rattle.pcap_trace.specs.declared.head.Endian.{Endian}
-use Rattle.pcap_trace.specs.declared.header.Record.{Record}
-use Rattle.pcap_trace.specs.{head_at, record_at}
+use Rattle.capture_loop.specs.declared.pcap_trace.head.CaptureFault.{CaptureFault}
+use Rattle.capture_loop.specs.declared.pcap_trace.head.CaptureFault.TheVariants.{Cut}
+use Rattle.capture_loop.specs.declared.pcap_trace.head.Endian.{Endian}
+use Rattle.capture_loop.specs.declared.pcap_trace.header.Record.{Record}
+use Rattle.capture_loop.specs.pcap_trace.{head_at, record_at}
 
 -- A record: its moment in ms, and the frame that was captured.
 pub record Captured : Type 0 where

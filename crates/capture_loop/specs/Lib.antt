@@ -1,3 +1,4 @@
+pub mod pcap_trace
 pub mod Windows
 pub mod Files
 pub mod Events

@@ -3,17 +3,17 @@ use Rattle.std.specs.Prelude.{◌≡◌, ℕ, ◌+◌, ◌^◌, ◌<◌, ◌≤�
 use Rattle.std.specs.Io.KnownBytes.{IsAtEnd, prepend_known}
 use Rattle.line_io.specs.Passes.{Passes}
 use Rattle.rams_model.specs.declared.status.Status.TheVariants.{Done}
-use Rattle.pcap_trace.specs.declared.head.CaptureFault.{CaptureFault}
-use Rattle.pcap_trace.specs.declared.head.Endian.{Endian}
-use Rattle.pcap_trace.specs.{record_at}
+use Rattle.capture_loop.specs.declared.pcap_trace.head.CaptureFault.{CaptureFault}
+use Rattle.capture_loop.specs.declared.pcap_trace.head.Endian.{Endian}
+use Rattle.capture_loop.specs.pcap_trace.{record_at}
 use Rattle.server_hub.specs.declared.event.HubEvent.{HubEvent}
 use Rattle.server_hub.specs.Served.{Served}
 use Rattle.server_hub.specs.{id_of}
-use Rattle.trace_serving.specs.{Outcome, ended, after_text, too_long}
+use Rattle.trace_book.specs.trace_serving.{Outcome, ended, after_text, too_long}
 use Rattle.trace_loop.specs.{IfBothTold, IfTold}
 use Rattle.trace_book.specs.{most_events}
 use Rattle.journal_book.specs.{HasLine, IsNumber, event_lines}
-use Rattle.head_loop.specs.{numbers}
+use Rattle.trace_loop.specs.head_loop.{numbers}
 use Rattle.capture_loop.specs.declared.last.End.{End}
 use Rattle.capture_loop.specs.declared.last.End.TheVariants.{Whole, Refused, TooLong}
 use Rattle.capture_loop.specs.declared.records.Next.{Next}

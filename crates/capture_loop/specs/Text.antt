@@ -3,16 +3,16 @@ use Rattle.std.specs.Prelude.{ℕ, ◌+◌, nat_le, if◌then◌else◌, List, �
 use Rattle.rams_model.specs.declared.status.Status.{Status}
 use Rattle.rams_model.specs.declared.status.Status.TheVariants.{Done, BadCapture}
 use Rattle.rams_model.specs.Texts.{spaced, tick_of}
-use Rattle.pcap_trace.specs.declared.head.CaptureFault.{CaptureFault}
-use Rattle.pcap_trace.specs.declared.head.CaptureFault.TheVariants.{Short, Magic, Version, Link, Cut, Long}
-use Rattle.pcap_trace.specs.declared.head.Endian.{Endian}
-use Rattle.pcap_trace.specs.{Elapsed}
+use Rattle.capture_loop.specs.declared.pcap_trace.head.CaptureFault.{CaptureFault}
+use Rattle.capture_loop.specs.declared.pcap_trace.head.CaptureFault.TheVariants.{Short, Magic, Version, Link, Cut, Long}
+use Rattle.capture_loop.specs.declared.pcap_trace.head.Endian.{Endian}
+use Rattle.capture_loop.specs.pcap_trace.{Elapsed}
 use Rattle.server_hub.specs.declared.event.HubEvent.{HubEvent}
 use Rattle.server_hub.specs.Served.{Served}
-use Rattle.trace_serving.specs.{Outcome, ended, after_text, too_long}
+use Rattle.trace_book.specs.trace_serving.{Outcome, ended, after_text, too_long}
 use Rattle.trace_book.specs.{most_events}
 use Rattle.journal_book.specs.{event_lines}
-use Rattle.head_loop.specs.{behind_head, head_end, head_stage, head_text}
+use Rattle.trace_loop.specs.head_loop.{behind_head, head_end, head_stage, head_text}
 use Rattle.capture_loop.specs.Files.{Records, RecordsEnd, whole, broken, too_many, order_in, file_records}
 use Rattle.capture_loop.specs.Events.{events_in, file_events, new_clock}
 

@@ -11,14 +11,14 @@ ghost use Rattle.capture_loop.specs.{AreWritten, ComesTo, HasLinesOf, IsCaptureE
 use crate::events::{Progress, write_record};
 use crate::intake::Intake;
 use crate::last::{End, write_last};
+use crate::pcap_trace::{Due, Endian};
 use crate::records::{Next, next_within, read_order};
 use crate::watch::CaptureWatch;
-use head_loop::Opened;
 use line_io::Gather;
-use pcap_trace::{Due, Endian};
 use ram_io::{Sink, Source};
 use rams_model::Status;
 use trace_loop::Stop;
+use trace_loop::head_loop::Opened;
 
 /// Most events of a trace.
 const MOST_EVENTS: u64 = 1_000_000;

@@ -4,9 +4,9 @@ ghost use Rattle.line_io.specs.Passes.{Passes};
 ghost use Rattle.trace_loop.specs.{IsStoppedByWrite, OnlyMemoryStops, StopsIn};
 ghost use Rattle.capture_loop.specs.{fault_word, last, refused_record};
 
+use crate::pcap_trace::CaptureFault;
 use book_text::Tail;
 use line_io::Gather;
-use pcap_trace::CaptureFault;
 use ram_io::{NoMemory, Sink};
 use rams_model::Status;
 use trace_loop::{Stop, settle};

@@ -6,12 +6,13 @@ mod capture;
 mod events;
 mod intake;
 mod last;
+pub mod pcap_trace;
 mod records;
 mod text;
 mod watch;
 mod writer;
 
-pub use pcap_trace::{CaptureFault, FileKind};
+pub use crate::pcap_trace::{CaptureFault, FileKind};
 pub use ram_io::{Sink, Source};
 pub use rams_model::Status;
 pub use text::write_capture;

@@ -1,16 +1,16 @@
 //! The records of a capture file, one after another.
 ghost use Rattle.std.specs.Prelude.{◌≡◌, ◌^◌, ◌<◌, ◌≤◌, IfOk, OnErr, Err, Ok, IsOkAnd, length, take};
 ghost use Rattle.std.specs.Io.KnownBytes.{Keeps, prepend_known};
-ghost use Rattle.pcap_trace.specs.declared.head.CaptureFault.TheVariants.{Cut, Short};
-ghost use Rattle.pcap_trace.specs.{record_at};
+ghost use Rattle.capture_loop.specs.declared.pcap_trace.head.CaptureFault.TheVariants.{Cut, Short};
+ghost use Rattle.capture_loop.specs.pcap_trace.{record_at};
 ghost use Rattle.ram_io.specs.{HasCause};
 ghost use Rattle.capture_loop.specs.{HasOrder, IsNext, IsNextWithin, order_in, record_in};
 
 use crate::intake::Intake;
-use crate::watch::{CaptureWatch, tell_file};
-use pcap_trace::{
+use crate::pcap_trace::{
     CaptureFault, Endian, FileKind, HEAD_SIZE, HEADER_SIZE, Record, read_head, read_record,
 };
+use crate::watch::{CaptureWatch, tell_file};
 use ram_io::{Failed, Source};
 
 /// Most records of a file.

@@ -1,5 +1,5 @@
 //! What looks on while a capture is read.
-use pcap_trace::{CaptureFault, Endian, FileKind, file_kind};
+use crate::pcap_trace::{CaptureFault, Endian, FileKind, file_kind};
 use ram_io::Open;
 
 /// What looks on while a capture is read, so that its operator can be told. Its methods answer nothing

@@ -6,7 +6,7 @@ ghost use Rattle.server_hub.specs.{event_of};
 ghost use Rattle.trace_loop.specs.{IsStoppedByWrite, OnlyMemoryStops, StopsIn};
 ghost use Rattle.journal_book.specs.{event_line, event_lines};
 
-use event_text::append_event;
+use journal_book::event_text::append_event;
 use line_io::Gather;
 use ram_io::Sink;
 use server_hub::Heard;

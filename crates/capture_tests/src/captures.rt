@@ -6,7 +6,7 @@ use std::alloc::Global;
 use std::process::Abort;
 use std::str;
 use std::test::Fail;
-use test_words::{Words, bytes_of, joined};
+use test_fixtures::test_words::{Words, bytes_of, joined};
 
 const HEAD: &str = "rams-trace 1 tick 10 link 100000";
 

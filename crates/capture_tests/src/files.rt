@@ -1,8 +1,10 @@
 //! Heads and records of capture files.
 use crate::fixtures::same;
-use pcap_trace::{CaptureFault, Endian, FileKind, Record, file_kind, read_head, read_record};
+use capture_loop::pcap_trace::{
+    CaptureFault, Endian, FileKind, Record, file_kind, read_head, read_record,
+};
 use std::test::Fail;
-use test_words::{Words, bytes_of};
+use test_fixtures::test_words::{Words, bytes_of};
 
 /// A name, the bytes of a head, what it is, and what the file is.
 type Head = (&'static str, Words, Result<Endian, CaptureFault>, FileKind);

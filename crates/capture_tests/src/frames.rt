@@ -1,8 +1,8 @@
 //! Datagrams in frames (RFC 791, 3.1; RFC 768).
 use crate::fixtures::same;
-use pcap_trace::datagram;
+use capture_loop::pcap_trace::datagram;
 use std::test::Fail;
-use test_words::{Words, bytes_of};
+use test_fixtures::test_words::{Words, bytes_of};
 
 /// A name, the bytes of a frame, and its datagram: the sender's address and port, the port that it
 /// goes to, the bytes that it carries.

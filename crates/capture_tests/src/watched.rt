@@ -4,7 +4,7 @@ use ram_io::{MemSink, MemSource};
 use std::alloc::Global;
 use std::cell::Cell;
 use std::test::Fail;
-use test_words::{Words, bytes_of, joined};
+use test_fixtures::test_words::{Words, bytes_of, joined};
 
 const HEAD: Words = &[
     "rams-trace 1 tick 10 link 100000",

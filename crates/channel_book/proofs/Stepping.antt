@@ -5,8 +5,8 @@ use Rattle.std.proofs.lemmas.List.{length-append, map-append}
 use Rattle.std.proofs.lemmas.List.Elements.{filter-append}
 use Rattle.rams_model.specs.declared.event.Event.{Event}
 use Rattle.rams_model.specs.Service.{Settings, Answered}
-use Rattle.session_core.specs.{StandsFor}
-use Rattle.session_core.specs.Seen.{Seen}
+use Rattle.server_hub.specs.session_core.{StandsFor}
+use Rattle.server_hub.specs.session_core.Seen.{Seen}
 use Rattle.channel_book.specs.declared.entry.Entry.{Entry}
 use Rattle.channel_book.specs.{IsLegal, events_behind, entry, is_of, calls_by, Replays, IsTwice, HasTaken}
 use Rattle.channel_book.proofs.Histories.{events_snoc, legal_snoc}

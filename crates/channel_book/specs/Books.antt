@@ -1,8 +1,8 @@
 -- What contracts see of a book, and what is true of each.
 use Rattle.std.specs.Prelude.{List, []}
 use Rattle.rams_model.specs.Service.{Settings}
-use Rattle.session_core.specs.{StandsFor}
-use Rattle.session_core.specs.Seen.{Seen}
+use Rattle.server_hub.specs.session_core.{StandsFor}
+use Rattle.server_hub.specs.session_core.Seen.{Seen}
 use Rattle.channel_book.specs.declared.entry.Entry.{Entry}
 use Rattle.channel_book.specs.Histories.{IsLegal, events_behind}
 

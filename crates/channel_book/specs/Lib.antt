@@ -1,3 +1,4 @@
+pub mod channel_lock
 pub mod Histories
 pub mod Books
 pub mod Sharing

@@ -5,7 +5,7 @@ use crate::twice::answer_twice;
 use channel_config::Config;
 use ram_io::NoMemory;
 use rams_model::{Answer, Event};
-use session_core::{Core, Stepped};
+use server_hub::session_core::{Core, Stepped};
 use std::alloc::Global;
 use std::marker::Model;
 
@@ -32,7 +32,7 @@ impl Model for Book {
 impl Book {
     ghost use Rattle.std.specs.Prelude.{◌≡◌, ◌+◌, ◌^◌, ◌<◌, ◌≤◌, [], ◌∷◌, ◌++◌, length, IfOk, OnOk, OnErr, MatchResult};
     ghost use Rattle.channel_book.specs.{IsLegal, HasTaken, HasTakenFront, calls_by, entry};
-    ghost use Rattle.session_core.specs.{StandsFor};
+    ghost use Rattle.server_hub.specs.session_core.{StandsFor};
 
     /// The book of a channel to which nothing came yet. It keeps `alloc` for its entries, and takes no
     /// memory.

@@ -1,6 +1,6 @@
 //! Copies of events and of answers.
 ghost use Rattle.std.specs.Prelude.{◌≡◌, ◌+◌, ◌≤◌, [], length, vec_len, vec_capacity, All, IfOk};
-ghost use Rattle.session_core.specs.{IsInfo, TellsAlone};
+ghost use Rattle.server_hub.specs.session_core.{IsInfo, TellsAlone};
 
 use ram_io::NoMemory;
 use rams_model::{Answer, Event, Note, Octets, Order};

@@ -6,6 +6,7 @@
 #![tactic(auto)]
 
 mod book;
+pub mod channel_lock;
 mod copies;
 mod entry;
 mod shared;
@@ -15,5 +16,5 @@ pub use book::Book;
 pub use entry::Entry;
 pub use ram_io::NoMemory;
 pub use rams_model::{Answer, Event};
-pub use session_core::{Config, Core};
+pub use server_hub::session_core::{Config, Core};
 pub use shared::Shared;

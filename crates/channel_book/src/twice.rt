@@ -2,13 +2,13 @@
 ghost use Rattle.std.specs.Prelude.{◌≡◌, ◌^◌, ◌≤◌, List, [], ◌∷◌, length, vec_len, vec_capacity, IfOk, OnErr};
 ghost use Rattle.rams_model.specs.declared.event.Event.{Event};
 ghost use Rattle.rams_model.specs.declared.event.Event.TheVariants.{Live, Feedback, Tick};
-ghost use Rattle.session_core.specs.{StandsFor, StandsForFewer, TellsAlone};
+ghost use Rattle.server_hub.specs.session_core.{StandsFor, StandsForFewer, TellsAlone};
 ghost use Rattle.channel_book.specs.{IsTwice};
 
 use crate::copies::{Room, copy_answer, copy_small};
 use ram_io::NoMemory;
 use rams_model::{Answer, Event};
-use session_core::{Core, most_in};
+use server_hub::session_core::{Core, most_in};
 use std::alloc::Global;
 
 /// The most bytes of a datagram whose copy there can be memory for.

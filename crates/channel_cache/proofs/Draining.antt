@@ -3,11 +3,11 @@ use Rattle.std.proofs.Common.{◌≡◌, ℕ, ◌+◌, ◌^◌, ◌<◌, ◌≤�
 use Rattle.std.proofs.lemmas.Bool.Decides.{nat_tests}
 use Rattle.rams_model.specs.declared.held.Held.{Held}
 use Rattle.rams_model.specs.Packets.{hi}
-use Rattle.packet_ring.specs.{pushed}
-use Rattle.packet_ring.specs.Seen as rings
-use Rattle.reorder_window.specs.{Start, released, is_free, free_of, first_free, without, after_release, RisesIn}
-use Rattle.reorder_window.specs.Seen as windows
-use Rattle.reorder_window.proofs.Rising.{rises_up}
+use Rattle.channel_cache.specs.packet_ring.{pushed}
+use Rattle.channel_cache.specs.packet_ring.Seen as rings
+use Rattle.channel_cache.specs.reorder_window.{Start, released, is_free, free_of, first_free, without, after_release, RisesIn}
+use Rattle.channel_cache.specs.reorder_window.Seen as windows
+use Rattle.channel_cache.proofs.reorder_window.Rising.{rises_up}
 use Rattle.channel_cache.specs.declared.intake.Intake.{Intake}
 use Rattle.channel_cache.specs.{packets_of, IsItem, AreItems, IsIntake, Holds}
 use Rattle.channel_cache.proofs.Stocking.{pushed_end}

@@ -3,12 +3,12 @@ use Rattle.std.proofs.Common.{◌≡◌, ℕ, ◌+◌, ◌-◌, ◌^◌, ◌<◌
 use Rattle.std.proofs.lemmas.Bool.Decides.{nat_tests}
 use Rattle.rams_model.specs.declared.held.Held.{Held}
 use Rattle.rams_model.specs.Packets.{hi}
-use Rattle.packet_ring.specs.Seen as rings
-use Rattle.reorder_window.specs.declared.window.Came.TheVariants.{Kept, Late, Twice}
-use Rattle.reorder_window.specs.{Start, has_number, with_item, released, keeping, came_of, RisesIn}
-use Rattle.reorder_window.specs.Seen as windows
-use Rattle.reorder_window.proofs.Rising.{rises-wider, rises-with_item, length-with_item}
-use Rattle.reorder_window.proofs.Searches.{next-from, next-end}
+use Rattle.channel_cache.specs.packet_ring.Seen as rings
+use Rattle.channel_cache.specs.declared.reorder_window.window.Came.TheVariants.{Kept, Late, Twice}
+use Rattle.channel_cache.specs.reorder_window.{Start, has_number, with_item, released, keeping, came_of, RisesIn}
+use Rattle.channel_cache.specs.reorder_window.Seen as windows
+use Rattle.channel_cache.proofs.reorder_window.Rising.{rises-wider, rises-with_item, length-with_item}
+use Rattle.channel_cache.proofs.reorder_window.Searches.{next-from, next-end}
 use Rattle.channel_cache.specs.declared.intake.Intake.{Intake}
 use Rattle.channel_cache.specs.{IsWhole, packets_of, IsItem, AreItems, IsIntake}
 

@@ -5,9 +5,9 @@ use Rattle.rams_model.specs.declared.held.Held.{Held}
 use Rattle.rams_model.specs.declared.note.LiveNote.{LiveNote}
 use Rattle.rams_model.specs.Service.{Settings, Heard, live, dropped, heard_live, feedback, unframed, tick}
 use Rattle.rams_model.specs.Packets.{last_of, Arrival, Stream, stream_of, live_note, source, consecutive_end, hold}
-use Rattle.ext_seq.specs.{new_numbering, IsWithin}
-use Rattle.ext_seq.specs.Numbers as numbers
-use Rattle.packet_ring.specs.Seen as rings
+use Rattle.reckoning.specs.ext_seq.{new_numbering, IsWithin}
+use Rattle.reckoning.specs.ext_seq.Numbers as numbers
+use Rattle.channel_cache.specs.packet_ring.Seen as rings
 use Rattle.channel_cache.specs.declared.intake.Intake.{Intake}
 use Rattle.channel_cache.specs.{note_heard, arrivals_heard, live_note_of, arrivals_after, due, Waits, new_intake, Stand, new_cache, StandsFor, total_of, StandsForFewer}
 use Rattle.channel_cache.specs.Seen.{Seen}

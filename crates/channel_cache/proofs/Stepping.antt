@@ -5,13 +5,13 @@ use Rattle.rams_model.specs.declared.held.Held.{Held}
 use Rattle.rams_model.specs.declared.note.LiveNote.{LiveNote}
 use Rattle.rams_model.specs.declared.note.LiveNote.TheVariants.{Took, Restart as Restarted, Jump as Jumped}
 use Rattle.rams_model.specs.Packets.{hi, Numbered, first, forward, backward, jump, restart, ahead, is_kept, numbered, Arrival, Stream, held_as, with_packet, greatest, in_time, note_of, live_note, stream_after, stream_of}
-use Rattle.packet_ring.specs.Seen as rings
-use Rattle.ext_seq.specs.declared.numbering.Noted.{Noted}
-use Rattle.ext_seq.specs.{noted, moved}
-use Rattle.ext_seq.specs.declared.numbering.Noted.TheVariants.{First, Forward, Behind, Jump, Restart}
-use Rattle.ext_seq.specs.Numbers as numbers
-use Rattle.reorder_window.specs.{first_free}
-use Rattle.reorder_window.specs.Seen as windows
+use Rattle.channel_cache.specs.packet_ring.Seen as rings
+use Rattle.reckoning.specs.declared.ext_seq.numbering.Noted.{Noted}
+use Rattle.reckoning.specs.ext_seq.{noted, moved}
+use Rattle.reckoning.specs.declared.ext_seq.numbering.Noted.TheVariants.{First, Forward, Behind, Jump, Restart}
+use Rattle.reckoning.specs.ext_seq.Numbers as numbers
+use Rattle.channel_cache.specs.reorder_window.{first_free}
+use Rattle.channel_cache.specs.reorder_window.Seen as windows
 use Rattle.channel_cache.specs.declared.intake.Intake.{Intake}
 use Rattle.channel_cache.specs.{IsIntake, due, Brings, UnlessTaken, IsTop, AreInStep, Stand, kept_other}
 

@@ -5,11 +5,11 @@ use Rattle.std.proofs.lemmas.Bool.Decides.{nat_tests}
 use Rattle.rams_model.specs.declared.held.Held.{Held}
 use Rattle.rams_model.specs.Packets.{lo, hi, last_of, from_number, Follows}
 use Rattle.rams_model.proofs.Holding.{all_from, one_behind}
-use Rattle.packet_ring.specs.{with_next, pushed, IsRing}
-use Rattle.packet_ring.specs.Seen as rings
-use Rattle.access_index.specs.{StandsFor}
-use Rattle.access_index.specs.Seen as indexes
-use Rattle.ext_seq.proofs.Tops.{hi_one, hi_end}
+use Rattle.channel_cache.specs.packet_ring.{with_next, pushed, IsRing}
+use Rattle.channel_cache.specs.packet_ring.Seen as rings
+use Rattle.channel_cache.specs.access_index.{StandsFor}
+use Rattle.channel_cache.specs.access_index.Seen as indexes
+use Rattle.reckoning.proofs.ext_seq.Tops.{hi_one, hi_end}
 
 -- packets from a number on
 from_step : (n : ℕ) (h : Held) (hs ks : List Held) (b : Bool) → b ≡ false → from_number n hs ≡ ks → (if b then h ∷ from_number n hs else from_number n hs) ≡ ks

@@ -4,9 +4,9 @@ use Rattle.rams_model.specs.declared.held.Held.{Held}
 use Rattle.rams_model.specs.declared.note.LiveNote.{LiveNote}
 use Rattle.rams_model.specs.declared.note.LiveNote.TheVariants.{Took, Restart}
 use Rattle.rams_model.specs.Packets.{Stream, awaited}
-use Rattle.packet_ring.specs.Seen as rings
-use Rattle.reorder_window.specs.{items_of, start_of}
-use Rattle.reorder_window.specs.Seen as windows
+use Rattle.channel_cache.specs.packet_ring.Seen as rings
+use Rattle.channel_cache.specs.reorder_window.{items_of, start_of}
+use Rattle.channel_cache.specs.reorder_window.Seen as windows
 use Rattle.channel_cache.specs.declared.intake.Intake.{Intake}
 
 -- the packets of the present start that need not wait

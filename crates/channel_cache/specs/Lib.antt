@@ -1,3 +1,6 @@
+pub mod reorder_window
+pub mod packet_ring
+pub mod access_index
 pub mod Arrivals
 pub mod Whole
 pub mod Stocked

@@ -3,11 +3,11 @@ use Rattle.std.specs.Prelude.{◌≡◌, ℕ, ◌*◌, ◌<◌, ◌≤◌, List,
 use Rattle.rams_model.specs.declared.held.Held.{Held}
 use Rattle.rams_model.specs.Service.{Settings}
 use Rattle.rams_model.specs.Packets.{Arrival, stream_of, hold}
-use Rattle.packet_ring.specs.Seen as rings
-use Rattle.ext_seq.specs.{new_numbering}
-use Rattle.ext_seq.specs.Numbers as numbers
-use Rattle.reorder_window.specs.{new_window}
-use Rattle.reorder_window.specs.Seen as windows
+use Rattle.channel_cache.specs.packet_ring.Seen as rings
+use Rattle.reckoning.specs.ext_seq.{new_numbering}
+use Rattle.reckoning.specs.ext_seq.Numbers as numbers
+use Rattle.channel_cache.specs.reorder_window.{new_window}
+use Rattle.channel_cache.specs.reorder_window.Seen as windows
 use Rattle.channel_cache.specs.declared.intake.Intake.{Intake}
 use Rattle.channel_cache.specs.Brought.{Waits}
 use Rattle.channel_cache.specs.Step.{AreInStep, kept_other}

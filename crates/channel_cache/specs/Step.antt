@@ -2,9 +2,9 @@
 use Rattle.std.specs.Prelude.{◌≡◌, ℕ, false, List, [], Option, Some, None}
 use Rattle.rams_model.specs.declared.held.Held.{Held}
 use Rattle.rams_model.specs.Packets.{Arrival, stream_of}
-use Rattle.ext_seq.specs.Numbers as numbers
-use Rattle.reorder_window.specs.{first_free}
-use Rattle.reorder_window.specs.Seen as windows
+use Rattle.reckoning.specs.ext_seq.Numbers as numbers
+use Rattle.channel_cache.specs.reorder_window.{first_free}
+use Rattle.channel_cache.specs.reorder_window.Seen as windows
 use Rattle.channel_cache.specs.declared.intake.Intake.{Intake}
 use Rattle.channel_cache.specs.Waiting.{IsIntake}
 use Rattle.channel_cache.specs.Brought.{Brings}

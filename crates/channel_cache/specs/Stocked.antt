@@ -1,10 +1,10 @@
 -- What contracts see of the packets that are held.
 use Rattle.std.specs.Prelude.{◌≡◌, ℕ, ◌+◌}
 use Rattle.rams_model.specs.declared.held.Held.{Held}
-use Rattle.packet_ring.specs.{empty_ring, pushed, IsRing}
-use Rattle.packet_ring.specs.Seen as rings
-use Rattle.access_index.specs.Seen as indexes
-use Rattle.access_index.specs.{StandsFor}
+use Rattle.channel_cache.specs.packet_ring.{empty_ring, pushed, IsRing}
+use Rattle.channel_cache.specs.packet_ring.Seen as rings
+use Rattle.channel_cache.specs.access_index.Seen as indexes
+use Rattle.channel_cache.specs.access_index.{StandsFor}
 use Rattle.channel_cache.specs.Whole.{AreWhole, AreAtLeast}
 
 -- what is held

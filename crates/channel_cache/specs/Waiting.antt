@@ -2,11 +2,11 @@
 use Rattle.std.specs.Prelude.{◌≡◌, ℕ, ◌+◌, ◌*◌, ◌^◌, ◌<◌, ◌≤◌, false, List, [], ◌∷◌, ◌++◌, length, map, None}
 use Rattle.rams_model.specs.declared.held.Held.{Held}
 use Rattle.rams_model.specs.Packets.{hi}
-use Rattle.packet_ring.specs.Seen as rings
-use Rattle.reorder_window.specs.declared.window.Came.{Came}
-use Rattle.reorder_window.specs.{Start, released, new_window, first_free, RisesIn}
-use Rattle.reorder_window.specs.declared.window.Came.TheVariants.{Kept, Late, Twice}
-use Rattle.reorder_window.specs.Seen as windows
+use Rattle.channel_cache.specs.packet_ring.Seen as rings
+use Rattle.channel_cache.specs.declared.reorder_window.window.Came.{Came}
+use Rattle.channel_cache.specs.reorder_window.{Start, released, new_window, first_free, RisesIn}
+use Rattle.channel_cache.specs.declared.reorder_window.window.Came.TheVariants.{Kept, Late, Twice}
+use Rattle.channel_cache.specs.reorder_window.Seen as windows
 use Rattle.channel_cache.specs.declared.intake.Intake.{Intake}
 use Rattle.channel_cache.specs.Whole.{IsWhole}
 use Rattle.channel_cache.specs.Stocked.{empty_stock}

@@ -2,17 +2,17 @@
 ghost use Rattle.std.specs.Prelude.{◌≡◌, ℕ, ◌+◌, ◌^◌, ◌<◌, ◌≤◌, ◌↔◌, List, [], Some, ◌∷◌, option_copied, IfOk, IfSome, IsSome, OnOk, OnErr};
 ghost use Rattle.rams_model.specs.Packets.{chosen, lo, hi, Arrival, live_note, stream_of};
 ghost use Rattle.rams_model.specs.Service.{heard_live, live};
-ghost use Rattle.packet_ring.specs.{packet_of, IsRing};
-ghost use Rattle.access_index.specs.{choice_of};
+ghost use Rattle.channel_cache.specs.packet_ring.{packet_of, IsRing};
+ghost use Rattle.channel_cache.specs.access_index.{choice_of};
 ghost use Rattle.channel_cache.specs.{arrival_of, live_note_of, arrivals_after, UnlessTaken, new_cache, ring_of, StandsFor, StandsForFewer, DiffersInKept, AreInStep, Stand, Grows, total_of, kept_other, IsBare, IsWhole, AreAtLeast};
 
+use crate::access_index::Choice;
 use crate::incoming::{Incoming, read_live};
 use crate::intake::Intake;
-use access_index::Choice;
 use channel_config::Config;
-use ext_seq::{Noted, Numbering};
 use ram_io::NoMemory;
 use rams_model::{Held, LiveNote};
+use reckoning::ext_seq::{Noted, Numbering};
 use std::alloc::Global;
 use std::marker::Model;
 

@@ -5,12 +5,12 @@ ghost use Rattle.rams_model.specs.Service.{heard_live, arrival, live, dropped};
 ghost use Rattle.rams_model.specs.Formats.{stripped, IsPacket};
 ghost use Rattle.channel_cache.specs.{arrival_of, IsBare, IsWhole};
 
+use crate::ts_access::has_access;
 use bytes::Bytes;
 use channel_config::{Access, Channel};
+use packets::rtp_record::Rtp;
 use ram_io::NoMemory;
 use rams_model::{Held, LiveNote, MOST_PACKET, RTX_OVERHEAD};
-use rtp_record::Rtp;
-use ts_access::has_access;
 
 /// A packet of the channel that has no number yet.
 #[derive(Drop)]

@@ -2,16 +2,16 @@
 ghost use Rattle.std.specs.Prelude.{◌≡◌, ℕ, ◌+◌, ◌^◌, ◌<◌, ◌≤◌, List, [], ◌∷◌, ◌++◌, None, true, IfOk};
 ghost use Rattle.rams_model.specs.declared.held.Held.{Held};
 ghost use Rattle.rams_model.specs.Packets.{hi};
-ghost use Rattle.packet_ring.specs.Seen as rings;
-ghost use Rattle.reorder_window.specs.{Start, came, start_after, begun, came_of, arrived, first_free, IsAwaited};
-ghost use Rattle.reorder_window.specs.declared.window.Came.TheVariants.{Kept};
-ghost use Rattle.reorder_window.specs.Seen as windows;
+ghost use Rattle.channel_cache.specs.packet_ring.Seen as rings;
+ghost use Rattle.channel_cache.specs.reorder_window.{Start, came, start_after, begun, came_of, arrived, first_free, IsAwaited};
+ghost use Rattle.channel_cache.specs.declared.reorder_window.window.Came.TheVariants.{Kept};
+ghost use Rattle.channel_cache.specs.reorder_window.Seen as windows;
 ghost use Rattle.channel_cache.specs.{new_intake, packets_of, IsIntake, IsSettled, Grows, total_of, UnlessKept, Holds, IsWhole};
 
+use crate::reorder_window::{Came, Window};
 use crate::stock::Stock;
 use ram_io::NoMemory;
 use rams_model::Held;
-use reorder_window::{Came, Window};
 use std::alloc::Global;
 
 /// The packets of a channel that came in time: those that wait for others, and those that are held.

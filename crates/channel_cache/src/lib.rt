@@ -5,14 +5,18 @@
 //! definitions give them.
 #![tactic(auto)]
 
+pub mod access_index;
 mod cache;
 mod incoming;
 mod intake;
 mod laws;
+pub mod packet_ring;
+pub mod reorder_window;
 mod starts;
 mod stock;
+pub mod ts_access;
 
-pub use access_index::Choice;
+pub use crate::access_index::Choice;
 pub use cache::Cache;
 pub use channel_config::Config;
 pub use incoming::Incoming;

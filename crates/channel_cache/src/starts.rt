@@ -3,14 +3,14 @@ ghost use Rattle.std.specs.Prelude.{◌≡◌, ℕ, ◌+◌, ◌^◌, ◌<◌, �
 ghost use Rattle.rams_model.specs.declared.held.Held.{Held};
 ghost use Rattle.rams_model.specs.declared.note.LiveNote.TheVariants as notes;
 ghost use Rattle.rams_model.specs.Packets.{hi, Stream, held_as, in_time, stream_after};
-ghost use Rattle.packet_ring.specs.Seen as rings;
-ghost use Rattle.reorder_window.specs.{note_of};
+ghost use Rattle.channel_cache.specs.packet_ring.Seen as rings;
+ghost use Rattle.channel_cache.specs.reorder_window.{note_of};
 ghost use Rattle.channel_cache.specs.{arrival_of, IsIntake, IsSettled, Grows, total_of, IsBare, Brings, UnlessTaken};
 
 use crate::incoming::Incoming;
 use crate::intake::Intake;
+use crate::reorder_window::Came;
 use rams_model::LiveNote;
-use reorder_window::Came;
 
 impl Intake {
     /// Takes a packet of the present start under its number.

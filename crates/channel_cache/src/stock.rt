@@ -2,14 +2,14 @@
 ghost use Rattle.std.specs.Prelude.{◌≡◌, ◌+◌, ◌^◌, ◌<◌, ◌≤◌, ◌↔◌, List, [], ◌∷◌, ◌++◌, option_copied, IfOk, IfSome, IsSome};
 ghost use Rattle.rams_model.specs.declared.held.Held.{Held};
 ghost use Rattle.rams_model.specs.Packets.{chosen, lo, hi};
-ghost use Rattle.packet_ring.specs.{packet_of, IsRing, StandsFor};
-ghost use Rattle.access_index.specs.{choice_of};
+ghost use Rattle.channel_cache.specs.packet_ring.{packet_of, IsRing, StandsFor};
+ghost use Rattle.channel_cache.specs.access_index.{choice_of};
 ghost use Rattle.channel_cache.specs.Stocked.{empty_stock, stocked};
 ghost use Rattle.channel_cache.specs.{IsWhole, AreAtLeast};
 
-use access_index::{Choice, Index};
+use crate::access_index::{Choice, Index};
+use crate::packet_ring::Ring;
 use channel_config::Channel;
-use packet_ring::Ring;
 use ram_io::NoMemory;
 use rams_model::Held;
 use std::alloc::Global;

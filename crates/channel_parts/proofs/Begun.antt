@@ -7,8 +7,8 @@ use Rattle.rams_model.specs.Packets.{Arrival, hi}
 use Rattle.channel_config.specs.{IsLawful}
 use Rattle.channel_cache.specs.{new_cache}
 use Rattle.channel_cache.specs.Seen as caches
-use Rattle.link_budget.specs.{amounts}
-use Rattle.link_budget.specs.Amounts.{Amounts}
+use Rattle.reckoning.specs.link_budget.{amounts}
+use Rattle.reckoning.specs.link_budget.Amounts.{Amounts}
 use Rattle.client_table.specs.{nobody}
 use Rattle.client_table.specs.Clients.{Clients}
 use Rattle.channel_parts.specs.declared.parts.Parts.{Parts}

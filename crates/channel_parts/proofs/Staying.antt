@@ -19,7 +19,7 @@ use Rattle.channel_config.specs.{IsLawful}
 use Rattle.channel_cache.specs.{arrivals_heard, arrivals_after}
 use Rattle.channel_cache.specs.Seen as caches
 use Rattle.channel_cache.proofs.Booked.{noted_so}
-use Rattle.link_budget.specs.{amounts}
+use Rattle.reckoning.specs.link_budget.{amounts}
 use Rattle.client_table.specs.Clients.{Clients}
 use Rattle.rams_model.proofs.Induction.{arrivals_of_event}
 use Rattle.channel_parts.specs.declared.parts.Parts.{Parts}

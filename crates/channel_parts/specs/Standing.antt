@@ -7,8 +7,8 @@ use Rattle.rams_model.specs.Service.Bursts as model
 use Rattle.channel_config.specs.{IsLawful}
 use Rattle.channel_cache.specs.{new_cache}
 use Rattle.channel_cache.specs.Seen as caches
-use Rattle.link_budget.specs.{amounts}
-use Rattle.link_budget.specs.Amounts.{Amounts}
+use Rattle.reckoning.specs.link_budget.{amounts}
+use Rattle.reckoning.specs.link_budget.Amounts.{Amounts}
 use Rattle.client_table.specs.declared.entry.Burst.{Burst}
 use Rattle.client_table.specs.declared.entry.Entry.{Entry}
 use Rattle.client_table.specs.{nobody, clients_of, entry_of}

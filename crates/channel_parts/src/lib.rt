@@ -19,9 +19,9 @@ pub use laws::{
     notes_reserve, numbers_are_small, only_known_clients_have_bursts,
     open_bursts_are_within_bounds, parts_are_in_bounds, parts_go_on, repairs_are_of_known_clients,
 };
-pub use link_budget::Budget;
 pub use parts::Parts;
 pub use ram_io::NoMemory;
 pub use rams_model::Held;
+pub use reckoning::link_budget::Budget;
 pub use repair_queue::{Asked, Piece, Queue, Wanted};
 pub use stop::is_before_stop;

@@ -5,8 +5,8 @@ ghost use Rattle.channel_parts.specs.{StandsFor, new_parts};
 use channel_cache::Cache;
 use channel_config::Config;
 use client_table::Table;
-use link_budget::Budget;
 use ram_io::NoMemory;
+use reckoning::link_budget::Budget;
 use repair_queue::Queue;
 use std::alloc::Global;
 

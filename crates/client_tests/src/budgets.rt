@@ -1,6 +1,6 @@
 //! Amounts that are reserved and spent, counted out by hand.
 use crate::fixtures::same;
-use link_budget::Budget;
+use reckoning::link_budget::Budget;
 use std::process::Abort;
 
 // A share and its reserve, two amounts that are asked for in turn, whether each is reserved, and what

@@ -1,6 +1,6 @@
 //! Rates, join times and stops that are worked out by hand (RFC 6285, 7).
 use crate::fixtures::same;
-use burst_plan::{
+use reckoning::burst_plan::{
     bits_of, catching_up_ends, five_packets_in_three_ticks, join_ticks, join_times_are_kept,
     quiet_bursts_catch_up, rate_of, stop_of,
 };

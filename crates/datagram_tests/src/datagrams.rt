@@ -1,13 +1,13 @@
 //! Worked datagrams, byte for byte.
 use crate::fixtures::{holds, same};
+use book_text::order_datagrams::{Order, append_order, render_order, renders};
 use bytes::Bytes;
 use channel_config::Config;
-use order_datagrams::{Order, append_order, render_order, renders};
 use rams_model::Info;
 use std::alloc::Global;
 use std::process::Abort;
 use std::test::Fail;
-use test_channel::{CHANNEL, SOURCE, bytes_of};
+use test_fixtures::test_channel::{CHANNEL, SOURCE, bytes_of};
 
 /// The server's SSRC.
 const SERVER: u32 = 0xaabb_ccdd;

@@ -5,9 +5,9 @@ use Rattle.line_io.specs.Passes.{Passes}
 use Rattle.line_io.proofs.Passing.{Passes-none}
 use Rattle.rams_model.specs.declared.fault.LineFault.{LineFault}
 use Rattle.rams_model.specs.declared.status.Status.{Status}
-use Rattle.sdp_config.specs.{sdp_at}
+use Rattle.description_loop.specs.sdp_config.{sdp_at}
 use Rattle.trace_loop.specs.{IfTold, IfBothTold}
-use Rattle.trace_serving.specs.{Outcome, refused}
+use Rattle.trace_book.specs.trace_serving.{Outcome, refused}
 use Rattle.description_loop.specs.declared.said.Head.TheVariants.{Lawful, Unlawful}
 use Rattle.description_loop.specs.declared.said.Heading as code
 use Rattle.description_loop.specs.declared.reply.Reply.{Reply}

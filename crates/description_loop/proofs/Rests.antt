@@ -3,8 +3,8 @@ use Rattle.std.proofs.Common.{◌≡◌, ℕ, ◌<◌, List, [], ◌++◌, lengt
 use Rattle.std.specs.Prelude.{◌⊎◌}
 use Rattle.std.specs.Io.KnownBytes.{Consumes, IsAtEnd, prepend_known}
 use Rattle.std.proofs.KnownBytes.{Consumes-trans}
-use Rattle.sdp_config.specs.{sdp_at}
-use Rattle.sdp_config.proofs.LongTexts.{long_texts}
+use Rattle.description_loop.specs.sdp_config.{sdp_at}
+use Rattle.description_loop.proofs.sdp_config.LongTexts.{long_texts}
 use Rattle.trace_loop.specs.{IfTold}
 use Rattle.description_loop.specs.{IsFrontOf, TakesPiece}
 

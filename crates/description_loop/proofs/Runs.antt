@@ -8,13 +8,13 @@ use Rattle.rams_model.specs.declared.fault.LineFault as fault
 use Rattle.rams_model.specs.declared.mode.Mode.TheVariants.{Run}
 use Rattle.rams_model.specs.declared.status.Status.TheVariants.{Done}
 use Rattle.rams_model.specs.Texts.{TraceLine, head_line, channel_line, end_line, lines_of, line_of, line_at, ranged, line_in_range, line_text, is_spelled, Reached, nothing_reached, line_is_served, may_come, joined, with_line, accepted, with_reached, judged_line, judged}
-use Rattle.sdp_config.specs.declared.sdp.Sdp.{Sdp}
-use Rattle.sdp_config.specs.declared.sdp.SdpFault.{SdpFault}
-use Rattle.sdp_config.specs.{sdp_at, IsDescribable}
-use Rattle.sdp_config.proofs.InRange as in_range
-use Rattle.sdp_config.proofs.ReadBack.{read_back}
+use Rattle.description_loop.specs.declared.sdp_config.sdp.Sdp.{Sdp}
+use Rattle.description_loop.specs.declared.sdp_config.sdp.SdpFault.{SdpFault}
+use Rattle.description_loop.specs.sdp_config.{sdp_at, IsDescribable}
+use Rattle.description_loop.proofs.sdp_config.InRange as in_range
+use Rattle.description_loop.proofs.sdp_config.ReadBack.{read_back}
 use Rattle.trace_text.proofs.Spelling.{spelled_is_read}
-use Rattle.trace_serving.specs.{ended, done, opening, turn, text_from, served_text, after_text}
+use Rattle.trace_book.specs.trace_serving.{ended, done, opening, turn, text_from, served_text, after_text}
 use Rattle.trace_book.specs.{first_line, run, trace_text}
 use Rattle.description_loop.specs.{Heading, HeadSays, says, refuses, behind_head, head_of, heading_text, with_sdp, settings_by, by_head, settings_outcome, SettingsAreTraces, SettingsAreTurnedBack}
 use Rattle.description_loop.proofs.ReadHeads.{lawful_head}

@@ -6,8 +6,8 @@ use Rattle.channel_config.specs.{IsLawful}
 use Rattle.rams_model.specs.declared.channel.Channel.{Channel}
 use Rattle.rams_model.specs.Service.{Settings, settings, channel_in_range}
 use Rattle.rams_model.specs.Texts.{head_line, channel_line, line_in_range, line_has_form, line_text, is_spelled, version_says}
-use Rattle.sdp_config.specs.declared.sdp.Sdp.{Sdp}
-use Rattle.sdp_config.specs.{IsInRange}
+use Rattle.description_loop.specs.declared.sdp_config.sdp.Sdp.{Sdp}
+use Rattle.description_loop.specs.sdp_config.{IsInRange}
 use Rattle.trace_text.proofs.Spelled.{and_both}
 use Rattle.line_io.specs.{HasNoFeed}
 use Rattle.description_loop.specs.{Heading, with_settings, with_sdp}

@@ -1,3 +1,4 @@
+pub mod sdp_config
 pub mod Heads
 pub mod Reads
 pub mod Outcomes

@@ -5,11 +5,11 @@ use Rattle.rams_model.specs.declared.channel.Channel.{Channel}
 use Rattle.rams_model.specs.declared.status.Status.{Status}
 use Rattle.rams_model.specs.declared.status.Status.TheVariants.{Done, BadTrace, BadSdp}
 use Rattle.rams_model.specs.Texts.{head_line, channel_line, end_line, line_text, spaced}
-use Rattle.sdp_config.specs.declared.sdp.Sdp.{Sdp}
-use Rattle.sdp_config.specs.declared.sdp.SdpFault.{SdpFault}
-use Rattle.sdp_config.specs.declared.sdp.SdpFault.TheVariants.{Form, Version, Long, NoChannel, NoSsrc, NoRtx, Same}
-use Rattle.sdp_config.specs.{sdp_at, description}
-use Rattle.trace_serving.specs.{Outcome, ended, refused}
+use Rattle.description_loop.specs.declared.sdp_config.sdp.Sdp.{Sdp}
+use Rattle.description_loop.specs.declared.sdp_config.sdp.SdpFault.{SdpFault}
+use Rattle.description_loop.specs.declared.sdp_config.sdp.SdpFault.TheVariants.{Form, Version, Long, NoChannel, NoSsrc, NoRtx, Same}
+use Rattle.description_loop.specs.sdp_config.{sdp_at, description}
+use Rattle.trace_book.specs.trace_serving.{Outcome, ended, refused}
 use Rattle.description_loop.specs.declared.reply.Reply.{Reply}
 use Rattle.description_loop.specs.Heads.{Heading, HeadSays, says, refuses, behind_head, head_of}
 

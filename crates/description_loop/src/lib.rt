@@ -9,6 +9,7 @@ mod laws;
 mod reply;
 mod rest;
 mod said;
+pub mod sdp_config;
 mod write;
 
 pub use laws::{heads_are_three_lines, settings_are_traces, settings_are_turned_back};

@@ -3,15 +3,15 @@ ghost use Rattle.std.specs.Prelude.{◌≡◌, ◌≤◌, ◌++◌, IfOk, OnOk, 
 ghost use Rattle.rams_model.specs.declared.status.Status.TheVariants.{Done, BadSdp};
 ghost use Rattle.rams_model.specs.Texts.{line_text};
 ghost use Rattle.trace_text.specs.{shown};
-ghost use Rattle.sdp_config.specs.{sdp_at};
-ghost use Rattle.trace_serving.specs.{ended, refused};
+ghost use Rattle.description_loop.specs.sdp_config.{sdp_at};
+ghost use Rattle.trace_book.specs.trace_serving.{ended, refused};
 ghost use Rattle.description_loop.specs.{answered, described_by, fault_line, heading_text, said_by, settings_by, with_feed, with_sdp, with_settings, IsReplyEnd};
 
 use crate::said::Heading;
+use crate::sdp_config::{Sdp, SdpFault, read_sdp, write_sdp};
 use book_text::{append_count, append_refused};
 use ram_io::NoMemory;
 use rams_model::{Channel, LineFault, Status};
-use sdp_config::{Sdp, SdpFault, read_sdp, write_sdp};
 use std::alloc::Global;
 use trace_text::{Line, append_line};
 

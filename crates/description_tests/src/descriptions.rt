@@ -1,11 +1,11 @@
 //! Session descriptions, read and written (RFC 8866; RFC 6285, 8.3).
 use crate::fixtures::same;
+use description_loop::sdp_config::{Sdp, SdpFault, read_sdp, write_sdp};
 use rams_model::{Access, Channel};
-use sdp_config::{Sdp, SdpFault, read_sdp, write_sdp};
 use std::alloc::Global;
 use std::str;
 use std::test::Fail;
-use test_words::joined;
+use test_fixtures::test_words::joined;
 
 /// What stands in front of the sections.
 pub const SESSION: &[&str] = &[

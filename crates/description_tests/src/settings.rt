@@ -7,7 +7,7 @@ use std::alloc::{AllocError, Global};
 use std::process::Abort;
 use std::str;
 use std::test::Fail;
-use test_words::joined;
+use test_fixtures::test_words::joined;
 
 const HEAD: &str = "rams-trace 1 tick 10 link 100000\n";
 

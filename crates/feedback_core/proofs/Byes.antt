@@ -7,7 +7,7 @@ use Rattle.rams_model.specs.declared.note.Cause.TheVariants as causes
 use Rattle.rams_model.specs.declared.note.Note.TheVariants as notes
 use Rattle.rams_model.specs.Service.{Settings, noted, History, known, is_among, ssrc, end_order, order_of, after_bye, is_bye_of, bursts, has_open, Wanted}
 use Rattle.rams_model.specs.Formats.{Framed, bye_names}
-use Rattle.link_budget.specs.Amounts.{Amounts}
+use Rattle.reckoning.specs.link_budget.Amounts.{Amounts}
 use Rattle.client_table.specs.declared.entry.Entry.{Entry}
 use Rattle.repair_queue.specs.Queue as queues
 use Rattle.feedback_core.specs.declared.visitor.Open.{Open}

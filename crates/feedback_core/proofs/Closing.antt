@@ -10,7 +10,7 @@ use Rattle.rams_model.specs.declared.event.Event.TheVariants.{Feedback}
 use Rattle.rams_model.specs.declared.note.Note.TheVariants.{BadFeedback}
 use Rattle.rams_model.specs.Service.{answered, Settings, Message, messages, unframed, heard_feedback, heard_of, began, noted, History, arrivals, known, is_among, without, sendings, ssrc, bursts, Wanted, pending, quiet_ticks, channel_left, info_order, order_of, newest_notes, newest_orders, newest_answer, after_messages, after_hearing, history_of, answer}
 use Rattle.rams_model.specs.Formats.{Framed, framed}
-use Rattle.link_budget.specs.Amounts.{Amounts}
+use Rattle.reckoning.specs.link_budget.Amounts.{Amounts}
 use Rattle.client_table.specs.Clients.{Clients}
 use Rattle.client_table.specs.{entry_of}
 use Rattle.channel_parts.specs.declared.parts.Parts.{Parts}

@@ -12,7 +12,7 @@ use Rattle.rams_model.specs.Packets.{lo, hi, Follows}
 use Rattle.rams_model.specs.Service.Bursts as model
 use Rattle.client_table.specs.declared.entry.Burst.{Burst}
 use Rattle.client_table.specs.declared.entry.Entry.{Entry}
-use Rattle.ext_seq.specs.{IsResolved}
+use Rattle.reckoning.specs.ext_seq.{IsResolved}
 use Rattle.repair_queue.specs.declared.wanted.Asked.{Asked}
 use Rattle.repair_queue.specs.{asked_of}
 use Rattle.repair_queue.specs.declared.wanted.Asked.TheVariants as asks

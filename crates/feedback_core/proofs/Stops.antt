@@ -9,7 +9,7 @@ use Rattle.rams_model.specs.declared.note.Cause.TheVariants as causes
 use Rattle.rams_model.specs.declared.note.Note.TheVariants as notes
 use Rattle.rams_model.specs.Service.{Settings, noted, History, refuse_info, end_info, info_order, end_order, order_of, stop_of, after_stop, stop_burst, on_stop, stop_set, next, open_burst, Wanted}
 use Rattle.rams_model.specs.Service.Bursts as model
-use Rattle.link_budget.specs.Amounts.{Amounts}
+use Rattle.reckoning.specs.link_budget.Amounts.{Amounts}
 use Rattle.client_table.specs.declared.entry.Burst.{Burst}
 use Rattle.feedback_core.specs.declared.visitor.Open.{Open}
 use Rattle.feedback_core.specs.declared.visitor.Visitor.{Visitor}

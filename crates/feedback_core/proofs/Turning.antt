@@ -9,7 +9,7 @@ use Rattle.rams_model.specs.declared.note.Note.TheVariants as note
 use Rattle.rams_model.specs.Service.{Settings, noted, History, arrivals, known, is_among, sendings, ssrc, newest_sender, or_sender, update_info, bursts, kept, open_burst, Wanted, wanted, pending, quiet_ticks, reserved}
 use Rattle.rams_model.proofs.OpenBurst.{open_updated, open_stopped, end_closes}
 use Rattle.rams_model.proofs.Since.{known_step}
-use Rattle.link_budget.specs.Amounts.{Amounts}
+use Rattle.reckoning.specs.link_budget.Amounts.{Amounts}
 use Rattle.client_table.specs.declared.entry.Burst.{Burst}
 use Rattle.client_table.specs.declared.entry.Entry.{Entry}
 use Rattle.repair_queue.specs.Queue as queues

@@ -16,11 +16,11 @@ use Rattle.rams_model.specs.Laws.{IsAmong, Rises}
 use Rattle.rams_model.specs.Laws.Meaning as laws
 use Rattle.rams_model.proofs.Holding.{rises_from}
 use Rattle.rams_model.proofs.Choosing.{newest_chosen}
-use Rattle.link_budget.specs.{HasRoom}
-use Rattle.link_budget.specs.Amounts.{Amounts}
-use Rattle.access_index.specs.declared.choice.Choice.{Choice}
-use Rattle.access_index.specs.{choice_of}
-use Rattle.access_index.specs.declared.choice.Choice.TheVariants.{Start, NoStart, MinUnmet, MaxUnmet}
+use Rattle.reckoning.specs.link_budget.{HasRoom}
+use Rattle.reckoning.specs.link_budget.Amounts.{Amounts}
+use Rattle.channel_cache.specs.declared.access_index.choice.Choice.{Choice}
+use Rattle.channel_cache.specs.access_index.{choice_of}
+use Rattle.channel_cache.specs.declared.access_index.choice.Choice.TheVariants.{Start, NoStart, MinUnmet, MaxUnmet}
 use Rattle.client_table.specs.declared.entry.Burst.{Burst}
 use Rattle.client_table.specs.declared.entry.Entry.{Entry}
 use Rattle.channel_parts.specs.{IsBudget, burst_kept}

@@ -6,7 +6,7 @@ use Rattle.rams_model.specs.declared.note.Note.{Note}
 use Rattle.rams_model.specs.declared.note.Note.TheVariants as note
 use Rattle.rams_model.specs.Service.{Settings, Message, told, noted, History, arrivals, known, opened, sendings, ssrc, newest_sender, sequence, accept_info, bursts, begun, newest_open, open_burst, Wanted, pending, is_busy, quiet_ticks, idle, reserved, channel_left}
 use Rattle.rams_model.specs.Service.Bursts as model
-use Rattle.link_budget.specs.Amounts.{Amounts}
+use Rattle.reckoning.specs.link_budget.Amounts.{Amounts}
 use Rattle.client_table.specs.declared.entry.Burst.{Burst}
 use Rattle.client_table.specs.declared.entry.Entry.{Entry}
 use Rattle.channel_parts.specs.{IsEntry, IsBudget, burst_kept, is_of_reserved}

@@ -1,6 +1,6 @@
 //! What is held.
 ghost use Rattle.std.specs.Prelude.{◌≡◌};
-ghost use Rattle.packet_ring.specs.{packet_of};
+ghost use Rattle.channel_cache.specs.packet_ring.{packet_of};
 ghost use Rattle.rams_model.specs.Packets.{behind};
 ghost use Rattle.rams_model.specs.Service.{size_of};
 ghost use Rattle.feedback_core.specs.{IsHeldRun};

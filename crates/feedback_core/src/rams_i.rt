@@ -4,11 +4,11 @@ ghost use Rattle.feedback_core.specs.{info_for};
 ghost use Rattle.rams_model.specs.Service.Infos as infos;
 
 use crate::visitor::Visitor;
-use burst_plan::bits_of;
 use channel_config::Config;
 use channel_parts::response::{ACCEPTED, UPDATED, refuse_info};
 use client_table::Info;
 use rams_model::Note;
+use reckoning::burst_plan::bits_of;
 
 /// Of an accepted request: 200, with the sequence number of the client's next packet.
 pub(crate) fn accept_info(config: &Config, sequence: u16, rate: u64, join: u64) -> Info

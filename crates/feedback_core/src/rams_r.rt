@@ -3,7 +3,7 @@ ghost use Rattle.std.specs.Prelude.{◌≡◌, ℕ, ◌<◌, ◌^◌, IsSome, So
 ghost use Rattle.rams_model.specs.declared.held.Held.{Held};
 ghost use Rattle.rams_model.specs.Formats.{request_at};
 ghost use Rattle.rams_model.specs.Packets.{behind as behind_of};
-ghost use Rattle.rams_tlv.specs.{shown_request};
+ghost use Rattle.packets.specs.rams_tlv.{shown_request};
 ghost use Rattle.feedback_core.specs.{open_of, begun_burst, IsReadyDesk, AreOfOne, IsAnswered, IsHeard, IsHeardOn, HasBurstOn, Serves, rate_for};
 ghost use Rattle.rams_model.specs.declared.note.Note.TheVariants.{Refuse};
 ghost use Rattle.rams_model.specs.Service.Verdict as verdicts;
@@ -14,15 +14,15 @@ use crate::desk::Desk;
 use crate::holding::behind;
 use crate::rams_i::{accept_info, update_info};
 use crate::visitor::{Open, Visitor};
-use burst_plan::{join_ticks, rate_of};
 use channel_cache::Choice;
 use channel_parts::response::{
     BITRATE_TOO_LOW, MAX_FILL_UNMET, MIN_FILL_UNMET, NO_ACCESS_POINT, NO_BANDWIDTH, ONLY_PREAMBLE,
     OTHER_SOURCE, TOO_MANY_CLIENTS, UNREADABLE_REQUEST,
 };
 use client_table::{Burst, Entry, Info};
+use packets::rams_tlv::{Request, names, read_request};
 use rams_model::{MOST_ON_WIRE, Note};
-use rams_tlv::{Request, names, read_request};
+use reckoning::burst_plan::{join_ticks, rate_of};
 
 /// The largest wire size of a packet, in bytes.
 const MOST_WIRE: u64 = MOST_ON_WIRE as u64;

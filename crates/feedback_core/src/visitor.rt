@@ -4,7 +4,7 @@ ghost use Rattle.feedback_core.specs.{open_of, entry_under, is_sent_later, woken
 
 use channel_parts::is_before_stop;
 use client_table::{Burst, Entry};
-use link_budget::Budget;
+use reckoning::link_budget::Budget;
 
 /// The client, and what the answers change of the channel beside the pending repairs.
 #[derive(Drop)]

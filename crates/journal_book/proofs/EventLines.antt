@@ -16,7 +16,7 @@ use Rattle.trace_text.proofs.Spelled.{digits_of, and_both, is_word}
 use Rattle.trace_text.proofs.Spelling.{spelled_is_read}
 use Rattle.server_hub.specs.declared.event.HubEvent.{HubEvent}
 use Rattle.server_hub.specs.declared.event.HubEvent.TheVariants.{Live, Feedback, Tick}
-use Rattle.trace_serving.specs.{brought}
+use Rattle.trace_book.specs.trace_serving.{brought}
 use Rattle.trace_book.specs.{run}
 use Rattle.journal_book.specs.{line_of_event, HasLine}
 

@@ -3,9 +3,9 @@ use Rattle.std.proofs.Common.{◌≡◌, ◌≢◌, ℕ, List, [], ◌++◌, Som
 use Rattle.rams_model.specs.Texts.{TraceLine, head_line, channel_line, live_line, feedback_line, tick_line, end_line, tune_line, give_line, mcast_line, ask_line, drop_line, line_of, line_at, ranged, line_in_range, line_text, Reached}
 use Rattle.trace_text.proofs.Spelling.{read_is_spelled}
 use Rattle.server_hub.specs.Served.{Served}
-use Rattle.trace_serving.specs.{Stage, goes_on, turn, after_line, after_judging, eventless}
+use Rattle.trace_book.specs.trace_serving.{Stage, goes_on, turn, after_line, after_judging, eventless}
 use Rattle.trace_book.specs.{run}
-use Rattle.trace_serving.proofs.Judged.{judged_so}
+use Rattle.trace_book.proofs.trace_serving.Judged.{judged_so}
 use Rattle.journal_book.specs.{Leads, line, stage_behind, HeadsGrow, HeadsEnd}
 use Rattle.journal_book.proofs.Modes.{head_line_is}
 use Rattle.journal_book.proofs.Replays.{head_passes}

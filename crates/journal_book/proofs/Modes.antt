@@ -11,9 +11,9 @@ use Rattle.rams_model.specs.declared.mode.Mode.TheVariants.{Run, Serve}
 use Rattle.rams_model.specs.Service.{Settings, settings, checked}
 use Rattle.rams_model.specs.Texts.{TraceLine, head_line, channel_line, live_line, feedback_line, tick_line, end_line, tune_line, give_line, mcast_line, ask_line, drop_line, line_in_range, line_of, Head, Reached, has_channel, may_come, line_is_served, joined, with_channel, with_line, accepted, with_reached, judged_line, judged}
 use Rattle.server_hub.specs.Served.{Served}
-use Rattle.trace_serving.specs.{Stage, Turn, goes_on, ends, turn, with_opened, eventless, after_line, after_judging, brought}
+use Rattle.trace_book.specs.trace_serving.{Stage, Turn, goes_on, ends, turn, with_opened, eventless, after_line, after_judging, brought}
 use Rattle.trace_book.specs.{run}
-use Rattle.trace_serving.proofs.Judged.{judged_so}
+use Rattle.trace_book.proofs.trace_serving.Judged.{judged_so}
 
 -- how far the trace has come, where it is read for this
 abbrev pub read_for : Mode → Reached → Reached

@@ -12,7 +12,7 @@ use Rattle.rams_model.specs.Texts.{Head}
 use Rattle.server_hub.specs.declared.event.HubEvent.{HubEvent}
 use Rattle.server_hub.specs.{id_of, ids_of, after_events}
 use Rattle.server_hub.specs.Served.{Served}
-use Rattle.trace_serving.specs.{last_stage, AreLawful}
+use Rattle.trace_book.specs.trace_serving.{last_stage, AreLawful}
 use Rattle.trace_book.specs.{run, served_by, settings_of, new_channels, came, IsServed, KeepsTheLink}
 use Rattle.journal_book.specs.{journal_of, behind, IsNumber, HasLine, AreApart, IsJournal, Opens}
 use Rattle.journal_book.proofs.Served.{journals_are_served}

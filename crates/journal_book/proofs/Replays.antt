@@ -11,7 +11,7 @@ use Rattle.server_hub.specs.declared.event.HubEvent.{HubEvent}
 use Rattle.server_hub.specs.declared.event.HubEvent.TheVariants.{Live, Feedback, Tick}
 use Rattle.server_hub.specs.{after_event}
 use Rattle.server_hub.specs.Served.{Served}
-use Rattle.trace_serving.specs.{Stage, Turn, goes_on, ends, ended, done, after_text, opening, turn, after_line, after_judging, after_turn, text_from, stage_after, stage_from, too_long}
+use Rattle.trace_book.specs.trace_serving.{Stage, Turn, goes_on, ends, ended, done, after_text, opening, turn, after_line, after_judging, after_turn, text_from, stage_after, stage_from, too_long}
 use Rattle.trace_book.specs.{run, most_events, event_text}
 use Rattle.journal_book.specs.{line_of_event, event_line, event_lines, behind, HasLine, datagrams_of, sent_for, text_for, event_read, datagrams_to, sent_after, replayed_from, Leads, nothing, line}
 use Rattle.journal_book.proofs.EventLines.{IsEventLine, event_line_is}

@@ -8,7 +8,7 @@ use Rattle.ram_io.specs.{Outgoing}
 use Rattle.server_hub.specs.declared.event.HubEvent.{HubEvent}
 use Rattle.server_hub.specs.Served.{Served}
 use Rattle.server_hub.specs.{after_event}
-use Rattle.trace_serving.specs.{Stage, Outcome, ended, done, opening, after_text, text_from, served_text, last_stage}
+use Rattle.trace_book.specs.trace_serving.{Stage, Outcome, ended, done, opening, after_text, text_from, served_text, last_stage}
 use Rattle.trace_book.specs.{run, most_events, first_line, trace_text, served_by}
 use Rattle.journal_book.specs.{event_line, event_lines, journal_of, behind, HasLine, datagrams_of, sent_for, replayed_from, replayed, text_for, IsJournal, JournalsReplay, RunsWriteJournals, JournalsAreServed, FrontsReplay, GrowsBy, ServedSo, FrontSo, HeadSo}
 use Rattle.journal_book.proofs.Modes.{stage_of_run}

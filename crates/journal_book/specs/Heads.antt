@@ -5,7 +5,7 @@ use Rattle.rams_model.specs.declared.mode.Mode.TheVariants.{Serve}
 use Rattle.rams_model.specs.Texts.{end_line, nothing_reached, may_come}
 use Rattle.line_io.specs.{HasNoFeed}
 use Rattle.server_hub.specs.Served.{Served}
-use Rattle.trace_serving.specs.{Stage, goes_on, turn}
+use Rattle.trace_book.specs.trace_serving.{Stage, goes_on, turn}
 use Rattle.trace_book.specs.{run}
 
 -- nothing was read yet, for this use of a trace

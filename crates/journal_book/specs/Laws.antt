@@ -12,7 +12,7 @@ use Rattle.server_hub.specs.declared.event.HubEvent.{HubEvent}
 use Rattle.server_hub.specs.declared.event.HubEvent.TheVariants.{Live, Feedback}
 use Rattle.server_hub.specs.Served.{Served}
 use Rattle.server_hub.specs.{id_of, answer_to, after_event}
-use Rattle.trace_serving.specs.{Stage, ended, done, with_opened, last_stage}
+use Rattle.trace_book.specs.trace_serving.{Stage, ended, done, with_opened, last_stage}
 use Rattle.trace_book.specs.{run, most_events, first_line, event_text, trace_text, served_by, new_channels}
 use Rattle.journal_book.specs.Heard.{heard_from, heard, CanArrive, events_of}
 use Rattle.journal_book.specs.Journal.{IsNumber, HasLine, CanCome, event_line, event_lines, journal_of, behind}

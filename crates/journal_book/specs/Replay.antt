@@ -5,7 +5,7 @@ use Rattle.rams_model.specs.Texts.{TraceLine, whole_lines, Reached, judged}
 use Rattle.ram_io.specs.{Outgoing}
 use Rattle.server_hub.specs.declared.event.HubEvent.{HubEvent}
 use Rattle.server_hub.specs.Served.{Served}
-use Rattle.trace_serving.specs.{Stage, Turn, goes_on, ends, opening, turn, brought}
+use Rattle.trace_book.specs.trace_serving.{Stage, Turn, goes_on, ends, opening, turn, brought}
 use Rattle.trace_book.specs.{run}
 use Rattle.journal_book.specs.Sent.{datagrams_of}
 

@@ -11,7 +11,7 @@ use Rattle.server_hub.specs.declared.event.HubEvent.{HubEvent}
 use Rattle.server_hub.specs.declared.event.HubEvent.TheVariants.{Live, Feedback, Tick}
 use Rattle.server_hub.specs.Served.{Served}
 use Rattle.server_hub.specs.{served}
-use Rattle.trace_serving.specs.{ended}
+use Rattle.trace_book.specs.trace_serving.{ended}
 use Rattle.trace_book.specs.{trace_text}
 use Rattle.trace_book.specs.Worked.{head_text, plain_line}
 use Rattle.journal_book.specs.Heard.{heard, events_of}

@@ -5,5 +5,6 @@
 //! words stand in `specs/`.
 #![tactic(auto)]
 
+pub mod event_text;
 pub mod examples;
 pub mod laws;

@@ -1,9 +1,9 @@
 //! A ticker and takers, by hand and on threads.
 ghost use Rattle.std.specs.Prelude.{◌≡◌, ◌+◌, ◌^◌, ◌<◌, ◌≤◌, [], All, IfErr, IfOk};
-ghost use Rattle.link_pool.specs.{claimed};
+ghost use Rattle.pool.specs.link_pool.{claimed};
 
-use ledger_text::append_ledger;
-use link_pool::{Ledger, NoMemory, Pool, PoolFault, Taker, Ticker};
+use pool::ledger_text::append_ledger;
+use pool::link_pool::{Ledger, NoMemory, Pool, PoolFault, Taker, Ticker};
 use std::alloc::Global;
 use std::process::Abort;
 use std::test::Fail;

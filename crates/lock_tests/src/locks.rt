@@ -1,15 +1,15 @@
 //! A lock of three seats.
 ghost use Rattle.std.specs.Prelude.{◌≡◌, ◌<◌, [], All, IfErr, IfOk};
-ghost use Rattle.session_core.specs.{StandsFor};
+ghost use Rattle.server_hub.specs.session_core.{StandsFor};
 
+use channel_book::channel_lock::{Book, ChannelLock, CloseFault, Pass};
 use channel_config::Config;
-use channel_lock::{Book, ChannelLock, CloseFault, Pass};
-use session_core::Core;
+use server_hub::session_core::Core;
 use std::alloc::Global;
 use std::process::Abort;
 use std::sync::Wait;
 use std::test::Fail;
-use test_channel::CHANNEL;
+use test_fixtures::test_channel::CHANNEL;
 
 /// A channel to which nothing came, with ticks of 10 ms.
 fn new_core(alloc: Global) -> Result<Core, Fail>

@@ -1,8 +1,8 @@
 //! Answers, counted.
 use bytes::Bytes;
+use generated::summary::Tally;
 use rams_model::{Answer, Cause, Info, LiveNote, Note, Order};
 use std::test::Fail;
-use summary::Tally;
 
 /// A note of each kind that is counted, of some twice, and some that aren't.
 const NOTES: [Note; 14] = [

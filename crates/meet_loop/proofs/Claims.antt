@@ -11,8 +11,8 @@ use Rattle.rams_model.specs.Texts.{Head, Reached}
 use Rattle.server_hub.specs.{Pairwise, Serves, StandsFor, settings_of as hub_settings, has_id, shares_of, refused}
 use Rattle.server_hub.specs.Seen.{Seen}
 use Rattle.server_hub.specs.Served.{Served}
-use Rattle.trace_serving.proofs.Judged.{IsJoined}
-use Rattle.trace_serving.specs.{claim_of}
+use Rattle.trace_book.proofs.trace_serving.Judged.{IsJoined}
+use Rattle.trace_book.specs.trace_serving.{claim_of}
 use Rattle.trace_book.specs.{settings_of}
 
 -- a hub has the settings of the channels that it stands for

@@ -1,3 +1,5 @@
+pub mod world_book
+pub mod world_text
 pub mod Turns
 unfoldable pub use Rattle.meet_loop.specs.Turns.{WorldServes, OpensIn, Happens, Took}
 pub use Rattle.meet_loop.specs.Turns.{Serves, Stands, Comes, CanOpen, Opens, IsUnder}

@@ -3,8 +3,8 @@ use Rattle.std.specs.Prelude.{◌≡◌, ℕ, Bool, false, List, [], map, Option
 use Rattle.rams_model.specs.Service.{Settings}
 use Rattle.rams_model.specs.Texts.{TraceLine, Head, Reached, judged}
 use Rattle.server_hub.specs.{refused as refused_add}
-use Rattle.trace_serving.specs.{Stage, claim_of}
-use Rattle.trace_serving.specs.Text as text
+use Rattle.trace_book.specs.trace_serving.{Stage, claim_of}
+use Rattle.trace_book.specs.trace_serving.Text as text
 use Rattle.trace_loop.specs.declared.turn.Turn.{Turn}
 use Rattle.trace_loop.specs.{ending, written, Took as TookSo}
 use Rattle.trace_book.specs.{settings_of}
@@ -13,8 +13,8 @@ use Rattle.world_laws.specs.declared.world.WorldNote.{WorldNote}
 use Rattle.world_laws.specs.{new_world, happens}
 use Rattle.world_laws.specs.World.{World}
 use Rattle.world_net.specs.{CameAtMost, StandsFor, Seen, with_channel}
-use Rattle.world_text.specs.{notes_lines}
-use Rattle.world_book.specs.{meet}
+use Rattle.meet_loop.specs.world_text.{notes_lines}
+use Rattle.meet_loop.specs.world_book.{meet}
 
 -- What is kept stands for the world, to which no more came than its events. Until one came, the hub has the tick and the link of this head line.
 pub record Serves (v : Seen) (head : Head) (begun : Bool) (w : World) (events : ℕ) : Type 0 where

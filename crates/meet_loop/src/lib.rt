@@ -4,6 +4,8 @@
 mod event;
 mod meeting;
 mod text;
+pub mod world_book;
+pub mod world_text;
 mod writer;
 
 pub use ram_io::{NoMemory, Sink, Source};

@@ -2,14 +2,14 @@
 ghost use Rattle.std.specs.Prelude.{◌≡◌, ◌≤◌, ◌+◌, ◌-◌, ◌^◌, ℕ, true, IfOk, IsSomeAnd, is_some, None};
 ghost use Rattle.rams_model.specs.Texts.{tick_of};
 ghost use Rattle.trace_text.specs.{shown, told, HasDigits, IsOther, IsSettled};
-ghost use Rattle.trace_serving.specs.{Stage, opening, turn, after_line, eventless, counted, brought};
+ghost use Rattle.trace_book.specs.trace_serving.{Stage, opening, turn, after_line, eventless, counted, brought};
 ghost use Rattle.trace_loop.specs.{StandsSomewhere};
 ghost use Rattle.trace_loop.specs.declared.turn.Turn.TheVariants.{GoesOn};
 ghost use Rattle.world_laws.specs.World.{World as Worlds};
 ghost use Rattle.world_laws.specs.declared.world.WorldEvent.{WorldEvent};
 ghost use Rattle.world_net.specs.{CameAtMost, StandsFor};
-ghost use Rattle.world_text.specs.{notes_lines};
-ghost use Rattle.world_book.specs.{meet};
+ghost use Rattle.meet_loop.specs.world_text.{notes_lines};
+ghost use Rattle.meet_loop.specs.world_book.{meet};
 ghost use Rattle.meet_loop.specs.{Stands, Comes, CanOpen, OpensIn, IsUnder, Happens, Took};
 
 use crate::event::event_of;

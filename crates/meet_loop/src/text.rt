@@ -5,7 +5,7 @@ ghost use Rattle.std.specs.Io.KnownBytes.{Appends};
 ghost use Rattle.line_io.specs.Passes.{Passes};
 ghost use Rattle.trace_loop.specs.declared.stop.Stop.TheVariants.{Read};
 ghost use Rattle.trace_loop.specs.{IsStopped, OnlyMemoryStops, IfTold, IfBothTold, HasReadText, IsEnd};
-ghost use Rattle.world_book.specs.{meet, meet_text};
+ghost use Rattle.meet_loop.specs.world_book.{meet, meet_text};
 
 use crate::meeting::new_meeting;
 use ram_io::{Sink, Source};

@@ -1,7 +1,7 @@
 //! What the tests of several crates begin with, and what is compared.
 use std::fmt::Debug;
 use std::process::Abort;
-use test_words::Words;
+use test_fixtures::test_words::Words;
 
 /// The SSRC of the client that sends feedback.
 pub const CLIENT: u32 = 0x0000_c001;

@@ -4,7 +4,7 @@ use crate::{nacks, retransmissions, rtcp_packets, rtp_packets};
 use std::alloc::Global;
 use std::process::Abort;
 use std::test::Fail;
-use test_words::bytes_of;
+use test_fixtures::test_words::bytes_of;
 
 /// What bytes are read as.
 #[derive(Clone, Copy)]

@@ -5,7 +5,7 @@ use channel_parts::{AdmitFault, Parts};
 use std::alloc::Global;
 use std::process::Abort;
 use std::test::Fail;
-use test_channel::CHANNEL;
+use test_fixtures::test_channel::CHANNEL;
 
 /// Settings in which no two amounts are the same.
 const SETTINGS: Channel = Channel {

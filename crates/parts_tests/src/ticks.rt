@@ -2,7 +2,7 @@
 use crate::fixtures::same;
 use channel_config::{Channel, Config};
 use std::test::Fail;
-use test_channel::CHANNEL;
+use test_fixtures::test_channel::CHANNEL;
 use tick_core::{Parts, commit_tick, plan_tick};
 
 const SWELLING: Channel = Channel {

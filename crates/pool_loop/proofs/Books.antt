@@ -8,22 +8,22 @@ use Rattle.rams_model.specs.declared.event.Event.{Event}
 use Rattle.rams_model.specs.declared.event.Event.TheVariants as event
 use Rattle.rams_model.specs.Service.{Settings, Answered, answer, book}
 use Rattle.rams_model.proofs.OneBook.{is_lawful}
-use Rattle.book_laws.specs.{notes_in, orders_in, note_sends, order_sends, EachSendingIsOrderedOnce}
+use Rattle.laws.specs.book_laws.{notes_in, orders_in, note_sends, order_sends, EachSendingIsOrderedOnce}
 use Rattle.channel_book.specs.declared.entry.Entry.{Entry}
 use Rattle.channel_book.specs.{Kept, LegalFrom, IsLegal, events_behind}
-use Rattle.order_datagrams.specs.{Renders, EachOrderOfAnAnswerRenders}
+use Rattle.book_text.specs.order_datagrams.{Renders, EachOrderOfAnAnswerRenders}
 use Rattle.server_hub.specs.declared.event.HubEvent.{HubEvent}
 use Rattle.server_hub.specs.declared.event.HubEvent.TheVariants.{Live, Feedback, Tick}
 use Rattle.server_hub.specs.{Pairwise, served, id_of, after_event, events_of, ticks_among}
 use Rattle.server_hub.specs.Served.{Served}
-use Rattle.trace_serving.specs.{events_text, after_all}
+use Rattle.trace_book.specs.trace_serving.{events_text, after_all}
 use Rattle.trace_book.specs.{run, new_channels, event_text}
 use Rattle.journal_book.specs.{text_for}
-use Rattle.link_pool.specs.declared.claim.Claim.{Claim}
-use Rattle.link_pool.specs.{bytes_of, claims_of}
-use Rattle.pool_run.specs.declared.lane.Lane.{Lane}
-use Rattle.pool_run.specs.{sizes, sizes_of, IsFresh, IsBookOf, AreBooks, ClaimsAreSizes}
-use Rattle.pool_run.proofs.Sizing.{sizes_append}
+use Rattle.pool.specs.declared.link_pool.claim.Claim.{Claim}
+use Rattle.pool.specs.link_pool.{bytes_of, claims_of}
+use Rattle.pool.specs.declared.pool_run.lane.Lane.{Lane}
+use Rattle.pool.specs.pool_run.{sizes, sizes_of, IsFresh, IsBookOf, AreBooks, ClaimsAreSizes}
+use Rattle.pool.proofs.pool_run.Sizing.{sizes_append}
 use Rattle.pool_loop.specs.declared.dealing.Coming.{Coming}
 use Rattle.pool_loop.specs.declared.routes.Route.{Route}
 use Rattle.pool_loop.specs.{route_of, is_for_all, served_so, all_served, HaveAtMost, numbers_of, AllCanRender, ClaimsOf, IsLaneOf}

@@ -5,8 +5,8 @@ use Rattle.std.specs.Prelude.{All, cond, Bool, true, false}
 use Rattle.std.proofs.lemmas.List.{drop_more, drop_all}
 use Rattle.channel_book.specs.declared.entry.Entry.{Entry}
 use Rattle.channel_book.specs.{Kept}
-use Rattle.order_datagrams.specs.{Renders}
-use Rattle.link_pool.specs.declared.claim.Claim.{Claim}
+use Rattle.book_text.specs.order_datagrams.{Renders}
+use Rattle.pool.specs.declared.link_pool.claim.Claim.{Claim}
 use Rattle.pool_loop.specs.declared.routes.Route.{Route}
 use Rattle.pool_loop.specs.{reaches, number_of, turned, past, all_past, route_text, walk_text, CanRender, AllCanRender, numbers_of, closing_text}
 

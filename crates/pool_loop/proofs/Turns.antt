@@ -9,9 +9,9 @@ use Rattle.server_hub.specs.declared.event.HubEvent.{HubEvent}
 use Rattle.server_hub.specs.declared.event.HubEvent.TheVariants.{Live, Feedback, Tick}
 use Rattle.server_hub.specs.{after_event}
 use Rattle.server_hub.specs.Served.{Served}
-use Rattle.trace_serving.specs.{Stage, Outcome, Turn, goes_on, ends, done, refused, too_long, turn, brought, counted, after_line, after_judging}
-use Rattle.trace_serving.proofs.Judged.{judged_so}
-use Rattle.trace_serving.proofs.Runs.{stages_kept as serving_keeps}
+use Rattle.trace_book.specs.trace_serving.{Stage, Outcome, Turn, goes_on, ends, done, refused, too_long, turn, brought, counted, after_line, after_judging}
+use Rattle.trace_book.proofs.trace_serving.Judged.{judged_so}
+use Rattle.trace_book.proofs.trace_serving.Runs.{stages_kept as serving_keeps}
 use Rattle.trace_book.specs.{run, event_at, event_text, IsStage}
 use Rattle.trace_book.proofs.Served.{stages_kept}
 use Rattle.pool_loop.specs.{pool}

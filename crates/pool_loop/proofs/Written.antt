@@ -9,19 +9,19 @@ use Rattle.line_io.specs.Passes.{Passes}
 use Rattle.rams_model.specs.declared.status.Status.{Status}
 use Rattle.rams_model.specs.declared.status.Status.TheVariants.{Done}
 use Rattle.rams_model.specs.Service.{Settings}
-use Rattle.book_laws.specs.{EachSendingIsOrderedOnce}
+use Rattle.laws.specs.book_laws.{EachSendingIsOrderedOnce}
 use Rattle.channel_book.specs.{Kept}
 use Rattle.server_hub.specs.{Pairwise, id_of, ids_of, events_of, ticks_among}
 use Rattle.server_hub.specs.Served.{Served}
 use Rattle.server_hub.proofs.Pairing.{same_length}
-use Rattle.trace_serving.specs.{Stage, Outcome, done, served_text, last_stage, EndsWith, is_missing, is_refused, is_too_long, is_done}
+use Rattle.trace_book.specs.trace_serving.{Stage, Outcome, done, served_text, last_stage, EndsWith, is_missing, is_refused, is_too_long, is_done}
 use Rattle.trace_book.specs.{run, first_line, trace_text, served_by, came, events_text, settings_of, new_channels, EndsSo, IsServed}
 use Rattle.trace_loop.specs.declared.stop.Stop.{Stop}
-use Rattle.link_pool.specs.declared.claim.Claim.{Claim}
-use Rattle.link_pool.specs.{Fill, PaidWithin, claims_of}
-use Rattle.ledger_text.specs.{ledger_text}
-use Rattle.pool_run.specs.declared.lane.Lane.{Lane}
-use Rattle.pool_run.specs.{AreBooks, ClaimsAreSizes, NoOthersClaim}
+use Rattle.pool.specs.declared.link_pool.claim.Claim.{Claim}
+use Rattle.pool.specs.link_pool.{Fill, PaidWithin, claims_of}
+use Rattle.pool.specs.ledger_text.{ledger_text}
+use Rattle.pool.specs.declared.pool_run.lane.Lane.{Lane}
+use Rattle.pool.specs.pool_run.{AreBooks, ClaimsAreSizes, NoOthersClaim}
 use Rattle.pool_loop.specs.declared.dealing.Dealt.{Dealt}
 use Rattle.pool_loop.specs.declared.routes.Route.{Route}
 use Rattle.pool_loop.specs.{pool, is_for_all, served_so, all_served, IsReadOf, IsLaneOf, numbers_of, walk_text, pooled_text, numbers_in, granted_in, ClaimsOf, IsPooled, MayWrite, HasEnded, HasStopped, HasRoomFor}

@@ -5,15 +5,15 @@ use Rattle.line_io.specs.Passes.{Passes}
 use Rattle.rams_model.specs.declared.status.Status.{Status}
 use Rattle.rams_model.specs.declared.status.Status.TheVariants.{Done}
 use Rattle.rams_model.specs.Service.{book}
-use Rattle.book_laws.specs.{notes_in, orders_in, note_sends, order_sends}
+use Rattle.laws.specs.book_laws.{notes_in, orders_in, note_sends, order_sends}
 use Rattle.server_hub.specs.{id_of, ticks_among}
 use Rattle.server_hub.specs.Served.{Served}
-use Rattle.trace_serving.specs.{served_text}
+use Rattle.trace_book.specs.trace_serving.{served_text}
 use Rattle.trace_book.specs.{trace_text, served_by, came}
-use Rattle.link_pool.specs.declared.claim.Claim.{Claim}
-use Rattle.link_pool.specs.{Fill, PaidWithin, bytes_of, claims_of}
-use Rattle.ledger_text.specs.{ledger_text}
-use Rattle.pool_run.specs.{sizes}
+use Rattle.pool.specs.declared.link_pool.claim.Claim.{Claim}
+use Rattle.pool.specs.link_pool.{Fill, PaidWithin, bytes_of, claims_of}
+use Rattle.pool.specs.ledger_text.{ledger_text}
+use Rattle.pool.specs.pool_run.{sizes}
 use Rattle.pool_loop.specs.Routing.{pool}
 
 -- the numbers of a trace's channels, in the order of their lines

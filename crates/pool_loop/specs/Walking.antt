@@ -6,7 +6,7 @@ use Rattle.rams_model.specs.Texts.{answer_text}
 use Rattle.book_text.specs.{no_channel_line}
 use Rattle.channel_book.specs.declared.entry.Entry.{Entry}
 use Rattle.channel_book.specs.{Kept}
-use Rattle.order_datagrams.specs.{Renders}
+use Rattle.book_text.specs.order_datagrams.{Renders}
 use Rattle.pool_loop.specs.declared.routes.Route.{Route}
 use Rattle.pool_loop.specs.declared.routes.Route.TheVariants.{To, Everyone}
 use Rattle.pool_loop.specs.declared.walking.Unwritten.{Unwritten}

@@ -1,12 +1,12 @@
 -- What is written of the books of some channels, and of their ledger.
 use Rattle.std.specs.Prelude.{◌≡◌, ℕ, ◌++◌, List, [], length}
 use Rattle.channel_book.specs.{Kept}
-use Rattle.session_core.specs.{StandsFor}
-use Rattle.trace_serving.specs.{done}
+use Rattle.server_hub.specs.session_core.{StandsFor}
+use Rattle.trace_book.specs.trace_serving.{done}
 use Rattle.trace_book.specs.{first_line}
-use Rattle.link_pool.specs.declared.claim.Claim.{Claim}
-use Rattle.ledger_text.specs.{ledger_text}
-use Rattle.pool_run.specs.declared.lane.Lane.{Lane}
+use Rattle.pool.specs.declared.link_pool.claim.Claim.{Claim}
+use Rattle.pool.specs.ledger_text.{ledger_text}
+use Rattle.pool.specs.declared.pool_run.lane.Lane.{Lane}
 use Rattle.pool_loop.specs.declared.dealing.Coming.{Coming}
 use Rattle.pool_loop.specs.declared.routes.Route.{Route}
 use Rattle.pool_loop.specs.Walking.{numbers_of, walk_text}

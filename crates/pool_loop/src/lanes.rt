@@ -4,9 +4,9 @@ ghost use Rattle.server_hub.specs.{Pairwise};
 ghost use Rattle.pool_loop.specs.{IsLaneOf};
 
 use crate::dealing::Coming;
-use pool_run::Lane;
+use pool::pool_run::Lane;
 use ram_io::NoMemory;
-use session_core::Core;
+use server_hub::session_core::Core;
 use std::alloc::Global;
 
 /// A lane for each channel, with its events.

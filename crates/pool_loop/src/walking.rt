@@ -6,7 +6,7 @@ ghost use Rattle.pool_loop.specs.declared.routes.Route.TheVariants.{To};
 ghost use Rattle.pool_loop.specs.{AllCanRender, CanRender, all_left, all_past, heard_text, left_of, next_text, number_of, past, route_text, turned, unheard_text};
 
 use crate::routes::{Route, reaches};
-use answer_text::append_answer;
+use book_text::answer_text::append_answer;
 use book_text::{Pen, append_no_channel};
 use channel_book::{Book, Entry};
 use channel_config::Config;

@@ -1,15 +1,15 @@
 //! A channel's settings, and what comes to it.
 ghost use Rattle.std.specs.Prelude.{IfOk};
-ghost use Rattle.pool_run.specs.{IsFresh};
+ghost use Rattle.pool.specs.pool_run.{IsFresh};
 
 use channel_config::{Channel, Config};
-use pool_run::Lane;
+use pool::pool_run::Lane;
 use rams_model::{Event, Octets};
-use session_core::Core;
+use server_hub::session_core::Core;
 use std::alloc::{AllocError, Global};
 use std::process::Abort;
 use std::test::Fail;
-use test_channel::{CHANNEL, SOURCE, bytes_of};
+use test_fixtures::test_channel::{CHANNEL, SOURCE, bytes_of};
 
 /// Settings of a channel that sends at most one packet of 1,500 bytes in a tick.
 const NARROW: Channel = Channel {

@@ -1,12 +1,12 @@
 //! Channels that share a link.
 ghost use Rattle.std.specs.Prelude.{◌≡◌, ◌^◌, ◌<◌, ◌≤◌, All, IfOk, length};
-ghost use Rattle.link_pool.specs.{claimed};
-ghost use Rattle.pool_run.specs.{IsFresh};
+ghost use Rattle.pool.specs.link_pool.{claimed};
+ghost use Rattle.pool.specs.pool_run.{IsFresh};
 
 use crate::fixtures::sends_two;
 use crate::gates::Meeting;
-use ledger_text::append_ledger;
-use pool_run::{Lane, Ledger, NoMemory, Pooled, run_pool};
+use pool::ledger_text::append_ledger;
+use pool::pool_run::{Lane, Ledger, NoMemory, Pooled, run_pool};
 use ram_io::{Gate, Open};
 use std::alloc::Global;
 use std::process::Abort;

@@ -6,7 +6,7 @@ use Rattle.std.proofs.lemmas.List.Elements.{All-nil, All-map, All-cons}
 use Rattle.rams_model.specs.declared.event.Event.{Event}
 use Rattle.rams_model.specs.declared.event.Event.TheVariants as event
 use Rattle.rams_model.specs.Service.{Settings}
-use Rattle.order_datagrams.proofs.ReadPackets.{answer_renders}
+use Rattle.book_text.proofs.order_datagrams.ReadPackets.{answer_renders}
 use Rattle.server_hub.specs.declared.event.At.{At}
 use Rattle.server_hub.specs.declared.event.HubAnswer.{HubAnswer}
 use Rattle.server_hub.specs.declared.event.HubEvent.{HubEvent}

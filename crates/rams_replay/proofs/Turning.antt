@@ -13,9 +13,9 @@ use Rattle.server_hub.specs.{StandsFor, id_of, with_event, after_event, after_ev
 use Rattle.server_hub.specs.declared.event.HubEvent.TheVariants.{Live, Feedback, Tick}
 use Rattle.server_hub.specs.Seen.{Seen}
 use Rattle.server_hub.specs.Served.{Served}
-use Rattle.trace_serving.proofs.Judged.{accepted_so}
-use Rattle.trace_serving.specs.{Stage, goes_on, after_judging, after_line, counted, turn, brought}
-use Rattle.trace_serving.specs.Text as text
+use Rattle.trace_book.proofs.trace_serving.Judged.{accepted_so}
+use Rattle.trace_book.specs.trace_serving.{Stage, goes_on, after_judging, after_line, counted, turn, brought}
+use Rattle.trace_book.specs.trace_serving.Text as text
 use Rattle.trace_loop.specs.declared.turn.Turn.{Turn}
 use Rattle.trace_loop.specs.declared.turn.Turn.TheVariants.{GoesOn, Said, Refused}
 use Rattle.trace_book.specs.{run, most_events, event_text}

@@ -2,7 +2,7 @@
 use Rattle.std.specs.Prelude.{◌≡◌, ℕ, ◌⊎◌, List, All, Option}
 use Rattle.rams_model.specs.declared.status.Status.{Status}
 use Rattle.rams_model.specs.declared.status.Status.TheVariants.{Done, NoMemory, ReadFault, WriteFault, BadTrace, TooLong}
-use Rattle.trace_serving.specs.{served_text}
+use Rattle.trace_book.specs.trace_serving.{served_text}
 use Rattle.trace_loop.specs.{IfTold}
 use Rattle.trace_book.specs.{EndsSo, IsServed, KeepsPromises, KeepsTheLink, served_by}
 use Rattle.threads_loop.specs.{HasEnded, HasRoomFor, HasStopped, MayCome, threads}

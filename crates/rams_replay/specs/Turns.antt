@@ -4,15 +4,15 @@ use Rattle.std.specs.List.{flat_map}
 use Rattle.rams_model.specs.Service.{Answered, Settings}
 use Rattle.rams_model.specs.Texts.{answer_text, TraceLine, Claim, Head, Reached, accepted}
 use Rattle.book_text.specs.{no_channel_line}
-use Rattle.order_datagrams.specs.{Renders}
+use Rattle.book_text.specs.order_datagrams.{Renders}
 use Rattle.server_hub.specs.declared.event.At.{At}
 use Rattle.server_hub.specs.declared.event.HubEvent.{HubEvent}
 use Rattle.server_hub.specs.declared.event.HubAnswer.{HubAnswer}
 use Rattle.server_hub.specs.{StandsFor, Told, no_channel, says, told, answers_said, settings_of, refused as refused_add, served, after_event}
 use Rattle.server_hub.specs.Seen.{Seen}
 use Rattle.server_hub.specs.Served.{Served}
-use Rattle.trace_serving.specs.{Stage}
-use Rattle.trace_serving.specs.Text as text
+use Rattle.trace_book.specs.trace_serving.{Stage}
+use Rattle.trace_book.specs.trace_serving.Text as text
 use Rattle.trace_loop.specs.declared.turn.Turn.{Turn}
 use Rattle.trace_loop.specs.{ending, written, Took as TookSo}
 use Rattle.trace_book.specs.{event_text}

@@ -3,10 +3,10 @@ ghost use Rattle.std.specs.Prelude.{◌≡◌, ◌≤◌, ℕ, List, length, OnO
 ghost use Rattle.std.specs.Io.KnownBytes.{Appends};
 ghost use Rattle.line_io.specs.Passes.{Passes};
 ghost use Rattle.rams_model.specs.declared.status.Status.TheVariants.{Done};
-ghost use Rattle.summary.specs.{made_summary};
+ghost use Rattle.generated.specs.summary.{made_summary};
 ghost use Rattle.trace_loop.specs.{IsStoppedByWrite, OnlyMemoryStops};
 
-use generated_run::summary_of;
+use generated::generated_run::summary_of;
 use line_io::put_all;
 use ram_io::Sink;
 use rams_model::Status;

@@ -5,7 +5,7 @@ ghost use Rattle.server_hub.specs.{StandsFor, event_of, told as said};
 ghost use Rattle.server_hub.specs.Served.{Served};
 ghost use Rattle.rams_model.specs.Texts.{tick_of};
 ghost use Rattle.trace_text.specs.{shown, told, HasDigits, IsOther, IsSettled};
-ghost use Rattle.trace_serving.specs.{Stage, opening, turn, after_line, counted, brought};
+ghost use Rattle.trace_book.specs.trace_serving.{Stage, opening, turn, after_line, counted, brought};
 ghost use Rattle.trace_loop.specs.{StandsSomewhere, CanWrite, ending};
 ghost use Rattle.trace_loop.specs.declared.turn.Turn.TheVariants.{GoesOn};
 ghost use Rattle.trace_book.specs.{run};

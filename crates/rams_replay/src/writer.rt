@@ -3,14 +3,14 @@ ghost use Rattle.std.specs.Prelude.{All, ◌≡◌, ℕ, ◌+◌, ◌++◌, IfEr
 ghost use Rattle.std.specs.List.{flat_map};
 ghost use Rattle.line_io.specs.Passes.{Passes};
 ghost use Rattle.rams_model.specs.Texts.{answer_text};
-ghost use Rattle.order_datagrams.specs.{Renders};
+ghost use Rattle.book_text.specs.order_datagrams.{Renders};
 ghost use Rattle.server_hub.specs.{told};
 ghost use Rattle.book_text.specs.{no_channel_line};
 ghost use Rattle.trace_loop.specs.{IsStoppedByWrite, OnlyMemoryStops, StopsIn};
-ghost use Rattle.answer_text.specs.{entry_text};
+ghost use Rattle.book_text.specs.answer_text.{entry_text};
 ghost use Rattle.rams_replay.specs.{told_text, at_text, AllRender, SaidRender};
 
-use answer_text::{after, append_entry};
+use book_text::answer_text::{after, append_entry};
 use book_text::append_no_channel;
 use ram_io::Sink;
 use rams_model::{Answer, Note, Order};

@@ -3,7 +3,7 @@ ghost use Rattle.std.specs.Prelude.{◌≡◌, ◌+◌, ◌^◌, ◌<◌, ◌≤
 ghost use Rattle.rams_model.specs.Packets.{ahead};
 ghost use Rattle.rams_model.specs.Receiver.{nearest, distance_from, first_number};
 
-use ext_seq::least_from;
+use reckoning::ext_seq::least_from;
 
 /// How many numbers, from the next on, a receiver has room for.
 pub(crate) const ROOM: u64 = 16384;

@@ -9,9 +9,9 @@ use crate::numbers::first_number;
 use crate::shown::Shown;
 use crate::window::Window;
 use bytes::Bytes;
+use packets::rtp_record::Rtp;
 use ram_io::NoMemory;
 use rams_model::{MediaCame, Tuned};
-use rtp_record::Rtp;
 use std::alloc::Global;
 
 /// A retransmission with this sequence number came, of the packet with these low 16 bits. It may fix

@@ -17,7 +17,7 @@ use Rattle.server_hub.specs.Seen.{Seen}
 use Rattle.ram_io.specs.{Outgoing}
 use Rattle.server_hub.specs.declared.event.HubEvent.{HubEvent}
 use Rattle.server_hub.specs.Served.{Served}
-use Rattle.trace_serving.specs.{Outcome, done, ended, refused}
+use Rattle.trace_book.specs.trace_serving.{Outcome, done, ended, refused}
 use Rattle.trace_book.specs.{trace_text}
 use Rattle.journal_book.specs.{HasLine, IsJournal, event_lines, events_of, journal_of, replayed, sent_for, behind, FrontsReplay, HeadsOpenNewChannels, JournalsReplay, RunsWriteJournals}
 use Rattle.trace_loop.specs.declared.stop.Stop.{Stop}

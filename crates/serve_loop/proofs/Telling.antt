@@ -8,7 +8,7 @@ use Rattle.std.proofs.lemmas.List.Elements.{All-nil, All-map, All-cons}
 use Rattle.rams_model.specs.declared.event.Event.{Event}
 use Rattle.rams_model.specs.declared.event.Event.TheVariants as event
 use Rattle.rams_model.specs.Service.{Settings}
-use Rattle.order_datagrams.proofs.ReadPackets.{answer_renders}
+use Rattle.book_text.proofs.order_datagrams.ReadPackets.{answer_renders}
 use Rattle.server_hub.specs.declared.event.HubEvent.{HubEvent}
 use Rattle.server_hub.specs.declared.event.HubEvent.TheVariants.{Live, Feedback, Tick}
 use Rattle.server_hub.specs.{IsHub, StandsFor, settings_of, ids_of, with_event, after_event, after_event_of, after_tick, id_of, channel_of, answer_to, answer_of, answer_at, answers_to_tick, told_of, told_to, answers_said}
@@ -19,7 +19,7 @@ use Rattle.server_hub.proofs.Finding.{with_id, one_has, settings_found}
 use Rattle.trace_book.specs.Stages.{settings_of as settings_all}
 use Rattle.journal_book.specs.{AreApart, answer_datagrams, datagrams_of, behind}
 use Rattle.journal_book.proofs.Channels.{one_answers}
-use Rattle.head_loop.proofs.Channels.{settings_stand, at_place}
+use Rattle.trace_loop.proofs.head_loop.Channels.{settings_stand, at_place}
 use Rattle.serve_loop.specs.{AllRender, settled_datagrams, said_datagrams, AnswersFrom, numbers}
 
 -- where no two have one number, it is found by that

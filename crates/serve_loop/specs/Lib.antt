@@ -10,7 +10,7 @@ unfoldable pub use Rattle.serve_loop.specs.Steady.{bytes_of}
 pub use Rattle.serve_loop.specs.Steady.{Room, HasRoom}
 unfoldable pub use Rattle.trace_loop.specs.{IfTold, IfBothTold, IsReadStop, IsWriteStop, OnlyMemoryStops, StopsIn}
 pub use Rattle.trace_loop.specs.{IsStoppedByRead, IsStoppedByWrite}
-unfoldable pub use Rattle.head_loop.specs.{head_end, head_stage, with_feed, head_text, numbers, StandsSomewhere, HasRead, IsIdle, AnswersFrom}
-pub use Rattle.head_loop.specs.{IsHeadOf}
+unfoldable pub use Rattle.trace_loop.specs.head_loop.{head_end, head_stage, with_feed, head_text, numbers, StandsSomewhere, HasRead, IsIdle, AnswersFrom}
+pub use Rattle.trace_loop.specs.head_loop.{IsHeadOf}
 unfoldable pub use Rattle.serve_loop.specs.Ended.{given_events, given_journal, text_by, served_text, datagrams_by, served_datagrams, EndsAs, IsServeEnd, IsStop}
 pub use Rattle.serve_loop.specs.Ended.{Given, IsGiven, Ending, Stopping, HasEnded, HasStopped, IsStopped}

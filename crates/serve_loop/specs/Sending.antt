@@ -3,7 +3,7 @@ use Rattle.std.specs.Prelude.{◌≡◌, ℕ, ◌+◌, ◌==◌, ◌≤◌, List
 use Rattle.rams_model.specs.declared.answer.Order.{Order}
 use Rattle.rams_model.specs.Service.{Answered, Settings, client_of, datagram}
 use Rattle.ram_io.specs.{Outgoing, outgoing, Rose}
-use Rattle.order_datagrams.specs.{Renders}
+use Rattle.book_text.specs.order_datagrams.{Renders}
 use Rattle.server_hub.specs.declared.event.At.{At}
 use Rattle.trace_loop.specs.declared.stop.Stop.{Stop}
 use Rattle.trace_loop.specs.declared.stop.Stop.TheVariants.{Memory, Wire}

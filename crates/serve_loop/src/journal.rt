@@ -7,7 +7,7 @@ ghost use Rattle.journal_book.specs.{event_line};
 ghost use Rattle.serve_loop.specs.{IsStoppedByWrite, OnlyMemoryStops, StopsIn};
 
 use book_text::append_refused;
-use event_text::append_event;
+use journal_book::event_text::append_event;
 use line_io::Gather;
 use ram_io::Sink;
 use rams_model::LineFault;

@@ -11,11 +11,11 @@ mod turns;
 mod watch;
 
 pub use head::read_head;
-pub use head_loop::{Head, HeadLine, Opened};
 pub use hearing::{Server, hear, new_server};
 pub use journal::{write_event, write_refused};
 pub use send::send_all;
 pub use serving::serve;
 pub use trace_loop::Stop;
+pub use trace_loop::head_loop::{Head, HeadLine, Opened};
 pub use turns::take_turns;
 pub use watch::{Watch, tell_ports};

@@ -1,12 +1,12 @@
 //! The datagrams of answers, to the wire.
 ghost use Rattle.std.specs.Prelude.{◌≡◌, ◌+◌, ◌*◌, ◌<◌, ◌^◌, ◌∷◌, ℕ, All, List, [], OnOk, length};
 ghost use Rattle.ram_io.specs.{Outgoing};
-ghost use Rattle.order_datagrams.specs.{Renders};
+ghost use Rattle.book_text.specs.order_datagrams.{Renders};
 ghost use Rattle.rams_model.specs.Service.{client_of, datagram};
 ghost use Rattle.server_hub.specs.{settings_of};
 ghost use Rattle.serve_loop.specs.{Sends, IsStoppedByWire, OnlyMemoryStops, AllRender, bytes_of, order_datagrams, at_datagrams, said_datagrams};
 
-use order_datagrams::{Config, append_order};
+use book_text::order_datagrams::{Config, append_order};
 use ram_io::Wire;
 use rams_model::Order;
 use server_hub::{At, Hub};

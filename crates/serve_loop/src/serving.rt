@@ -14,7 +14,6 @@ use crate::hearing::{Server, new_server};
 use crate::journal::write_refused;
 use crate::turns::take_turns;
 use crate::watch::{Watch, tell_ports};
-use head_loop::{Head, Opened};
 use journal_book::laws::{
     heads_open_new_channels, journals_replay, runs_of_journals, turns_make_journals,
 };
@@ -22,6 +21,7 @@ use line_io::Gather;
 use ram_io::{Clock, Sink, Source, Wire};
 use rams_model::{LineFault, Status};
 use std::alloc::Global;
+use trace_loop::head_loop::{Head, Opened};
 use trace_loop::{Stop, flush, put};
 
 /// Writes that a line of the head is refused.

@@ -8,10 +8,10 @@ ghost use Rattle.serve_loop.specs.{Begun, Broken, HasRoom, IsBetween, IsServer, 
 
 use crate::hearing::{Server, hear};
 use crate::watch::Watch;
-use head_loop::event_at;
 use ram_io::{Clock, Sink, Wire};
 use server_hub::Heard;
 use std::alloc::Global;
+use trace_loop::head_loop::event_at;
 use trace_loop::{Stop, flush};
 
 /// Most bytes of a datagram.

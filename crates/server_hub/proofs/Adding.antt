@@ -9,7 +9,7 @@ use Rattle.std.proofs.lemmas.List.Quantifiers.{all_pairs_push}
 use Rattle.std.proofs.lemmas.List.Sums.{sum_by_push}
 use Rattle.rams_model.specs.declared.channel.Channel.{Channel}
 use Rattle.rams_model.specs.Service.{Settings}
-use Rattle.session_core.specs.Seen as cores
+use Rattle.server_hub.specs.session_core.Seen as cores
 use Rattle.server_hub.specs.declared.event.AddFault.{AddFault}
 use Rattle.server_hub.specs.{served, AreFields, FitLink, Serves, AllServe, all_settings, ids_of, shares_of, settings_of, has_id, refused}
 use Rattle.server_hub.specs.declared.event.AddFault.TheVariants.{Full, Twice, Link}

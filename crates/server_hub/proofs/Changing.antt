@@ -8,7 +8,7 @@ use Rattle.std.proofs.lemmas.Option.{slice_get-map, slice_get_within, get_or_fro
 use Rattle.rams_model.specs.declared.event.Event.{Event}
 use Rattle.rams_model.specs.declared.event.Event.TheVariants.{Tick}
 use Rattle.rams_model.specs.Service.{Answered, Settings}
-use Rattle.session_core.specs.Seen as cores
+use Rattle.server_hub.specs.session_core.Seen as cores
 use Rattle.server_hub.specs.declared.event.At.{At}
 use Rattle.server_hub.specs.{served, id_of, with_event, answer_to, channel_of, answer_of, after_event_of, answer_at, answers_to_tick, after_tick, all_settings, ids_of, Serves, AllServe, StepsAt, AllTick}
 use Rattle.server_hub.specs.Steps.{Steps}

@@ -5,7 +5,7 @@ use Rattle.std.proofs.lemmas.Bool.{eq-eqb, ne_eqb}
 use Rattle.rams_model.specs.declared.event.Event.{Event}
 use Rattle.rams_model.specs.Service.{Settings, hold, history_of}
 use Rattle.rams_model.specs.Packets.{hi}
-use Rattle.session_core.specs.Seen as cores
+use Rattle.server_hub.specs.session_core.Seen as cores
 use Rattle.server_hub.specs.{id_of, channel_of, hi_of, ids_of, has_id, Serves}
 use Rattle.server_hub.specs.Served.{Served}
 use Rattle.server_hub.proofs.Changing.{later_differs, rest_once}

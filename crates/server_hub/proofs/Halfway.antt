@@ -1,7 +1,7 @@
 -- A tick of the first of some cores is done, and the others have their plans.
 use Rattle.std.proofs.Common.{◌≡◌, ℕ, suc, ◌+◌, ◌<◌, List, [], ◌∷◌, ◌++◌, length, get_or, set, refl, sym, ◌∙◌, ap, subst, arith, append-nil, length-append}
 use Rattle.std.proofs.Math.Seq.{get_or-append_seam, set-append_seam, append_snoc}
-use Rattle.session_core.specs.Seen as cores
+use Rattle.server_hub.specs.session_core.Seen as cores
 use Rattle.server_hub.specs.declared.event.At.{At}
 use Rattle.server_hub.specs.{Pairwise, Ticks, AllTick}
 use Rattle.server_hub.proofs.Pairing.{same_length}

@@ -1,6 +1,6 @@
 -- After each tick the channels keep their join times.
 use Rattle.std.proofs.Common.{List, [], ◌∷◌}
-use Rattle.session_core.proofs.JoinTimes.{join_times_are_kept}
+use Rattle.server_hub.proofs.session_core.JoinTimes.{join_times_are_kept}
 use Rattle.server_hub.specs.{after_tick, AllKeepJoinTimes}
 use Rattle.server_hub.specs.Served.{Served}
 

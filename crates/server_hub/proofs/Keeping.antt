@@ -7,7 +7,7 @@ use Rattle.std.proofs.lemmas.Option.{slice_get_within, slice_get-map, slice_get-
 use Rattle.rams_model.specs.declared.event.Event.{Event}
 use Rattle.rams_model.specs.declared.event.Event.TheVariants.{Tick}
 use Rattle.rams_model.specs.Service.{Answered}
-use Rattle.session_core.specs.Seen as cores
+use Rattle.server_hub.specs.session_core.Seen as cores
 use Rattle.server_hub.specs.declared.event.At.{At}
 use Rattle.server_hub.specs.{id_of, channel_of, AreFields, FitLink, KeepsSettings, Serves, AllServe, all_settings, ids_of, shares_of, settings_of, has_id, StepsAt, AllTick}
 use Rattle.server_hub.specs.Served.{Served}

@@ -15,7 +15,7 @@ use Rattle.rams_model.specs.Service.{Settings, end_info, Heard, began, told, not
 use Rattle.rams_model.specs.Laws.{NoneIs, is_event, is_sending, sizes_sent}
 use Rattle.rams_model.proofs.Legal.{Allows, IsLegal}
 use Rattle.server_hub.specs.Sent as sent
-use Rattle.session_core.proofs.Short.{held_sized}
+use Rattle.server_hub.proofs.session_core.Short.{held_sized}
 
 -- what an order sends, where there is one
 abbrev bytes : Option Order → ℕ

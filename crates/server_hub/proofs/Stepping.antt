@@ -4,7 +4,7 @@ use Rattle.std.specs.Prelude.{IfOk, Result, Ok, Err, slice_set}
 use Rattle.std.proofs.lemmas.Option.{slice_get-get_or}
 use Rattle.rams_model.specs.declared.event.Event.{Event}
 use Rattle.rams_model.specs.Service.{Answered, Settings, answer}
-use Rattle.session_core.specs.Seen as cores
+use Rattle.server_hub.specs.session_core.Seen as cores
 use Rattle.server_hub.specs.{StepsAt}
 
 pub step_at : {E : Type 0} (e : Event) (place : ℕ) (all : List cores.Seen) (d later : cores.Seen) (r : Result Answered E) → place < length all

@@ -1,3 +1,4 @@
+pub mod session_core
 pub mod Pairs
 pub mod Served
 pub mod Seen

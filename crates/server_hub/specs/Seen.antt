@@ -2,7 +2,7 @@
 use Rattle.std.specs.Prelude.{◌≡◌, ◌≢◌, ℕ, ◌+◌, ◌≤◌, Bool, ◌==◌, not, nat_le, nat_lt, if◌then◌else◌, List, [], ◌∷◌, ◌++◌, length, map, sum_by, All, AllPairs, Option, Some, None}
 use Rattle.std.specs.List.{list_any}
 use Rattle.rams_model.specs.Service.{Settings}
-use Rattle.session_core.specs.Seen as cores
+use Rattle.server_hub.specs.session_core.Seen as cores
 use Rattle.server_hub.specs.declared.event.AddFault.{AddFault}
 use Rattle.server_hub.specs.declared.event.AddFault.TheVariants.{Full, Twice, Link}
 use Rattle.server_hub.specs.Pairs.{Pairwise}

@@ -3,7 +3,7 @@ use Rattle.std.specs.Prelude.{◌≡◌, ℕ, List, [], ◌∷◌, Some, slice_g
 use Rattle.rams_model.specs.declared.event.Event.{Event}
 use Rattle.rams_model.specs.declared.event.Event.TheVariants.{Tick}
 use Rattle.rams_model.specs.Service.{Answered}
-use Rattle.session_core.specs.Seen as cores
+use Rattle.server_hub.specs.session_core.Seen as cores
 use Rattle.server_hub.specs.declared.event.At.{At}
 use Rattle.server_hub.specs.Served.{Served, with_event, answer_to}
 use Rattle.server_hub.specs.Seen.{Serves}

@@ -1,12 +1,12 @@
 //! The channels of a server.
 use crate::event::{AddFault, At, Heard, HubAnswer, HubEvent};
 use crate::places::place_of;
+use crate::session_core::Core;
 use crate::steps::{feedback_at, live_at};
 use crate::ticks::tick_all;
 use channel_config::{Config, MOST_CHANNELS};
 use ram_io::NoMemory;
 use rams_model::{Answer, MOST_ON_WIRE};
-use session_core::Core;
 use std::alloc::Global;
 use std::marker::Model;
 

@@ -8,6 +8,7 @@ mod event;
 mod hub;
 pub mod laws;
 mod places;
+pub mod session_core;
 mod steps;
 mod ticks;
 

@@ -1,12 +1,12 @@
 //! An event of one channel.
 ghost use Rattle.std.specs.Prelude.{◌≡◌, ◌^◌, ◌<◌, All, IfOk, OnErr, length};
 ghost use Rattle.rams_model.specs.declared.event.Event.TheVariants.{Live, Feedback};
-ghost use Rattle.session_core.specs.{StandsForFewer};
+ghost use Rattle.server_hub.specs.session_core.{StandsForFewer};
 ghost use Rattle.server_hub.specs.{StepsAt};
 
+use crate::session_core::Core;
 use ram_io::NoMemory;
 use rams_model::Answer;
-use session_core::Core;
 use std::alloc::Global;
 
 /// A live packet of the channel at this place.

@@ -1,12 +1,12 @@
 //! A tick of all channels, planned for each before any of it is done.
 ghost use Rattle.std.specs.Prelude.{◌≡◌, ◌≤◌, [], IfOk, OnErr, length};
 ghost use Rattle.std.specs.Vec.{vec_capacity};
-ghost use Rattle.session_core.specs.{IsPlanOf};
+ghost use Rattle.server_hub.specs.session_core.{IsPlanOf};
 ghost use Rattle.server_hub.specs.{Pairwise, Ticks, AllTick};
 
 use crate::event::At;
+use crate::session_core::{Core, TickPlan};
 use ram_io::NoMemory;
-use session_core::{Core, TickPlan};
 use std::alloc::Global;
 
 /// A tick of each core, in their order: all are planned before one is committed.

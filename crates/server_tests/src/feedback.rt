@@ -5,7 +5,7 @@ use crate::row::{Case, Row, expect_all};
 use channel_config::Channel;
 use rams_model::Info;
 use std::test::Fail;
-use test_channel::{CHANNEL, SOURCE};
+use test_fixtures::test_channel::{CHANNEL, SOURCE};
 
 const RECEIVER_REPORT: [u32; 2] = [
     0x80c9_0001, // v=2, p=0, count=0, RR, length 1

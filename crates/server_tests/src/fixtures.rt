@@ -1,7 +1,7 @@
 //! What is compared, and the words of messages.
 use std::fmt::Debug;
 use std::process::Abort;
-use test_channel::SOURCE;
+use test_fixtures::test_channel::SOURCE;
 
 /// The value is the one that is wanted of this.
 pub fn same<T: Debug + PartialEq, C: Debug>(rt: &impl Abort, got: &T, want: &T, of: &C) {

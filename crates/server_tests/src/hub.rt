@@ -11,7 +11,7 @@ use std::alloc::Global;
 use std::fmt::Write;
 use std::process::Abort;
 use std::test::Fail;
-use test_channel::CHANNEL;
+use test_fixtures::test_channel::CHANNEL;
 
 /// The channel that an event names, the event, and the notes of each channel that answers it.
 type Step = (u16, Given, &'static str);

@@ -1,16 +1,16 @@
 //! What a row of a table is, and how it is run.
 ghost use Rattle.std.specs.Prelude.{◌+◌, ◌<◌, ◌^◌, List, [], IfOk, length};
 ghost use Rattle.rams_model.specs.declared.event.Event.{Event};
-ghost use Rattle.session_core.specs.{StandsFor};
+ghost use Rattle.server_hub.specs.session_core.{StandsFor};
 
 use crate::fixtures::{REQUEST, same};
 use channel_config::{Channel, Config};
 use rams_model::{Answer, Event, Info, Octets, Order};
-use session_core::{Core, Stepped};
+use server_hub::session_core::{Core, Stepped};
 use std::alloc::{AllocError, Global};
 use std::process::Abort;
 use std::test::Fail;
-use test_channel::{SOURCE, bytes_of};
+use test_fixtures::test_channel::{SOURCE, bytes_of};
 
 /// What comes to a channel.
 #[derive(Clone, Copy, Debug)]

@@ -4,7 +4,7 @@ use crate::row::Given::{Asks, Heard, Next, Start, Tick};
 use crate::row::{Case, Row, expect_all};
 use rams_model::Info;
 use std::test::Fail;
-use test_channel::{CHANNEL, SOURCE};
+use test_fixtures::test_channel::{CHANNEL, SOURCE};
 
 /// A repair is sent behind the burst; what the burst will send isn't repaired.
 const EVENTS: &[Row] = &[

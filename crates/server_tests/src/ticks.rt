@@ -5,7 +5,7 @@ use crate::row::{Case, Row, expect_all};
 use channel_config::Channel;
 use rams_model::Info;
 use std::test::Fail;
-use test_channel::{CHANNEL, SOURCE};
+use test_fixtures::test_channel::{CHANNEL, SOURCE};
 
 /// What a client is told of a burst of 4,000 bytes a tick, which lasts 1,000 ms at most.
 const ACCEPTED: Info = Info {

@@ -10,9 +10,9 @@ use Rattle.rams_model.specs.declared.event.Event.{Event}
 use Rattle.rams_model.specs.Service.{Settings}
 use Rattle.channel_book.specs.declared.entry.Entry.{Entry}
 use Rattle.channel_book.specs.{calls_by, IsInterleaving}
-use Rattle.channel_lock.specs.{Known, IsOfPass, NotAmong}
-use Rattle.live_writer.specs.declared.writer.Placed.{Placed}
-use Rattle.live_writer.specs.{HasWritten}
+use Rattle.channel_book.specs.channel_lock.{Known, IsOfPass, NotAmong}
+use Rattle.session_worker.specs.declared.live_writer.writer.Placed.{Placed}
+use Rattle.session_worker.specs.live_writer.{HasWritten}
 use Rattle.session_worker.specs.declared.worker.Worker.{Worker}
 use Rattle.session_worker.specs.{AreQueues, answered_with, drawn_in, drawn_by, HaveWorked}
 

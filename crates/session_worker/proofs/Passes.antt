@@ -3,9 +3,9 @@ use Rattle.std.proofs.Common.{◌≡◌, ℕ, zero, suc, ◌+◌, ◌^◌, ◌<�
 use Rattle.std.proofs.lemmas.List.{get_or-map, length-map}
 use Rattle.atomic_table.specs.Seated.{TableId}
 use Rattle.rams_model.specs.Service.{Settings}
-use Rattle.channel_lock.specs.{Known, known, fresh}
-use Rattle.channel_lock.specs.Turns.{numbers}
-use Rattle.channel_lock.proofs.Dealing.{length_numbers}
+use Rattle.channel_book.specs.channel_lock.{Known, known, fresh}
+use Rattle.channel_book.specs.channel_lock.Turns.{numbers}
+use Rattle.channel_book.proofs.channel_lock.Dealing.{length_numbers}
 use Rattle.session_worker.specs.declared.worker.Worker.{Worker}
 use Rattle.session_worker.specs.{AreReady}
 

@@ -7,7 +7,7 @@ use Rattle.std.proofs.lemmas.List.{length-append, map-append, reverse-append, dr
 use Rattle.rams_model.specs.Service.{Settings}
 use Rattle.channel_book.specs.declared.entry.Entry.{Entry}
 use Rattle.channel_book.specs.{calls_by}
-use Rattle.live_writer.specs.{datagrams_of}
+use Rattle.session_worker.specs.live_writer.{datagrams_of}
 use Rattle.session_worker.specs.{AreQueues, answered_with}
 
 -- lists that end in one member are the same in front of it

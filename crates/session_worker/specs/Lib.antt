@@ -1,3 +1,4 @@
+pub mod live_writer
 pub mod Queues
 pub mod Working
 pub use Rattle.session_worker.specs.Queues.{AreQueues}

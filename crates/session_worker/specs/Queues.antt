@@ -3,7 +3,7 @@ use Rattle.std.specs.Prelude.{◌≡◌, ℕ, List, [], map, reverse, slice_inde
 use Rattle.rams_model.specs.Service.{Settings}
 use Rattle.channel_book.specs.declared.entry.Entry.{Entry}
 use Rattle.channel_book.specs.{calls_by}
-use Rattle.live_writer.specs.{datagrams_of}
+use Rattle.session_worker.specs.live_writer.{datagrams_of}
 
 -- the datagrams of each answer among these entries, in order
 abbrev pub answered_with : Settings → List Entry → List (List (List ℕ))

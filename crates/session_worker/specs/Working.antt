@@ -5,9 +5,9 @@ use Rattle.rams_model.specs.declared.event.Event.{Event}
 use Rattle.rams_model.specs.Service.{Settings}
 use Rattle.std.specs.Global.{Vec}
 use Rattle.ram_io.specs.declared.failed.NoMemory.{NoMemory}
-use Rattle.channel_lock.specs.{fresh}
-use Rattle.live_writer.specs.declared.writer.Placed.{Placed}
-use Rattle.live_writer.specs.{HasWritten}
+use Rattle.channel_book.specs.channel_lock.{fresh}
+use Rattle.session_worker.specs.declared.live_writer.writer.Placed.{Placed}
+use Rattle.session_worker.specs.live_writer.{HasWritten}
 use Rattle.session_worker.specs.declared.worker.Worker.{Worker}
 
 -- the datagrams of some calls

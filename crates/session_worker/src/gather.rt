@@ -2,10 +2,10 @@
 ghost use Rattle.std.specs.Prelude.{◌≡◌, ◌<◌, [], ◌∷◌, ◌++◌, All, map, reverse, length, IsOk, IfOk};
 ghost use Rattle.session_worker.specs.{AreQueues, answered_with, drawn_by, queue_of};
 
+use crate::live_writer::Placed;
 use crate::worker::Worker;
+use channel_book::channel_lock::Pass;
 use channel_book::{Config, Entry, NoMemory};
-use channel_lock::Pass;
-use live_writer::Placed;
 use rams_model::Octets;
 use std::alloc::Global;
 

@@ -6,6 +6,7 @@
 #![tactic(auto)]
 
 mod gather;
+pub mod live_writer;
 mod run;
 mod worker;
 

@@ -1,14 +1,14 @@
 //! Lists of events on threads, from a channel to its book.
 ghost use Rattle.std.specs.Prelude.{◌≡◌, ◌^◌, ◌<◌, ◌≤◌, [], All, map, length, IfOk};
-ghost use Rattle.session_core.specs.{StandsFor};
+ghost use Rattle.server_hub.specs.session_core.{StandsFor};
 ghost use Rattle.channel_book.specs.{IsInterleaving, IsLegal};
 ghost use Rattle.session_worker.specs.{AreQueues, answered_with, queue_of};
 
 use crate::gather::{draw, take_apart};
+use crate::live_writer::Placed;
 use crate::worker::{seat, write_lists};
+use channel_book::channel_lock::ChannelLock;
 use channel_book::{Book, Config, Core, Event, NoMemory};
-use channel_lock::ChannelLock;
-use live_writer::Placed;
 use ram_io::Gate;
 use rams_model::Octets;
 use std::alloc::Global;

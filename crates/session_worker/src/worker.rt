@@ -1,11 +1,11 @@
 //! The threads of the lists.
 ghost use Rattle.std.specs.Prelude.{◌≡◌, ◌^◌, ◌<◌, ◌≤◌, [], All, map, length, IfOk};
-ghost use Rattle.channel_lock.specs.{known};
+ghost use Rattle.channel_book.specs.channel_lock.{known};
 ghost use Rattle.session_worker.specs.{AreReady, HasWorked, HaveWorked, events_of};
 
+use crate::live_writer::{Placed, write_all};
+use channel_book::channel_lock::{ChannelLock, Pass};
 use channel_book::{Config, Event, NoMemory};
-use channel_lock::{ChannelLock, Pass};
-use live_writer::{Placed, write_all};
 use ram_io::Gate;
 use std::alloc::Global;
 use std::sync::Wait;

@@ -1,3 +1,4 @@
+pub mod standby_book
 pub mod Reading
 pub mod Standing
 pub mod Following

@@ -4,7 +4,7 @@ use Rattle.std.specs.List.{list_any, flat_map}
 use Rattle.rams_model.specs.Texts.{whole_lines}
 use Rattle.server_hub.specs.declared.event.HubEvent.{HubEvent}
 use Rattle.server_hub.specs.Served.{Served}
-use Rattle.trace_serving.specs.{Stage, Turn, goes_on, ends, Outcome, opening, turn, stage_from, taken_from, event_at}
+use Rattle.trace_book.specs.trace_serving.{Stage, Turn, goes_on, ends, Outcome, opening, turn, stage_from, taken_from, event_at}
 use Rattle.trace_book.specs.{run}
 
 abbrev pub is_feed : ℕ → Bool

@@ -4,7 +4,7 @@ ghost use Rattle.rams_model.specs.declared.mode.Mode.TheVariants as modes;
 ghost use Rattle.rams_model.specs.Texts.{may_come, line_in_range, accepted, head_line, channel_line};
 ghost use Rattle.server_hub.specs.{event_of};
 ghost use Rattle.server_hub.specs.Served.{Served};
-ghost use Rattle.trace_serving.specs.{Stage, opening, brought};
+ghost use Rattle.trace_book.specs.trace_serving.{Stage, opening, brought};
 ghost use Rattle.trace_book.specs.{run};
 ghost use Rattle.trace_text.specs.{shown};
 ghost use Rattle.standby.specs.declared.fault.Step.TheVariants as steps;

@@ -10,6 +10,7 @@ pub mod laws;
 mod line;
 mod part;
 mod standby;
+pub mod standby_book;
 
 pub use fault::FeedFault;
 pub use rams_model::LineFault;

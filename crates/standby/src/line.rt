@@ -2,7 +2,7 @@
 ghost use Rattle.std.specs.Prelude.{◌≡◌, ◌+◌, Ok, List, ℕ, true};
 ghost use Rattle.rams_model.specs.Texts.{TraceLine, Reached, may_come, line_in_range, judged};
 ghost use Rattle.server_hub.specs.Served.{Served};
-ghost use Rattle.trace_serving.specs.{Stage, turn};
+ghost use Rattle.trace_book.specs.trace_serving.{Stage, turn};
 ghost use Rattle.trace_book.specs.{run};
 ghost use Rattle.trace_text.specs.{shown, HasDigits};
 ghost use Rattle.standby.specs.declared.fault.Step.TheVariants as steps;

@@ -15,7 +15,7 @@ use Rattle.server_hub.specs.Seen.{Seen}
 use Rattle.server_hub.specs.{StandsFor, ids_of}
 use Rattle.rams_model.specs.Service.{Settings}
 use Rattle.rams_model.specs.Texts.{tick_of}
-use Rattle.trace_serving.specs.{Outcome, after_text}
+use Rattle.trace_book.specs.trace_serving.{Outcome, after_text}
 use Rattle.trace_book.specs.Stages.{settings_of}
 use Rattle.journal_book.specs.{HeadsOpenNewChannels, behind, event_lines, events_of}
 use Rattle.trace_loop.specs.declared.stop.Stop.{Stop}
@@ -27,7 +27,7 @@ use Rattle.serve_loop.proofs.Telling.{settled_behind}
 use Rattle.serve_loop.proofs.Rooms.{quiet_room, wire_none}
 use Rattle.serve_loop.proofs.Steps.{lines_append, waits_more}
 use Rattle.standby.specs.{followed, stage_of}
-use Rattle.standby_book.specs.{JournalsAreTakenOver, followed_text}
+use Rattle.standby.specs.standby_book.{JournalsAreTakenOver, followed_text}
 use Rattle.takeover_loop.specs.{Ending, EndsAs, HasEnded, HasStopped, IsTaken, IsWithin, Stopping, done_events, events_left, given_events, last_line, reading_end, taken_datagrams, taken_text, turns_end}
 use Rattle.takeover_loop.proofs.OneJournal.{sent_behind, text_behind}
 

@@ -8,8 +8,8 @@ use Rattle.rams_model.specs.Texts.{bytes_in, TraceLine, head_line, channel_line,
 use Rattle.server_hub.specs.declared.event.HubEvent.{HubEvent}
 use Rattle.server_hub.specs.declared.event.HubEvent.TheVariants.{Live, Feedback, Tick}
 use Rattle.server_hub.specs.Served.{Served}
-use Rattle.trace_serving.specs.{Stage, Outcome, Turn, goes_on, ends, refused, too_long, opening, turn, after_line, after_judging, counted, brought, stage_after, stage_from}
-use Rattle.trace_serving.proofs.Judged.{judged_so}
+use Rattle.trace_book.specs.trace_serving.{Stage, Outcome, Turn, goes_on, ends, refused, too_long, opening, turn, after_line, after_judging, counted, brought, stage_after, stage_from}
+use Rattle.trace_book.proofs.trace_serving.Judged.{judged_so}
 use Rattle.trace_book.specs.{run, most_events}
 use Rattle.standby.specs.{end_after, end_from, end_of, lines_followed, overlong, rest_of, stage_of}
 use Rattle.standby.proofs.Reading.{long_refused}

@@ -8,7 +8,7 @@ use Rattle.rams_model.specs.Texts.{whole_lines}
 use Rattle.line_io.specs.{HasNoFeed}
 use Rattle.line_io.specs.Passes.{Passes}
 use Rattle.line_io.proofs.Passing.{Passes-more, Passes-then}
-use Rattle.trace_serving.specs.{Outcome, done}
+use Rattle.trace_book.specs.trace_serving.{Outcome, done}
 use Rattle.trace_loop.specs.declared.stop.Stop.{Stop}
 use Rattle.trace_loop.specs.declared.stop.Stop.TheVariants.{Memory, Read, Write, Wire}
 use Rattle.serve_loop.specs.{StopsIn}
@@ -18,7 +18,7 @@ use Rattle.standby.specs.{HasRead, Halted, Seen, end_of, lines_followed, rest_of
 use Rattle.standby.proofs.Ending.{all_followed, followed_more, line_unfollowed, part_unfollowed, read_still, stays_ended}
 use Rattle.standby.proofs.Pieces.{IsFirst, no_line_more, nothing_left, one_line_more, rest_longer}
 use Rattle.standby.proofs.Reading.{none_yet}
-use Rattle.standby_book.specs.{followed_text}
+use Rattle.standby.specs.standby_book.{followed_text}
 use Rattle.takeover_loop.specs.{IsOver, IsReading, KeepsLines, has_lines, is_fed, left_text}
 
 -- the last byte of what has no line feed, and of what ends with one

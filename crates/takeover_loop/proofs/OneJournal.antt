@@ -12,8 +12,8 @@ use Rattle.server_hub.specs.declared.event.HubEvent.{HubEvent}
 use Rattle.server_hub.specs.declared.event.HubEvent.TheVariants.{Live, Feedback}
 use Rattle.server_hub.specs.Served.{Served}
 use Rattle.server_hub.specs.{id_of}
-use Rattle.trace_serving.specs.{Outcome, Stage, after_text, ended, opening, stage_from}
-use Rattle.trace_serving.proofs.Runs.{is_served_so}
+use Rattle.trace_book.specs.trace_serving.{Outcome, Stage, after_text, ended, opening, stage_from}
+use Rattle.trace_book.proofs.trace_serving.Runs.{is_served_so}
 use Rattle.trace_book.specs.{most_events, run, trace_text}
 use Rattle.trace_book.specs.Stages.{settings_of}
 use Rattle.journal_book.specs.{CanArrive, HasLine, Opens, TurnsMakeJournals, behind, due_after, event_lines, events_of_turns, heard, heard_from, most_turns, replayed, sent_for, ServerTurn}
@@ -21,7 +21,7 @@ use Rattle.serve_loop.specs.{Given, datagrams_by}
 use Rattle.serve_loop.proofs.Telling.{settled_behind}
 use Rattle.standby.specs.{followed, stage_of, whole_text}
 use Rattle.standby.proofs.Followed.{text_lines}
-use Rattle.standby_book.specs.{JournalsAreTakenOver, followed_text}
+use Rattle.standby.specs.standby_book.{JournalsAreTakenOver, followed_text}
 use Rattle.takeover_loop.specs.{MakesOneJournal, behind_by, done_events, events_left, given_events, last_line, reading_end, taken_datagrams, taken_text, turns_end}
 use Rattle.takeover_loop.proofs.Ends.{done_has_channel}
 use Rattle.takeover_loop.proofs.Within.{all_within}

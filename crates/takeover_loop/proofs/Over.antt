@@ -9,7 +9,7 @@ use Rattle.rams_model.specs.declared.status.Status.{Status}
 use Rattle.rams_model.specs.declared.status.Status.TheVariants.{Done, NoMemory as LacksMemory, Words, ReadFault, WriteFault, BadTrace, WireFault, TooLong, BadCapture, BadSdp}
 use Rattle.ram_io.specs.{Outgoing, Rose}
 use Rattle.ram_io.specs.declared.wire.Incoming.{Incoming}
-use Rattle.trace_serving.specs.{Outcome, after_text}
+use Rattle.trace_book.specs.trace_serving.{Outcome, after_text}
 use Rattle.journal_book.specs.{event_lines, sent_for}
 use Rattle.trace_loop.specs.declared.stop.Stop.{Stop}
 use Rattle.trace_loop.specs.declared.stop.Stop.TheVariants.{Memory, Read, Write, Wire}
@@ -19,7 +19,7 @@ use Rattle.serve_loop.proofs.Rooms.{only_weaker, quiet_room, wire_none}
 use Rattle.standby.specs.declared.fault.FeedFault.{FeedFault}
 use Rattle.standby.specs.declared.fault.FeedFault.TheVariants.{Line, TooLong as LineTooLong, NoMemory}
 use Rattle.standby.specs.{stage_of}
-use Rattle.standby_book.specs.{followed_text}
+use Rattle.standby.specs.standby_book.{followed_text}
 use Rattle.takeover_loop.specs.{HasEnded, HasStopped, HoldsItsLines, IsFollowStop, IsServedEnd, IsTakeoverEnd, behind_by, behind_journal, done_events, outcome_of, reading_end, taken_datagrams, taken_text, turns_end}
 use Rattle.takeover_loop.proofs.Closing.{refused_ended, stopped_alone}
 

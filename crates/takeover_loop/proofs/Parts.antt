@@ -6,7 +6,7 @@ use Rattle.trace_loop.specs.declared.stop.Stop.{Stop}
 use Rattle.serve_loop.specs.{StopsIn}
 use Rattle.standby.specs.{Seen, end_of, first_part}
 use Rattle.standby.proofs.Pieces.{first_front}
-use Rattle.standby_book.specs.{followed_text}
+use Rattle.standby.specs.standby_book.{followed_text}
 use Rattle.takeover_loop.specs.{IsOver, left_text}
 use Rattle.takeover_loop.proofs.Lines.{StopsIn-more, followed_grows, over_more, size_grows}
 use Rattle.takeover_loop.proofs.Pieces.{ends_same}

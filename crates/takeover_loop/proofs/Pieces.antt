@@ -7,7 +7,7 @@ use Rattle.std.specs.List.{flat_map}
 use Rattle.rams_model.specs.Texts.{whole_lines}
 use Rattle.line_io.specs.Passes.{Passes}
 use Rattle.line_io.proofs.Passing.{Passes-none, Passes-then}
-use Rattle.trace_serving.specs.{Outcome}
+use Rattle.trace_book.specs.trace_serving.{Outcome}
 use Rattle.trace_loop.specs.declared.stop.Stop.{Stop}
 use Rattle.trace_loop.specs.declared.stop.Stop.TheVariants.{Memory}
 use Rattle.serve_loop.specs.{IfBothTold, StopsIn}
@@ -16,7 +16,7 @@ use Rattle.standby.specs.declared.fault.FeedFault.{FeedFault}
 use Rattle.standby.specs.declared.fault.FeedFault.TheVariants.{Line, TooLong, NoMemory}
 use Rattle.standby.specs.{Halted, HasReadSome, Seen, end_from, end_of, rest_of, whole_text}
 use Rattle.standby.proofs.Ending.{stays_ended}
-use Rattle.standby_book.specs.{followed_text}
+use Rattle.standby.specs.standby_book.{followed_text}
 use Rattle.takeover_loop.specs.{FollowsWithin, HasFollowed, HoldsItsLines, IsFollowing, IsFresh, IsOver, IsReading, has_lines, left_text}
 use Rattle.takeover_loop.proofs.Lines.{StopsIn-more, followed_grows, followed_whole, over_more, reading_none, reading_over, size_grows, stops_still}
 

@@ -9,8 +9,8 @@ use Rattle.rams_model.specs.Texts.{Head, has_channel, whole_lines}
 use Rattle.server_hub.specs.{IsHub}
 use Rattle.server_hub.specs.Seen as hubs
 use Rattle.server_hub.specs.Served.{Served}
-use Rattle.head_loop.proofs.Channels.{settings_stand}
-use Rattle.trace_serving.specs.{Outcome, done, refused}
+use Rattle.trace_loop.proofs.head_loop.Channels.{settings_stand}
+use Rattle.trace_book.specs.trace_serving.{Outcome, done, refused}
 use Rattle.trace_book.specs.Stages.{settings_of as settings_all}
 use Rattle.serve_loop.specs.{numbers}
 use Rattle.standby.specs.declared.fault.FeedFault.{FeedFault}

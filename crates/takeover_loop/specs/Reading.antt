@@ -7,7 +7,7 @@ use Rattle.line_io.specs.Passes.{Passes}
 use Rattle.trace_loop.specs.declared.stop.Stop.{Stop}
 use Rattle.trace_loop.specs.declared.stop.Stop.TheVariants.{Memory, Read, Write, Wire}
 use Rattle.standby.specs.{HasRead, HasReadSome, Seen, end_of, rest_of, whole_text}
-use Rattle.standby_book.specs.{followed_text}
+use Rattle.standby.specs.standby_book.{followed_text}
 
 -- the last of the bytes is a line feed
 abbrev pub is_fed : List ℕ → Bool

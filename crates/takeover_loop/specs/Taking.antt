@@ -10,14 +10,14 @@ use Rattle.ram_io.specs.{Outgoing}
 use Rattle.server_hub.specs.declared.event.HubEvent.{HubEvent}
 use Rattle.server_hub.specs.{StandsFor}
 use Rattle.server_hub.specs.Seen as hubs
-use Rattle.trace_serving.specs.{Outcome, after_text, done, refused, too_long}
+use Rattle.trace_book.specs.trace_serving.{Outcome, after_text, done, refused, too_long}
 use Rattle.trace_book.specs.{most_events}
 use Rattle.journal_book.specs.{event_lines, events_of, sent_for}
 use Rattle.serve_loop.specs.{Given, GoOut, datagrams_by, numbers}
 use Rattle.standby.specs.declared.fault.FeedFault.{FeedFault}
 use Rattle.standby.specs.declared.fault.FeedFault.TheVariants.{Line}
 use Rattle.standby.specs.{end_of, lines_followed, stage_of}
-use Rattle.standby_book.specs.{followed_text}
+use Rattle.standby.specs.standby_book.{followed_text}
 use Rattle.takeover_loop.specs.Turns.{last_line}
 
 -- Without a channel line the line of this number is missing.

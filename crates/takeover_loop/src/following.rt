@@ -4,7 +4,7 @@ ghost use Rattle.std.specs.Io.KnownBytes.{Consumes, IsAtEnd, Keeps};
 ghost use Rattle.trace_loop.specs.declared.stop.Stop.TheVariants.{Memory, Read};
 ghost use Rattle.serve_loop.specs.{IfBothTold, IsStoppedByRead, IsStoppedByWrite, OnlyMemoryStops, StopsIn};
 ghost use Rattle.standby.specs.{HasReadSome, end_of};
-ghost use Rattle.standby_book.specs.{followed_text};
+ghost use Rattle.standby.specs.standby_book.{followed_text};
 ghost use Rattle.takeover_loop.specs.{FollowsWithin, HasFollowed, HoldsItsLines, IsFollowing, IsFresh, IsOver, IsReading, IsStoppedFollowing, left_text};
 
 use crate::reading::{Reading, take_part};

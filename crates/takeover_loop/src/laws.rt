@@ -2,7 +2,7 @@
 ghost use Rattle.takeover_loop.specs.{TakeoversMakeOneJournal};
 
 use journal_book::laws::turns_make_journals;
-use standby_book::laws::journals_are_taken_over;
+use standby::standby_book::laws::journals_are_taken_over;
 
 /// The text of a takeover that ends with `end` is one journal: of the events that were followed and then
 /// of those of the turns. `run` reads it to its end, and its replay sends what the old server sends for

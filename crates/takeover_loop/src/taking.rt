@@ -9,7 +9,7 @@ ghost use Rattle.server_hub.specs.{IsHub};
 ghost use Rattle.trace_loop.specs.declared.stop.Stop.TheVariants.{Read};
 ghost use Rattle.serve_loop.specs.{Begun, Given, HasRoom, IfBothTold, IsBetween, IsGiven, IsServer, IsStopped, IsStoppedByWrite, IsStoppedOutside, OnlyMemoryStops, Room, StandsSomewhere, StopsIn};
 ghost use Rattle.standby.specs.{HasRead, HasReadSome, end_of};
-ghost use Rattle.standby_book.specs.{followed_text};
+ghost use Rattle.standby.specs.standby_book.{followed_text};
 ghost use Rattle.takeover_loop.specs.{Ending, HasEnded, HasStopped, HoldsItsLines, IsOver, IsServedEnd, IsTaken, IsTakeoverEnd, Stopping, behind_journal, done_events, has_lines, last_line, outcome_of, reading_end, taken_datagrams, taken_text, turns_end};
 
 use crate::following::follow;
@@ -20,8 +20,8 @@ use line_io::Gather;
 use ram_io::{Clock, NoMemory, Sink, Source, Wire};
 use rams_model::{LineFault, Status};
 use serve_loop::{Server, Watch, new_server, tell_ports, write_refused};
+use standby::standby_book::laws::journals_are_taken_over;
 use standby::{FeedFault, Hub, Standby};
-use standby_book::laws::journals_are_taken_over;
 use std::alloc::Global;
 use trace_loop::{Stop, close, flush, put};
 

@@ -8,11 +8,11 @@ ghost use Rattle.journal_book.specs.{next_moment, tick_at, due_after, event_line
 ghost use Rattle.serve_loop.specs.{AnswersFrom, Begun, Broken, HasRoom, IsBetween, IsServer, IsStoppedOutside, OnlyMemoryStops, Room, Serving, next_events};
 ghost use Rattle.takeover_loop.specs.{DoesWithin, IsWithin};
 
-use head_loop::event_at;
 use ram_io::{Clock, Sink, Wire};
 use serve_loop::{Server, Watch, hear};
 use server_hub::Heard;
 use std::alloc::Global;
+use trace_loop::head_loop::event_at;
 use trace_loop::{Stop, flush};
 
 /// Most bytes of a datagram.

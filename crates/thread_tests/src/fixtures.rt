@@ -1,13 +1,13 @@
 //! A channel's settings, and what comes to it.
 ghost use Rattle.std.specs.Prelude.{◌≡◌, [], IfOk, length};
-ghost use Rattle.session_core.specs.{StandsFor};
+ghost use Rattle.server_hub.specs.session_core.{StandsFor};
 
 use channel_config::{Channel, Config};
 use rams_model::{Event, Octets};
-use session_core::Core;
+use server_hub::session_core::Core;
 use std::alloc::{AllocError, Global};
 use std::test::Fail;
-use test_channel::{CHANNEL, SOURCE, bytes_of};
+use test_fixtures::test_channel::{CHANNEL, SOURCE, bytes_of};
 
 /// Settings of a channel that may send all that its ring holds in one tick.
 const WIDE: Channel = Channel {

@@ -14,7 +14,7 @@ use Rattle.channel_book.specs.declared.entry.Entry.{Entry}
 use Rattle.channel_book.specs.{LegalFrom, IsLegal, calls_by}
 use Rattle.server_hub.specs.declared.event.HubEvent.{HubEvent}
 use Rattle.server_hub.specs.{served, after_event}
-use Rattle.trace_serving.specs.{ended, done}
+use Rattle.trace_book.specs.trace_serving.{ended, done}
 use Rattle.trace_book.specs.{event_text, first_line, trace_text}
 use Rattle.journal_book.specs.{HasLine, Opens, IsJournal, RunsWriteJournals, event_line, event_lines, journal_of, text_for}
 use Rattle.threads_loop.specs.declared.writing.Part.TheVariants.{Trace, Book}

@@ -15,8 +15,8 @@ use Rattle.rams_model.specs.Texts.{TraceLine, head_line, channel_line, live_line
 use Rattle.server_hub.specs.declared.event.HubEvent.TheVariants.{Live, Feedback}
 use Rattle.server_hub.specs.{served, after_event}
 use Rattle.server_hub.specs.Served.{Served}
-use Rattle.trace_serving.specs.{Stage, claim_of, after_line, brought}
-use Rattle.trace_serving.proofs.Judged.{channel_so, claim}
+use Rattle.trace_book.specs.trace_serving.{Stage, claim_of, after_line, brought}
+use Rattle.trace_book.proofs.trace_serving.Judged.{channel_so, claim}
 use Rattle.trace_book.specs.{settings_of}
 use Rattle.trace_text.specs.declared.line.Line.{Line}
 use Rattle.trace_text.specs.{shown, IsOther}

@@ -14,7 +14,7 @@ use Rattle.channel_book.specs.declared.entry.Entry.{Entry}
 use Rattle.channel_book.specs.{IsLegal, IsInterleaving}
 use Rattle.server_hub.specs.{served}
 use Rattle.server_hub.specs.Served.{Served}
-use Rattle.trace_serving.specs.{Stage, last_stage, served_text}
+use Rattle.trace_book.specs.trace_serving.{Stage, last_stage, served_text}
 use Rattle.trace_book.specs.{new_channels}
 use Rattle.journal_book.specs.{Opens, RunsWriteJournals, journal_of}
 use Rattle.threads_loop.specs.declared.dealing.Dealt.{Dealt}

@@ -7,7 +7,7 @@ use Rattle.rams_model.specs.declared.status.Status.{Status}
 use Rattle.rams_model.specs.declared.status.Status.TheVariants.{Done}
 use Rattle.rams_model.specs.Service.{Settings}
 use Rattle.server_hub.specs.{served}
-use Rattle.trace_serving.specs.{served_text, last_stage}
+use Rattle.trace_book.specs.trace_serving.{served_text, last_stage}
 use Rattle.trace_book.specs.{trace_text}
 use Rattle.journal_book.specs.{journal_of}
 use Rattle.threads_loop.specs.Dealing.{threads, hub_event, head_lines, Interleaves}

@@ -8,7 +8,7 @@ use Rattle.server_hub.specs.declared.event.HubEvent.{HubEvent}
 use Rattle.server_hub.specs.declared.event.HubEvent.TheVariants.{Live, Feedback, Tick}
 use Rattle.server_hub.specs.{served, after_event}
 use Rattle.server_hub.specs.Served.{Served}
-use Rattle.trace_serving.specs.{Serving, event_at, taken}
+use Rattle.trace_book.specs.trace_serving.{Serving, event_at, taken}
 use Rattle.trace_book.specs.{event_of}
 
 -- A trace for threads is served as by `run`, but it is of one channel, it has 200,000 events at most, and nothing is written for an event while it is read.

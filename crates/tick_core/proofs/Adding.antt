@@ -10,7 +10,7 @@ use Rattle.rams_model.specs.Service.{Settings, noted, History, sequence, next, o
 use Rattle.rams_model.specs.Packets.{lo, from_number, Follows}
 use Rattle.rams_model.specs.Service.Bursts as model
 use Rattle.rams_model.proofs.Newest.{notes_behind}
-use Rattle.packet_ring.specs.{packet_of}
+use Rattle.channel_cache.specs.packet_ring.{packet_of}
 use Rattle.channel_parts.proofs.Knowing.{idle_not_busy}
 use Rattle.channel_parts.proofs.Opening.{none_of}
 

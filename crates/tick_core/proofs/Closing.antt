@@ -15,8 +15,8 @@ use Rattle.rams_model.specs.Packets.{Arrival, hi, stream_of}
 use Rattle.rams_model.specs.Packets.Source as sources
 use Rattle.rams_model.specs.Service.Bursts as model
 use Rattle.rams_model.proofs.Newest.{notes_behind}
-use Rattle.link_budget.specs.{amounts}
-use Rattle.link_budget.specs.Amounts.{Amounts}
+use Rattle.reckoning.specs.link_budget.{amounts}
+use Rattle.reckoning.specs.link_budget.Amounts.{Amounts}
 use Rattle.client_table.specs.declared.entry.Burst.{Burst}
 use Rattle.client_table.specs.declared.entry.Entry.{Entry}
 use Rattle.client_table.specs.{entry_of}

@@ -14,7 +14,7 @@ use Rattle.rams_model.specs.Packets.{following}
 use Rattle.client_table.specs.declared.entry.Burst.{Burst}
 use Rattle.client_table.specs.declared.entry.Entry.{Entry}
 use Rattle.repair_queue.specs.{IsWithinLimits}
-use Rattle.packet_ring.specs.{packet_of}
+use Rattle.channel_cache.specs.packet_ring.{packet_of}
 use Rattle.tick_core.specs.declared.allowance.Allowance.{Allowance}
 use Rattle.tick_core.specs.{Drafted, with_note, with_packet, with_end, run_of, after_run, end_of, with_run, with_served, with_all_served, Repaired, allowance_for, fits, waiting, with_repair, with_wanted, with_all_wanted, idle_after, with_all_forgotten, ends_wait, is_over}
 

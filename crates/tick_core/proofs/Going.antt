@@ -6,8 +6,8 @@ use Rattle.std.proofs.lemmas.Bool.{cond_both, cond-true, cond-false, eq-eqb, leb
 use Rattle.rams_model.specs.declared.held.Held.{Held}
 use Rattle.rams_model.specs.Packets.{lo, hi, from_number, has_number, following}
 use Rattle.rams_model.specs.Service.{is_before, run, is_lost}
-use Rattle.packet_ring.proofs.Following.{stand_in_order}
-use Rattle.packet_ring.specs.{packet_of}
+use Rattle.channel_cache.proofs.packet_ring.Following.{stand_in_order}
+use Rattle.channel_cache.specs.packet_ring.{packet_of}
 use Rattle.tick_core.specs.declared.runs.Sent.{Sent}
 use Rattle.tick_core.specs.{Drafted, with_packet, AreInOrder, IsNext, run_from, after_packet, sent_after, with_run}
 use Rattle.rams_model.specs.declared.note.Note.TheVariants.{Burst}

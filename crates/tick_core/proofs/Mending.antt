@@ -8,8 +8,8 @@ use Rattle.rams_model.specs.declared.note.Note.TheVariants.{Repair, Gone}
 use Rattle.rams_model.specs.Service.{Settings, noted, History, as_tick_began, is_among, sendings, sequence, after_note, size_of, bursts, open_burst, Wanted, sent_now, is_repair_of, run_left, kept_from_repairs, may_take, channel_left, repaired, all_repaired}
 use Rattle.rams_model.specs.Packets.{following}
 use Rattle.rams_model.specs.Service.Bursts as model
-use Rattle.packet_ring.specs.{packet_of}
-use Rattle.packet_ring.proofs.Following.{has_its_number}
+use Rattle.channel_cache.specs.packet_ring.{packet_of}
+use Rattle.channel_cache.proofs.packet_ring.Following.{has_its_number}
 use Rattle.tick_core.specs.declared.allowance.Allowance.{Allowance}
 use Rattle.tick_core.specs.{with_packet, Repaired, Rise, clients_of, allowance_for, after_repair, with_taken, fits, waiting, with_repair, with_wanted, with_all_wanted}
 use Rattle.tick_core.proofs.Placing.{clients_stay}

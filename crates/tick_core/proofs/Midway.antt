@@ -9,16 +9,16 @@ use Rattle.rams_model.specs.declared.note.Note.TheVariants.{Burst as BurstNote, 
 use Rattle.rams_model.specs.Service.{Settings, noted, History, hold, known, is_among, without, sendings, sequence, ssrc, next, after_note, newest_open, size_of, bursts, open_burst, is_busy, idle, reserved, channel_left}
 use Rattle.rams_model.specs.Packets.{hi, following}
 use Rattle.rams_model.specs.Service.Bursts as model
-use Rattle.book_laws.specs.{IsMoment}
+use Rattle.laws.specs.book_laws.{IsMoment}
 use Rattle.channel_config.specs.{IsLawful}
-use Rattle.link_budget.specs.{amounts}
-use Rattle.link_budget.specs.Amounts.{Amounts}
+use Rattle.reckoning.specs.link_budget.{amounts}
+use Rattle.reckoning.specs.link_budget.Amounts.{Amounts}
 use Rattle.client_table.specs.declared.entry.Burst.{Burst}
 use Rattle.client_table.specs.declared.entry.Entry.{Entry}
 use Rattle.client_table.specs.{clients_of, entry_of}
 use Rattle.client_table.specs.Clients.{Clients}
 use Rattle.client_table.specs.Clients as tables
-use Rattle.packet_ring.specs.{packet_of}
+use Rattle.channel_cache.specs.packet_ring.{packet_of}
 use Rattle.channel_parts.specs.{IsBudget}
 use Rattle.channel_parts.proofs.Facts.{open_bursts_are_within_bounds, each_burst_is_reserved, ends_release, other_notes_reserve_nothing, the_end_of_the_held_never_falls}
 use Rattle.channel_parts.proofs.Ordered.{Rise, known_rise}

@@ -22,7 +22,7 @@ use Rattle.client_table.specs.declared.entry.Burst.{Burst}
 use Rattle.client_table.specs.declared.entry.Entry.{Entry}
 use Rattle.client_table.specs.{entry_of}
 use Rattle.client_table.proofs.ChangedAll.{same_key}
-use Rattle.link_budget.specs.Amounts.{Amounts}
+use Rattle.reckoning.specs.link_budget.Amounts.{Amounts}
 use Rattle.repair_queue.specs.{IsWithinLimits}
 use Rattle.channel_parts.specs.declared.parts.Parts.{Parts}
 use Rattle.channel_parts.specs.{burst_kept, IsEntry, StandsFor}

@@ -12,7 +12,7 @@ use Rattle.client_table.specs.declared.entry.Burst.{Burst}
 use Rattle.client_table.specs.declared.entry.Entry.{Entry}
 use Rattle.client_table.specs.{entry_of, with_entry}
 use Rattle.client_table.specs.Clients.{Clients}
-use Rattle.link_budget.specs.Amounts.{Amounts}
+use Rattle.reckoning.specs.link_budget.Amounts.{Amounts}
 use Rattle.channel_parts.proofs.Tables.{entry-with_entry, entry_among}
 use Rattle.tick_core.specs.declared.sendings.Sendings.{Sendings}
 use Rattle.tick_core.specs.{committing, changed, changed_by, burst_sent, IsNextSmall, IsNextSmallIfKnown, MayCommit, both_sendings, entry_after, with_sendings, MaySend, with_sent, MaySendIfAny, sending_of, with_other, with_sized}

@@ -11,7 +11,7 @@ use Rattle.rams_model.specs.Formats.{wire_size}
 use Rattle.rams_model.specs.Service.{Settings, History, arrivals, hold}
 use Rattle.rams_model.specs.Packets.{Arrival, Stream, held_as, with_packet, awaited, live_note, stream_after, stream_of, consecutive_end, source}
 use Rattle.rams_model.specs.Packets.Source as sources
-use Rattle.packet_ring.specs.{packet_of}
+use Rattle.channel_cache.specs.packet_ring.{packet_of}
 
 -- the packet has its wire size
 abbrev pub IsSized : Held → Type 0

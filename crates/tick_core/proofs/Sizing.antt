@@ -12,7 +12,7 @@ use Rattle.rams_model.specs.declared.note.Note.TheVariants.{Burst as BurstNote, 
 use Rattle.rams_model.specs.Formats.{wire_size}
 use Rattle.rams_model.specs.Service.{Settings, tick, began, History, size_of, open_burst, info_order, end_order, order_of, newest_notes, newest_orders, Answered, history_of}
 use Rattle.rams_model.specs.Service.Bursts as model
-use Rattle.packet_ring.specs.{packet_of}
+use Rattle.channel_cache.specs.packet_ring.{packet_of}
 use Rattle.channel_parts.specs.declared.parts.Parts.{Parts}
 use Rattle.channel_parts.specs.{StandsFor}
 use Rattle.channel_parts.proofs.Given.{held_is}

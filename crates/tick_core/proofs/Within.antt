@@ -4,9 +4,9 @@ use Rattle.std.proofs.lemmas.Bool.{lt-leb, lt-ltb, le-ltb, cases_lt}
 use Rattle.rams_model.specs.declared.held.Held.{Held}
 use Rattle.rams_model.specs.Packets.{lo, hi}
 use Rattle.rams_model.specs.Service.{Wanted}
-use Rattle.packet_ring.specs.{packet_of, IsRing}
-use Rattle.packet_ring.specs.Seen.{Seen}
-use Rattle.packet_ring.proofs.Following.{found_at, none_below, is_there}
+use Rattle.channel_cache.specs.packet_ring.{packet_of, IsRing}
+use Rattle.channel_cache.specs.packet_ring.Seen.{Seen}
+use Rattle.channel_cache.proofs.packet_ring.Following.{found_at, none_below, is_there}
 use Rattle.repair_queue.specs.{AreFrom}
 use Rattle.tick_core.specs.{AreHeld}
 

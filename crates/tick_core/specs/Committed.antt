@@ -9,8 +9,8 @@ use Rattle.client_table.specs.declared.entry.Burst.{Burst}
 use Rattle.client_table.specs.declared.entry.Entry.{Entry}
 use Rattle.client_table.specs.{clients_of, entry_of, with_entry, without}
 use Rattle.client_table.specs.Clients.{Clients}
-use Rattle.link_budget.specs.Amounts.{Amounts}
-use Rattle.packet_ring.specs.{packet_of}
+use Rattle.reckoning.specs.link_budget.Amounts.{Amounts}
+use Rattle.channel_cache.specs.packet_ring.{packet_of}
 
 -- a burst as a tick begins: until the tick ends, `kept` is all that it may still be sent
 abbrev pub opened_for_tick : Burst → Burst

@@ -5,7 +5,7 @@ use Rattle.rams_model.specs.declared.held.Held.{Held}
 use Rattle.rams_model.specs.declared.note.Note.TheVariants.{Repair, Gone}
 use Rattle.rams_model.specs.Packets.{following}
 use Rattle.rams_model.specs.Service.{Wanted}
-use Rattle.packet_ring.specs.{packet_of}
+use Rattle.channel_cache.specs.packet_ring.{packet_of}
 use Rattle.tick_core.specs.declared.allowance.Allowance.{Allowance}
 use Rattle.client_table.specs.declared.entry.Entry.{Entry}
 use Rattle.tick_core.specs.Runs.{idle_allowance}

@@ -8,7 +8,7 @@ use Rattle.rams_model.specs.declared.note.Note.{Note}
 use Rattle.rams_model.specs.declared.note.Note.TheVariants.{Burst as BurstNote, Repair}
 use Rattle.rams_model.specs.Formats.{wire_size}
 use Rattle.rams_model.specs.Service.{Settings, size_of}
-use Rattle.packet_ring.specs.{packet_of}
+use Rattle.channel_cache.specs.packet_ring.{packet_of}
 use Rattle.tick_core.specs.declared.sizes.Sizes.{Sizes}
 use Rattle.tick_core.specs.Committed.{Committed, with_sending, MayCommit}
 use Rattle.tick_core.specs.Sendings.{with_other}

@@ -13,8 +13,8 @@ use crate::sizes::Sizes;
 use channel_config::Config;
 use channel_parts::{Parts, Table};
 use client_table::Burst;
-use link_budget::Budget;
 use rams_model::{Note, Order};
+use reckoning::link_budget::Budget;
 
 /// Takes the size of a packet that was sent from what the channel has left.
 fn spend(budget: &mut Budget, size: u64)

@@ -1,6 +1,6 @@
 //! What a channel holds, as a pass over its pending repairs asks for it.
 ghost use Rattle.std.specs.Prelude.{◌≡◌, ◌≤◌, true, length, take, drop, is_some, option_copied};
-ghost use Rattle.packet_ring.specs.{packet_of};
+ghost use Rattle.channel_cache.specs.packet_ring.{packet_of};
 ghost use Rattle.channel_cache.specs.{AreAtLeast};
 ghost use Rattle.tick_core.specs.{AreHeld, IsGone};
 
@@ -24,7 +24,7 @@ impl<'a> Model for Holding<'a> {
     ghost use Rattle.std.specs.Prelude.{◌≡◌, List};
     ghost use Rattle.rams_model.specs.declared.held.Held.{Held};
     ghost use Rattle.rams_model.specs.Packets.{lo, hi};
-    ghost use Rattle.packet_ring.specs.{IsRing};
+    ghost use Rattle.channel_cache.specs.packet_ring.{IsRing};
     ghost use Rattle.channel_cache.specs.{ring_of, AreAtLeast};
 
     ghost Value = { List Held };

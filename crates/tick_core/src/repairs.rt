@@ -2,7 +2,7 @@
 ghost use Rattle.std.specs.Prelude.{◌≡◌, ◌<◌, ◌≤◌, ◌&&◌, nat_le, true, false, [], ◌++◌, length, take, drop, replicate, Some, None, IfSome, IfOk};
 ghost use Rattle.client_table.specs.{AreRising};
 ghost use Rattle.tick_core.specs.{IsSpent, FitsNowhere, AreOfKnown, IsGone, told_by, all_allowances, allowance_for, after_repair, waiting, with_repair, with_wanted, with_all_wanted};
-ghost use Rattle.packet_ring.specs.{packet_of};
+ghost use Rattle.channel_cache.specs.packet_ring.{packet_of};
 ghost use Rattle.repair_queue.specs.{all_of};
 
 use crate::allowance::Allowance;

@@ -8,7 +8,7 @@ use Rattle.rams_model.specs.declared.fault.ConfigFault.TheVariants.{Range}
 use Rattle.rams_model.specs.Service.{Settings, tick_in_range, names_in_range, bytes_in_range, bounds_in_range, channel_in_range, checked}
 use Rattle.rams_model.specs.Texts.{Head}
 use Rattle.server_hub.specs.Served.{Served}
-use Rattle.trace_serving.specs.{AreLawful, Stand, IsServedSo}
+use Rattle.trace_book.specs.trace_serving.{AreLawful, Stand, IsServedSo}
 use Rattle.trace_book.specs.{run, served_by, settings_of}
 use Rattle.trace_book.proofs.Served.{all_are}
 

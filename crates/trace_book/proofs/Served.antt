@@ -12,7 +12,7 @@ use Rattle.server_hub.specs.declared.event.HubEvent.{HubEvent}
 use Rattle.server_hub.specs.{served, id_of, with_event, after_event_of, after_tick, after_event, after_events, events_of, EachChannelGetsItsEvents}
 use Rattle.server_hub.specs.declared.event.HubEvent.TheVariants.{Live, Feedback, Tick}
 use Rattle.server_hub.specs.Served.{Served}
-use Rattle.trace_serving.specs.{ended, opened_all, opened_by, after_brought, after_all, IsServedSo, IsStage as IsServedStage, StagesAreKept as ServingKeepsStages}
+use Rattle.trace_book.specs.trace_serving.{ended, opened_all, opened_by, after_brought, after_all, IsServedSo, IsStage as IsServedStage, StagesAreKept as ServingKeepsStages}
 use Rattle.trace_book.specs.{run, first_line, trace_text, served_by, settings_of, new_channels, StagesAreKept, came, events_text, IsServed, EndsSo}
 
 -- The channels keep their settings.

@@ -1,3 +1,5 @@
+pub mod trace_serving
+pub mod printed_books
 pub mod TraceText
 pub mod Stages
 pub mod Runs

@@ -5,7 +5,7 @@ use Rattle.server_hub.specs.declared.event.HubEvent.{HubEvent}
 use Rattle.server_hub.specs.{answers_to_tick, FitLink, bytes_of_all, all_kept, all_swells, answers_to, after_events, sent_over, ticks_among}
 use Rattle.server_hub.specs.declared.event.HubEvent.TheVariants.{Tick}
 use Rattle.server_hub.specs.Served.{Served}
-use Rattle.trace_serving.specs.{last_stage, AreLawful}
+use Rattle.trace_book.specs.trace_serving.{last_stage, AreLawful}
 use Rattle.trace_book.specs.TraceText.{run, served_by}
 use Rattle.trace_book.specs.Stages.{settings_of, new_channels}
 use Rattle.trace_book.specs.Runs.{came}

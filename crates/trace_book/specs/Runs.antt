@@ -4,7 +4,7 @@ use Rattle.rams_model.specs.Texts.{lines_of}
 use Rattle.server_hub.specs.declared.event.HubEvent.{HubEvent}
 use Rattle.server_hub.specs.{id_of, after_events, events_of}
 use Rattle.server_hub.specs.Served.{Served}
-use Rattle.trace_serving.specs.{Outcome, ended, last_stage, head_at, channel_at, event_at as event_brought, taken as taken_by, came as came_to, events_text as texts, EndsWith}
+use Rattle.trace_book.specs.trace_serving.{Outcome, ended, last_stage, head_at, channel_at, event_at as event_brought, taken as taken_by, came as came_to, events_text as texts, EndsWith}
 use Rattle.trace_book.specs.TraceText.{run, served_by, first_line, trace_text}
 use Rattle.trace_book.specs.Stages.{new_channels}
 

@@ -3,7 +3,7 @@ use Rattle.std.specs.Prelude.{◌≡◌, ℕ, List, [], map}
 use Rattle.rams_model.specs.Service.{Settings}
 use Rattle.server_hub.specs.{served}
 use Rattle.server_hub.specs.Served.{Served}
-use Rattle.trace_serving.specs.{Stage, goes_on, turn, opening, IsStage as IsServedStage}
+use Rattle.trace_book.specs.trace_serving.{Stage, goes_on, turn, opening, IsStage as IsServedStage}
 use Rattle.trace_book.specs.TraceText.{run}
 
 abbrev pub settings_of : List Served → List Settings

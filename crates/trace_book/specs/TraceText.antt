@@ -10,7 +10,7 @@ use Rattle.server_hub.specs.{served, channel_of, answer_to, after_event}
 use Rattle.server_hub.specs.declared.event.HubEvent.TheVariants.{Live, Feedback, Tick}
 use Rattle.server_hub.specs.Served.{Served}
 use Rattle.book_text.specs.{no_channel_line}
-use Rattle.trace_serving.specs.{Serving, Outcome, served_text, last_stage}
+use Rattle.trace_book.specs.trace_serving.{Serving, Outcome, served_text, last_stage}
 
 abbrev pub first_line : List ℕ
 first_line = codes "rams-book 1\n"

@@ -6,7 +6,7 @@ use Rattle.rams_model.specs.Service.{settings}
 use Rattle.rams_model.specs.Worked.Setting.{channel}
 use Rattle.server_hub.specs.{served}
 use Rattle.server_hub.specs.Served.{Served}
-use Rattle.trace_serving.specs.{Stage, goes_on, ends, ended, turn, last_stage}
+use Rattle.trace_book.specs.trace_serving.{Stage, goes_on, ends, ended, turn, last_stage}
 use Rattle.trace_book.specs.TraceText.{run, served_by, trace_text}
 
 abbrev pub head_text : List ℕ

@@ -6,3 +6,5 @@
 
 pub mod examples;
 pub mod laws;
+pub mod printed_books;
+pub mod trace_serving;

@@ -1,3 +1,4 @@
+pub mod head_loop
 pub mod Stops
 pub mod Turns
 pub mod Told

@@ -1,6 +1,7 @@
 //! The loop over the lines of a trace, whatever serves it: from the source's bytes to the sink's.
 #![tactic(auto)]
 
+pub mod head_loop;
 mod lines;
 mod server;
 mod stop;

@@ -4,9 +4,9 @@ ghost use Rattle.rams_model.specs.Formats.{packet_at};
 ghost use Rattle.rams_model.specs.Service.{sent_again};
 
 use bytes::Bytes;
+use packets::rtp_record::Rtp;
+use packets::rtx_payload::{append_plain, append_rtx, is_plain};
 use ram_io::NoMemory;
-use rtp_record::Rtp;
-use rtx_payload::{append_plain, append_rtx, is_plain};
 use std::marker::Model;
 
 /// What a retransmission has in place of its packet's own (RFC 4588, 4).

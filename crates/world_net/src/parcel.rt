@@ -5,8 +5,8 @@ ghost use Rattle.world_laws.specs.{posts, way_of};
 ghost use Rattle.world_laws.specs.declared.world.WorldItem.TheVariants as item;
 ghost use Rattle.world_net.specs.{as_way, sent_of};
 
+use book_text::order_datagrams::{Config, render_order};
 use bytes::Bytes;
-use order_datagrams::{Config, render_order};
 use ram_io::NoMemory;
 use rams_model::Order;
 use std::alloc::Global;

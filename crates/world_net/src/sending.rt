@@ -3,7 +3,7 @@ ghost use Rattle.std.specs.Prelude.{◌≡◌, ◌++◌, map, OnOk};
 ghost use Rattle.world_net.specs.{sent_of};
 
 use crate::parcel::Parcel;
-use order_datagrams::Config;
+use book_text::order_datagrams::Config;
 use ram_io::NoMemory;
 use rams_model::Order;
 use std::alloc::Global;

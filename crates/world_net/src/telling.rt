@@ -9,7 +9,7 @@ ghost use Rattle.world_net.specs.{sent_of, sent_note, note_with_sent, notes_with
 
 use crate::parcel::Parcel;
 use crate::sending::send_orders;
-use order_datagrams::Config;
+use book_text::order_datagrams::Config;
 use ram_io::NoMemory;
 use rams_model::{Answer, Cause, Note};
 use server_hub::{At, Hub, HubAnswer};

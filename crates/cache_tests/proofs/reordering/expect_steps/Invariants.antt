@@ -1,5 +1,5 @@
 use Rattle.std.proofs.Common.{◌≡◌, false, None}
-use Rattle.reorder_window.specs.{first_free}
+use Rattle.channel_cache.specs.reorder_window.{first_free}
 use Rattle.cache_tests.proofs.reordering.expect_steps.Given as goal
 
 -- the start goes on, and nothing can be released

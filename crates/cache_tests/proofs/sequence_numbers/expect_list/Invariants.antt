@@ -1,5 +1,5 @@
 use Rattle.std.proofs.Common.{◌<◌, length}
-use Rattle.ext_seq.specs.{IsWithin}
+use Rattle.reckoning.specs.ext_seq.{IsWithin}
 use Rattle.cache_tests.proofs.sequence_numbers.expect_list.Given as goal
 
 -- each sequence number so far raised the greatest number by little

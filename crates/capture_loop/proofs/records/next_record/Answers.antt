@@ -1,7 +1,7 @@
 use Rattle.std.proofs.Common.{ℕ, ◌<◌, List, take, length, sym, ap, ◌∙◌, arith}
 use Rattle.std.proofs.lemmas.Bool.{eqb-false}
 use Rattle.line_io.proofs.NextLines.{on_failure}
-use Rattle.pcap_trace.specs.{record_at}
+use Rattle.capture_loop.specs.pcap_trace.{record_at}
 use Rattle.capture_loop.proofs.Filling.{when_full, when_not}
 use Rattle.capture_loop.proofs.Cutting.{short_header, told_at_end, told_broken}
 use Rattle.capture_loop.proofs.records.next_record.Goals as goal

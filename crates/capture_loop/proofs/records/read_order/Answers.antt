@@ -1,6 +1,6 @@
 use Rattle.std.proofs.Common.{◌≡◌, ℕ, ◌≤◌, List, take, length, ap, ◌∙◌, arith, length-take}
 use Rattle.line_io.proofs.NextLines.{on_failure}
-use Rattle.pcap_trace.specs.{head_at}
+use Rattle.capture_loop.specs.pcap_trace.{head_at}
 use Rattle.capture_loop.proofs.Filling.{order_there, short_order, when_full, when_not}
 use Rattle.capture_loop.proofs.Cutting.{short_head}
 use Rattle.capture_loop.proofs.records.read_order.Goals as goal

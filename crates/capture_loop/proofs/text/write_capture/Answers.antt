@@ -4,13 +4,13 @@ use Rattle.std.specs.Io.KnownBytes.{Appends, prepend_known}
 use Rattle.line_io.specs.Passes.{Passes}
 use Rattle.line_io.proofs.Passing.{Passes-none}
 use Rattle.rams_model.specs.declared.status.Status.TheVariants.{Done}
-use Rattle.trace_serving.specs.{Outcome, refused}
+use Rattle.trace_book.specs.trace_serving.{Outcome, refused}
 use Rattle.trace_loop.specs.declared.stop.Stop.TheVariants.{Memory}
 use Rattle.trace_loop.specs.{IfBothTold, IfTold}
 use Rattle.trace_loop.proofs.Running.{told_gives}
 use Rattle.trace_loop.proofs.Whole.{told_all}
-use Rattle.head_loop.specs.declared.head.Head.{Head}
-use Rattle.head_loop.specs.{HasRead, IsCutBefore, IsHeadOf, LeavesBehind, behind_head, head_end}
+use Rattle.trace_loop.specs.declared.head_loop.head.Head.{Head}
+use Rattle.trace_loop.specs.head_loop.{HasRead, IsCutBefore, IsHeadOf, LeavesBehind, behind_head, head_end}
 use Rattle.capture_loop.specs.{capture_text}
 use Rattle.trace_loop.proofs.Stopping.{only_err}
 use Rattle.capture_loop.proofs.Closing.{never_read}

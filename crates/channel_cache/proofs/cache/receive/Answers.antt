@@ -1,6 +1,6 @@
 use Rattle.std.proofs.Common.{max, refl, ◌∙◌, ap}
-use Rattle.ext_seq.specs.{moved}
-use Rattle.ext_seq.specs.Numbers as numbers
+use Rattle.reckoning.specs.ext_seq.{moved}
+use Rattle.reckoning.specs.ext_seq.Numbers as numbers
 use Rattle.channel_cache.specs.{arrival_of}
 use Rattle.channel_cache.proofs.Stepping.{begins, reaches, restarts, in_step, UnlessTaken-map, only_kept, first_stands, near_stands, jump_stands, restart_stands, note_room}
 use Rattle.channel_cache.proofs.cache.receive.Goals as goal

@@ -1,6 +1,6 @@
 use Rattle.std.proofs.Common.{ℕ, List, ap, subst, ◌∙◌}
 use Rattle.std.specs.Io.KnownBytes.{prepend_known}
-use Rattle.sdp_config.specs.{sdp_at}
+use Rattle.description_loop.specs.sdp_config.{sdp_at}
 use Rattle.trace_loop.specs.{IfBothTold}
 use Rattle.description_loop.specs.declared.said.Head.{Head}
 use Rattle.description_loop.specs.{HasRead, said_by, settings_by}

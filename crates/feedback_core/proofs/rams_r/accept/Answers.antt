@@ -3,8 +3,8 @@ use Rattle.std.proofs.Common.{◌≡◌, ◌+◌, ◌≤◌, ◌<◌, Ok, sym, s
 use Rattle.std.proofs.lemmas.Bool.{both_ways, OnTrue_at, OnFalse_at}
 use Rattle.rams_model.specs.declared.channel.Channel.{Channel}
 use Rattle.rams_model.specs.Service.{begins}
-use Rattle.link_budget.specs.{HasRoom}
-use Rattle.link_budget.specs.Amounts.{Amounts}
+use Rattle.reckoning.specs.link_budget.{HasRoom}
+use Rattle.reckoning.specs.link_budget.Amounts.{Amounts}
 use Rattle.feedback_core.specs.{IsAnswered}
 use Rattle.feedback_core.proofs.Verdicts.{refused, begins_slow, begins_much, accepts}
 use Rattle.feedback_core.proofs.rams_r.accept.Goals as goal

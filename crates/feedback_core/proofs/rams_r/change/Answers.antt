@@ -3,8 +3,8 @@ use Rattle.std.proofs.Common.{◌+◌, ◌≤◌, ◌<◌, subst}
 use Rattle.std.proofs.lemmas.Bool.{both_ways, OnTrue_at}
 use Rattle.rams_model.specs.declared.channel.Channel.{Channel}
 use Rattle.rams_model.specs.Service.{changes}
-use Rattle.link_budget.specs.{HasRoom}
-use Rattle.link_budget.specs.Amounts.{Amounts}
+use Rattle.reckoning.specs.link_budget.{HasRoom}
+use Rattle.reckoning.specs.link_budget.Amounts.{Amounts}
 use Rattle.feedback_core.proofs.Verdicts.{refused, changes_slow, changes_much, updates}
 use Rattle.feedback_core.proofs.rams_r.change.Goals as goal
 

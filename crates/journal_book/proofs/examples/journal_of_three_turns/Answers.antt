@@ -9,7 +9,7 @@ use Rattle.rams_model.specs.Formats.{header, spelling, fields_of, packet_at, ram
 use Rattle.rams_model.specs.Packets.{hi, numbered, awaited, live_note, stream_of, source, consecutive_end, hold, has_access, chosen}
 use Rattle.rams_model.specs.Texts.{nothing_reached, note_line, send_line, notes_text, lines_of, whole_lines, words_of, head_in, kept_in, channel_in, live_in, feedback_in, line_text, accepted, judged}
 use Rattle.server_hub.specs.Served.{Served}
-use Rattle.trace_serving.specs.{Stage, goes_on, turn, text_from, stage_from, served_text}
+use Rattle.trace_book.specs.trace_serving.{Stage, goes_on, turn, text_from, stage_from, served_text}
 use Rattle.trace_book.specs.{run as run_serving}
 use Rattle.trace_book.specs.Worked.{head_text}
 use Rattle.journal_book.specs.{starting, nothing, line, turns_of, events_of_turns, event_line, journal_of, sent_for, replayed_from}

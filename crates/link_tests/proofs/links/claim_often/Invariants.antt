@@ -1,5 +1,5 @@
 use Rattle.std.proofs.Common.{◌≡◌, ◌*◌}
-use Rattle.link_pool.specs.{claimed}
+use Rattle.pool.specs.link_pool.{claimed}
 use Rattle.link_tests.proofs.links.claim_often.Given as goal
 
 abbrev pub invariant-loop-time : goal.invariant-loop-time

@@ -1,6 +1,6 @@
 use Rattle.std.proofs.Common.{◌≡◌, List, [], ◌∷◌, ◌++◌, All}
 use Rattle.std.proofs.lemmas.List.Elements.{All-push, All-same}
-use Rattle.link_pool.specs.{Claimer}
+use Rattle.pool.specs.link_pool.{Claimer}
 use Rattle.link_tests.proofs.links.one_more.Goals as goal
 
 pushed : {X : Type 0} (P : X → Type 0) (before after : List X) (x : X) → after ≡ before ++ x ∷ [] → All P before → P x → All P after

@@ -1,6 +1,6 @@
 use Rattle.std.proofs.Common.{◌≡◌, List, [], ◌∷◌, ◌++◌, All}
 use Rattle.std.proofs.lemmas.List.Elements.{All-push, All-same}
-use Rattle.channel_lock.specs.{Known}
+use Rattle.channel_book.specs.channel_lock.{Known}
 use Rattle.lock_tests.proofs.locks.one_more.Goals as goal
 
 pushed : {X : Type 0} (P : X → Type 0) (before after : List X) (x : X) → after ≡ before ++ x ∷ [] → All P before → P x → All P after

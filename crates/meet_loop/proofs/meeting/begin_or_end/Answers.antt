@@ -1,9 +1,9 @@
 use Rattle.std.proofs.Common.{Some, sym, subst}
-use Rattle.trace_serving.specs.{eventless}
+use Rattle.trace_book.specs.trace_serving.{eventless}
 use Rattle.trace_text.specs.declared.line.Line.{Line}
 use Rattle.trace_text.specs.{shown}
 use Rattle.trace_loop.specs.declared.turn.Turn.TheVariants.{GoesOn}
-use Rattle.world_book.specs.{meet}
+use Rattle.meet_loop.specs.world_book.{meet}
 use Rattle.meet_loop.specs.{Comes, Took}
 use Rattle.meet_loop.proofs.Opening.{head_bounds, head_turn}
 use Rattle.meet_loop.proofs.meeting.begin_or_end.Goals as goal

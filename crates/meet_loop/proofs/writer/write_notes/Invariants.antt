@@ -1,5 +1,5 @@
 use Rattle.std.proofs.Common.{◌++◌, length}
-use Rattle.world_text.specs.{notes_lines}
+use Rattle.meet_loop.specs.world_text.{notes_lines}
 use Rattle.trace_loop.proofs.Writing.{IsWriting}
 use Rattle.meet_loop.proofs.writer.write_notes.Given as goal
 

@@ -5,7 +5,7 @@ use Rattle.std.proofs.lemmas.Result.{IfOk-weaker}
 use Rattle.server_hub.specs.{after_event_of}
 use Rattle.server_hub.specs.declared.event.HubEvent.TheVariants.{Live, Feedback, Tick}
 use Rattle.trace_book.specs.{run}
-use Rattle.trace_serving.specs.{after_line, brought}
+use Rattle.trace_book.specs.trace_serving.{after_line, brought}
 use Rattle.trace_text.specs.declared.line.Line.{Line}
 use Rattle.trace_text.specs.{shown}
 use Rattle.pool_loop.specs.declared.dealing.Does.TheVariants.{GoesOn, Ends}

@@ -1,6 +1,6 @@
 use Rattle.std.proofs.Common.{◌∙◌, ◌<◌, ◌≤◌, length, refl, arith}
 use Rattle.std.proofs.lemmas.List.{length-set}
-use Rattle.answer_text.proofs.Fronts.{starts_on, starts_with_itself}
+use Rattle.book_text.proofs.answer_text.Fronts.{starts_on, starts_with_itself}
 use Rattle.pool_loop.specs.{all_left}
 use Rattle.pool_loop.proofs.Sides.{none_done, next_left, goes_on, all_done}
 use Rattle.pool_loop.proofs.walking.append_all.Goals as goal

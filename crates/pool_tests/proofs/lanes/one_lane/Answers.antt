@@ -1,8 +1,8 @@
 use Rattle.std.proofs.Common.{◌≡◌, List, [], ◌∷◌, ◌++◌, length, refl, sym, ap, ◌∙◌, subst}
 use Rattle.std.specs.Prelude.{All}
 use Rattle.std.proofs.lemmas.List.Elements.{All-from_recursion}
-use Rattle.pool_run.specs.declared.lane.Lane.{Lane}
-use Rattle.pool_run.specs.{IsFresh}
+use Rattle.pool.specs.declared.pool_run.lane.Lane.{Lane}
+use Rattle.pool.specs.pool_run.{IsFresh}
 use Rattle.pool_tests.proofs.lanes.one_lane.Goals as goal
 
 single : (none one : List Lane) (a : Lane) → none ≡ [] → one ≡ none ++ a ∷ [] → IsFresh a → All IsFresh one × (length one ≡ 1)

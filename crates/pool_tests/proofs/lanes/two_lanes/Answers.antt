@@ -1,8 +1,8 @@
 use Rattle.std.proofs.Common.{◌≡◌, List, [], ◌∷◌, ◌++◌, length, refl, sym, ap, ◌∙◌, subst}
 use Rattle.std.specs.Prelude.{All}
 use Rattle.std.proofs.lemmas.List.Elements.{All-from_recursion}
-use Rattle.pool_run.specs.declared.lane.Lane.{Lane}
-use Rattle.pool_run.specs.{IsFresh}
+use Rattle.pool.specs.declared.pool_run.lane.Lane.{Lane}
+use Rattle.pool.specs.pool_run.{IsFresh}
 use Rattle.pool_tests.proofs.lanes.two_lanes.Goals as goal
 
 two : (none one both : List Lane) (a b : Lane) → none ≡ [] → one ≡ none ++ a ∷ [] → both ≡ one ++ b ∷ [] → IsFresh a → IsFresh b → All IsFresh both × (length both ≡ 2)

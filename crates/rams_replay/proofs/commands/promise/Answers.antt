@@ -1,9 +1,9 @@
 use Rattle.std.specs.Prelude.{All}
-use Rattle.printed_books.specs.{PrintsItsBooks}
+use Rattle.trace_book.specs.printed_books.{PrintsItsBooks}
 use Rattle.trace_book.specs.{KeepsPromises, KeepsTheLink, served_by}
 use Rattle.trace_loop.proofs.Whole.{told_all}
 use Rattle.rams_replay.specs.{ComesPromised}
-use Rattle.world_book.specs.{ReceiversPresent, world_of}
+use Rattle.meet_loop.specs.world_book.{ReceiversPresent, world_of}
 use Rattle.rams_replay.proofs.commands.promise.Goals as goal
 
 pub returns-clause-printed : goal.returns-clause-printed

@@ -1,5 +1,5 @@
 use Rattle.std.proofs.Common.{sym, subst}
-use Rattle.world_book.specs.{meet}
+use Rattle.meet_loop.specs.world_book.{meet}
 use Rattle.rams_replay.specs.{Writes}
 use Rattle.rams_replay.proofs.Ending.{writes}
 use Rattle.rams_replay.proofs.commands.world_status.Goals as goal

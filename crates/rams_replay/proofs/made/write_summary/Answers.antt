@@ -1,6 +1,6 @@
 use Rattle.std.proofs.Common.{◌≡◌, ℕ, ◌+◌, length, ap, subst, ◌∙◌, arith}
 use Rattle.line_io.proofs.Passing.{Passes-none}
-use Rattle.summary.specs.{made_summary}
+use Rattle.generated.specs.summary.{made_summary}
 use Rattle.rams_replay.proofs.made.write_summary.Goals as goal
 
 pub returns-in_err-text-clause-front : goal.returns-in_err-text-clause-front

@@ -4,7 +4,7 @@ use Rattle.rams_model.specs.Texts.{answer_text}
 use Rattle.trace_loop.specs.declared.stop.Stop.{Stop}
 use Rattle.trace_loop.specs.{OnlyMemoryStops, StopsIn}
 use Rattle.trace_loop.proofs.Writing.{writing_has_room, writing_goes_on, writing_stops, writing_ends, writing_ends_steadily}
-use Rattle.answer_text.proofs.Notes.{notes_text-more, notes_text-step, notes_text-past}
+use Rattle.book_text.proofs.answer_text.Notes.{notes_text-more, notes_text-step, notes_text-past}
 use Rattle.rams_replay.proofs.writer.write_answer.Goals as goal
 
 pub returns-in_err-write_entry-clause-front : goal.returns-in_err-write_entry-clause-front

@@ -1,7 +1,7 @@
 use Rattle.std.proofs.Common.{◌++◌, drop}
 use Rattle.std.specs.Prelude.{All}
 use Rattle.rams_model.specs.Texts.{answer_text, notes_text}
-use Rattle.order_datagrams.specs.{Renders}
+use Rattle.book_text.specs.order_datagrams.{Renders}
 use Rattle.trace_loop.proofs.Writing.{IsWriting}
 use Rattle.rams_replay.proofs.writer.write_answer.Given as goal
 

@@ -2,7 +2,7 @@ use Rattle.std.proofs.Common.{◌++◌, ◌∷◌, arith, ap, ◌∙◌, sym, su
 use Rattle.std.specs.Prelude.{◌+◌, List, [], slice_set, is_ok, if◌then◌else◌}
 use Rattle.std.specs.Option.{option_to_list}
 use Rattle.std.specs.Vec.Iter.{into_iter_items}
-use Rattle.session_core.specs.{IsPlanOf}
+use Rattle.server_hub.specs.session_core.{IsPlanOf}
 use Rattle.server_hub.specs.declared.event.At.{At}
 use Rattle.server_hub.specs.{Pairwise}
 use Rattle.server_hub.proofs.Halfway.{Halfway, none_done, next, plan_left, answered, all_done}

@@ -1,7 +1,7 @@
 use Rattle.std.proofs.Common.{◌≤◌, length}
 use Rattle.std.specs.Vec.{vec_capacity}
 use Rattle.std.specs.Vec.Iter.{into_iter_items}
-use Rattle.session_core.specs.{IsPlanOf}
+use Rattle.server_hub.specs.session_core.{IsPlanOf}
 use Rattle.server_hub.proofs.Halfway.{Halfway}
 use Rattle.server_hub.proofs.ticks.commit_all.Given as goal
 

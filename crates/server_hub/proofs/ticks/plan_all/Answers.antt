@@ -1,6 +1,6 @@
 use Rattle.std.proofs.Common.{subst}
 use Rattle.std.proofs.lemmas.List.{take_more}
-use Rattle.session_core.specs.{IsPlanOf}
+use Rattle.server_hub.specs.session_core.{IsPlanOf}
 use Rattle.server_hub.proofs.Pairing.{pair_more}
 use Rattle.server_hub.proofs.ticks.plan_all.Goals as goal
 

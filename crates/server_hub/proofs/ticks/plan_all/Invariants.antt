@@ -1,5 +1,5 @@
 use Rattle.std.proofs.Common.{take}
-use Rattle.session_core.specs.{IsPlanOf}
+use Rattle.server_hub.specs.session_core.{IsPlanOf}
 use Rattle.server_hub.specs.{Pairwise}
 use Rattle.server_hub.proofs.ticks.plan_all.Given as goal
 

@@ -6,8 +6,8 @@ use Rattle.std.specs.Vec.Iter.{into_iter_items}
 use Rattle.std.proofs.lemmas.List.{map-append}
 use Rattle.std.proofs.lemmas.List.Elements.{All-same, All-cons}
 use Rattle.ram_io.specs.declared.failed.NoMemory.{NoMemory}
-use Rattle.channel_lock.specs.{Known}
-use Rattle.live_writer.specs.declared.writer.Placed.{Placed}
+use Rattle.channel_book.specs.channel_lock.{Known}
+use Rattle.session_worker.specs.declared.live_writer.writer.Placed.{Placed}
 use Rattle.session_worker.specs.declared.worker.Worker.{Worker}
 use Rattle.session_worker.specs.{queue_of, drawn_in, drawn_by}
 use Rattle.session_worker.proofs.Queues.{map_reversed}

@@ -7,7 +7,7 @@ use Rattle.std.proofs.lemmas.Result.{IfOk-weaker}
 use Rattle.rams_model.specs.declared.event.Event.{Event}
 use Rattle.channel_book.specs.declared.entry.Entry.{Entry}
 use Rattle.channel_book.specs.{calls_by, IsInterleaving, IsLegal, Kept}
-use Rattle.channel_lock.specs.{Known, IsOfPass, NotAmong}
+use Rattle.channel_book.specs.channel_lock.{Known, IsOfPass, NotAmong}
 use Rattle.rams_model.specs.Service.{Settings}
 use Rattle.session_worker.specs.{AreReady, answered_with, events_of, queue_of}
 use Rattle.session_worker.proofs.Passes.{fresh_count, ready_staff}

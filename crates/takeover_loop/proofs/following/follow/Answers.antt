@@ -3,7 +3,7 @@ use Rattle.std.proofs.lemmas.Result.{err_from_is_err_and}
 use Rattle.trace_loop.specs.declared.stop.Stop.{Stop}
 use Rattle.trace_loop.specs.declared.stop.Stop.TheVariants.{Memory}
 use Rattle.serve_loop.specs.{OnlyMemoryStops, StopsIn}
-use Rattle.standby_book.specs.{followed_text}
+use Rattle.standby.specs.standby_book.{followed_text}
 use Rattle.takeover_loop.specs.{FollowsWithin, HasFollowed, IsFollowing}
 use Rattle.takeover_loop.proofs.Pieces.{following_begins, if_false, if_true, read_stops, within_begins}
 use Rattle.takeover_loop.proofs.following.follow.Goals as goal

@@ -1,6 +1,6 @@
 use Rattle.std.proofs.Common.{◌≡◌, ℕ, ◌+◌, ◌≤◌, List, Some, false, length}
 use Rattle.standby.specs.{HasReadSome}
-use Rattle.standby_book.specs.{followed_text}
+use Rattle.standby.specs.standby_book.{followed_text}
 use Rattle.takeover_loop.specs.{FollowsWithin, IsFollowing}
 use Rattle.takeover_loop.proofs.following.follow.Given as goal
 

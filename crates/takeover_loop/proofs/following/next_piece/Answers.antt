@@ -4,7 +4,7 @@ use Rattle.line_io.specs.Passes.{Passes}
 use Rattle.trace_loop.specs.declared.stop.Stop.{Stop}
 use Rattle.serve_loop.specs.{StopsIn}
 use Rattle.serve_loop.proofs.Steps.{StopsIn-then, each_error}
-use Rattle.standby_book.specs.{followed_text}
+use Rattle.standby.specs.standby_book.{followed_text}
 use Rattle.takeover_loop.proofs.Pieces.{consumes_none, err_memory, followed_at_end, next_goes, next_room, none_waits, piece_stops, piece_text, read_cut, read_stops, room_at_end, room_parts}
 use Rattle.takeover_loop.proofs.following.next_piece.Goals as goal
 

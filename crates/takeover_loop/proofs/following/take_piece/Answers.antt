@@ -4,7 +4,7 @@ use Rattle.trace_loop.specs.declared.stop.Stop.{Stop}
 use Rattle.serve_loop.specs.{OnlyMemoryStops, StopsIn}
 use Rattle.standby.specs.{first_part}
 use Rattle.standby.proofs.Pieces.{first_some}
-use Rattle.standby_book.specs.{followed_text}
+use Rattle.standby.specs.standby_book.{followed_text}
 use Rattle.takeover_loop.specs.{IsReading}
 use Rattle.takeover_loop.proofs.Parts.{all_taken, none_of, none_taken, part_ends, part_fits, part_leaves, part_needs, part_next, part_over_room, part_stops, room_begins, room_ends, some_of}
 use Rattle.takeover_loop.proofs.Within.{some_is}

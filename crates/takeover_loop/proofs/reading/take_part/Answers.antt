@@ -5,7 +5,7 @@ use Rattle.serve_loop.specs.{OnlyMemoryStops, StopsIn}
 use Rattle.serve_loop.proofs.Steps.{each_error}
 use Rattle.standby.specs.{Seen, first_part}
 use Rattle.standby.proofs.Pieces.{first_is, first_some}
-use Rattle.standby_book.specs.{followed_text}
+use Rattle.standby.specs.standby_book.{followed_text}
 use Rattle.takeover_loop.specs.{IsReading}
 use Rattle.takeover_loop.proofs.Lines.{keep_room, on_none, on_stops, over_room, part_over, part_still, reading_none, reading_on}
 use Rattle.takeover_loop.proofs.Parts.{first_fits, first_taken, none_of, some_of}

@@ -1,6 +1,6 @@
 use Rattle.serve_loop.proofs.Closing.{ok_weaker}
 use Rattle.serve_loop.proofs.Steps.{each_error}
-use Rattle.standby_book.specs.{followed_text}
+use Rattle.standby.specs.standby_book.{followed_text}
 use Rattle.takeover_loop.proofs.Over.{lines_alone, lines_gone, ok_of, err_of, quiet_still, refused_all, refused_cause, refused_ends, refused_room, refused_stopped, served_ends, turns_room}
 use Rattle.takeover_loop.proofs.taking.go_on.Goals as goal
 

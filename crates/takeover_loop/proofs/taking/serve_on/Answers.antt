@@ -3,7 +3,7 @@ use Rattle.std.specs.Prelude.{nat_lt}
 use Rattle.ram_io.specs.{Outgoing}
 use Rattle.server_hub.specs.declared.event.HubEvent.{HubEvent}
 use Rattle.server_hub.specs.Seen.{Seen}
-use Rattle.trace_serving.specs.{Outcome}
+use Rattle.trace_book.specs.trace_serving.{Outcome}
 use Rattle.journal_book.specs.{event_lines, events_of, sent_for}
 use Rattle.serve_loop.specs.{HasRoom}
 use Rattle.serve_loop.proofs.Steps.{each_error}

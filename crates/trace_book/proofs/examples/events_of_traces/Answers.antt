@@ -6,7 +6,7 @@ use Rattle.rams_model.specs.Service.{checked, message_of, messages, heard_of, ar
 use Rattle.rams_model.specs.Formats.{header, spelling, fields_of, packet_at, rams_info, pieces_from, words32, word_numbers, numbers_of, first_value}
 use Rattle.rams_model.specs.Packets.{hi, numbered, awaited, live_note, stream_of, source, consecutive_end, hold, has_access, chosen}
 use Rattle.rams_model.specs.Texts.{note_line, send_line, notes_text, lines_of, words_of, head_in, kept_in, channel_in, live_in, feedback_in, accepted, judged}
-use Rattle.trace_serving.specs.{turn, text_from, served_text, stage_from}
+use Rattle.trace_book.specs.trace_serving.{turn, text_from, served_text, stage_from}
 use Rattle.trace_book.specs.Worked.{BothAnswerATick, NoSuchChannel, SecondVersion, SwellIsSpent}
 use Rattle.trace_book.proofs.examples.events_of_traces.Goals as goal
 

@@ -5,7 +5,7 @@ use Rattle.rams_model.specs.Texts.{Head}
 use Rattle.server_hub.specs.declared.event.HubEvent.{HubEvent}
 use Rattle.server_hub.specs.{FitLink, shares_of, all_shares, after_events}
 use Rattle.server_hub.specs.Served.{Served}
-use Rattle.trace_serving.specs.{last_stage, AreLawful, StandUnder, Stand}
+use Rattle.trace_book.specs.trace_serving.{last_stage, AreLawful, StandUnder, Stand}
 use Rattle.trace_book.specs.{run, served_by, settings_of, new_channels, came, StayWithinTheLink}
 use Rattle.trace_book.proofs.Served.{settings_over, all_are, served_after}
 use Rattle.trace_book.proofs.Links.{settings_new, swells_over}

@@ -1,5 +1,5 @@
 use Rattle.std.proofs.Common.{[], subst}
-use Rattle.ext_seq.specs.Numbers as numbers
+use Rattle.reckoning.specs.ext_seq.Numbers as numbers
 use Rattle.channel_cache.specs.{StandsFor}
 use Rattle.channel_cache.specs.Seen.{Seen}
 use Rattle.channel_cache.proofs.Shown.{new_stands, new_is}

@@ -1,7 +1,7 @@
 use Rattle.std.proofs.Common.{◌≡◌, max, List, ◌∙◌, ap, subst}
 use Rattle.rams_model.specs.declared.held.Held.{Held}
-use Rattle.reorder_window.specs.{start_of, Start, came, start_after}
-use Rattle.reorder_window.specs.Seen as windows
+use Rattle.channel_cache.specs.reorder_window.{start_of, Start, came, start_after}
+use Rattle.channel_cache.specs.reorder_window.Seen as windows
 use Rattle.channel_cache.specs.{arrival_of, Holds}
 use Rattle.channel_cache.proofs.Starting.{placed_brings, greatest_after}
 use Rattle.channel_cache.proofs.intake.Intake.continue_with.Goals as goal

@@ -1,7 +1,7 @@
 use Rattle.std.proofs.Common.{ℕ, ◌≤◌, ◌++◌, sym, ◌∙◌, ap, arith}
 use Rattle.rams_model.specs.declared.held.Held.{Held}
-use Rattle.reorder_window.specs.{without}
-use Rattle.reorder_window.specs.Seen as windows
+use Rattle.channel_cache.specs.reorder_window.{without}
+use Rattle.channel_cache.specs.reorder_window.Seen as windows
 use Rattle.channel_cache.specs.Stocked as stocks
 use Rattle.channel_cache.specs.{packets_of}
 use Rattle.rams_model.specs.Packets.{hi}

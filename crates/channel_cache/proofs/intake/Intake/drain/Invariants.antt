@@ -1,8 +1,8 @@
 use Rattle.std.proofs.Common.{◌≡◌, ℕ, List, ◌++◌, length}
 use Rattle.rams_model.specs.declared.held.Held.{Held}
-use Rattle.packet_ring.specs.Seen as rings
-use Rattle.reorder_window.specs.{Start}
-use Rattle.reorder_window.specs.Seen as windows
+use Rattle.channel_cache.specs.packet_ring.Seen as rings
+use Rattle.channel_cache.specs.reorder_window.{Start}
+use Rattle.channel_cache.specs.reorder_window.Seen as windows
 use Rattle.channel_cache.specs.{packets_of, IsIntake, Grows}
 use Rattle.channel_cache.proofs.Draining.{IsHolding}
 use Rattle.channel_cache.proofs.intake.Intake.drain.Given as goal

@@ -1,7 +1,7 @@
 use Rattle.std.proofs.Common.{length, ◌∙◌, ap, arith}
 use Rattle.rams_model.specs.declared.held.Held.{Held}
-use Rattle.reorder_window.specs.{released}
-use Rattle.reorder_window.specs.Seen as windows
+use Rattle.channel_cache.specs.reorder_window.{released}
+use Rattle.channel_cache.specs.reorder_window.Seen as windows
 use Rattle.channel_cache.proofs.Settling.{grows_then, window_grows}
 use Rattle.channel_cache.proofs.Placing.{ended_holds}
 use Rattle.channel_cache.proofs.intake.Intake.end_start.Goals as goal

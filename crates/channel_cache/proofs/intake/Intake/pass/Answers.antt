@@ -1,8 +1,8 @@
 use Rattle.std.proofs.Common.{◌≤◌, ◌++◌, ap, arith}
 use Rattle.rams_model.specs.declared.held.Held.{Held}
 use Rattle.rams_model.specs.Packets.{hi}
-use Rattle.reorder_window.specs.{released}
-use Rattle.reorder_window.specs.Seen as windows
+use Rattle.channel_cache.specs.reorder_window.{released}
+use Rattle.channel_cache.specs.reorder_window.Seen as windows
 use Rattle.channel_cache.specs.Stocked as stocks
 use Rattle.channel_cache.specs.{packets_of}
 use Rattle.channel_cache.proofs.Stocking.{pushed_end}

@@ -1,10 +1,10 @@
 use Rattle.std.proofs.Common.{◌≡◌, rules, sym, ◌∙◌, ap, arith}
 use denote.Enum.Bare.{same_true}
-use Rattle.reorder_window.specs.contracts.window.Came.{the_type}
-use Rattle.reorder_window.specs.declared.window.Came.TheVariants.{Kept}
+use Rattle.channel_cache.specs.contracts.reorder_window.window.Came.{the_type}
+use Rattle.channel_cache.specs.declared.reorder_window.window.Came.TheVariants.{Kept}
 use Rattle.rams_model.specs.declared.held.Held.{Held}
-use Rattle.reorder_window.specs.{released, arrived}
-use Rattle.reorder_window.specs.Seen as windows
+use Rattle.channel_cache.specs.reorder_window.{released, arrived}
+use Rattle.channel_cache.specs.reorder_window.Seen as windows
 use Rattle.channel_cache.proofs.Settling.{grows_then, window_grows}
 use Rattle.channel_cache.proofs.Placing.{kept_intake, kept_more}
 use Rattle.channel_cache.proofs.intake.Intake.place.Goals as goal

@@ -1,5 +1,5 @@
 use Rattle.std.proofs.Common.{◌==◌}
-use Rattle.packet_ring.specs.{packet_of}
+use Rattle.channel_cache.specs.packet_ring.{packet_of}
 use Rattle.channel_cache.proofs.Wholes.{found_whole, lent_whole}
 use Rattle.channel_cache.proofs.stock.Stock.get.Goals as goal
 

@@ -1,8 +1,8 @@
 use Rattle.std.proofs.Common.{◌≤◌, ◌==◌, List, refl, sym, ◌∙◌, ap, subst, arith}
 use Rattle.rams_model.specs.declared.held.Held.{Held}
 use Rattle.rams_model.specs.Packets.{hi, from_number}
-use Rattle.access_index.specs.{StandsFor}
-use Rattle.packet_ring.specs.Seen as rings
+use Rattle.channel_cache.specs.access_index.{StandsFor}
+use Rattle.channel_cache.specs.packet_ring.Seen as rings
 use Rattle.channel_cache.specs.Stocked.{Seen}
 use Rattle.channel_cache.specs.{AreWhole, AreAtLeast}
 use Rattle.channel_cache.proofs.Wholes.{AreWhole-with, least_with}

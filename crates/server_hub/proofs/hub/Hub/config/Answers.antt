@@ -1,5 +1,5 @@
 use Rattle.std.proofs.Common.{Some, sym, ap, ◌∙◌, subst, arith}
-use Rattle.session_core.specs.Seen as cores
+use Rattle.server_hub.specs.session_core.Seen as cores
 use Rattle.server_hub.specs.{StandsFor}
 use Rattle.server_hub.specs.Seen.{Seen}
 use Rattle.server_hub.proofs.Keeping.{place_within, none_is, none_found, found_settings, settings_served}

@@ -1,6 +1,0 @@
-use Rattle.book_laws.proofs.Moments.{legal_moment}
-use Rattle.book_laws.proofs.Stopping.{stops_as_named}
-use Rattle.book_laws.proofs.stops.a_stop_is_what_was_named.Goals as goal
-
-pub returns : goal.returns
-returns c s client stop packet before m = stops_as_named s client stop before (legal_moment s _ m).0

@@ -1,0 +1,9 @@
+//! The lines of an answer: those of its notes, and of the datagrams that they ask for.
+
+mod answer;
+mod asking;
+mod entry;
+
+pub use answer::{append_answer, append_answer_with};
+pub use asking::after;
+pub use entry::append_entry;

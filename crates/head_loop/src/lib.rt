@@ -1,9 +1,0 @@
-//! The head of a trace that a command goes on from, up to `end`: it opens channels, and what is left
-//! behind it is the command's. And what comes to the ports of these channels.
-#![tactic(auto)]
-
-mod head;
-mod ports;
-
-pub use head::{Head, HeadLine, Opened, read_head};
-pub use ports::{Addressed, event_at};

@@ -1,6 +1,0 @@
-use Rattle.std.proofs.Common.{◌≡◌, ◌++◌, take}
-use Rattle.ledger_text.specs.{claim_lines}
-use Rattle.ledger_text.proofs.lines.append_claims.Given as goal
-
-abbrev pub invariant-loop-claim : goal.invariant-loop-claim
-invariant-loop-claim l = l.text.items ≡ l.fn.text.items ++ claim_lines l.granted l.ids (take l.claim-index l.claims)

@@ -1,8 +1,0 @@
-use Rattle.order_datagrams.proofs.ReadPackets.{answer_renders, book_renders}
-use Rattle.order_datagrams.proofs.laws.orders_of_answers_render.Goals as goal
-
-pub returns-clause-answers : goal.returns-clause-answers
-returns-clause-answers c s events event = answer_renders s events event
-
-pub returns-clause-books : goal.returns-clause-books
-returns-clause-books c s e book l = book_renders s e book l

@@ -1,0 +1,50 @@
+-- Sums over views, and how often a number stands in a list.
+use Rattle.std.proofs.Common.{◌≡◌, ◌≢◌, ℕ, zero, suc, ◌+◌, ◌≤◌, List, [], ◌∷◌, ◌++◌, set, ap, sym, arith, refl}
+use Rattle.std.specs.Prelude.{sum_by}
+use Rattle.std.proofs.lemmas.List.Sums.{sum_by-cons}
+use mathlib.Core.Option.{some, some-injective, some-ne-none}
+use lib.ListN.{get_elem?}
+use Rattle.pool.specs.link_pool.Sharing.{total, times}
+
+module _ {A : Type 0} (f : A → ℕ) where
+  pub sum_total : (xs : List A) → sum_by f xs ≡ total f xs
+  sum_total [] = refl
+  sum_total (x ∷ xs) = omega (arith, sum_by-cons f x xs, sum_total xs)
+
+  -- one element becomes another
+  pub total_set : (xs : List A) (i : ℕ) (a b : A) → get_elem? xs i ≡ some a → total f (set xs i b) + f a ≡ total f xs + f b
+  total_set [] i a b at = absurd (some-ne-none a (sym at))
+  total_set (x ∷ xs) zero a b at = omega (arith, ap f (some-injective x a at))
+  total_set (x ∷ xs) (suc i) a b at = omega (arith, total_set xs i a b at)
+
+  pub total_snoc : (xs : List A) (b : A) → total f (xs ++ b ∷ []) ≡ total f xs + f b
+  total_snoc [] b = omega arith
+  total_snoc (x ∷ xs) b = omega (arith, total_snoc xs b)
+
+  pub term_le : (xs : List A) (i : ℕ) (a : A) → get_elem? xs i ≡ some a → f a ≤ total f xs
+  term_le [] i a at = absurd (some-ne-none a (sym at))
+  term_le (x ∷ xs) zero a at = omega (arith, ap f (some-injective x a at))
+  term_le (x ∷ xs) (suc i) a at = omega (arith, term_le xs i a at)
+
+  -- two that stand at different places
+  pub two_le : (xs : List A) (i j : ℕ) (a b : A) → i ≢ j → get_elem? xs i ≡ some a → get_elem? xs j ≡ some b → f a + f b ≤ total f xs
+  two_le [] i j a b apart at there = absurd (some-ne-none a (sym at))
+  two_le (x ∷ xs) zero zero a b apart at there = absurd (apart refl)
+  two_le (x ∷ xs) zero (suc j) a b apart at there = omega (arith, ap f (some-injective x a at), term_le xs j b there)
+  two_le (x ∷ xs) (suc i) zero a b apart at there = omega (arith, ap f (some-injective x b there), term_le xs i a at)
+  two_le (x ∷ xs) (suc i) (suc j) a b apart at there = omega (arith, two_le xs i j a b (λ e. apart (ap suc e)) at there)
+
+  pub all_zero : (xs : List A) → ((i : ℕ) (a : A) → get_elem? xs i ≡ some a → f a ≡ 0) → total f xs ≡ 0
+  all_zero [] none = refl
+  all_zero (x ∷ xs) none = omega (arith, none 0 x refl, all_zero xs (λ i a at. none (suc i) a at))
+
+  -- where all others count nothing
+  pub only_one : (xs : List A) (i : ℕ) (a : A) → get_elem? xs i ≡ some a → ((j : ℕ) (b : A) → j ≢ i → get_elem? xs j ≡ some b → f b ≡ 0) → total f xs ≡ f a
+  only_one [] i a at none = absurd (some-ne-none a (sym at))
+  only_one (x ∷ xs) zero a at none = omega (arith, ap f (some-injective x a at), all_zero xs (λ j b there. none (suc j) b (λ e. absurd (omega (arith, e))) there))
+  only_one (x ∷ xs) (suc i) a at none =
+      omega (arith, none 0 x (λ e. absurd (omega (arith, e))) refl, only_one xs i a at (λ j b apart there. none (suc j) b (λ e. apart (omega (arith, e))) there))
+
+pub times_append : (n : ℕ) (xs ys : List ℕ) → times n (xs ++ ys) ≡ times n xs + times n ys
+times_append n [] ys = omega arith
+times_append n (x ∷ xs) ys = omega (arith, times_append n xs ys)

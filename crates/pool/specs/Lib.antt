@@ -1,0 +1,3 @@
+pub mod link_pool
+pub mod pool_run
+pub mod ledger_text

@@ -1,3 +1,0 @@
-pub mod Printed
-unfoldable pub use Rattle.printed_books.specs.Printed.{comes_to, places, numbered_lines, own_event, heard_lines, unheard_line, own_lines, channels_at, BooksArePrinted, ABookAloneIsPrinted}
-pub use Rattle.printed_books.specs.Printed.{PrintsItsBooks}

@@ -1,7 +1,0 @@
-use Rattle.rams_model.specs.Receiver.{reception, shown, source_first}
-use Rattle.receiver_laws.proofs.Prefixes.{prefix}
-use Rattle.receiver_laws.proofs.Standing.{stands}
-use Rattle.receiver_laws.proofs.presenting.what_is_presented_is_a_prefix.Goals as goal
-
-pub returns : goal.returns
-returns c source turns rises fair = prefix source (source_first turns) (reception turns).play (shown turns) rises (stands source turns fair)

@@ -1,0 +1,3 @@
+pub mod Amounts
+unfoldable pub use Rattle.reckoning.specs.link_budget.Amounts.{amounts, HasRoom, Fits}
+pub use Rattle.reckoning.specs.link_budget.Amounts.{AreWithinShare}

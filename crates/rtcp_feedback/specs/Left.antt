@@ -1,7 +1,0 @@
--- Numbers that are still to come.
-use Rattle.std.specs.Prelude.{ℕ, List}
-use Rattle.rtcp_feedback.specs.declared.nack_iter.NackIter.{NackIter}
-use Rattle.rtcp_feedback.specs.Numbers.{numbers_from}
-
-abbrev pub numbers_left : NackIter → List ℕ
-numbers_left it = numbers_from it.pid it.blp it.bit it.words.now

@@ -1,5 +1,0 @@
-use Rattle.standby_book.proofs.TakingOver.{taken_over}
-use Rattle.standby_book.proofs.laws.journals_are_taken_over.Goals as goal
-
-pub returns : goal.returns
-returns c = λ bytes has. taken_over c.journals_grow.ensures c.journals_replay.ensures.replay bytes has

@@ -1,6 +1,0 @@
-use Rattle.std.proofs.Common.{◌≡◌, take}
-use Rattle.summary.specs.Counts.{counts_of}
-use Rattle.summary.proofs.counts.Counts.of.Given as goal
-
-abbrev pub invariant-loop-note : goal.invariant-loop-note
-invariant-loop-note l = l.counts ≡ counts_of (take l.note-index l.notes)

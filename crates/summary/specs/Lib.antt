@@ -1,9 +1,0 @@
-pub mod Counts
-pub mod Steps
-pub mod Text
-pub mod Worked
-unfoldable pub use Rattle.summary.specs.Counts.{took, accept, again, refuse, burst, repair, end, counts_of, size_of, bytes_of, tally_of}
-pub use Rattle.summary.specs.Counts.{Tallied}
-unfoldable pub use Rattle.summary.specs.Steps.{flag, with_note, sum_of, IsShort}
-pub use Rattle.summary.specs.Steps.{AreAtMost, IsTally}
-unfoldable pub use Rattle.summary.specs.Text.{count_line, head_line, count_lines, summary, answers_in, made_summary}

@@ -1,0 +1,5 @@
+//! What tests of several crates begin from.
+#![tactic(auto)]
+
+pub mod test_channel;
+pub mod test_words;

@@ -1,9 +1,0 @@
-//! Worked examples, which the checker computes.
-ghost use Rattle.world_book.specs.Worked.{AReceiverAsks, RefusedInAWorld, OneEventTooMany};
-
-/// Whole texts of small traces, and how traces end.
-pub fn texts_of_worlds()
-    ensures asks { AReceiverAsks }
-    ensures refused { RefusedInAWorld }
-    ensures events { OneEventTooMany }
-{}

@@ -1,8 +1,0 @@
-//! The text that `meet` writes for a trace, and what holds of the world that the trace is served by.
-//!
-//! A law is the contract of a function that does nothing, or calls laws that it follows from. Its
-//! words stand in `specs/`.
-#![tactic(auto)]
-
-pub mod examples;
-pub mod laws;
