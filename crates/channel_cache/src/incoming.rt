@@ -8,9 +8,9 @@ ghost use Rattle.channel_cache.specs.{arrival_of, IsBare, IsWhole};
 use crate::ts_access::has_access;
 use bytes::Bytes;
 use channel_config::{Access, Channel};
-use packets::rtp_record::Rtp;
 use ram_io::NoMemory;
 use rams_model::{Held, LiveNote, MOST_PACKET, RTX_OVERHEAD};
+use wire_packets::rtp_record::Rtp;
 
 /// A packet of the channel that has no number yet.
 #[derive(Drop)]

@@ -2,7 +2,7 @@
 use Rattle.std.proofs.Common.{refl, arith}
 use Rattle.std.proofs.lemmas.List.Elements.{All-from_recursion}
 use Rattle.rams_model.specs.Service.{hold, known, opened, bursts, open_burst, pending}
-use Rattle.laws.proofs.book_laws.Moments.{legal_moment}
+use Rattle.service_laws.proofs.book_laws.Moments.{legal_moment}
 use Rattle.channel_parts.specs.{KnownClientsRise, OpenedClientsRise, OpenedHaveBursts, KnownClientsAreFew, OnlyKnownClientsHaveBursts, OpenedAreTheKnownWithBursts, RepairsAreOfKnownClients, RepairsAreWithinLimits, IsWithinBounds, OpenBurstsAreWithinBounds, OpenBurstsHaveATickLeft, KnownClientsAreIdleForLess, ReservedLeavesTheReserve, EachBurstIsReserved, AcceptsReserve, UpdatesReserve, EndsRelease, OtherNotesReserveNothing, EventsReserveNothing, MessagesReserveNothing, LeftIsWithinShareAndSwell, TheEndOfTheHeldNeverFalls, HeldNumbersAreSmall, ReadPacketsHaveLowNumbers, SequencesHave16Bits}
 use Rattle.channel_parts.proofs.Ordered.{sorted, known_rise, opened_rise}
 use Rattle.channel_parts.proofs.Waiting.{known_few, pending_within}
@@ -12,7 +12,7 @@ use Rattle.rams_model.proofs.OpenBurst.{holds_of}
 use Rattle.rams_model.proofs.LastAccept.{opened_open}
 use Rattle.channel_parts.proofs.Bounding.{bounded}
 use Rattle.channel_parts.proofs.Lasting.{ticks_left}
-use Rattle.laws.proofs.tick_laws.Idling.{idle_less}
+use Rattle.service_laws.proofs.tick_laws.Idling.{idle_less}
 use Rattle.channel_parts.proofs.Reserving.{accept_reserves, update_reserves, end_releases, note_reserves_nothing, event_reserves_nothing, burst_reserved, leaves_reserve, left_within}
 use Rattle.channel_parts.proofs.Numbers.{hi_never_falls}
 use Rattle.channel_parts.proofs.Small.{held_small, reads_low}

@@ -18,7 +18,7 @@ use Rattle.rams_model.proofs.Holding.{held_follow}
 use Rattle.client_table.specs.declared.entry.Burst.{Burst}
 use Rattle.client_table.specs.declared.entry.Entry.{Entry}
 use Rattle.client_table.specs.{clients_of}
-use Rattle.laws.specs.book_laws.{IsMoment}
+use Rattle.service_laws.specs.book_laws.{IsMoment}
 use Rattle.rams_model.proofs.Legality.{legal_history}
 use Rattle.channel_parts.specs.declared.parts.Parts.{Parts}
 use Rattle.channel_parts.specs.{IsWithinBounds, burst_kept, IsEntry, IsTable, StandsFor, IsBurstInBounds, amount_of, HeldPacketsAreInOrder, KnownClientsHaveEntries, EntriesAreOfTheirClients, EntriesAreInBounds, ReservedIsOfTheEntries}
@@ -27,7 +27,7 @@ use Rattle.channel_parts.proofs.Opening.{none_of, opened_filter}
 use Rattle.rams_model.proofs.OpenBurst.{holds_of}
 use Rattle.channel_parts.proofs.Bounding.{bounded}
 use Rattle.channel_parts.proofs.Lasting.{ticks_left}
-use Rattle.laws.proofs.tick_laws.Idling.{idle_less}
+use Rattle.service_laws.proofs.tick_laws.Idling.{idle_less}
 use Rattle.channel_parts.proofs.Tables.{at_is, has_entry, entry_among}
 
 -- the history of some events is a moment

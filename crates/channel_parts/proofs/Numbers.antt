@@ -2,7 +2,7 @@
 use Rattle.std.proofs.Common.{◌≤◌, [], ◌∷◌, ◌++◌, arith, le_refl}
 use Rattle.rams_model.specs.Service.{Settings, live, Item, began, told, noted, History, arrivals, hold}
 use Rattle.rams_model.specs.Packets.{hi}
-use Rattle.laws.proofs.book_laws.HeldPackets.{hi_grows}
+use Rattle.service_laws.proofs.book_laws.HeldPackets.{hi_grows}
 
 pub hi_rises : (s : Settings) (i : Item) (history : History) → hi (hold s history) ≤ hi (hold s (i ∷ history))
 unfolding arrivals

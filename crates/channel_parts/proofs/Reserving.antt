@@ -10,9 +10,9 @@ use Rattle.rams_model.specs.declared.note.Note.TheVariants as note
 use Rattle.rams_model.specs.Service.{Settings, Heard, tick, began, told, noted, History, opened, is_among, placed, with_client, without, Burst, after_note, newest_changed, size_of, bursts, in_tick, if_open, newest_open, open_burst, most_of, reserved, channel_left}
 use Rattle.rams_model.proofs.Legal.{IsLegal}
 use Rattle.rams_model.proofs.ListFacts.{apart}
-use Rattle.laws.proofs.book_laws.Sums.{sum_placed, one_changed, part_of_sum}
-use Rattle.laws.proofs.book_laws.BurstAmounts.{open_among, closed_among, most_begun, most_changed, of_others}
-use Rattle.laws.proofs.book_laws.Reserved.{times-opened, fits}
+use Rattle.service_laws.proofs.book_laws.Sums.{sum_placed, one_changed, part_of_sum}
+use Rattle.service_laws.proofs.book_laws.BurstAmounts.{open_among, closed_among, most_begun, most_changed, of_others}
+use Rattle.service_laws.proofs.book_laws.Reserved.{times-opened, fits}
 use Rattle.channel_parts.specs.{is_of_reserved}
 use Rattle.channel_parts.proofs.Ordered.{Rise, opened_rise, not_below}
 

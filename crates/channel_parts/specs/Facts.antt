@@ -12,7 +12,7 @@ use Rattle.rams_model.specs.Packets.{hi, Arrival}
 use Rattle.channel_config.specs.{IsLawful}
 use Rattle.repair_queue.specs.{IsWithinLimits}
 use Rattle.channel_cache.specs.{arrivals_after}
-use Rattle.laws.specs.book_laws.{IsMoment}
+use Rattle.service_laws.specs.book_laws.{IsMoment}
 
 -- The known clients stand by rising number, each once.
 abbrev pub KnownClientsRise : Type 0

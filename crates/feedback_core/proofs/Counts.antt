@@ -16,7 +16,7 @@ use Rattle.rams_model.specs.declared.note.Cause.{Cause}
 use Rattle.rams_model.specs.Service.{Message, named, message_of, with_one_rams, info_order}
 use Rattle.rams_model.specs.Service.Messages.{bye, nack, asks, stops}
 use Rattle.rams_model.specs.Formats.{Framed, counted_from, word_numbers, numbers_of, nack_numbers}
-use Rattle.packets.proofs.rtcp_feedback.NumberSteps.{all_numbers, word_ends}
+use Rattle.wire_packets.proofs.rtcp_feedback.NumberSteps.{all_numbers, word_ends}
 use Rattle.feedback_core.specs.declared.said.Said.{Said}
 use Rattle.feedback_core.specs.{most_of_message, most_of_found, most_notes, most_orders, orders_of, orders_of_found, answered_of, end_notes, said_notes}
 

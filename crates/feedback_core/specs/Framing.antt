@@ -4,7 +4,7 @@ use Rattle.rams_model.specs.Formats.TransportFeedback as model
 use Rattle.rams_model.specs.Formats.{request_at, stop_at, Framed}
 use Rattle.rams_model.specs.Service.Messages as messages
 use Rattle.rams_model.specs.Service.{named, is_rams, message_of, with_one_rams}
-use Rattle.packets.specs.rtcp_frame.{shown_packet}
+use Rattle.wire_packets.specs.rtcp_frame.{shown_packet}
 use Rattle.feedback_core.specs.declared.framing.Message.{Message}
 use Rattle.feedback_core.specs.declared.framing.Message.TheVariants.{Bye, Nack, Request, Stop}
 

@@ -1,7 +1,7 @@
 //! The answers to the messages of a datagram, in their order.
 ghost use Rattle.std.specs.Prelude.{◌≡◌, ◌+◌, ◌≤◌, true, None, max, length, ◌∷◌, false};
 ghost use Rattle.rams_model.specs.Service.{after_message, after_messages, told, noted, is_rams, message_of as model_message, verdict};
-ghost use Rattle.packets.specs.rtcp_frame.{packets_left, shown_packet};
+ghost use Rattle.wire_packets.specs.rtcp_frame.{packets_left, shown_packet};
 ghost use Rattle.feedback_core.specs.{most_of, most_of_message, most_notes, orders_of, most_orders, told_by, shown_message, turn_of, due_after, answered_of, IsFresh, IsPage, IsTurned, AreOfOne, IsSameDesk, IsReadyDesk, HoldsOn, IsHeardOn, IsSaid, Serves};
 ghost use Rattle.rams_model.specs.Formats.{request_at};
 
@@ -13,7 +13,7 @@ use crate::rams_i::request_info;
 use crate::rams_r::answer_request;
 use crate::rams_t::answer_stop;
 use crate::said::Said;
-use packets::rtcp_frame::{Packet, Packets};
+use wire_packets::rtcp_frame::{Packet, Packets};
 
 /// Answers the messages of these packets, for whose notes there is room.
 pub(crate) fn answer_packets(desk: &mut Desk<'_>, packets: Packets<'_>)

@@ -1,13 +1,13 @@
 //! The answer to a BYE (RFC 3550, 6.6).
 ghost use Rattle.std.specs.Prelude.{◌≡◌, None};
 ghost use Rattle.rams_model.specs.Service.{after_bye};
-ghost use Rattle.packets.specs.rtcp_frame.{shown_packet};
+ghost use Rattle.wire_packets.specs.rtcp_frame.{shown_packet};
 ghost use Rattle.feedback_core.specs.{IsReadyDesk, IsSameDesk, IsAny, IsSaid, Serves};
 
 use crate::desk::Desk;
 use crate::said::Said;
-use packets::rtcp_frame::{Packet, bye_names};
 use rams_model::{Cause, Note};
+use wire_packets::rtcp_frame::{Packet, bye_names};
 
 /// A known client leaves, where the BYE names its SSRC: its open burst ends and its pending repairs are
 /// forgotten.

@@ -2,11 +2,11 @@
 ghost use Rattle.std.specs.Prelude.{◌≡◌, ◌+◌, ◌≤◌, ◌<◌, ◌^◌, max, length};
 ghost use Rattle.rams_model.specs.Formats.{nack_numbers};
 ghost use Rattle.rams_model.specs.Service.{named};
-ghost use Rattle.packets.specs.rtcp_frame.{packets_left};
+ghost use Rattle.wire_packets.specs.rtcp_frame.{packets_left};
 ghost use Rattle.feedback_core.specs.{shown_message, most_of_message, orders_of_message, most_notes, most_orders, most_notes_in, most_orders_in};
 
 use crate::framing::{Message, message_of};
-use packets::rtcp_frame::{Packets, packets};
+use wire_packets::rtcp_frame::{Packets, packets};
 
 /// How much an answer has at most.
 #[derive(Clone, Copy)]

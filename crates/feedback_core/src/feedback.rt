@@ -4,7 +4,7 @@ ghost use Rattle.rams_model.specs.declared.event.Event.{Event};
 ghost use Rattle.rams_model.specs.declared.event.Event.TheVariants.{Feedback};
 ghost use Rattle.rams_model.specs.Service.{answer};
 ghost use Rattle.rams_model.specs.Formats.{framed};
-ghost use Rattle.packets.specs.rtcp_frame.{packets_left};
+ghost use Rattle.wire_packets.specs.rtcp_frame.{packets_left};
 ghost use Rattle.channel_parts.specs.{StandsFor};
 ghost use Rattle.feedback_core.specs.{most_notes, most_orders, most_notes_in, most_orders_in, most_notes_for, woken, has_place, with_place, TellsAlone};
 ghost use Rattle.client_table.specs.{entry_of};
@@ -16,10 +16,10 @@ use crate::page::Page;
 use crate::placing::{keep, make_place, wake};
 use crate::visitor::Visitor;
 use channel_parts::Parts;
-use packets::rtcp_frame::{Packets, packets};
 use ram_io::NoMemory;
 use rams_model::{Answer, Note};
 use std::alloc::Global;
+use wire_packets::rtcp_frame::{Packets, packets};
 
 /// The longest datagram whose notes there can be memory for, in bytes.
 const LONGEST_DATAGRAM: usize = 1 << 56;

@@ -1,13 +1,13 @@
 //! Which packets of a datagram are messages that are answered.
 ghost use Rattle.std.specs.Prelude.{◌≡◌, option_map};
 ghost use Rattle.rams_model.specs.Service.{is_rams, message_of, feedback_message, rams_message};
-ghost use Rattle.packets.specs.rtcp_feedback.{shown_feedback};
-ghost use Rattle.packets.specs.rtcp_frame.{shown_packet};
+ghost use Rattle.wire_packets.specs.rtcp_feedback.{shown_feedback};
+ghost use Rattle.wire_packets.specs.rtcp_frame.{shown_packet};
 ghost use Rattle.feedback_core.specs.{shown_message};
 
-use packets::rtcp_feedback::{Feedback, feedback};
-use packets::rtcp_frame::Packet;
 use rams_model::{BYE, FMT_NACK, FMT_RAMS, SFMT_RAMS_R, SFMT_RAMS_T};
+use wire_packets::rtcp_feedback::{Feedback, feedback};
+use wire_packets::rtcp_frame::Packet;
 
 /// A message that is answered.
 #[derive(Clone, Copy)]

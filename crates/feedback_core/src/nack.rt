@@ -3,14 +3,14 @@ ghost use Rattle.std.specs.Prelude.{◌≡◌, ◌+◌, ◌≤◌, length};
 ghost use Rattle.rams_model.specs.Service.{room, number_answer, after_numbers, after_nack, named};
 ghost use Rattle.rams_model.specs.Packets.{lo, hi};
 ghost use Rattle.rams_model.specs.Formats.{nack_numbers};
-ghost use Rattle.packets.specs.rtcp_feedback.{numbers_left};
+ghost use Rattle.wire_packets.specs.rtcp_feedback.{numbers_left};
 ghost use Rattle.feedback_core.specs.{most_of_nack, IsReadyDesk, IsSameDesk, IsAnswered, IsHeardOn, AreNoted, Serves};
 
 use crate::desk::Desk;
-use packets::rtcp_feedback::{Feedback, NackIter, nack_numbers};
 use rams_model::Note;
 use reckoning::ext_seq::resolve_in;
 use repair_queue::Asked;
+use wire_packets::rtcp_feedback::{Feedback, NackIter, nack_numbers};
 
 /// Answers a NACK: one about another media source as a whole, else each number that it names, in their
 /// order.

@@ -3,7 +3,7 @@ ghost use Rattle.std.specs.Prelude.{◌≡◌, ℕ, ◌<◌, ◌^◌, IsSome, So
 ghost use Rattle.rams_model.specs.declared.held.Held.{Held};
 ghost use Rattle.rams_model.specs.Formats.{request_at};
 ghost use Rattle.rams_model.specs.Packets.{behind as behind_of};
-ghost use Rattle.packets.specs.rams_tlv.{shown_request};
+ghost use Rattle.wire_packets.specs.rams_tlv.{shown_request};
 ghost use Rattle.feedback_core.specs.{open_of, begun_burst, IsReadyDesk, AreOfOne, IsAnswered, IsHeard, IsHeardOn, HasBurstOn, Serves, rate_for};
 ghost use Rattle.rams_model.specs.declared.note.Note.TheVariants.{Refuse};
 ghost use Rattle.rams_model.specs.Service.Verdict as verdicts;
@@ -20,9 +20,9 @@ use channel_parts::response::{
     OTHER_SOURCE, TOO_MANY_CLIENTS, UNREADABLE_REQUEST,
 };
 use client_table::{Burst, Entry, Info};
-use packets::rams_tlv::{Request, names, read_request};
 use rams_model::{MOST_ON_WIRE, Note};
 use reckoning::burst_plan::{join_ticks, rate_of};
+use wire_packets::rams_tlv::{Request, names, read_request};
 
 /// The largest wire size of a packet, in bytes.
 const MOST_WIRE: u64 = MOST_ON_WIRE as u64;

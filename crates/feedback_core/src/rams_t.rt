@@ -8,9 +8,9 @@ use crate::desk::Desk;
 use crate::said::Said;
 use channel_parts::response::{UNREADABLE_STOP, end_info, refuse_info};
 use client_table::{Burst, Entry};
-use packets::rams_tlv::read_stop;
 use rams_model::{Cause, Note};
 use reckoning::burst_plan::stop_of;
+use wire_packets::rams_tlv::read_stop;
 
 /// Answers the termination that is read from this feedback control information.
 pub(crate) fn answer_stop(desk: &mut Desk<'_>, fci: &[u8]) -> Said

@@ -1,11 +1,11 @@
 //! Feedback messages and generic NACKs, byte for byte (RFC 4585, 6.1 and 6.2.1).
 use crate::fixtures::{CLIENT, MEDIA, Reading, holds, is_twice};
-use packets::rtcp_feedback::{Feedback, append_nack, feedback, nack_numbers, write_nack};
-use packets::rtcp_frame::Packet;
 use std::alloc::{AllocError, Global};
 use std::fmt::Write;
 use std::test::Fail;
 use test_fixtures::test_words::{Words, bytes_of};
+use wire_packets::rtcp_feedback::{Feedback, append_nack, feedback, nack_numbers, write_nack};
+use wire_packets::rtcp_frame::Packet;
 
 /// The numbers of feedback control information, or the fault.
 pub fn numbers(alloc: Global, fci: &[u8]) -> Result<String, Fail> {

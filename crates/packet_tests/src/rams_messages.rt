@@ -1,13 +1,13 @@
 //! RAMS messages, byte for byte, and each fault at its edge (RFC 6285, 7).
 use crate::fixtures::{CLIENT, MEDIA, fci_of, holds, is_twice, same};
-use packets::rams_tlv::{
-    Info, Request, Stop, TlvFault, append_info, append_request, append_stop, names, read_info,
-    read_request, read_stop, write_info, write_request, write_stop,
-};
 use std::alloc::Global;
 use std::process::Abort;
 use std::test::Fail;
 use test_fixtures::test_words::{Words, bytes_of};
+use wire_packets::rams_tlv::{
+    Info, Request, Stop, TlvFault, append_info, append_request, append_stop, names, read_info,
+    read_request, read_stop, write_info, write_request, write_stop,
+};
 
 const SENDER: u32 = 0xaabb_ccdd;
 

@@ -1,10 +1,12 @@
 //! Worked retransmissions, and what is restored of them (RFC 4588, 4).
 use crate::fixtures::{Reading, holds, is_twice};
-use packets::rtx_payload::{Rtp, append_rtx, restore, restoring_gives_the_original, write_rtx};
 use std::alloc::Global;
 use std::process::Abort;
 use std::test::Fail;
 use test_fixtures::test_words::{Words, bytes_of};
+use wire_packets::rtx_payload::{
+    Rtp, append_rtx, restore, restoring_gives_the_original, write_rtx,
+};
 
 /// Packets, and their retransmissions under payload type 99 and sequence number 500.
 const ROWS: &[(&str, Words, Words)] = &[

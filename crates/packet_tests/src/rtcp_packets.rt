@@ -1,12 +1,12 @@
 //! Datagrams of RTCP packets, byte for byte, and each fault at its edge (RFC 3550, 6).
 use crate::fixtures::{CLIENT, Reading, same};
-use packets::rtcp_frame::{
-    Packet, append_bye, append_rr, append_sdes, bye_names, packets, write_bye, write_rr, write_sdes,
-};
 use std::alloc::{AllocError, Global};
 use std::fmt::Write;
 use std::test::Fail;
 use test_fixtures::test_words::{Words, bytes_of};
+use wire_packets::rtcp_frame::{
+    Packet, append_bye, append_rr, append_sdes, bye_names, packets, write_bye, write_rr, write_sdes,
+};
 
 /// What a receiver writes in front of its feedback, and its goodbye.
 const COMPOUND: Words = &[

@@ -1,10 +1,10 @@
 //! A packet with every part, and each fault at its edge (RFC 3550, 5.1).
 use crate::fixtures::{Reading, holds, is_twice, same};
-use packets::rtp_record::{Rtp, RtpFields, append_rtp, append_rtp_behind, write_rtp};
 use std::alloc::{AllocError, Global};
 use std::fmt::Write;
 use std::test::Fail;
 use test_fixtures::test_words::{Words, bytes_of};
+use wire_packets::rtp_record::{Rtp, RtpFields, append_rtp, append_rtp_behind, write_rtp};
 
 const PADDED: Words = &[
     "b2a1000a", // v=2, p=1, x=1, count=2, m=1, type 33, sequence number 10

@@ -8,7 +8,7 @@ use Rattle.rams_model.specs.declared.event.Event.{Event}
 use Rattle.rams_model.specs.declared.event.Event.TheVariants as event
 use Rattle.rams_model.specs.Service.{Settings, Answered, answer, book}
 use Rattle.rams_model.proofs.OneBook.{is_lawful}
-use Rattle.laws.specs.book_laws.{notes_in, orders_in, note_sends, order_sends, EachSendingIsOrderedOnce}
+use Rattle.service_laws.specs.book_laws.{notes_in, orders_in, note_sends, order_sends, EachSendingIsOrderedOnce}
 use Rattle.channel_book.specs.declared.entry.Entry.{Entry}
 use Rattle.channel_book.specs.{Kept, LegalFrom, IsLegal, events_behind}
 use Rattle.book_text.specs.order_datagrams.{Renders, EachOrderOfAnAnswerRenders}

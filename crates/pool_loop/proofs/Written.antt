@@ -9,7 +9,7 @@ use Rattle.line_io.specs.Passes.{Passes}
 use Rattle.rams_model.specs.declared.status.Status.{Status}
 use Rattle.rams_model.specs.declared.status.Status.TheVariants.{Done}
 use Rattle.rams_model.specs.Service.{Settings}
-use Rattle.laws.specs.book_laws.{EachSendingIsOrderedOnce}
+use Rattle.service_laws.specs.book_laws.{EachSendingIsOrderedOnce}
 use Rattle.channel_book.specs.{Kept}
 use Rattle.server_hub.specs.{Pairwise, id_of, ids_of, events_of, ticks_among}
 use Rattle.server_hub.specs.Served.{Served}

@@ -5,7 +5,7 @@ use Rattle.line_io.specs.Passes.{Passes}
 use Rattle.rams_model.specs.declared.status.Status.{Status}
 use Rattle.rams_model.specs.declared.status.Status.TheVariants.{Done}
 use Rattle.rams_model.specs.Service.{book}
-use Rattle.laws.specs.book_laws.{notes_in, orders_in, note_sends, order_sends}
+use Rattle.service_laws.specs.book_laws.{notes_in, orders_in, note_sends, order_sends}
 use Rattle.server_hub.specs.{id_of, ticks_among}
 use Rattle.server_hub.specs.Served.{Served}
 use Rattle.trace_book.specs.trace_serving.{served_text}

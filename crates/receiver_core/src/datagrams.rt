@@ -4,12 +4,12 @@ ghost use Rattle.std.specs.Prelude.{◌≡◌, ◌++◌, ◌<◌, ◌≤◌, len
 ghost use Rattle.rams_model.specs.Formats.{rr_packet, sdes_packet, nack_packet};
 ghost use Rattle.rams_model.specs.Receiver.{compound, request_datagram, join_datagram, bye_datagram};
 
-use packets::rams_tlv::{Request, append_request, append_stop};
-use packets::rtcp_feedback::append_nack;
-use packets::rtcp_frame::{append_bye, append_rr, append_sdes};
 use ram_io::NoMemory;
 use rams_model::{Stop, Tuned};
 use std::alloc::Global;
+use wire_packets::rams_tlv::{Request, append_request, append_stop};
+use wire_packets::rtcp_feedback::append_nack;
+use wire_packets::rtcp_frame::{append_bye, append_rr, append_sdes};
 
 /// A RAMS-R with an empty list of media sources: it asks for all that the channel has (RFC 6285,
 /// 7.2).

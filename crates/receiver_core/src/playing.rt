@@ -9,10 +9,10 @@ use crate::numbers::first_number;
 use crate::shown::Shown;
 use crate::window::Window;
 use bytes::Bytes;
-use packets::rtp_record::Rtp;
 use ram_io::NoMemory;
 use rams_model::{MediaCame, Tuned};
 use std::alloc::Global;
+use wire_packets::rtp_record::Rtp;
 
 /// A retransmission with this sequence number came, of the packet with these low 16 bits. It may fix
 /// the first number, and arrives then as any other. After want of memory all is as before.

@@ -3,19 +3,19 @@ ghost use Rattle.std.specs.Prelude.{◌≡◌, ℕ, ◌<◌, ◌≤◌, length, 
 ghost use Rattle.rams_model.specs.Receiver.{again, brought_again, brought_by_multicast, told_by, first_info, if_info, is_of, tells_of_burst, info_about};
 ghost use Rattle.rams_model.specs.Formats.{original_number, spelling, original, packet_at, feedback_of};
 ghost use Rattle.rams_model.specs.Service.{sent_again};
-ghost use Rattle.packets.specs.rtcp_frame.{packets_left, shown_packet};
-ghost use Rattle.packets.specs.rtcp_feedback.{shown_feedback};
+ghost use Rattle.wire_packets.specs.rtcp_frame.{packets_left, shown_packet};
+ghost use Rattle.wire_packets.specs.rtcp_feedback.{shown_feedback};
 ghost use Rattle.receiver_core.specs.{as_again, as_multicast, as_told};
 
 use bytes::Bytes;
-use packets::rams_tlv::read_info;
-use packets::rtcp_feedback::{Feedback, feedback};
-use packets::rtcp_frame::{Packet, Packets, packets};
-use packets::rtp_record::Rtp;
-use packets::rtx_payload::{append_rtx, restore};
 use ram_io::NoMemory;
 use rams_model::{FMT_RAMS, Info, InfoCame, MediaCame, SFMT_RAMS_I, Tuned};
 use std::alloc::Global;
+use wire_packets::rams_tlv::read_info;
+use wire_packets::rtcp_feedback::{Feedback, feedback};
+use wire_packets::rtcp_frame::{Packet, Packets, packets};
+use wire_packets::rtp_record::Rtp;
+use wire_packets::rtx_payload::{append_rtx, restore};
 
 // The response code of a burst that begins.
 pub(crate) const BURST_BEGINS: u16 = 200;

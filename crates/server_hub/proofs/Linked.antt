@@ -15,8 +15,8 @@ use Rattle.rams_model.specs.Laws.{NoneIs, is_event, is_sending, sizes_sent, tick
 use Rattle.rams_model.proofs.Legal.{is_tick, IsLegal}
 use Rattle.rams_model.proofs.Legality.{legal_history}
 use Rattle.rams_model.proofs.Adding.{adds_hearing}
-use Rattle.laws.proofs.book_laws.Windows.{channel_within}
-use Rattle.laws.proofs.book_laws.InTicks.{only_ticks}
+use Rattle.service_laws.proofs.book_laws.Windows.{channel_within}
+use Rattle.service_laws.proofs.book_laws.InTicks.{only_ticks}
 use Rattle.server_hub.specs.declared.event.At.{At}
 use Rattle.server_hub.specs.{id_of, with_event, answer_to, after_event_of, answer_at, answers_to_tick, after_tick, told_of, size_of, bytes_of, bytes_of_all, kept, all_kept, all_shares, answers_said}
 use Rattle.server_hub.specs.Served.{Served}

@@ -9,7 +9,7 @@ use Rattle.rams_model.specs.declared.note.Note.TheVariants.{Burst as BurstNote, 
 use Rattle.rams_model.specs.Service.{Settings, noted, History, hold, known, is_among, without, sendings, sequence, ssrc, next, after_note, newest_open, size_of, bursts, open_burst, is_busy, idle, reserved, channel_left}
 use Rattle.rams_model.specs.Packets.{hi, following}
 use Rattle.rams_model.specs.Service.Bursts as model
-use Rattle.laws.specs.book_laws.{IsMoment}
+use Rattle.service_laws.specs.book_laws.{IsMoment}
 use Rattle.channel_config.specs.{IsLawful}
 use Rattle.reckoning.specs.link_budget.{amounts}
 use Rattle.reckoning.specs.link_budget.Amounts.{Amounts}

@@ -3,7 +3,7 @@ use Rattle.std.proofs.Common.{◌≡◌, ◌⊎◌, inl, inr, ⊎_elim, List, []
 use Rattle.rams_model.specs.declared.held.Held.{Held}
 use Rattle.rams_model.specs.declared.note.Note.{Note}
 use Rattle.rams_model.specs.Service.{Item, began, told, noted, History}
-use Rattle.laws.specs.book_laws.{IsMoment, notes_of}
+use Rattle.service_laws.specs.book_laws.{IsMoment, notes_of}
 use Rattle.server_hub.specs.Served.{Served}
 use Rattle.trace_book.specs.{WasSo}
 

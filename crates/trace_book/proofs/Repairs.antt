@@ -4,8 +4,8 @@ use Rattle.std.specs.Prelude.{Contains, IsSomeAnd}
 use Rattle.rams_model.specs.declared.held.Held.{Held}
 use Rattle.rams_model.specs.declared.note.Note.TheVariants.{Repair}
 use Rattle.rams_model.specs.Service.{Settings, noted, History, hold, wanted, pending}
-use Rattle.laws.specs.book_laws.{IsMoment, sending, IsPacketOf}
-use Rattle.laws.proofs.book_laws.Moments.{legal_moment}
+use Rattle.service_laws.specs.book_laws.{IsMoment, sending, IsPacketOf}
+use Rattle.service_laws.proofs.book_laws.Moments.{legal_moment}
 
 pub repair_waits : (s : Settings) (k n sequence : ℕ) (packet : Option Held) (before : History) → IsMoment s (noted (Repair k n sequence) packet ∷ before) → Contains (pending before) (wanted k n)
 repair_waits s k n sequence packet before m = (legal_moment s _ m).0.waits

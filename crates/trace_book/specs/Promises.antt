@@ -16,11 +16,11 @@ use Rattle.rams_model.specs.Service.{Settings, checked, bye, nack, asks, stops, 
 use Rattle.rams_model.specs.Packets.{hi}
 use Rattle.rams_model.specs.Formats.{Request, Framed}
 use Rattle.rams_model.specs.Laws.{source, IsQuietBurst, told_join, NoneIs, StandsWithout, is_accept_of, is_end_of, is_queued, ends_pending, is_event, is_sending, is_sending_to, sizes_sent, ticks_begun, ends_known}
-use Rattle.laws.specs.book_laws.{LastAccept, AnsweredBy, IsTheBook, TellsTheHistory, notes_in, orders_in, notes_of, first_sendings, sending, AreNumberedFrom, IsPacketOf, is_repair_to, TellsTheFirst, BeginsAsAsked, IsOfTheSource, note_sends, order_sends, NamesWhatFollows, is_tick_start, may_be_sent, is_past_runs, BeginsWithATick, gains_in, IsOpenAtEachTick, line_of, Line, IsNumberAnswer, IsForeignNack, IsNackAnswered, AnswersStop, AnswersBye, CountsEachOnce, is_loss_of, ticks_since_told}
-use Rattle.laws.specs.book_laws.Stops.{Stands, EndsAtItsStop, HasEnded, EndsBecause, StopsAsNamed}
-use Rattle.laws.specs.book_laws.Refusals.{IsRequestRefused, IsStopRefused, IsByTable, IsAnsweredExactly}
-use Rattle.laws.specs.byte_laws.{TellsSo, WasOrdered, CameAs, IsLiveAnswer, IsAnsweredWhole, IsRefusedWhole}
-use Rattle.laws.specs.tick_laws.{HadItsTurn, IsAtItsEnd, clients_served, Fall, repairs_done, AreSomeOf, WasIdle, IsIdleAllThrough}
+use Rattle.service_laws.specs.book_laws.{LastAccept, AnsweredBy, IsTheBook, TellsTheHistory, notes_in, orders_in, notes_of, first_sendings, sending, AreNumberedFrom, IsPacketOf, is_repair_to, TellsTheFirst, BeginsAsAsked, IsOfTheSource, note_sends, order_sends, NamesWhatFollows, is_tick_start, may_be_sent, is_past_runs, BeginsWithATick, gains_in, IsOpenAtEachTick, line_of, Line, IsNumberAnswer, IsForeignNack, IsNackAnswered, AnswersStop, AnswersBye, CountsEachOnce, is_loss_of, ticks_since_told}
+use Rattle.service_laws.specs.book_laws.Stops.{Stands, EndsAtItsStop, HasEnded, EndsBecause, StopsAsNamed}
+use Rattle.service_laws.specs.book_laws.Refusals.{IsRequestRefused, IsStopRefused, IsByTable, IsAnsweredExactly}
+use Rattle.service_laws.specs.byte_laws.{TellsSo, WasOrdered, CameAs, IsLiveAnswer, IsAnsweredWhole, IsRefusedWhole}
+use Rattle.service_laws.specs.tick_laws.{HadItsTurn, IsAtItsEnd, clients_served, Fall, repairs_done, AreSomeOf, WasIdle, IsIdleAllThrough}
 use Rattle.server_hub.specs.Served.{Served}
 use Rattle.trace_book.specs.TraceText.{served_by}
 

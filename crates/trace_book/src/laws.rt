@@ -7,13 +7,13 @@ ghost use Rattle.trace_book.specs.{run, TracesStayWithinTheLink, TracesAreServed
 use crate::trace_serving::laws::{
     Serves, stages_are_kept as serving_keeps_stages, traces_are_served_so,
 };
-use laws::book_laws::{budgets, join_times, numbers, one_book, refusals, sendings, stops};
-use laws::byte_laws::{held, live, messages, told};
-use laws::tick_laws::{forgets, order, sends};
 use rams_model::clients_are_since;
 use server_hub::laws::{
     channels_get_their_events, channels_stay_within_the_link, ticks_stay_within_the_link,
 };
+use service_laws::book_laws::{budgets, join_times, numbers, one_book, refusals, sendings, stops};
+use service_laws::byte_laws::{held, live, messages, told};
+use service_laws::tick_laws::{forgets, order, sends};
 
 /// The command `run`, as what serves its traces.
 pub enum Run {}

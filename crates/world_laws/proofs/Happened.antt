@@ -8,8 +8,8 @@ use Rattle.std.proofs.lemmas.Option.{slice_get_within, get_or_from_slice_get}
 use Rattle.rams_model.specs.declared.held.Held.{Held}
 use Rattle.rams_model.specs.Packets.{has_number}
 use Rattle.rams_model.specs.Receiver.{Media, multicast, brought_again, brought_by_multicast, told_by, reception, asked}
-use Rattle.laws.specs.receiver_laws.{IsMedia}
-use Rattle.laws.specs.receiver_laws.Fair.{IsFair}
+use Rattle.service_laws.specs.receiver_laws.{IsMedia}
+use Rattle.service_laws.specs.receiver_laws.Fair.{IsFair}
 use Rattle.rams_model.proofs.Legality.{found}
 use Rattle.server_hub.specs.declared.event.HubEvent.TheVariants as hub
 use Rattle.server_hub.specs.{id_of, channel_of}

@@ -22,8 +22,8 @@ use Rattle.rams_model.proofs.Granting.{accept_grants, update_grants}
 use Rattle.rams_model.proofs.Legal.{Allows, IsLegal}
 use Rattle.rams_model.proofs.Legality.{legal_history}
 use Rattle.rams_model.proofs.OpenBurst.{Holds, at_note, at_tick}
-use Rattle.laws.specs.book_laws.Refusals.{Line, unread, preamble, foreign, again, slow_update, large_update, update, full, no_start, young, old, slow, large, accept, code_of, IsRequestRefused, IsStopRefused}
-use Rattle.laws.proofs.book_laws.RequestAnswers.{refused_truly}
+use Rattle.service_laws.specs.book_laws.Refusals.{Line, unread, preamble, foreign, again, slow_update, large_update, update, full, no_start, young, old, slow, large, accept, code_of, IsRequestRefused, IsStopRefused}
+use Rattle.service_laws.proofs.book_laws.RequestAnswers.{refused_truly}
 use Rattle.world_laws.specs.{HasFields}
 
 -- ---- settings in their ranges

@@ -21,9 +21,9 @@ use Rattle.rams_model.proofs.Rising.{end_of}
 use Rattle.rams_model.proofs.RtpPackets.{spelled_so}
 use Rattle.rams_model.specs.Laws.{Rises}
 use Rattle.world_laws.specs.{takes, hears_number, as_it_came, HasBytes}
-use Rattle.laws.proofs.byte_laws.Low.{IsLow, IsHigh, live_note_low}
-use Rattle.laws.proofs.book_laws.CameBefore.{all_of}
-use Rattle.laws.proofs.byte_laws.Rising.{all_rises, of_one, stands_once}
+use Rattle.service_laws.proofs.byte_laws.Low.{IsLow, IsHigh, live_note_low}
+use Rattle.service_laws.proofs.book_laws.CameBefore.{all_of}
+use Rattle.service_laws.proofs.byte_laws.Rising.{all_rises, of_one, stands_once}
 
 -- the bytes that are looked up under a packet's number are those of which it was read
 pub record IsKept (c : Channel) (look : ℕ → Option (List ℕ)) (h : Held) : Type 0 where

@@ -4,9 +4,9 @@ use Rattle.std.specs.Prelude.{All, Contains, ◌&&◌, option_to_list}
 use Rattle.std.proofs.lemmas.Bool.{cond_both, and_parts, not-false, leb-true, eqb-true}
 use Rattle.std.proofs.lemmas.List.Elements.{All-nil, All-cons, All-head, All-tail, All-push, All-contains}
 use Rattle.rams_model.specs.Receiver.{Playing, presented, Told, told_answer, Media, media_answer, join_answer, join_datagram, request_datagram, bye_datagram, Turn, hears, delivers, presents, Reception, reception, shown, source_first, shown_now}
-use Rattle.laws.specs.receiver_laws.{IsMedia, presented_often}
-use Rattle.laws.specs.receiver_laws.Fair.{IsWithin, IsFair, AreFair}
-use Rattle.laws.proofs.receiver_laws.Ending.{ends}
+use Rattle.service_laws.specs.receiver_laws.{IsMedia, presented_often}
+use Rattle.service_laws.specs.receiver_laws.Fair.{IsWithin, IsFair, AreFair}
+use Rattle.service_laws.proofs.receiver_laws.Ending.{ends}
 use Rattle.rams_model.proofs.Legality.{found}
 use Rattle.server_hub.specs.Served.{Served}
 use Rattle.world_laws.specs.declared.world.WorldItem.TheVariants as item

@@ -16,9 +16,9 @@ use Rattle.rams_model.specs.Service.{Settings, began, told, noted, History, arri
 use Rattle.rams_model.proofs.Adding.{adds_hearing}
 use Rattle.rams_model.proofs.Legal.{Allows, IsLegal}
 use Rattle.rams_model.proofs.Legality.{legal_history}
-use Rattle.laws.proofs.book_laws.SentSources.{held_of_source, source_stays, source_after}
+use Rattle.service_laws.proofs.book_laws.SentSources.{held_of_source, source_stays, source_after}
 use Rattle.world_laws.specs.{IsAgain}
-use Rattle.laws.proofs.book_laws.CameBefore.{all_of}
+use Rattle.service_laws.proofs.book_laws.CameBefore.{all_of}
 
 -- ---- what is of the source came in time, and stays
 

@@ -10,7 +10,7 @@ use Rattle.rams_model.specs.declared.held.Held.{Held}
 use Rattle.rams_model.specs.declared.reception.Tuned.{Tuned}
 use Rattle.rams_model.specs.declared.message.Info.{Info}
 use Rattle.rams_model.specs.Receiver.{informs, told_by, Media, again, multicast, unfit, brought_again, Turn, hears, delivers, presents, reception, shown_now}
-use Rattle.laws.specs.receiver_laws.Fair.{IsOf, IsFair, AreFair}
+use Rattle.service_laws.specs.receiver_laws.Fair.{IsOf, IsFair, AreFair}
 use Rattle.server_hub.specs.{id_of, with_event, channel_of}
 use Rattle.server_hub.specs.Served.{Served}
 use Rattle.world_laws.specs.{Way, posts, tells, repeats, Datagram, Listener, source_of, HasBytes, IsTunedTo, AreMedia, HasFields, AreInfos}

@@ -4,11 +4,11 @@ use Rattle.std.proofs.lemmas.List.Elements.{All-weaker}
 use Rattle.rams_model.specs.Receiver.{reception, shown, source_first}
 use Rattle.rams_model.specs.Service.{arrivals, history_of}
 use Rattle.rams_model.proofs.Growing.{source_rises}
-use Rattle.laws.specs.receiver_laws.{Presents}
-use Rattle.laws.specs.receiver_laws.Fair.{AreFair}
-use Rattle.laws.proofs.receiver_laws.Delivered.{all_presented}
-use Rattle.laws.proofs.receiver_laws.Prefixes.{prefix}
-use Rattle.laws.proofs.receiver_laws.Standing.{stands}
+use Rattle.service_laws.specs.receiver_laws.{Presents}
+use Rattle.service_laws.specs.receiver_laws.Fair.{AreFair}
+use Rattle.service_laws.proofs.receiver_laws.Delivered.{all_presented}
+use Rattle.service_laws.proofs.receiver_laws.Prefixes.{prefix}
+use Rattle.service_laws.proofs.receiver_laws.Standing.{stands}
 use Rattle.server_hub.specs.{channel_of}
 use Rattle.server_hub.specs.Served.{Served}
 use Rattle.world_laws.specs.{Listener, source_of, OfEachReceiver, PresentsWhatIsDelivered, AreMedia, HasFields, AreInfos, world_after}

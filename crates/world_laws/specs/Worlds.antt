@@ -2,9 +2,9 @@
 use Rattle.std.specs.Prelude.{◌≡◌, ℕ, ◌<◌, ◌≤◌, ◌+◌, ◌^◌, List, [], ◌∷◌, length, Some, Ok, All}
 use Rattle.rams_model.specs.Receiver.{Told, informs, unread, Turn, hears, delivers, presents, reception, shown, source_first}
 use Rattle.rams_model.specs.Service.{Settings, checked}
-use Rattle.laws.specs.receiver_laws.{IsMedia, Presents}
-use Rattle.laws.specs.receiver_laws.Presenting.{WasDelivered}
-use Rattle.laws.specs.receiver_laws.Fair.{AreFair}
+use Rattle.service_laws.specs.receiver_laws.{IsMedia, Presents}
+use Rattle.service_laws.specs.receiver_laws.Presenting.{WasDelivered}
+use Rattle.service_laws.specs.receiver_laws.Fair.{AreFair}
 use Rattle.server_hub.specs.declared.event.HubEvent.TheVariants as hub
 use Rattle.server_hub.specs.{id_of, channel_of}
 use Rattle.server_hub.specs.Served.{Served}

@@ -4,10 +4,10 @@ ghost use Rattle.rams_model.specs.Formats.{packet_at};
 ghost use Rattle.rams_model.specs.Service.{sent_again};
 
 use bytes::Bytes;
-use packets::rtp_record::Rtp;
-use packets::rtx_payload::{append_plain, append_rtx, is_plain};
 use ram_io::NoMemory;
 use std::marker::Model;
+use wire_packets::rtp_record::Rtp;
+use wire_packets::rtx_payload::{append_plain, append_rtx, is_plain};
 
 /// What a retransmission has in place of its packet's own (RFC 4588, 4).
 #[derive(Clone, Copy)]

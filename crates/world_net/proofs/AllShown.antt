@@ -6,7 +6,7 @@ use Rattle.rams_model.proofs.PieceCounts.{one_less}
 use Rattle.receiver_core.specs.declared.shown.Shown.{Shown}
 use Rattle.receiver_core.specs.{reach, with_got, as_shown}
 use Rattle.receiver_core.specs.States.{Seen}
-use Rattle.laws.specs.receiver_laws.{presented_often}
+use Rattle.service_laws.specs.receiver_laws.{presented_often}
 use Rattle.world_laws.specs.{waiting}
 use Rattle.world_net.specs.{shown_in, all_shown, all_presented}
 use Rattle.world_net.proofs.Loops.{goes_on_one}

@@ -6,7 +6,7 @@ use Rattle.rams_model.specs.declared.reception.MediaCame.TheVariants.{Took, Behi
 use Rattle.rams_model.specs.Receiver.{Piece, piece, Playing, playing_from, nearest, came, kept, joining, join_kept, presented, past, after_presenting, Reception, again, multicast, unfit, Turn, hears, delivers, presents, reception, shown, source_first, distance_from, or_begun, arrived, arrived_by_multicast, after_shown, shown_now, after_media}
 use Rattle.rams_model.specs.Packets.{ahead}
 use Rattle.receiver_core.specs.States.{Seen}
-use Rattle.laws.proofs.receiver_laws.Standing.{told_keeps}
+use Rattle.service_laws.proofs.receiver_laws.Standing.{told_keeps}
 use Rattle.world_laws.specs.World.{Listener}
 use Rattle.world_laws.specs.{next_number, is_too_far}
 use Rattle.world_net.specs.declared.seat.Seat.{Seat}

@@ -21,8 +21,8 @@ use Rattle.rams_model.proofs.Waiting.{from_first, is_missing_itself}
 use Rattle.server_hub.specs.{hi_of}
 use Rattle.server_hub.specs.Served.{Served}
 use Rattle.world_laws.specs.{source_of, takes, hears_number, as_it_came}
-use Rattle.laws.proofs.book_laws.CameBefore.{all_of}
-use Rattle.laws.proofs.byte_laws.Rising.{all_rises}
+use Rattle.service_laws.proofs.book_laws.CameBefore.{all_of}
+use Rattle.service_laws.proofs.byte_laws.Rising.{all_rises}
 
 -- ---- what came in time
 

@@ -3,7 +3,7 @@ use Rattle.std.specs.Prelude.{◌≡◌, ℕ, zero, suc, ◌+◌, ◌-◌, ◌�
 use Rattle.std.specs.Option.{option_or, option_to_list}
 use Rattle.receiver_core.specs.{reach}
 use Rattle.receiver_core.specs.States.{Seen}
-use Rattle.laws.specs.receiver_laws.{presented_often}
+use Rattle.service_laws.specs.receiver_laws.{presented_often}
 use Rattle.rams_model.specs.Receiver.{Piece, Playing, Reception, Turn, reception, source_first, shown_now, after_shown}
 use Rattle.world_laws.specs.World.{posts, Datagram, Listener, note}
 use Rattle.world_laws.specs.{is_too_far, waiting, pieces_in, turns_to_present, presented_all, posted, post_note, show_note}

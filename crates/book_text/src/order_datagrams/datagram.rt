@@ -5,12 +5,12 @@ ghost use Rattle.rams_model.specs.Formats.{packet_at};
 ghost use Rattle.book_text.specs.order_datagrams.{Renders, IsRetransmission};
 
 use channel_config::Config;
-use packets::rams_tlv::append_info;
-use packets::rtp_record::Rtp;
-use packets::rtx_payload::{append_plain, append_rtx, is_plain};
 use ram_io::NoMemory;
 use rams_model::Order;
 use std::alloc::Global;
+use wire_packets::rams_tlv::append_info;
+use wire_packets::rtp_record::Rtp;
+use wire_packets::rtx_payload::{append_plain, append_rtx, is_plain};
 
 /// The datagram of an order; empty where the packet of a retransmission doesn't read as one, as each
 /// does that a channel holds.

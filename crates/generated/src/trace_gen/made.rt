@@ -10,12 +10,12 @@ use crate::trace_gen::packet::{
 };
 use crate::trace_gen::page::{Kind, Packet};
 use bytes::Bytes;
-use packets::rams_tlv::{Request, append_request, append_stop};
-use packets::rtcp_feedback::append_nack;
 use ram_io::NoMemory;
 use rams_model::Stop;
 use std::alloc::Global;
 use std::marker::Model;
+use wire_packets::rams_tlv::{Request, append_request, append_stop};
+use wire_packets::rtcp_feedback::append_nack;
 
 /// A RAMS-R without TLVs.
 const PLAIN: Request<'static> = Request {

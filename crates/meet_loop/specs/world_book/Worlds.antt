@@ -2,7 +2,7 @@
 use Rattle.std.specs.Prelude.{◌≡◌, ℕ, ◌+◌, ◌≤◌, List, ◌++◌, length, map, filter_map, Some, option_to_list, All}
 use Rattle.rams_model.specs.Receiver.{reception, shown, source_first}
 use Rattle.rams_model.specs.Texts.{lines_of}
-use Rattle.laws.specs.receiver_laws.{Presents}
+use Rattle.service_laws.specs.receiver_laws.{Presents}
 use Rattle.server_hub.specs.{channel_of}
 use Rattle.server_hub.specs.Served.{Served}
 use Rattle.world_laws.specs.World.{World}

@@ -15,7 +15,7 @@ use Rattle.rams_model.specs.Packets.{from_number}
 use Rattle.channel_config.specs.{IsLawful}
 use Rattle.channel_parts.proofs.Facts.{known_clients_are_few, opened_are_the_known_with_bursts, repairs_are_within_limits}
 use Rattle.channel_parts.proofs.Given.{moment}
-use Rattle.laws.specs.book_laws.{IsMoment}
+use Rattle.service_laws.specs.book_laws.{IsMoment}
 use Rattle.rams_model.proofs.Items.{is_repair, is_forgotten, Puts, all_repaired_put, all_forgotten_put}
 use Rattle.rams_model.proofs.ListFacts.{few_passed}
 use Rattle.rams_model.proofs.Holding.{few_held}

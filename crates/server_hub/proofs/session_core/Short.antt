@@ -14,9 +14,9 @@ use Rattle.rams_model.specs.Service.{Settings, end_info, began, told, noted, His
 use Rattle.rams_model.specs.Formats.{wire_size}
 use Rattle.rams_model.proofs.Legal.{Allows, IsLegal}
 use Rattle.rams_model.proofs.Legality.{legal_history}
-use Rattle.laws.proofs.book_laws.HeldPackets as packets
-use Rattle.laws.proofs.book_laws.HeldPackets.{small_held, all_small}
-use Rattle.laws.proofs.book_laws.Quiet.Sizes.{ArriveSmall}
+use Rattle.service_laws.proofs.book_laws.HeldPackets as packets
+use Rattle.service_laws.proofs.book_laws.HeldPackets.{small_held, all_small}
+use Rattle.service_laws.proofs.book_laws.Quiet.Sizes.{ArriveSmall}
 use Rattle.server_hub.specs.session_core.{IsShort, SendsShort}
 use Rattle.tick_core.proofs.Sized.{IsSized, all_sized}
 

@@ -4,7 +4,7 @@ use Rattle.rams_model.specs.declared.event.Event.{Event}
 use Rattle.rams_model.specs.Service.{Settings, History, hold, Burst, next, open_burst, history_of}
 use Rattle.rams_model.specs.Packets.{hi}
 use Rattle.rams_model.specs.Laws.{IsQuietBurst, told_join, NoneIs}
-use Rattle.laws.specs.book_laws.{LastAccept, is_loss_of, ticks_since_told}
+use Rattle.service_laws.specs.book_laws.{LastAccept, is_loss_of, ticks_since_told}
 
 -- The newest burst of a client, where it is quiet: it did not end because its next packet was no longer held, and where it is open, and as many ticks have passed as its client was told, its next packet is the one after all that are held.
 pub record KeepsItsTime (s : Settings) (history : History) (client : ℕ) (accept : LastAccept history client) : Type 0 where

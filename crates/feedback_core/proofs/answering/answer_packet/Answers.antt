@@ -2,7 +2,7 @@
 use Rattle.std.proofs.Common.{◌≡◌, ◌∙◌, Some, None, sym, ap, arith, length}
 use Rattle.std.specs.Prelude.{◌&&◌, not}
 use Rattle.rams_model.specs.Service.{is_rams, message_of}
-use Rattle.packets.specs.rtcp_frame.{shown_packet}
+use Rattle.wire_packets.specs.rtcp_frame.{shown_packet}
 use Rattle.feedback_core.specs.declared.page.Page.{Page}
 use Rattle.feedback_core.specs.{most_of_found, orders_of_found, told_by, shown_message, turn_of, IsTurned}
 use Rattle.feedback_core.proofs.Counts.{told_more}

@@ -1,7 +1,7 @@
 -- One packet more, and in the end all of them.
 use Rattle.std.proofs.Common.{◌≡◌, ◌+◌, ◌∙◌, ap, arith}
 use Rattle.std.specs.Prelude.{max}
-use Rattle.packets.specs.rtcp_frame.{packets_left, shown_packet}
+use Rattle.wire_packets.specs.rtcp_frame.{packets_left, shown_packet}
 use Rattle.feedback_core.specs.{most_of, most_notes, orders_of, most_orders, answered_of}
 use Rattle.feedback_core.proofs.Desks.{same_still, step_before}
 use Rattle.feedback_core.proofs.Turns.{after_packet, at_last}

@@ -1,7 +1,7 @@
 -- The packets so far are answered.
 use Rattle.std.proofs.Common.{◌≡◌, ◌+◌, ◌≤◌, length}
 use Rattle.std.specs.Prelude.{max}
-use Rattle.packets.specs.rtcp_frame.{packets_left}
+use Rattle.wire_packets.specs.rtcp_frame.{packets_left}
 use Rattle.feedback_core.specs.{most_notes, most_orders, told_by, answered_of, IsFresh, IsPage, IsSameDesk, IsReadyDesk, Holds, ServesAt}
 use Rattle.feedback_core.proofs.Turns.{IsPartway}
 use Rattle.feedback_core.proofs.answering.answer_packets.Given as goal

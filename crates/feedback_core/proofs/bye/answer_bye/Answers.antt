@@ -2,7 +2,7 @@
 use Rattle.std.proofs.Common.{◌∙◌, None, refl, sym}
 use Rattle.rams_model.specs.declared.note.Note.TheVariants.{Bye, ByeIdle}
 use Rattle.rams_model.specs.Service.{after_bye}
-use Rattle.packets.specs.rtcp_frame.{shown_packet}
+use Rattle.wire_packets.specs.rtcp_frame.{shown_packet}
 use Rattle.feedback_core.specs.declared.visitor.Visitor.{Visitor}
 use Rattle.feedback_core.specs.{only}
 use Rattle.feedback_core.proofs.Sayings.{said_so}

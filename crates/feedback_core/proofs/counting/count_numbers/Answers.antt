@@ -1,7 +1,7 @@
 -- An entry more is counted, until none is left.
 use Rattle.std.proofs.Common.{List, ℕ, length, ap, arith}
 use Rattle.rams_model.specs.Formats.{numbers_of}
-use Rattle.packets.proofs.rtcp_feedback.NumberSteps.{words_end}
+use Rattle.wire_packets.proofs.rtcp_feedback.NumberSteps.{words_end}
 use Rattle.feedback_core.proofs.Counts.{count_entry, named_whole}
 use Rattle.feedback_core.proofs.counting.count_numbers.Goals as goal
 

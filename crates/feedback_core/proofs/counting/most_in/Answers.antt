@@ -1,6 +1,6 @@
 -- What the packets of a datagram that frames have, or its fault.
 use Rattle.std.proofs.Common.{length, ap, sym, ◌∙◌, arith}
-use Rattle.packets.specs.rtcp_frame.{packets_left}
+use Rattle.wire_packets.specs.rtcp_frame.{packets_left}
 use Rattle.feedback_core.specs.{most_notes_of, most_orders_of}
 use Rattle.feedback_core.specs.Counting.{most_notes_in, most_orders_in}
 use Rattle.feedback_core.proofs.Framed.{most_framed, most_is_small}

@@ -1,7 +1,7 @@
 -- What the packets so far have, and those that are left, is what all have.
 use Rattle.std.proofs.Common.{◌≡◌, ◌+◌}
 use Rattle.std.specs.Prelude.{max}
-use Rattle.packets.specs.rtcp_frame.{packets_left}
+use Rattle.wire_packets.specs.rtcp_frame.{packets_left}
 use Rattle.feedback_core.specs.{most_notes, most_orders}
 use Rattle.feedback_core.proofs.counting.most_of_packets.Given as goal
 

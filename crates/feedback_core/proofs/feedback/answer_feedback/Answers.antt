@@ -6,7 +6,7 @@ use Rattle.feedback_core.specs.{most_notes, most_orders, most_notes_of, most_ord
 use Rattle.feedback_core.specs.Counting.{most_notes_in, most_orders_in}
 use Rattle.feedback_core.proofs.Counts.{one_order}
 use Rattle.feedback_core.proofs.Serving.{few_within}
-use Rattle.packets.specs.rtcp_frame.{packets_left}
+use Rattle.wire_packets.specs.rtcp_frame.{packets_left}
 use Rattle.feedback_core.proofs.Framed.{most_framed, most_is_small}
 use Rattle.feedback_core.proofs.Closing.{stands_unframed, answer_unframed}
 use Rattle.feedback_core.proofs.feedback.answer_feedback.Goals as goal

@@ -4,7 +4,7 @@ use Rattle.rams_model.specs.declared.note.Note.{Note}
 use Rattle.rams_model.specs.Service.{answered}
 use Rattle.client_table.specs.Clients.{Clients}
 use Rattle.channel_parts.specs.declared.parts.Parts.{Parts}
-use Rattle.packets.specs.rtcp_frame.{packets_left}
+use Rattle.wire_packets.specs.rtcp_frame.{packets_left}
 use Rattle.feedback_core.proofs.Counts.{none_asked}
 use Rattle.feedback_core.proofs.Serving.{parts_ended, ready_placed, safe_placed, served, unasked}
 use Rattle.feedback_core.proofs.Telling.{page_tells}

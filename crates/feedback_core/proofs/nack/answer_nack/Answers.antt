@@ -2,7 +2,7 @@
 use Rattle.std.proofs.Common.{arith}
 use Rattle.rams_model.specs.Formats.{nack_numbers}
 use Rattle.rams_model.specs.Service.{named}
-use Rattle.packets.specs.rtcp_feedback.{numbers_left}
+use Rattle.wire_packets.specs.rtcp_feedback.{numbers_left}
 use Rattle.feedback_core.proofs.Nacks.{read_few, nack_foreign, nack_read, nack_unread}
 use Rattle.feedback_core.proofs.nack.answer_nack.Goals as goal
 

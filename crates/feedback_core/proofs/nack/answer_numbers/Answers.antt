@@ -1,6 +1,6 @@
 -- One number more, and in the end all of them.
 use Rattle.std.proofs.Common.{◌≡◌, [], ◌∷◌, ◌++◌, length, ap, ◌∙◌, arith}
-use Rattle.packets.specs.rtcp_feedback.{numbers_left}
+use Rattle.wire_packets.specs.rtcp_feedback.{numbers_left}
 use Rattle.feedback_core.specs.declared.page.Page.{Page}
 use Rattle.feedback_core.proofs.Desks.{same_still, number_before}
 use Rattle.feedback_core.proofs.Writing.{next_number, all_numbered}

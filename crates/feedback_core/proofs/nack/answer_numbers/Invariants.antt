@@ -1,6 +1,6 @@
 -- The numbers so far are answered.
 use Rattle.std.proofs.Common.{◌≡◌, ◌+◌, ◌≤◌, length}
-use Rattle.packets.specs.rtcp_feedback.{numbers_left}
+use Rattle.wire_packets.specs.rtcp_feedback.{numbers_left}
 use Rattle.feedback_core.specs.{IsReadyDesk, IsSameDesk, IsHeard, ServesAt}
 use Rattle.feedback_core.proofs.Writing.{IsUnderWay}
 use Rattle.feedback_core.proofs.nack.answer_numbers.Given as goal

@@ -2,7 +2,7 @@
 use Rattle.std.proofs.Common.{◌≡◌, ◌∙◌, Ok, Err, sym, ap}
 use Rattle.rams_model.specs.Formats.{request_at}
 use Rattle.rams_model.specs.Service.{verdict}
-use Rattle.packets.specs.rams_tlv.{shown_request}
+use Rattle.wire_packets.specs.rams_tlv.{shown_request}
 use Rattle.feedback_core.proofs.Verdicts.{refused, answers_so, unread_request}
 use Rattle.feedback_core.proofs.rams_r.answer_request.Goals as goal
 

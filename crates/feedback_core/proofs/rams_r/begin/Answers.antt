@@ -1,6 +1,6 @@
 -- A client that can't be known is refused; else it goes by the choice of an access point.
 use Rattle.std.proofs.Common.{sym, ◌∙◌}
-use Rattle.packets.specs.rams_tlv.{shown_request}
+use Rattle.wire_packets.specs.rams_tlv.{shown_request}
 use Rattle.feedback_core.proofs.Verdicts.{begin_full, begin_refused, begin_small, begin_accepts, refused_choice}
 use Rattle.feedback_core.proofs.rams_r.begin.Goals as goal
 

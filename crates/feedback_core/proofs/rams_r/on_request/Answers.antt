@@ -3,7 +3,7 @@ use Rattle.std.proofs.Common.{◌≡◌, ◌∙◌, true, false, Ok, sym, subst}
 use Rattle.rams_model.specs.declared.channel.Channel.{Channel}
 use Rattle.rams_model.specs.Formats.{names}
 use Rattle.rams_model.specs.Service.{verdict}
-use Rattle.packets.specs.rams_tlv.{shown_request}
+use Rattle.wire_packets.specs.rams_tlv.{shown_request}
 use Rattle.feedback_core.proofs.Verdicts.{refused, only_preamble, foreign_request, request_on_burst, request_without}
 use Rattle.feedback_core.proofs.rams_r.on_request.Goals as goal
 

@@ -1,7 +1,7 @@
 -- The first RAMS-I of what is left is that of all.
 use Rattle.std.proofs.Common.{◌≡◌}
 use Rattle.rams_model.specs.Receiver.{first_info}
-use Rattle.packets.specs.rtcp_frame.{packets_left}
+use Rattle.wire_packets.specs.rtcp_frame.{packets_left}
 use Rattle.receiver_core.proofs.reading.first_info.Given as goal
 
 abbrev pub invariant-loop-packet : goal.invariant-loop-packet

@@ -5,7 +5,7 @@ use Rattle.rams_model.specs.declared.event.Event.{Event}
 use Rattle.rams_model.specs.Service.{checked, tick, began, noted, History, Book, history_of, events_of, IsLawful}
 use Rattle.rams_model.specs.declared.event.Event.TheVariants.{Tick}
 use Rattle.rams_model.specs.declared.note.Note.TheVariants.{Repair}
-use Rattle.laws.specs.book_laws.{LastAccept, is_tick_start, BeginsWithATick, notes_of}
+use Rattle.service_laws.specs.book_laws.{LastAccept, is_tick_start, BeginsWithATick, notes_of}
 use Rattle.rams_model.specs.Laws.{NoneIs}
 use Rattle.server_hub.specs.Served.{Served}
 use Rattle.trace_book.specs.{WasSo, HasOneBook, RetransmitsTheSource, SendsInOrder, TellsWhereBurstsBegin, TellsWhatCame, RespectsItsStop, TellsBurstsTruly, SendsWhatIsAsked, IsWithinBudgets, IsWithinBudgetsOverTicks, KeepsBudgets, RefusesTruly, AnswersByTheTable, KeepsJoinTimes, TellsItsClients, ServesEachTick, GivesUpTruly, IsOfBytes, KeepsPromises}

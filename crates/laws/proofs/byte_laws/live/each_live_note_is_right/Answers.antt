@@ -1,5 +1,0 @@
-use Rattle.laws.proofs.byte_laws.Became.{live_answered}
-use Rattle.laws.proofs.byte_laws.live.each_live_note_is_right.Goals as goal
-
-pub returns : goal.returns
-returns c = live_answered

@@ -1,6 +1,0 @@
-pub mod Places
-pub mod Clearing
-pub mod Fields
-pub use Rattle.packets.specs.rtp_record.Places.{ArePlaces}
-unfoldable pub use Rattle.packets.specs.rtp_record.Clearing.{without_padding_bit}
-unfoldable pub use Rattle.packets.specs.rtp_record.Fields.{packet_of, behind, unpadded}

@@ -1,0 +1,182 @@
+-- After a tick each open burst is at its end.
+use Rattle.std.proofs.Common.{is_some, ◌≡◌, ℕ, ◌+◌, ◌-◌, ◌<◌, ◌≤◌, true, false, cond, ◌&&◌, ◌⊎◌, inl, inr, ⊎_elim, List, [], ◌∷◌, Option, Some, None, refl, ap, sym, ◌∙◌, subst, arith, eqb, leb}
+use Rattle.std.specs.Prelude.{Contains, IfSome}
+use Rattle.std.proofs.lemmas.Bool.{cases_Bool, cond_both, and_parts, and_from, or_cases, eqb-true, eq-eqb, leb-true, leb-false, le-leb, lt-ltb, true≢false}
+use Rattle.std.proofs.lemmas.List.Elements.{Contains-append_right, Contains-append_cases, Contains-push_cases}
+use Rattle.rams_model.specs.declared.event.Event.{Event}
+use Rattle.rams_model.specs.declared.held.Held.{Held}
+use Rattle.rams_model.specs.declared.note.Cause.{Cause}
+use Rattle.rams_model.specs.declared.note.Note.{Note}
+use Rattle.rams_model.specs.declared.event.Event.TheVariants.{Tick}
+use Rattle.rams_model.specs.declared.note.Cause.TheVariants.{Stopped, Lost, Limit}
+use Rattle.rams_model.specs.declared.note.Note.TheVariants as note
+use Rattle.rams_model.specs.Packets.{from_number}
+use Rattle.rams_model.specs.Laws.{Rises}
+use Rattle.rams_model.specs.Service.{Settings, noted, History, hold, known, opened, is_among, sequence, Burst, next, after_note, open_burst, is_before, run, send, is_lost, is_stop, after_run, run_sent, burst_served, all_served, pending, idle_forgotten, history_of}
+use Rattle.rams_model.proofs.Holding.{held_follow, rises_from}
+use Rattle.rams_model.proofs.Induction.{through}
+use Rattle.rams_model.proofs.Items.{is_run_of, is_repair, is_forgotten, served_puts, all_repaired_put, all_forgotten_put}
+use Rattle.rams_model.proofs.LastAccept.{open_stands}
+use Rattle.rams_model.proofs.OpenBurst.{open_sent, end_closes, Holds, holds_of, at_note}
+use Rattle.rams_model.proofs.Rising.{some_of}
+use Rattle.rams_model.proofs.Since.{opened_stands}
+use Rattle.service_laws.specs.tick_laws.{IsAtItsEnd}
+use Rattle.service_laws.proofs.tick_laws.Ticks.{start, ran, repaired_all, tick_is, held_at_start}
+
+-- ---- which packets stand from a number on
+
+from_rises : (n m : ℕ) (hs : List Held) → Rises m hs → Rises n (from_number n hs)
+from_rises n m [] r = tt
+from_rises n m (h ∷ hs) r =
+    cond_both (leb n h.n) (h ∷ from_number n hs) (from_number n hs) (Rises n) (λ t. (leb-true n h.n t, some_of (λ x. leb n x.n) (h.n + 1) hs r.1)) (λ f. from_rises n (h.n + 1) hs r.1)
+
+first_or_later : (x : Held) (xs : List Held) (h : Held) → Contains (x ∷ xs) h → (x ≡ h) ⊎ Contains xs h
+first_or_later x xs h c =
+    ⊎_elim (λ f. ⊎_elim (λ (none : Contains [] h). absurd (omega arith)) (λ e. inl e) (Contains-push_cases [] x h f)) (λ l. inr l) (Contains-append_cases (x ∷ []) xs h c)
+
+from_has : (n : ℕ) (hs : List Held) (h : Held) → Contains hs h → n ≤ h.n → Contains (from_number n hs) h
+from_has n [] h c le = absurd (omega arith)
+from_has n (x ∷ xs) h c le =
+    cond_both (leb n x.n) (x ∷ from_number n xs) (from_number n xs) (λ l. Contains l h)
+    (λ t. ⊎_elim (λ (e : x ≡ h). subst (λ (y : Held). Contains (x ∷ from_number n xs) y) e (0, omega arith, refl))
+    (λ l. Contains-append_right (x ∷ []) (from_number n xs) h (from_has n xs h l le)) (first_or_later x xs h c))
+    (λ f. ⊎_elim (λ (e : x ≡ h). absurd (true≢false (sym (le-leb n x.n (subst (λ (y : Held). n ≤ y.n) (sym e) le)) ∙ f))) (λ l. from_has n xs h l le) (first_or_later x xs h c))
+
+above : (n : ℕ) (hs : List Held) (h : Held) → Rises n hs → Contains hs h → n ≤ h.n
+above n [] h r c = absurd (omega arith)
+above n (x ∷ xs) h r c =
+    ⊎_elim (λ (e : x ≡ h). subst (λ (y : Held). n ≤ y.n) e r.0) (λ l. let le = above (x.n + 1) xs h r.1 l in omega (arith, r.0, le)) (first_or_later x xs h c)
+
+-- ---- a run goes on to its end
+
+before_stop : (stop : Option ℕ) (n : ℕ) → IfSome stop (λ m. n < m) → is_before stop n ≡ true
+before_stop None n lt = refl
+before_stop (Some m) n lt = lt-ltb n m lt
+
+-- where the next packet isn't sent the burst is at its end
+stops_here : (held ps : List Held) (p : Held) (b : Burst) → Rises (next b) (p ∷ ps) → ((h : Held) → Contains held h → next b ≤ h.n → Contains (p ∷ ps) h)
+    → (eqb p.n (next b) && is_before b.stop (next b) && leb p.wire b.left) ≡ false → IsAtItsEnd held b
+stops_here held ps p b r has f h c at before =
+    ⊎_elim
+    (λ (e : p ≡ h). ⊎_elim
+    (λ (t : leb p.wire b.left ≡ true). absurd (true≢false (sym (and_from _ _ (and_from _ _ (eq-eqb p.n (next b) (ap (λ (x : Held). x.n) e ∙ at)) (before_stop b.stop (next b) before)) t) ∙ f)))
+    (λ u. subst (λ (x : Held). b.left < x.wire) e (leb-false p.wire b.left u)) (cases_Bool (leb p.wire b.left)))
+    (λ l. let le = above (p.n + 1) ps h r.1 l in absurd (omega (arith, le, at, r.0)))
+    (first_or_later p ps h (has h c (omega (arith, at))))
+
+ran_out : (s : Settings) (k : ℕ) (held ps : List Held) (history : History) (b : Burst) → open_burst s k history ≡ Some b → Rises (next b) ps
+    → ((h : Held) → Contains held h → next b ≤ h.n → Contains ps h) → Holds (IsAtItsEnd held) (open_burst s k (send s k (run b.stop (next b) b.left ps) history))
+unfolding run send
+ran_out s k held [] history b e r has = subst (Holds (IsAtItsEnd held)) (sym e) (λ h c at before. let none = has h c (omega (arith, at)) in absurd (omega (arith, none.1)))
+ran_out s k held (p ∷ ps) history b e r has =
+    cond_both (eqb p.n (next b) && is_before b.stop (next b) && leb p.wire b.left) (p ∷ run b.stop (next b + 1) (b.left - p.wire) ps) []
+    (λ l. Holds (IsAtItsEnd held) (open_burst s k (send s k l history)))
+    (λ t. goes_on (eqb-true p.n (next b) (and_parts (eqb p.n (next b)) (is_before b.stop (next b)) (and_parts _ _ t).0).0) (ran_out s k held ps))
+    (λ f. subst (Holds (IsAtItsEnd held)) (sym e) (stops_here held ps p b r has f))
+  where
+    sent : Burst
+    sent = after_note s (note.Burst k p.n (sequence s k history)) p.wire b
+
+    further : next sent ≡ next b + 1
+    further = omega arith
+
+    goes_on : p.n ≡ next b
+        → ((history : History) (c : Burst) → open_burst s k history ≡ Some c → Rises (next c) ps → ((h : Held) → Contains held h → next c ≤ h.n → Contains ps h)
+        → Holds (IsAtItsEnd held) (open_burst s k (send s k (run c.stop (next c) c.left ps) history)))
+        → Holds (IsAtItsEnd held) (open_burst s k (send s k (run b.stop (next b + 1) (b.left - p.wire) ps) (noted (note.Burst k p.n (sequence s k history)) (Some p) ∷ history)))
+    goes_on at more =
+        let after = noted (note.Burst k p.n (sequence s k history)) (Some p) ∷ history in
+        subst (λ (n : ℕ). Holds (IsAtItsEnd held) (open_burst s k (send s k (run b.stop n (b.left - p.wire) ps) after))) further
+        (more after sent (open_sent s k p.n (sequence s k history) p history b e) (subst (λ (n : ℕ). Rises n ps) (ap (λ (n : ℕ). n + 1) at ∙ sym further) r.1)
+        (λ h c le. ⊎_elim (λ (is : p ≡ h). let same = ap (λ (x : Held). x.n) is in absurd (omega (arith, same, at, further, le))) (λ l. l)
+        (first_or_later p ps h (has h c (omega (arith, le, further))))))
+
+-- an end of the burst leaves none open
+ended_or_same : (s : Settings) (k : ℕ) (P : Burst → Type 0) (o : Option Burst) (history : History) → Holds P (open_burst s k history) → Holds P (open_burst s k (after_run s k o history))
+ended_or_same s k P None history h = h
+ended_or_same s k P (Some b) history h =
+    cond_both (is_stop b.stop (next b)) (noted (note.End k Stopped) None ∷ history) (cond (eqb b.ticks s.channel.limit) (noted (note.End k Limit) None ∷ history) history)
+    (λ l. Holds P (open_burst s k l)) (λ t. closed Stopped)
+    (λ f. cond_both (eqb b.ticks s.channel.limit) (noted (note.End k Limit) None ∷ history) history (λ l. Holds P (open_burst s k l)) (λ t. closed Limit) (λ g. h))
+  where
+    closed : (why : Cause) → Holds P (open_burst s k (noted (note.End k why) None ∷ history))
+    closed why = subst (Holds P) (sym (end_closes s k why None history)) tt
+
+served_out : (s : Settings) (k : ℕ) (held : List Held) (m : ℕ) (o : Option Burst) (history : History) → open_burst s k history ≡ o → Rises m held
+    → Holds (IsAtItsEnd held) (open_burst s k (burst_served s held k o history))
+served_out s k held m None history e r = subst (Holds (IsAtItsEnd held)) (sym e) tt
+served_out s k held m (Some b) history e r =
+    let packets = from_number (next b) held in
+    let sent = send s k (run b.stop (next b) b.left packets) history in
+    cond_both (is_lost (next b) held) (noted (note.End k Lost) None ∷ history) (run_sent s k sent) (λ l. Holds (IsAtItsEnd held) (open_burst s k l))
+    (λ t. subst (Holds (IsAtItsEnd held)) (sym (end_closes s k Lost None history)) tt)
+    (λ f. ended_or_same s k (IsAtItsEnd held) (open_burst s k sent) sent
+    (ran_out s k held packets history b e (from_rises (next b) m held r) (λ h c le. from_has (next b) held h c le)))
+
+-- ---- what comes later in the tick keeps it so
+
+others_keep : (s : Settings) (k j : ℕ) (P : Burst → Type 0) → eqb j k ≡ false → (n : Note) (packet : Option Held) (history : History) → is_run_of j n ≡ true
+    → Holds P (open_burst s k history) → Holds P (open_burst s k (noted n packet ∷ history))
+others_keep s k j P f (note.Burst client n q) packet history own h =
+    at_note s k P (note.Burst client n q) packet history (record { begins = λ first rate join e. cc; changes = λ b is. absurd (two client own is) }) h
+  where
+    two : (client : ℕ) → eqb client j ≡ true → eqb client k ≡ true → ⊥
+    two client a b = true≢false (sym (eq-eqb j k (sym (eqb-true client j a) ∙ eqb-true client k b)) ∙ f)
+others_keep s k j P f (note.End client why) packet history own h =
+    at_note s k P (note.End client why) packet history (record { begins = λ first rate join e. cc; changes = λ b is. absurd (two client own is) }) h
+  where
+    two : (client : ℕ) → eqb client j ≡ true → eqb client k ≡ true → ⊥
+    two client a b = true≢false (sym (eq-eqb j k (sym (eqb-true client j a) ∙ eqb-true client k b)) ∙ f)
+others_keep s k j P f n packet history own h = absurd (true≢false (sym own))
+
+repairs_keep : (s : Settings) (k : ℕ) (held : List Held) (n : Note) (packet : Option Held) (history : History) → is_repair n ≡ true
+    → Holds (IsAtItsEnd held) (open_burst s k history) → Holds (IsAtItsEnd held) (open_burst s k (noted n packet ∷ history))
+repairs_keep s k held (note.Repair client n q) packet history own h =
+    at_note s k (IsAtItsEnd held) (note.Repair client n q) packet history
+    (record { begins = λ first rate join e. cc; changes = λ b is is_open at_end x c at before. let lt = at_end x c at before in omega (arith, lt) }) h
+repairs_keep s k held (note.Gone client n) packet history own h =
+    at_note s k (IsAtItsEnd held) (note.Gone client n) packet history (record { begins = λ first rate join e. cc; changes = λ b is. absurd (true≢false (sym is)) }) h
+repairs_keep s k held n packet history own h = absurd (true≢false (sym own))
+
+forgetting_keeps : (s : Settings) (k : ℕ) (P : Burst → Type 0) (n : Note) (packet : Option Held) (history : History) → is_forgotten n ≡ true
+    → Holds P (open_burst s k history) → Holds P (open_burst s k (noted n packet ∷ history))
+forgetting_keeps s k P (note.Forgot client) packet history own h =
+    at_note s k P (note.Forgot client) packet history (record { begins = λ first rate join e. cc; changes = λ b is. absurd (true≢false (sym is)) }) h
+forgetting_keeps s k P n packet history own h = absurd (true≢false (sym own))
+
+-- ---- the whole tick
+
+all_out : (s : Settings) (k : ℕ) (held : List Held) (m : ℕ) (ks : List ℕ) (history : History) → Rises m held
+    → Holds (IsAtItsEnd held) (open_burst s k history) ⊎ (is_among k ks ≡ true) → Holds (IsAtItsEnd held) (open_burst s k (all_served s held ks history))
+unfolding all_served
+all_out s k held m [] history r w = ⊎_elim (λ h. h) (λ t. absurd (true≢false (sym t))) w
+all_out s k held m (j ∷ js) history r w =
+    let mid = burst_served s held j (open_burst s j history) history in
+    ⊎_elim
+    (λ t. all_out s k held m js mid r (inl (subst (λ (i : ℕ). Holds (IsAtItsEnd held) (open_burst s k (burst_served s held i (open_burst s i history) history))) (sym (eqb-true j k t))
+    (served_out s k held m (open_burst s k history) history refl r))))
+    (λ f. all_out s k held m js mid r
+    (⊎_elim
+    (λ h. inl (through (is_run_of j) (λ x. Holds (IsAtItsEnd held) (open_burst s k x)) (λ n packet x own y. others_keep s k j (IsAtItsEnd held) f n packet x own y) history mid
+    (served_puts s held j (open_burst s j history) history) h))
+    (λ t. ⊎_elim (λ u. absurd (true≢false (sym u ∙ f))) (λ u. inr u) (or_cases (eqb j k) (is_among k js) t)) w))
+    (cases_Bool (eqb j k))
+
+-- a client without an open burst, or one among those who are served
+open_or_not : (s : Settings) (k : ℕ) (P : Burst → Type 0) (o : Option Burst) (history : History) → open_burst s k history ≡ o → Holds P (open_burst s k history) ⊎ (is_among k (opened history) ≡ true)
+open_or_not s k P None history e = inl (subst (Holds P) (sym e) tt)
+open_or_not s k P (Some b) history e = inr (opened_stands k history ∙ (sym (open_stands s k history) ∙ ap (λ (o : Option Burst). is_some o) e))
+
+pub runs_went_on : (s : Settings) (events : List Event) (k : ℕ) (b : Burst) → open_burst s k (history_of s (Tick ∷ events)) ≡ Some b → IsAtItsEnd (hold s (history_of s events)) b
+runs_went_on s events k b e =
+    let begin = start s events in
+    let held = hold s begin in
+    let runs = ran s events in
+    let repaired = repaired_all s events in
+    let after_runs = all_out s k held _ (opened begin) begin (rises_from _ held (held_follow s begin)) (open_or_not s k (IsAtItsEnd held) (open_burst s k begin) begin refl) in
+    let after_repairs = through is_repair (λ x. Holds (IsAtItsEnd held) (open_burst s k x)) (λ n packet x own y. repairs_keep s k held n packet x own y) runs repaired
+    (all_repaired_put s (hold s runs) (pending runs) runs) after_runs in
+    let after_all = through is_forgotten (λ x. Holds (IsAtItsEnd held) (open_burst s k x)) (λ n packet x own y. forgetting_keeps s k (IsAtItsEnd held) n packet x own y) repaired (idle_forgotten s repaired)
+    (all_forgotten_put s (known repaired) repaired) after_repairs in
+    subst (λ (hs : List Held). IsAtItsEnd hs b) (held_at_start s (history_of s events))
+    (holds_of (IsAtItsEnd held) (open_burst s k (idle_forgotten s repaired)) b after_all (sym (ap (open_burst s k) (tick_is s events)) ∙ e))
