@@ -1,11 +1,12 @@
 -- Dropping what is marked, in place.
-use Rattle.std.proofs.Common.{◌≡◌, ℕ, zero, suc, ◌+◌, ◌-◌, ◌<◌, ◌≤◌, Bool, true, false, cond, List, [], ◌∷◌, ◌++◌, length, take, drop, get_or, refl, ap, sym, ◌∙◌, subst, arith, append_assoc, append-nil, length-drop, set, length-set}
+use Rattle.std.proofs.Common.{◌≡◌, ℕ, zero, suc, ◌+◌, ◌-◌, ◌<◌, ◌≤◌, Bool, true, false, not, cond, List, [], ◌∷◌, ◌++◌, length, take, drop, get_or, refl, ap, sym, ◌∙◌, subst, arith, append_assoc, append-nil, length-drop, set}
 use Rattle.std.specs.List.{list_any}
-use Rattle.std.proofs.lemmas.List.{get_or-drop, drop-set-lt, take_more, drop_more, drop_all, drop_at, drop-drop, take-take, drop-take, take_at as take_front, length-take-le, nil_from_length}
+use Rattle.std.proofs.lemmas.List.{take_more, drop_more, drop_at, drop-drop, take-take, drop-take, take_at as take_front, length-take-le, nil_from_length}
 use Rattle.std.proofs.lemmas.List.Edits.{length-paste}
-use Rattle.std.proofs.Math.Seq.{paste, take-suc-set}
+use Rattle.std.proofs.Math.Seq.{paste}
 use Rattle.rams_model.specs.Service.{Wanted, wanted}
 use Rattle.repair_queue.specs.{unmarked}
+use Rattle.repair_queue.proofs.Pending.{unmarked_none}
 
 -- The unmarked ones from i on stand from `start` on, and in front of i all is as it was.
 pub record MovedUp (ws now : List Wanted) (done : List Bool) (start i : ℕ) : Type 0 where
@@ -31,17 +32,13 @@ unmarked_more ws done i w is_done short short_flags at flag =
     let long : length (take i done) ≡ length (take i ws) = length-take-le i done (omega arith) ∙ sym (length-take-le i ws (omega arith)) in
     rw (take_more ws i w short, take_more done i false short_flags, at, flag) (unmarked_push (take i ws) (take i done) w is_done long)
 
-unmarked_all : (ws : List Wanted) → unmarked ws [] ≡ ws
-unmarked_all [] = refl
-unmarked_all (w ∷ ws) = refl
-
--- no flag was looked at yet
-pub moved_none : (ws : List Wanted) (done : List Bool) → length done ≤ length ws → MovedUp ws ws done (length done) (length done)
-moved_none ws done flags = record {
+-- those behind the last marked one stay where they are
+pub moved_none : (ws : List Wanted) (done : List Bool) (start : ℕ) → length done ≤ length ws → start ≤ length done → list_any (λ is_done. is_done) (drop start done) ≡ false → MovedUp ws ws done start start
+moved_none ws done start flags within unset = record {
   front = refl;
-  rest = sym (ap (unmarked (drop (length done) ws)) (drop_all (length done) done (omega arith)) ∙ unmarked_all (drop (length done) ws));
+  rest = sym (unmarked_none (drop start ws) (drop start done) unset);
   order = omega arith;
-  within = omega arith;
+  within = within;
   long = refl;
   flags = flags;
 }
@@ -69,6 +66,33 @@ unmarked_front (suc n) [] done flags short unset = absurd (omega arith)
 unmarked_front (suc n) (w ∷ ws) [] flags short unset = absurd (omega arith)
 unmarked_front (suc n) (w ∷ ws) (true ∷ done) flags short unset = cc
 unmarked_front (suc n) (w ∷ ws) (false ∷ done) flags short unset = ap (λ (vs : List Wanted). w ∷ vs) (unmarked_front n ws done (omega arith) (omega arith) unset)
+
+-- where the first flags are set, as many go
+unmarked_gone : (n : ℕ) (ws : List Wanted) (done : List Bool) → n ≤ length done → n ≤ length ws → list_any (λ is_done. not is_done) (take n done) ≡ false → unmarked ws done ≡ unmarked (drop n ws) (drop n done)
+unmarked_gone zero ws done flags short set = refl
+unmarked_gone (suc n) [] done flags short set = absurd (omega arith)
+unmarked_gone (suc n) (w ∷ ws) [] flags short set = absurd (omega arith)
+unmarked_gone (suc n) (w ∷ ws) (true ∷ done) flags short set = unmarked_gone n ws done (omega arith) (omega arith) set
+unmarked_gone (suc n) (w ∷ ws) (false ∷ done) flags short set = cc
+
+-- marked ones are left where they are
+pub moved_gone : (ws now : List Wanted) (done : List Bool) (start from end : ℕ) → from ≤ end → MovedUp ws now done start end → list_any (λ is_done. not is_done) (drop from (take end done)) ≡ false → MovedUp ws now done start from
+moved_gone ws now done start from end low so_far set =
+    let n = end - from in
+    let ends : from + n ≡ end = omega (arith, low) in
+    let flags : take n (drop from done) ≡ drop from (take end done) = sym (drop-take from n done) ∙ ap (λ (m : ℕ). drop from (take m done)) ends in
+    let rest : unmarked (drop from ws) (drop from done) ≡ unmarked (drop end ws) (drop end done) =
+    unmarked_gone n (drop from ws) (drop from done) (omega (arith, length-drop from done, so_far.order, so_far.within)) (omega (arith, length-drop from ws, so_far.order, so_far.within, so_far.flags)) (ap (list_any (λ is_done. not is_done)) flags ∙ set)
+    ∙ (ap (λ (l : List Wanted). unmarked l (drop n (drop from done))) (drop-drop n from ws ∙ ap (λ (m : ℕ). drop m ws) ends)
+    ∙ ap (λ (l : List Bool). unmarked (drop end ws) l) (drop-drop n from done ∙ ap (λ (m : ℕ). drop m done) ends)) in
+    record {
+      front = sym (take-take from end now low) ∙ (ap (take from) so_far.front ∙ take-take from end ws low);
+      rest = so_far.rest ∙ sym rest;
+      order = omega (arith, low, so_far.order);
+      within = so_far.within;
+      long = so_far.long;
+      flags = so_far.flags;
+    }
 
 -- a run of unmarked ones moves up
 pub moved_run : (ws now : List Wanted) (done : List Bool) (start from end to : ℕ) → from ≤ end → to ≡ start - (end - from) → MovedUp ws now done start end
@@ -138,42 +162,3 @@ any_split (false ∷ flags) (suc n) front back = any_split flags n front back
 pub unset_block : (done : List Bool) (start n end : ℕ) → start + n ≡ end → list_any (λ is_done. is_done) (take n (drop start done)) ≡ false → list_any (λ is_done. is_done) (drop end done) ≡ false → list_any (λ is_done. is_done) (drop start done) ≡ false
 unset_block done start n end ends block unset =
     any_split (drop start done) n block (ap (list_any (λ is_done. is_done)) (drop-drop n start done ∙ ap (λ (m : ℕ). drop m done) ends) ∙ unset)
-
--- Of the first i those that aren't marked stand in front, and from i on all is as it was.
-pub record MovedDown (ws now : List Wanted) (done : List Bool) (kept i : ℕ) : Type 0 where
-  pub front : take kept now ≡ unmarked (take i ws) (take i done)
-  pub rest : drop i now ≡ drop i ws
-  pub behind : kept ≤ i
-  pub long : length now ≡ length ws
-
-module _ (ws now : List Wanted) (done : List Bool) (kept i : ℕ) (w : Wanted) (so_far : MovedDown ws now done kept i) (short : i < length ws) (short_flags : i < length done) (is : w ≡ get_or now i w) where
-  as_it_was : get_or ws i w ≡ w
-  as_it_was =
-      let here : i + 0 ≡ i = omega arith in
-      sym (is ∙ (ap (λ (n : ℕ). get_or now n w) (sym here) ∙ (sym (get_or-drop i now 0 w) ∙ (ap (λ (l : List Wanted). get_or l 0 w) so_far.rest ∙ (get_or-drop i ws 0 w ∙ ap (λ (n : ℕ). get_or ws n w) here)))))
-
-  rest_more : drop (i + 1) now ≡ drop (i + 1) ws
-  rest_more = sym (drop-drop 1 i now) ∙ (ap (drop 1) so_far.rest ∙ drop-drop 1 i ws)
-
-  -- the next one is marked
-  pub moved_down_past : get_or done i false ≡ true → MovedDown ws now done kept (i + 1)
-  moved_down_past flag = record {
-    front = so_far.front ∙ sym (unmarked_more ws done i w true short short_flags as_it_was flag ∙ append-nil (unmarked (take i ws) (take i done)));
-    rest = rest_more;
-    behind = omega (arith, so_far.behind);
-    long = so_far.long;
-  }
-
-  -- or moves behind those in front
-  pub kept_more : take (kept + 1) (set now kept w) ≡ take kept now ++ w ∷ []
-  kept_more =
-      let next : suc kept ≡ kept + 1 = omega arith in
-      ap (λ (n : ℕ). take n (set now kept w)) (sym next) ∙ take-suc-set now kept w (omega (arith, so_far.behind, so_far.long, short))
-
-  pub moved_down : get_or done i false ≡ false → MovedDown ws (set now kept w) done (kept + 1) (i + 1)
-  moved_down flag = record {
-    front = kept_more ∙ (ap (λ (l : List Wanted). l ++ w ∷ []) so_far.front ∙ sym (unmarked_more ws done i w false short short_flags as_it_was flag));
-    rest = drop-set-lt (i + 1) now kept w (omega (arith, so_far.behind)) ∙ rest_more;
-    behind = omega (arith, so_far.behind);
-    long = length-set now kept w ∙ so_far.long;
-  }

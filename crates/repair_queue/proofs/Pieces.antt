@@ -151,7 +151,7 @@ others_stay old now i x others =
     let past : i < i + 1 = omega arith in
     drop-set-lt (i + 1) now i x past ∙ (sym (drop-drop 1 i now) ∙ (ap (drop 1) others ∙ drop-drop 1 i old))
 
-placed : (now : List (List Wanted)) (i : ℕ) (x : List Wanted) → i < length now → all_of (take (i + 1) (set now i x)) ≡ all_of (take i now) ++ x
+pub placed : (now : List (List Wanted)) (i : ℕ) (x : List Wanted) → i < length now → all_of (take (i + 1) (set now i x)) ≡ all_of (take i now) ++ x
 placed now i x lt =
     let next : suc i ≡ i + 1 = omega arith in
     ap (λ (n : ℕ). all_of (take n (set now i x))) (sym next) ∙ (ap all_of (take-suc-set now i x lt) ∙ (all_append (take i now) (x ∷ []) ∙ ap (λ (l : List Wanted). all_of (take i now) ++ l) (append-nil x)))

@@ -1,7 +1,10 @@
 //! The pending repairs in their order.
-ghost use Rattle.std.specs.Prelude.{◌≡◌, ◌+◌, ◌<◌, ◌≤◌, ◌++◌, true, if◌then◌else◌, length};
-ghost use Rattle.repair_queue.specs.{all_of, unmarked, without};
+ghost use Rattle.std.specs.Prelude.{◌≡◌, ◌+◌, ◌<◌, ◌≤◌, ◌++◌, true, if◌then◌else◌, List, length};
+ghost use Rattle.rams_model.specs.Service.{Wanted as Repair};
+ghost use Rattle.repair_queue.specs.{all_of, unmarked, without, AreOnce, Indexes, Owes};
 
+use crate::block::is_any_set;
+use crate::index::{Index, Run};
 use crate::piece::{PIECE, Piece};
 use crate::tail::Tail;
 use crate::wanted::Wanted;
@@ -11,6 +14,9 @@ use std::marker::Model;
 
 // So many pieces there are at most. Where there would be more, repairs stay behind them.
 const MOST_PIECES: usize = 96;
+
+// So many of the oldest pieces may be empty before they go.
+const MOST_EMPTY: usize = 7;
 
 /// The pending repairs, the oldest first: in pieces those that were asked for long ago, so that some of them go and
 /// the others stay where they are; and behind these those that were asked for last.
@@ -37,7 +43,7 @@ impl Model for Backlog {
 
 impl Backlog {
     ghost use Rattle.std.specs.Prelude.{◌≡◌, ◌<◌, ◌≤◌, ◌++◌, [], ◌∷◌, length, IfOk};
-    ghost use Rattle.repair_queue.specs.{all_of, unmarked, without};
+    ghost use Rattle.repair_queue.specs.{all_of, unmarked, without, AreOnce, Indexes};
 
     /// No repairs, with room for 4,096.
     pub(crate) fn new(alloc: Global) -> Result<Backlog, NoMemory>
@@ -74,15 +80,20 @@ impl Backlog {
         self.last.push(w);
     }
 
-    /// The repairs whose flag is set go. There is one flag for each.
-    pub(crate) fn drop_marked(&mut self, done: &[bool])
+    /// The repairs whose flag is set go, and their pairs go out of the index of all. There is one flag for each.
+    pub(crate) fn drop_marked(&mut self, index: &mut Index, done: &[bool])
         requires few { length self.old ≤ 4096 }
         requires one_each { length done.now ≡ length self.old }
-        ensures { self.new ≡ unmarked self.old done.now }
+        requires once { AreOnce self.old }
+        requires indexed { Indexes index.old self.old }
+        ensures pending { self.new ≡ unmarked self.old done.now }
+        ensures indexed { Indexes index.new self.new }
     {
         let (of_pieces, of_last) = done.split_at(self.in_pieces);
-        drop_of_pieces(&mut self.pieces, of_pieces);
+        let run = drop_of_pieces(index, &mut self.pieces, of_pieces);
         self.in_pieces = count_of_pieces(&self.pieces);
+        let run = index.drop_of(run, self.last.as_slice(), of_last);
+        index.end_run(run);
         self.last.drop_marked(of_last);
     }
 
@@ -101,9 +112,17 @@ impl Backlog {
         requires few { length self.old ≤ 4096 }
         ensures { self.new ≡ self.old }
     {
-        drop_empty(&mut self.pieces);
+        if has_empty(&self.pieces) {
+            drop_empty(&mut self.pieces);
+        }
         self.in_pieces += cut_pieces(self.alloc, &mut self.pieces, &mut self.last);
     }
+}
+
+// Whether the eighth piece has none left, as the oldest mostly lose all of theirs first; or no more would fit.
+fn has_empty(pieces: &[Piece]) -> bool {
+    pieces.len() >= MOST_PIECES
+        || (pieces.len() > MOST_EMPTY && pieces[MOST_EMPTY].pending().is_empty())
 }
 
 // Pieces without repairs go.
@@ -146,18 +165,40 @@ fn cut_piece(alloc: Global, pieces: &mut Vec<Piece>, last: &mut Tail) -> bool
     true
 }
 
-// Of the repairs of some pieces those go whose flag is set. There is one flag for each.
-fn drop_of_pieces(pieces: &mut Vec<Piece>, done: &[bool])
-    requires { length done.now ≡ length (all_of pieces.old.items) }
-    ensures { all_of pieces.new.items ≡ unmarked (all_of pieces.old.items) done.now }
+// Of the repairs of some pieces those go whose flag is set, and their pairs go out of the index of these and those
+// behind them. There is one flag for each.
+fn drop_of_pieces(index: &mut Index, pieces: &mut Vec<Piece>, done: &[bool]) -> Run
+    requires few { length (all_of pieces.old.items) ≤ 4096 }
+    requires one_each { length done.now ≡ length (all_of pieces.old.items) }
+    ensures pieces { all_of pieces.new.items ≡ unmarked (all_of pieces.old.items) done.now }
+    ensures removed { (back : List Repair) → AreOnce (all_of pieces.old.items ++ back) → Indexes index.old (all_of pieces.old.items ++ back) → Owes index.new (all_of pieces.new.items ++ back) result }
+    ensures len { result.len ≤ length (all_of pieces.old.items) }
 {
+    let mut run = Run::new();
     let mut left = done;
     for i in 0..pieces.len() {
         let piece = &mut pieces[i];
         let (flags, later) = left.split_at(piece.pending().len());
-        piece.drop_marked(flags);
+        run = drop_of_piece(index, run, piece, flags);
         left = later;
     }
+    run
+}
+
+// The same of one piece. Where no flag is set, nothing of it is looked at.
+fn drop_of_piece(index: &mut Index, run: Run, piece: &mut Piece, done: &[bool]) -> Run
+    requires few { run.len + length piece.old ≤ 4096 }
+    requires one_each { length done.now ≡ length piece.old }
+    ensures piece { piece.new ≡ unmarked piece.old done.now }
+    ensures removed { (front back : List Repair) → AreOnce (front ++ piece.old ++ back) → Owes index.old (front ++ piece.old ++ back) run → Owes index.new (front ++ piece.new ++ back) result }
+    ensures len { result.len ≤ run.len + length piece.old }
+{
+    if !is_any_set(done) {
+        return run;
+    }
+    let run = index.drop_of(run, piece.pending(), done);
+    piece.drop_marked(done);
+    run
 }
 
 // A client's repairs go.

@@ -5,7 +5,6 @@ ghost use Rattle.rams_model.specs.Service.{Wanted as Repair, wanted, is_wanted};
 ghost use Rattle.repair_queue.specs.{count_of, asked_of, answered, unmarked, without, AreOnce, Indexes, Owes, marked};
 
 use crate::backlog::Backlog;
-use crate::block::is_any_set;
 use crate::counts::Counts;
 use crate::marks::Marks;
 use crate::wanted::{Asked, MOST_OF_CLIENT, MOST_PENDING, Wanted};
@@ -26,9 +25,18 @@ const PAIRS_OF_BLOCK: usize = 4;
 
 // Pairs of one client that went one after another, and that its count has still in it.
 #[derive(Clone, Copy)]
-struct Run {
+pub(crate) struct Run {
     client: u64,
     len: u32,
+}
+
+impl Run {
+    /// None so far.
+    pub(crate) fn new() -> Run
+        ensures { result.len ≡ 0 }
+    {
+        Run { client: 0, len: 0 }
+    }
 }
 
 impl Index {
@@ -199,37 +207,13 @@ impl Index {
         }
     }
 
-    /// The pairs of the marked repairs go. There is one flag for each.
-    pub(crate) fn drop_marked(&mut self, pending: &Backlog, done: &[bool])
-        requires few { length pending.now ≤ 4096 }
-        requires one_each { length done.now ≡ length pending.now }
-        requires once { AreOnce pending.now }
-        requires indexed { Indexes self.old pending.now }
-        ensures { Indexes self.new (unmarked pending.now done.now) }
-    {
-        let (pieces, last) = pending.parts();
-        let mut run = Run { client: 0, len: 0 };
-        let mut left = done;
-        for piece in pieces {
-            let pending = piece.pending();
-            let (flags, later) = left.split_at(pending.len());
-            run = self.drop_of(run, pending, flags);
-            left = later;
-        }
-        run = self.drop_of(run, last, left);
-        self.counts.take(run.client, run.len);
-    }
-
-    // The pairs of the marked ones of these go, with one flag for each. Where none is marked, none is looked at.
-    fn drop_of(&mut self, run: Run, pending: &[Wanted], done: &[bool]) -> Run
+    /// The pairs of the marked ones of these go, with one flag for each.
+    pub(crate) fn drop_of(&mut self, run: Run, pending: &[Wanted], done: &[bool]) -> Run
         requires few { run.len + length pending.now ≤ 4096 }
         requires one_each { length done.now ≡ length pending.now }
         ensures removed { (front back : List Repair) → AreOnce (front ++ pending.now ++ back) → Owes self.old (front ++ pending.now ++ back) run → Owes self.new (front ++ unmarked pending.now done.now ++ back) result }
         ensures len { result.len ≤ run.len + length pending.now }
     {
-        if !is_any_set(done) {
-            return run;
-        }
         let mut run = run;
         for (i, is_done) in done.iter().enumerate() {
             if !*is_done {
@@ -238,6 +222,13 @@ impl Index {
             run = self.remove(run, pending[i]);
         }
         run
+    }
+
+    /// The last run's client has its count.
+    pub(crate) fn end_run(&mut self, run: Run)
+        ensures { (ws : List Repair) → Owes self.old ws run → Indexes self.new ws }
+    {
+        self.counts.take(run.client, run.len);
     }
 
     /// The pairs of a client go.

@@ -2,8 +2,7 @@
 ghost use Rattle.std.specs.Prelude.{◌≡◌, true, length};
 ghost use Rattle.repair_queue.specs.{unmarked, without, AreFrom, Spans};
 
-use crate::block::is_any_set;
-use crate::places::drop_client;
+use crate::places::{drop_client, move_down, move_unmarked};
 use crate::span::Span;
 use crate::wanted::Wanted;
 use std::marker::Model;
@@ -16,19 +15,24 @@ pub(crate) const PIECE: usize = 64;
 #[derive(Drop)]
 pub struct Piece {
     wanted: Vec<Wanted>,
+    /// Where those begin that are pending still.
+    from: usize,
     span: Span,
 }
 
 impl Model for Piece {
-    ghost use Rattle.std.specs.Prelude.{List};
+    ghost use Rattle.std.specs.Prelude.{◌≤◌, List, drop, vec_len};
     ghost use Rattle.rams_model.specs.Service.{Wanted as Repair};
     ghost use Rattle.repair_queue.specs.{Spans};
 
     ghost Value = { List Repair };
 
-    ghost view = { λ p. p.wanted.items };
+    ghost view = { λ p. drop p.from p.wanted.items };
 
-    ghost invariant = { λ p. Spans p.span p.wanted.items };
+    ghost invariant = { λ p. record {
+      within : p.from ≤ vec_len p.wanted;
+      spans : Spans p.span (drop p.from p.wanted.items);
+    } };
 }
 
 impl Piece {
@@ -37,14 +41,18 @@ impl Piece {
         ensures { result ≡ wanted.items }
     {
         let span = span_of(&wanted);
-        Piece { wanted, span }
+        Piece {
+            wanted,
+            from: 0,
+            span,
+        }
     }
 
     /// The repairs, the oldest first.
     pub fn pending(&self) -> &[Wanted]
         ensures { result.now ≡ self.now }
     {
-        &self.wanted
+        &self.wanted[self.from..]
     }
 
     /// Whether each number is at least `lo` and below `hi`. It looks at none of them, and where some went it may say
@@ -55,20 +63,23 @@ impl Piece {
         self.span.is_within(lo, hi)
     }
 
-    /// The repairs whose flag is set go. There is one flag for each. Where any go, the span is anew.
+    /// The repairs whose flag is set go, and those in front of them move up. There is one flag for each. The span
+    /// is anew.
     pub(crate) fn drop_marked(&mut self, done: &[bool])
         requires { length done.now ≡ length self.old }
         ensures { self.new ≡ unmarked self.old done.now }
     {
-        if is_any_set(done) {
-            self.span = drop_marked(&mut self.wanted, done);
-        }
+        let gone = move_unmarked(&mut self.wanted[self.from..], done);
+        self.from += gone;
+        self.span = span_of(&self.wanted[self.from..]);
     }
 
     /// The client's repairs go.
     pub(crate) fn drop_client(&mut self, client: u64)
         ensures { self.new ≡ without client self.old }
     {
+        move_down(&mut self.wanted, self.from);
+        self.from = 0;
         drop_client(&mut self.wanted, client);
     }
 }
@@ -81,26 +92,5 @@ fn span_of(pending: &[Wanted]) -> Span
     for wanted in pending {
         span = span.with(wanted.n);
     }
-    span
-}
-
-// Moves those whose flag isn't set to the front, and drops the rest. The least span of those that stay.
-fn drop_marked(wanted: &mut Vec<Wanted>, done: &[bool]) -> Span
-    requires { length done.now ≡ length wanted.old.items }
-    ensures items { wanted.new.items ≡ unmarked wanted.old.items done.now }
-    ensures span { Spans result wanted.new.items }
-{
-    let mut span = Span::new();
-    let mut kept = 0;
-    for i in 0..done.len() {
-        if done[i] {
-            continue;
-        }
-        let w = wanted[i];
-        wanted[kept] = w;
-        kept += 1;
-        span = span.with(w.n);
-    }
-    wanted.truncate(kept);
     span
 }

@@ -2,7 +2,7 @@
 ghost use Rattle.std.specs.Prelude.{◌≡◌, ◌≤◌, length, drop, vec_len, vec_capacity};
 ghost use Rattle.repair_queue.specs.{unmarked, without};
 
-use crate::flags::end_of_set;
+use crate::flags::{end_of_set, start_of_set};
 use crate::wanted::Wanted;
 
 /// Moves those of the first ones whose flag isn't set up to right before the first that has no flag.
@@ -12,12 +12,13 @@ pub(crate) fn move_unmarked(pending: &mut [Wanted], done: &[bool]) -> usize
     ensures within { result ≤ length done.now }
     ensures pending { drop result pending.new ≡ unmarked pending.old done.now }
 {
-    let mut start = done.len();
-    let mut end = done.len();
+    let mut start = end_of_set(done);
+    let mut end = start;
     while end > 0 {
-        let from = end_of_set(&done[..end]);
-        start -= end - from;
-        pending.copy_within(from..end, start);
+        let behind = start_of_set(&done[..end]);
+        let from = end_of_set(&done[..behind]);
+        start -= behind - from;
+        pending.copy_within(from..behind, start);
         end = from.saturating_sub(1);
     }
     start

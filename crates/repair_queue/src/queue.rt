@@ -1,6 +1,5 @@
 //! The queue of pending repairs.
 use crate::backlog::Backlog;
-use crate::block::is_any_set;
 use crate::index::Index;
 use crate::piece::Piece;
 use crate::wanted::{Asked, MOST_PENDING, Wanted};
@@ -91,9 +90,7 @@ impl Queue {
         requires one_each { length done.now ≡ length self.old }
         ensures { self.new ≡ unmarked self.old done.now }
     {
-        if is_any_set(done) {
-            self.drop_done(done);
-        }
+        self.drop_done(done);
         self.pending.cut();
     }
 
@@ -102,8 +99,7 @@ impl Queue {
         requires one_each { length done.now ≡ length self.old }
         ensures { self.new ≡ unmarked self.old done.now }
     {
-        self.index.drop_marked(&self.pending, done);
-        self.pending.drop_marked(done);
+        self.pending.drop_marked(&mut self.index, done);
         self.index.mend(&self.pending);
     }
 

@@ -114,9 +114,5 @@ impl Tail {
 fn copy_of(alloc: Global, pending: &[Wanted]) -> Option<Vec<Wanted>>
     ensures { IfSome result (λ copy. copy.items ≡ pending.now) }
 {
-    let mut copy = Vec::with_capacity(alloc, pending.len()).ok()?;
-    for wanted in pending {
-        copy.push_reserved(*wanted);
-    }
-    Some(copy)
+    Vec::from_slice(alloc, pending).ok()
 }

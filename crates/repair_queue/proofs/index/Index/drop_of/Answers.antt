@@ -2,15 +2,10 @@ use Rattle.std.proofs.Common.{◌≡◌, ◌<◌, true, false, List, length, sym
 use Rattle.std.proofs.lemmas.List.{get_or_default}
 use Rattle.rams_model.specs.Service.{Wanted, wanted}
 use Rattle.repair_queue.specs.{unmarked, Owes}
-use Rattle.repair_queue.proofs.Pending.{filter-unmarked-le, unmarked_none}
+use Rattle.repair_queue.proofs.Pending.{filter-unmarked-le}
 use Rattle.repair_queue.proofs.Marked.{unmarked_more, unmarked_rest}
 use Rattle.repair_queue.proofs.Pieces.{once_middle, stays, goes}
 use Rattle.repair_queue.proofs.index.Index.drop_of.Goals as goal
-
-pub returns-then-not-is_any_set-clause-removed : goal.returns-then-not-is_any_set-clause-removed
-returns-then-not-is_any_set-clause-removed c = λ front back once owes.
-    let none = unmarked_none c.args.pending.now c.args.done.now (sym c.is_any_set.ensures ∙ c.if-not-is_any_set.true) in
-    subst (λ (l : List Wanted). Owes c.args.self.now (front ++ l ++ back) c.args.run) (sym none) owes
 
 pub loop-i-preserved-then-not-is_done : goal.loop-i-preserved-then-not-is_done
 loop-i-preserved-then-not-is_done c =
