@@ -1,6 +1,6 @@
 //! The lines of notes, and what many of them begin with.
 ghost use Rattle.std.specs.Prelude.{◌≡◌, ◌+◌, ◌<◌, ◌≤◌, ◌++◌, OnOk, OnErr, codes, length, decimal, vec_capacity};
-ghost use Rattle.rams_model.specs.Texts.{spaced, note_line, send_line};
+ghost use Rattle.rams_model.specs.Texts.{spaced, note_line, send_line, book_line, hex_word};
 ghost use Rattle.book_text.specs.{send_front};
 
 use crate::line::append_with_hex;
@@ -184,6 +184,56 @@ impl Pen {
         words(&mut self.lines, note, &mut self.named);
         self.lines.piece(&self.front.piece);
         self.lines.append_to(text)
+    }
+
+    /// The line of a word, a client and what stands behind it: `EVENT ID WORD CLIENT` and the end.
+    pub fn append_named(
+        &mut self,
+        text: &mut Vec<u8>,
+        event: u64,
+        id: u16,
+        word: &[u8],
+        client: u64,
+        end: &[u8],
+    ) -> Result<(), NoMemory>
+        requires { length word.now + length end.now ≤ 150 }
+        ensures text { OnOk result (text.new.items ≡ text.old.items ++ book_line event id (word.now ++ spaced client ++ end.now)) }
+        ensures err { OnErr result (text.new.items ≡ text.old.items) }
+        ensures full { OnErr result (vec_capacity text.old < length text.old.items + length (book_line event id (word.now ++ spaced client ++ end.now))) }
+        ensures room { vec_capacity text.old ≤ vec_capacity text.new }
+    {
+        self.front.turn_to(event, id);
+        self.lines.clear();
+        self.lines.byte(b'\n');
+        self.lines.word(end);
+        self.named.of_client(&mut self.lines, word, client);
+        self.lines.piece(&self.front.piece);
+        self.lines.append_to(text)
+    }
+
+    /// The line of a word, a client, a number and bytes: `EVENT ID WORD CLIENT NUMBER HEX`.
+    pub fn append_numbered(
+        &mut self,
+        text: &mut Vec<u8>,
+        event: u64,
+        id: u16,
+        word: &[u8],
+        client: u64,
+        n: u64,
+        bytes: &[u8],
+    ) -> Result<(), NoMemory>
+        requires { length word.now ≤ 130 }
+        ensures text { OnOk result (text.new.items ≡ text.old.items ++ book_line event id (word.now ++ spaced client ++ spaced n ++ codes " " ++ hex_word bytes.now)) }
+        ensures err { OnErr result (text.new.items ≡ text.old.items) }
+        ensures full { OnErr result (vec_capacity text.old < length text.old.items + length (book_line event id (word.now ++ spaced client ++ spaced n ++ codes " " ++ hex_word bytes.now))) }
+        ensures room { vec_capacity text.old ≤ vec_capacity text.new }
+    {
+        self.front.turn_to(event, id);
+        self.lines.clear();
+        self.lines.byte(b' ');
+        self.named.numbered(&mut self.lines, word, client, n);
+        self.lines.piece(&self.front.piece);
+        append_with_hex(text, &self.lines, bytes)
     }
 
     /// The line of a note, and behind it that of a datagram to a client.

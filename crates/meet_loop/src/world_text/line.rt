@@ -29,9 +29,9 @@ pub fn append_world_note(
         WorldItem::Send { client, bytes } => append_sent(text, room, event, id, *client, bytes),
         WorldItem::Post { client, bytes } => append_post(text, event, id, *client, bytes),
         WorldItem::Info { client, came } => append_info(text, event, id, *client, *came),
-        WorldItem::Media { client, came } => append_media(text, event, id, *client, *came),
+        WorldItem::Media { client, came } => append_media(pen, text, event, id, *client, *came),
         WorldItem::Show { client, n, packet } => {
-            append_show(text, event, id, *client, *n, packet)
+            pen.append_numbered(text, event, id, b"show", *client, *n, packet)
         }
         WorldItem::TunedBefore(client) => append_named(text, event, id, b"tuned-before", *client),
         WorldItem::NoReceiver(client) => append_named(text, event, id, b"no-receiver", *client),
@@ -162,24 +162,6 @@ fn append_post(
     append_with_bytes(text, line, event, id, bytes)
 }
 
-// A packet that a receiver presents: `EVENT ID show CLIENT NUMBER HEX`.
-fn append_show(
-    text: &mut Vec<u8>,
-    event: u64,
-    id: u16,
-    client: u64,
-    n: u64,
-    packet: &[u8],
-) -> Result<(), NoMemory>
-    ensures text { OnOk result (text.new.items ≡ text.old.items ++ bytes_line event id (codes "show" ++ spaced client ++ spaced n) packet.now) }
-    ensures err { OnErr result (text.new.items ≡ text.old.items) }
-{
-    let mut line = Tail::new();
-    line.byte(b' ');
-    line.numbered(b"show", client, n);
-    append_with_bytes(text, line, event, id, packet)
-}
-
 // Words with a space behind them, and bytes.
 fn append_with_bytes(
     text: &mut Vec<u8>,
@@ -234,6 +216,7 @@ fn info(line: &mut Tail, came: InfoCame)
 
 // What became of a packet: `EVENT ID came CLIENT WORD`.
 fn append_media(
+    pen: &mut Pen,
     text: &mut Vec<u8>,
     event: u64,
     id: u16,
@@ -243,27 +226,22 @@ fn append_media(
     ensures text { OnOk result (text.new.items ≡ text.old.items ++ book_line event id (of_word (codes "came") client (media_word came))) }
     ensures err { OnErr result (text.new.items ≡ text.old.items) }
 {
-    let mut line = Tail::new();
-    line.byte(b'\n');
-    line.word(media(came));
-    line.byte(b' ');
-    line.named(b"came", client);
-    begin(&mut line, event, id);
-    line.append_to(text)
+    pen.append_named(text, event, id, b"came", client, media(came))
 }
 
+// The word of what became of a packet, behind a space.
 fn media(came: MediaCame) -> &'static [u8]
-    ensures word { result.now ≡ media_word came }
-    ensures few { length result.now ≤ 12 }
+    ensures word { result.now ≡ 32 ∷ media_word came }
+    ensures few { length result.now ≤ 13 }
 {
     match came {
-        MediaCame::Took => b"took".as_slice(),
-        MediaCame::Behind => b"behind",
-        MediaCame::Beyond => b"beyond",
-        MediaCame::Twice => b"twice",
-        MediaCame::BeforeFirst => b"before-first",
-        MediaCame::Foreign => b"foreign",
-        MediaCame::Bad => b"bad",
+        MediaCame::Took => b" took".as_slice(),
+        MediaCame::Behind => b" behind",
+        MediaCame::Beyond => b" beyond",
+        MediaCame::Twice => b" twice",
+        MediaCame::BeforeFirst => b" before-first",
+        MediaCame::Foreign => b" foreign",
+        MediaCame::Bad => b" bad",
     }
 }
 
