@@ -55,9 +55,9 @@ fn payload(alloc: Global, pieces: &[(&[u8], usize)]) -> Result<Vec<u8>, AllocErr
 }
 
 fn expect(rt: &impl Abort, alloc: Global, rows: &[Row]) -> Result<(), Fail> {
-    for (pieces, want) in rows {
+    for (place, (pieces, want)) in rows.iter().enumerate() {
         let bytes = payload(alloc, pieces)?;
-        same(rt, &has_access(&bytes), want, pieces);
+        same(rt, &has_access(&bytes), want, &place);
     }
     Ok(())
 }

@@ -105,7 +105,9 @@ fn choice_of(want: Want) -> Choice {
 // An index of at most eight packets, from number 1000 on.
 fn index_of(rt: &impl Abort, alloc: Global, packets: &[Packet]) -> Result<Index, Fail> {
     assert!(rt; packets.len() <= 8);
-    let mut index = Index::new(alloc, 8)?;
+    let Ok(mut index) = Index::new(alloc, 8) else {
+        return Err(Fail::new("no memory"));
+    };
     let mut n = 1000;
     for (ts, wire, access) in packets {
         index.push(n, *ts, *wire, *access);
@@ -115,12 +117,12 @@ fn index_of(rt: &impl Abort, alloc: Global, packets: &[Packet]) -> Result<Index,
 }
 
 fn expect_starts(rt: &impl Abort, alloc: Global, rows: &[Start]) -> Result<(), Fail> {
-    for (packets, ask, want) in rows {
+    for (place, (packets, ask, want)) in rows.iter().enumerate() {
         let (room, declared, min_ms, max_ms) = *ask;
         assert!(rt; declared <= 1000000000);
         let index = index_of(rt, alloc, packets)?;
         let choice = index.choose(room, declared, min_ms, max_ms);
-        same(rt, &choice, &choice_of(*want), ask);
+        same(rt, &choice, &choice_of(*want), &place);
     }
     Ok(())
 }
@@ -131,11 +133,11 @@ fn the_newest_that_fits_is_chosen(rt: HostRuntime) -> Result<(), Fail> {
 }
 
 fn expect_left(rt: &impl Abort, alloc: Global, rows: &[Left]) -> Result<(), Fail> {
-    for (lo, min_ms, want) in rows {
+    for (place, (lo, min_ms, want)) in rows.iter().enumerate() {
         let mut index = index_of(rt, alloc, MARKS)?;
         index.drop_below(*lo);
         let choice = index.choose(10000, 0, *min_ms, None);
-        same(rt, &choice, &choice_of(*want), &(min_ms, lo));
+        same(rt, &choice, &choice_of(*want), &place);
     }
     Ok(())
 }

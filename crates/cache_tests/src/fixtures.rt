@@ -1,16 +1,16 @@
 //! What is compared, and the packets of the tests.
 use std::alloc::{AllocError, Global};
-use std::fmt::Debug;
+use std::fmt::Display;
 use std::process::Abort;
 
 /// The value is the one that is wanted of this.
-pub fn same<T: Debug + PartialEq, C: Debug>(rt: &impl Abort, got: &T, want: &T, of: &C) {
-    assert_eq!(rt; *got, *want, "{of:?}");
+pub fn same<T: PartialEq, C: Display>(rt: &impl Abort, got: &T, want: &T, of: &C) {
+    assert!(rt; *got == *want, "{of}");
 }
 
 /// It holds of this.
-pub fn holds<C: Debug>(rt: &impl Abort, is_so: bool, of: &C) {
-    assert!(rt; is_so, "{of:?}");
+pub fn holds<C: Display>(rt: &impl Abort, is_so: bool, of: &C) {
+    assert!(rt; is_so, "{of}");
 }
 
 /// A packet of the channel: version 2, the marker and payload type 33, and this payload.

@@ -127,8 +127,11 @@ const BARE: [u8; 30] = [
 fn cache_of(rt: &impl Abort, alloc: Global, channel: Channel) -> Result<Cache, Fail>
     ensures { IfOk result (λ cache. StandsForFewer cache 1) }
 {
-    let config = Config::check(channel, 10).expect(rt, "lawful settings");
-    Ok(Cache::new(alloc, &config)?)
+    let config = Config::check(channel, 10).ok().expect(rt, "lawful settings");
+    let Ok(cache) = Cache::new(alloc, &config) else {
+        return Err(Fail::new("no memory"));
+    };
+    Ok(cache)
 }
 
 // Takes a packet, and compares its note.
@@ -138,12 +141,15 @@ fn expect_note(
     cache: &mut Cache,
     bytes: &[u8],
     want: LiveNote,
+    of: u16,
 ) -> Result<(), Fail>
     requires { StandsForFewer cache.old 1000 }
     ensures { (most : ℕ) → StandsForFewer cache.old most → OnOk result (StandsForFewer cache.new (most + 1)) }
 {
-    let note = cache.live(alloc, bytes)?;
-    same(rt, &note, &want, &bytes);
+    let Ok(note) = cache.live(alloc, bytes) else {
+        return Err(Fail::new("no memory"));
+    };
+    same(rt, &note, &want, &of);
     Ok(())
 }
 
@@ -158,7 +164,7 @@ fn expect_steps(
 {
     for (sequence, note, lo, hi) in steps {
         let bytes = packet(alloc, *sequence, 0, false, &[0; 4])?;
-        expect_note(rt, alloc, cache, &bytes, *note)?;
+        expect_note(rt, alloc, cache, &bytes, *note, *sequence)?;
         same(rt, &(cache.lo(), cache.hi()), &(*lo, *hi), sequence);
     }
     Ok(())
@@ -214,7 +220,7 @@ fn expect_noted(
 {
     for (sequence, len, change, want) in rows {
         let bytes = changed_packet(rt, alloc, *sequence, *len, *change)?;
-        expect_note(rt, alloc, cache, &bytes, *want)?;
+        expect_note(rt, alloc, cache, &bytes, *want, *sequence)?;
     }
     Ok(())
 }
@@ -222,8 +228,8 @@ fn expect_noted(
 #[test]
 fn each_live_packet_has_its_note(rt: HostRuntime) -> Result<(), Fail> {
     let mut cache = cache_of(&rt, rt.alloc(), settings(2, 64))?;
-    expect_note(&rt, rt.alloc(), &mut cache, &[], Bad(Short))?;
-    expect_note(&rt, rt.alloc(), &mut cache, &[0x40], Bad(Short))?;
+    expect_note(&rt, rt.alloc(), &mut cache, &[], Bad(Short), 0)?;
+    expect_note(&rt, rt.alloc(), &mut cache, &[0x40], Bad(Short), 1)?;
     expect_noted(&rt, rt.alloc(), &mut cache, NOTED)?;
     same(
         &rt,
@@ -250,7 +256,7 @@ fn is_none(cache: &Cache, n: u64) -> bool {
 #[test]
 fn padding_is_not_held(rt: HostRuntime) -> Result<(), Fail> {
     let mut cache = cache_of(&rt, rt.alloc(), CHANNEL)?;
-    expect_note(&rt, rt.alloc(), &mut cache, &PADDED, Took(65546))?;
+    expect_note(&rt, rt.alloc(), &mut cache, &PADDED, Took(65546), 10)?;
     expect_held(&rt, &cache, 65546, (65546, 0, 60, true), &BARE);
     holds(
         &rt,
@@ -285,13 +291,13 @@ fn flagged(alloc: Global, marker: bool, flags: u8) -> Result<Vec<u8>, AllocError
 }
 
 fn expect_begun(rt: &impl Abort, alloc: Global, rows: &[Begun]) -> Result<(), Fail> {
-    for (access, marker, flags, ring, want) in rows {
+    for (place, (access, marker, flags, ring, want)) in rows.iter().enumerate() {
         let mut channel = settings(0, *ring);
         channel.access = *access;
         let mut cache = cache_of(rt, alloc, channel)?;
         let bytes = flagged(alloc, *marker, *flags)?;
-        expect_note(rt, alloc, &mut cache, &bytes, Took(65546))?;
-        same(rt, &cache.choose(0, None), want, &(access, flags, ring));
+        expect_note(rt, alloc, &mut cache, &bytes, Took(65546), 10)?;
+        same(rt, &cache.choose(0, None), want, &place);
     }
     Ok(())
 }

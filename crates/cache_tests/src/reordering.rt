@@ -135,7 +135,9 @@ fn expect_steps(
 
 fn expect(rt: &impl Abort, alloc: Global, rows: &[Row]) -> Result<(), Fail> {
     for (width, steps) in rows {
-        let mut window = Window::new(alloc, *width)?;
+        let Ok(mut window) = Window::new(alloc, *width) else {
+            return Err(Fail::new("no memory"));
+        };
         window.begin(65546);
         expect_steps(rt, alloc, &mut window, steps)?;
     }
@@ -158,7 +160,9 @@ const AFTER: &[Step] = &[(85547, Came::Kept, &[85547]), (65552, Came::Late, &[])
 
 #[test]
 fn the_end_of_a_start_lets_all_go(rt: HostRuntime) -> Result<(), Fail> {
-    let mut window = Window::new(rt.alloc(), 5)?;
+    let Ok(mut window) = Window::new(rt.alloc(), 5) else {
+        return Err(Fail::new("no memory"));
+    };
     window.begin(65546);
     expect_steps(&rt, rt.alloc(), &mut window, BEFORE)?;
     window.end_start();

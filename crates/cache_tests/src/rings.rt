@@ -39,7 +39,9 @@ fn packet(alloc: Global, n: u64) -> Result<Held, AllocError> {
 // A ring of so many packets at most, into which the packets of these numbers were put.
 fn ring_of(rt: &impl Abort, alloc: Global, capacity: u32, numbers: &[u64]) -> Result<Ring, Fail> {
     assert!(rt; capacity >= 1);
-    let mut ring = Ring::new(alloc, capacity)?;
+    let Ok(mut ring) = Ring::new(alloc, capacity) else {
+        return Err(Fail::new("no memory"));
+    };
     for n in numbers {
         let held = packet(alloc, *n)?;
         assert!(rt; ring.hi() <= held.n && held.n < 1 << 62);
@@ -60,7 +62,7 @@ fn expect_held(rt: &impl Abort, ring: &Ring, lo: u64, hi: u64) {
 // None around them is held.
 fn expect_none(rt: &impl Abort, ring: &Ring, lo: u64, hi: u64) {
     for n in [0, lo.wrapping_sub(1), hi, hi.wrapping_add(1), u64::MAX] {
-        holds(rt, ring.get(n).is_none(), &(n, lo, hi));
+        holds(rt, ring.get(n).is_none(), &n);
     }
 }
 

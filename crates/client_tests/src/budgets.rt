@@ -69,9 +69,9 @@ fn reserved(share: u64, reserve: u64, amounts: &[u64; 2]) -> Option<([bool; 2], 
 }
 
 fn expect_reserved(rt: &impl Abort, rows: &[Reserved]) {
-    for (share, reserve, amounts, answers, total) in rows {
+    for (place, (share, reserve, amounts, answers, total)) in rows.iter().enumerate() {
         let got = reserved(*share, *reserve, amounts);
-        same(rt, &got, &Some((*answers, *total)), &(amounts, share));
+        same(rt, &got, &Some((*answers, *total)), &place);
     }
 }
 
@@ -104,9 +104,9 @@ fn ticks(share: u64, swell: u64, sizes: &[[u64; 3]; 2]) -> Option<([u64; 2], u64
 }
 
 fn expect_ticks(rt: &impl Abort, rows: &[Ticks]) {
-    for (share, swell, sizes, begun, left) in rows {
+    for (place, (share, swell, sizes, begun, left)) in rows.iter().enumerate() {
         let got = ticks(*share, *swell, sizes);
-        same(rt, &got, &Some((*begun, *left)), &(share, swell));
+        same(rt, &got, &Some((*begun, *left)), &place);
     }
 }
 
@@ -128,14 +128,14 @@ fn spent(before: u64, client_left: u64, size: u64) -> Option<(bool, u64)> {
 }
 
 fn expect_spent(rt: &impl Abort, rows: &[Spent]) {
-    for (before, client_left, size, fits) in rows {
+    for (place, (before, client_left, size, fits)) in rows.iter().enumerate() {
         let taken = if *fits { *size } else { 0 };
         let got = spent(*before, *client_left, *size);
         same(
             rt,
             &got,
             &Some((*fits, taken)),
-            &(before, client_left, size),
+            &place,
         );
     }
 }

@@ -86,32 +86,32 @@ const STOPS: &[Stop] = &[
 ];
 
 fn expect_rates(rt: &impl Abort, rows: &[Rate]) {
-    for (bps, tick_ms, burst, rate) in rows {
+    for (place, (bps, tick_ms, burst, rate)) in rows.iter().enumerate() {
         let got = rate_of(*bps, *tick_ms, *burst);
-        same(rt, &got, rate, &(bps, tick_ms, burst));
+        same(rt, &got, rate, &place);
     }
 }
 
 fn expect_bit_rates(rt: &impl Abort, rows: &[BitRate]) {
     for (rate, tick_ms, bps) in rows {
         assert!(rt; *rate <= 1_000_000_000 && *tick_ms >= 1);
-        same(rt, &bits_of(*rate, *tick_ms), bps, &(rate, tick_ms));
+        same(rt, &bits_of(*rate, *tick_ms), bps, bps);
     }
 }
 
 fn expect_joins(rt: &impl Abort, rows: &[Join]) {
-    for (behind, rate, declared, depth, join) in rows {
+    for (place, (behind, rate, declared, depth, join)) in rows.iter().enumerate() {
         assert!(rt; *rate >= 1500 && *declared <= *rate - 1500);
         let got = join_ticks(*behind, *rate, *declared, *depth);
-        same(rt, &got, join, &(behind, rate, declared, depth));
+        same(rt, &got, join, &place);
     }
 }
 
 fn expect_stops(rt: &impl Abort, rows: &[Stop]) {
-    for (first, next, named, stop) in rows {
+    for (place, (first, next, named, stop)) in rows.iter().enumerate() {
         assert!(rt; *first < 1 << 63);
         let got = stop_of(*first, *next, *named);
-        same(rt, &got, stop, &(first, next, named));
+        same(rt, &got, stop, &place);
     }
 }
 

@@ -58,7 +58,9 @@ fn admit_all(rt: &impl Abort, alloc: Global, table: &mut Table, clients: &[u32])
 
 // A table of at most so many clients, in which these are known.
 fn table_of(rt: &impl Abort, alloc: Global, most: u32, clients: &[u32]) -> Result<Table, Fail> {
-    let mut table = Table::new(alloc, most, LIMIT)?;
+    let Ok(mut table) = Table::new(alloc, most, LIMIT) else {
+        return Err(Fail::new("no memory"));
+    };
     admit_all(rt, alloc, &mut table, clients);
     Ok(table)
 }
@@ -122,9 +124,9 @@ fn next_after(table: &Table, client: Option<u64>) -> Option<u64> {
 }
 
 fn expect_next(rt: &impl Abort, alloc: Global, rows: &[Next]) -> Result<(), Fail> {
-    for (clients, from, next) in rows {
+    for (place, (clients, from, next)) in rows.iter().enumerate() {
         let table = table_of(rt, alloc, 4, clients)?;
-        same(rt, &next_after(&table, *from), next, &(clients, from));
+        same(rt, &next_after(&table, *from), next, &place);
     }
     Ok(())
 }
@@ -160,7 +162,7 @@ fn expect_written(rt: &impl Abort, table: &Table, written: u32) {
             rt,
             &entry,
             &Some(entry_of(client, written)),
-            &(client, written),
+            &written,
         );
     }
 }
@@ -223,20 +225,20 @@ fn count_open(table: &Table) -> usize {
 }
 
 // Open are the bursts of these clients.
-fn expect_open(rt: &impl Abort, table: &Table, clients: &[u32]) {
+fn expect_open(rt: &impl Abort, table: &Table, clients: &[u32], place: usize) {
     for (expected, (client, entry)) in clients.iter().zip(table.open_bursts()) {
-        same(rt, &client, &u64::from(*expected), &clients);
-        same(rt, &entry.burst, &Some(BURST), &clients);
+        same(rt, &client, &u64::from(*expected), &place);
+        same(rt, &entry.burst, &Some(BURST), &place);
     }
 }
 
 // Open are the bursts of these clients, by rising number, and no others.
 #[test]
 fn open_bursts(rt: HostRuntime) -> Result<(), Fail> {
-    for (opened, ended, left, open_then) in OPENED {
+    for (place, (opened, ended, left, open_then)) in OPENED.iter().enumerate() {
         let table = opened_table(&rt, rt.alloc(), opened, ended, *left)?;
-        same(&rt, &count_open(&table), &open_then.len(), open_then);
-        expect_open(&rt, &table, open_then);
+        same(&rt, &count_open(&table), &open_then.len(), &place);
+        expect_open(&rt, &table, open_then, place);
     }
     Ok(())
 }
@@ -290,7 +292,7 @@ const DUE: &[Due] = &[
 fn expect_due(rt: &impl Abort, table: &Table, ticks: u32, clients: &[u64]) {
     let mut due = table.due_next(LIMIT);
     for client in clients {
-        same(rt, &due.next(), &Some(*client), &(ticks, *client));
+        same(rt, &due.next(), &Some(*client), &ticks);
     }
     same(rt, &due.next(), &None, &ticks);
 }

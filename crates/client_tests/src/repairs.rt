@@ -43,7 +43,7 @@ const GONE: &[Gone] = &[
 ];
 
 fn ask(rt: &impl Abort, queue: &mut Queue, client: u64, n: u64, answer: Asked) {
-    same(rt, &queue.ask(client, n), &answer, &(n, client));
+    assert!(rt; queue.ask(client, n) == answer, "{n} of client {client}");
 }
 
 fn ask_for_pairs(rt: &impl Abort, queue: &mut Queue) {
@@ -54,7 +54,9 @@ fn ask_for_pairs(rt: &impl Abort, queue: &mut Queue) {
 
 // A queue in which the pairs are pending.
 fn queue_of(rt: &impl Abort, alloc: Global) -> Result<Queue, Fail> {
-    let mut queue = Queue::new(alloc)?;
+    let Ok(mut queue) = Queue::new(alloc) else {
+        return Err(Fail::new("no memory"));
+    };
     ask_for_pairs(rt, &mut queue);
     Ok(queue)
 }
@@ -94,7 +96,9 @@ fn ask_for_4096(rt: &impl Abort, queue: &mut Queue) {
 
 // A queue with 4,096 pending repairs, of the clients 1 to 16.
 fn full_queue(rt: &impl Abort, alloc: Global) -> Result<Queue, Fail> {
-    let mut queue = Queue::new(alloc)?;
+    let Ok(mut queue) = Queue::new(alloc) else {
+        return Err(Fail::new("no memory"));
+    };
     ask_for_4096(rt, &mut queue);
     Ok(queue)
 }
@@ -146,10 +150,10 @@ fn settle(rt: &impl Abort, queue: &mut Queue, done: &[bool]) {
 
 // The marked ones go, and the others stay in their order; what went may be asked for again.
 fn expect_settled(rt: &impl Abort, alloc: Global, rows: &[Settled]) -> Result<(), Fail> {
-    for (done, left) in rows {
+    for (place, (done, left)) in rows.iter().enumerate() {
         let mut queue = queue_of(rt, alloc)?;
         settle(rt, &mut queue, done);
-        same(rt, &pending(alloc, &queue)?.as_slice(), left, done);
+        same(rt, &pending(alloc, &queue)?.as_slice(), left, &place);
         ask_again(rt, &mut queue, done);
     }
     Ok(())
@@ -177,16 +181,16 @@ fn settle_places(
 
 // What goes from a full queue leaves the others in their order, and room for as many behind them.
 fn expect_gone(rt: &impl Abort, alloc: Global, rows: &[Gone]) -> Result<(), Fail> {
-    for (gone, first) in rows {
+    for (place, (gone, first)) in rows.iter().enumerate() {
         let mut queue = full_queue(rt, alloc)?;
         for places in *gone {
             settle_places(rt, alloc, &mut queue, *places)?;
         }
         ask(rt, &mut queue, 17, 65546, Asked::Queued);
         let pairs = pending(alloc, &queue)?;
-        same(rt, &pairs.get(0), &Some(&first[0]), gone);
-        same(rt, &pairs.get(1), &Some(&first[1]), gone);
-        same(rt, &pairs.last(), &Some(&(17, 65546)), gone);
+        same(rt, &pairs.get(0), &Some(&first[0]), &place);
+        same(rt, &pairs.get(1), &Some(&first[1]), &place);
+        same(rt, &pairs.last(), &Some(&(17, 65546)), &place);
     }
     Ok(())
 }

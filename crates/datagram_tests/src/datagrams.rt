@@ -1,5 +1,5 @@
 //! Worked datagrams, byte for byte.
-use crate::fixtures::{holds, same};
+use crate::fixtures::{done, holds, same};
 use book_text::order_datagrams::{Order, append_order, render_order, renders};
 use bytes::Bytes;
 use channel_config::Config;
@@ -211,10 +211,12 @@ fn expect_sent(
     order: &Order,
     want: &[u8],
 ) -> Result<(), Fail> {
-    let config = Config::check(CHANNEL, 10)?;
+    let Ok(config) = Config::check(CHANNEL, 10) else {
+        return Err(Fail::new("lawful settings"));
+    };
     assert!(rt; renders(order));
-    let mut bytes = render_order(alloc, &config, order)?;
-    append_order(&mut bytes, &config, order)?;
+    let mut bytes = done(render_order(alloc, &config, order))?;
+    done(append_order(&mut bytes, &config, order))?;
     same(rt, &bytes.strip_prefix(want), &Some(want), &name);
     Ok(())
 }

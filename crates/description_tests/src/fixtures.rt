@@ -1,8 +1,7 @@
 //! What is compared.
-use std::fmt::Debug;
 use std::process::Abort;
 
 /// The value is the one that is wanted of this.
-pub fn same<T: Debug + PartialEq>(rt: &impl Abort, got: &T, want: &T, of: &str) {
-    assert_eq!(rt; *got, *want, "{of}");
+pub fn same<T: PartialEq>(rt: &impl Abort, got: &T, want: &T, of: &str) {
+    assert!(rt; *got == *want, "{of}");
 }

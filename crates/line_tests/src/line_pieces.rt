@@ -1,7 +1,7 @@
 //! Lines and texts through a source and a sink that go in small steps, and fail in the middle.
 ghost use Rattle.std.specs.Prelude.{Some};
 
-use crate::fixtures::{holds, run, same};
+use crate::fixtures::{done, holds, run, same};
 use line_io::{Gather, LineReader, Next};
 use ram_io::{Failed, Sink, Source};
 use std::alloc::{AllocError, Global};
@@ -112,7 +112,7 @@ fn append_answer(
 /// The answers of so many calls of `advance`.
 fn answers(alloc: Global, source: &mut Pieces<'_>, calls: usize) -> Result<Vec<u8>, Fail> {
     let mut text = Vec::new(alloc);
-    let mut reader = LineReader::new(alloc)?;
+    let mut reader = done(LineReader::new(alloc))?;
     for _ in 0..calls {
         let answer = reader.advance(source);
         append_answer(&mut text, answer, reader.line())?;
@@ -171,12 +171,12 @@ fn is_long(reader: &mut LineReader, source: &mut Pieces<'_>) -> Result<bool, Fai
 
 /// The beginning of a line that is too long, which a second call answers again.
 fn long_line(alloc: Global, source: &mut Pieces<'_>) -> Result<Vec<u8>, Fail> {
-    let mut reader = LineReader::new(alloc)?;
-    if !is_long(&mut reader, source)? {
+    let mut reader = done(LineReader::new(alloc))?;
+    if !done(is_long(&mut reader, source))? {
         return Err(Fail::from("the line isn't too long"));
     }
     let line = reader.line().to_vec(alloc)?;
-    if !is_long(&mut reader, source)? {
+    if !done(is_long(&mut reader, source))? {
         return Err(Fail::from("the reader goes on"));
     }
     Ok(line)
@@ -217,7 +217,7 @@ fn reading_goes_on_after_a_fault(rt: HostRuntime) -> Result<(), Fail> {
 /// How many bytes the sink has after these pieces.
 fn put_all(gather: &mut Gather, sink: &mut Text, pieces: &[&[u8]]) -> Result<usize, Fail> {
     for piece in pieces {
-        gather.put(sink, piece)?;
+        done(gather.put(sink, piece))?;
     }
     Ok(sink.bytes.len())
 }
@@ -250,10 +250,10 @@ fn passed(
     long: &[u8],
 ) -> Result<([usize; 3], Vec<u8>), Fail> {
     let mut sink = sink_for(alloc, most, 0);
-    let mut gather = Gather::new(alloc)?;
+    let mut gather = done(Gather::new(alloc))?;
     let held = put_each(&mut gather, &mut sink, short, long)?;
-    put_end(&mut gather, &mut sink)?;
-    gather.flush(&mut sink)?;
+    done(put_end(&mut gather, &mut sink))?;
+    done(gather.flush(&mut sink))?;
     Ok((held, sink.bytes))
 }
 
@@ -273,20 +273,20 @@ fn texts_pass(rt: HostRuntime) -> Result<(), Fail> {
 
 /// Appends "ab" and more to what waits, and settles.
 fn settle_behind(gather: &mut Gather, sink: &mut Text, more: &[u8]) -> Result<(), Fail> {
-    gather.put(sink, b"a")?;
+    done(gather.put(sink, b"a"))?;
     gather.text().push(b'b')?;
     gather.text().extend_from_slice(more)?;
-    Ok(gather.settle(sink)?)
+    done(gather.settle(sink))
 }
 
 /// How many bytes a sink has after "ab" and so many bytes more were appended to what waits, and that
 /// settled; and its bytes in the end.
 fn settled(alloc: Global, most: usize, more: &[u8]) -> Result<(usize, Vec<u8>), Fail> {
     let mut sink = sink_for(alloc, most, 0);
-    let mut gather = Gather::new(alloc)?;
+    let mut gather = done(Gather::new(alloc))?;
     settle_behind(&mut gather, &mut sink, more)?;
     let held = sink.bytes.len();
-    put_end(&mut gather, &mut sink)?;
+    done(put_end(&mut gather, &mut sink))?;
     Ok((held, sink.bytes))
 }
 
@@ -327,10 +327,10 @@ fn expect_waits(
 #[test]
 fn text_that_fails_to_settle_waits(rt: HostRuntime) -> Result<(), Fail> {
     let mut sink = sink_for(rt.alloc(), 300000, 1);
-    let mut gather = Gather::new(rt.alloc())?;
+    let mut gather = done(Gather::new(rt.alloc()))?;
     let text = run(rt.alloc(), b't', 262144, b"")?;
     gather.text().extend_from_slice(&text)?;
-    expect_waits(&rt, &mut gather, &mut sink, &text)?;
+    done(expect_waits(&rt, &mut gather, &mut sink, &text))?;
     holds(&rt, sink.bytes == text, &"passes");
     Ok(())
 }
@@ -345,9 +345,9 @@ const WRITE_FAULTS: &[(u64, bool, &str)] = &[
 
 /// Whether "abc" and "de" are put to a sink.
 fn flushes(alloc: Global, sink: &mut Text) -> Result<bool, Fail> {
-    let mut gather = Gather::new(alloc)?;
-    gather.put(sink, b"abc")?;
-    gather.put(sink, b"de")?;
+    let mut gather = done(Gather::new(alloc))?;
+    done(gather.put(sink, b"abc"))?;
+    done(gather.put(sink, b"de"))?;
     Ok(gather.flush(sink).is_ok())
 }
 

@@ -2,7 +2,7 @@
 ghost use Rattle.std.specs.Prelude.{All, IfOk};
 ghost use Rattle.ram_io.specs.{IsFromClient};
 
-use crate::fixtures::{holds, same};
+use crate::fixtures::{done, holds, same};
 use ram_io::{
     Arrival, Clock, Failed, Gate, Incoming, MemClock, MemSink, MemSource, MemWire, Octets, Open,
     Sink, Source, StdSink, StdSource, Wire,
@@ -66,9 +66,9 @@ fn taken(alloc: Global, most: usize, size: usize, fails: &[u64; 2]) -> Result<St
 
 #[test]
 fn sources_give_their_bytes(rt: HostRuntime) -> Result<(), Fail> {
-    for (most, size, fails, want) in SOURCES {
+    for (place, (most, size, fails, want)) in SOURCES.iter().enumerate() {
         let got = taken(rt.alloc(), *most, *size, fails)?;
-        same(&rt, &got.as_str(), want, &(most, size, fails));
+        same(&rt, &got.as_str(), want, &place);
     }
     Ok(())
 }
@@ -121,7 +121,7 @@ const SINKS: &[(usize, usize, [u64; 2], &str, &[u8])] = &[
 ];
 
 fn sink_of(alloc: Global, room: usize, most: usize, fails: &[u64; 2]) -> Result<MemSink, Fail> {
-    Ok(MemSink::new(alloc, room, most.max(1), fails.to_vec(alloc)?)?)
+    done(MemSink::new(alloc, room, most.max(1), fails.to_vec(alloc)?))
 }
 
 /// The answers of such a sink, and what it is then.
@@ -140,8 +140,8 @@ fn put(
 fn sinks_take_bytes(rt: HostRuntime) -> Result<(), Fail> {
     for (room, most, fails, want, held) in SINKS {
         let (got, sink) = put(rt.alloc(), *room, *most, fails)?;
-        same(&rt, &got.as_str(), want, &(room, most));
-        same(&rt, &sink.held(), held, &(room, most));
+        same(&rt, &got.as_str(), want, want);
+        same(&rt, &sink.held(), held, want);
     }
     Ok(())
 }
@@ -219,7 +219,7 @@ fn six_receives<W: Wire>(alloc: Global, wire: &mut W) -> Result<String, AllocErr
 /// A wire with these arrivals, of which the first two calls fail.
 fn arriving(alloc: Global) -> Result<MemWire, Fail> {
     let fails = [1, 2].to_vec(alloc)?;
-    Ok(MemWire::new(alloc, arrivals(alloc)?, 0, 0, fails)?)
+    done(MemWire::new(alloc, arrivals(alloc)?, 0, 0, fails))
 }
 
 fn received(alloc: Global) -> Result<String, Fail> {
@@ -260,7 +260,7 @@ fn sends<W: Wire>(alloc: Global, wire: &mut W) -> Result<String, AllocError> {
 
 fn wire_of(alloc: Global, room: usize, datagrams: usize, fails: u64) -> Result<MemWire, Fail> {
     let fails = [fails].to_vec(alloc)?;
-    Ok(MemWire::new(alloc, Vec::new(alloc), room, datagrams, fails)?)
+    done(MemWire::new(alloc, Vec::new(alloc), room, datagrams, fails))
 }
 
 /// The answers of such a wire, and what it is then.
@@ -286,7 +286,7 @@ fn went_there(wire: &MemWire) -> bool {
 fn a_wire_sends(rt: HostRuntime) -> Result<(), Fail> {
     for (room, datagrams, fails, want, bytes) in SENDS {
         let (got, wire) = sent(rt.alloc(), *room, *datagrams, *fails)?;
-        same(&rt, &got.as_str(), want, &(room, datagrams));
+        same(&rt, &got.as_str(), want, want);
         holds(&rt, went_there(&wire) && wire.sent_bytes() == *bytes, want);
     }
     Ok(())

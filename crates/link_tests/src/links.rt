@@ -15,7 +15,9 @@ fn two_takers(rt: &impl Abort, alloc: Global) -> Result<(Pool, Ticker, Taker, Ta
     ensures made { IfOk result (λ r. (r.1.pool ≡ r.0.pool) × (r.2.pool ≡ r.0.pool) × (r.3.pool ≡ r.0.pool)) }
     ensures none { IfOk result (λ r. (r.1.total ≡ 0) × (r.2.claims ≡ []) × (r.3.claims ≡ [])) }
 {
-    let (pool, ticker, mut takers) = Pool::new(alloc, 2)?;
+    let Ok((pool, ticker, mut takers)) = Pool::new(alloc, 2) else {
+        return Err(Fail::new("no memory"));
+    };
     let second = takers.pop().expect(rt, "the second");
     let first = takers.pop().expect(rt, "the first");
     Ok((pool, ticker, first, second))
@@ -62,6 +64,26 @@ fn closed(
     pool.close(alloc, ticker, takers)
 }
 
+/// A claim of so many bytes has this first byte.
+fn expect_claim(
+    rt: &impl Abort,
+    pool: &Pool,
+    taker: &mut Taker,
+    bytes: u64,
+    want: u64,
+) -> Result<(), Fail>
+    requires made { taker.old.pool ≡ pool.now.pool }
+    requires bytes { (0 < bytes) × (claimed taker.old.claims + bytes ≤ 2 ^ 48) }
+    ensures pool { taker.new.pool ≡ taker.old.pool }
+    ensures claimed { IfOk result (λ _. claimed taker.new.claims ≡ claimed taker.old.claims + bytes) }
+{
+    let Ok(from) = claim(pool, taker, bytes) else {
+        return Err(Fail::new("no memory"));
+    };
+    assert!(rt; from == want, "the first byte {want}");
+    Ok(())
+}
+
 /// Two takers claim in turn, of what two ticks grant.
 fn expect_claims(
     rt: &impl Abort,
@@ -74,14 +96,14 @@ fn expect_claims(
     requires none { (ticker.old.total ≡ 0) × (first.old.claims ≡ []) × (last.old.claims ≡ []) }
     ensures { (ticker.new.pool ≡ pool.now.pool) × (first.new.pool ≡ pool.now.pool) × (last.new.pool ≡ pool.now.pool) }
 {
-    assert_eq!(rt; (first.number(), last.number()), (0, 1), "their numbers");
+    assert!(rt; (first.number(), last.number()) == (0, 1), "their numbers");
     pool.grant(ticker, 1500);
     pool.grant(ticker, 1500);
-    assert_eq!(rt; ticker.total(), 3000, "what was granted");
-    assert_eq!(rt; claim(pool, last, 1500)?, 0, "the first bytes");
-    assert_eq!(rt; claim(pool, first, 1500)?, 1500, "the next");
-    assert_eq!(rt; claim(pool, last, 1)?, 3000, "one more");
-    assert_eq!(rt; last.claims().len(), 2, "its own claims");
+    assert!(rt; ticker.total() == 3000, "what was granted");
+    expect_claim(rt, pool, last, 1500, 0)?;
+    expect_claim(rt, pool, first, 1500, 1500)?;
+    expect_claim(rt, pool, last, 1, 3000)?;
+    assert!(rt; last.claims().len() == 2, "its own claims");
     Ok(())
 }
 
@@ -101,7 +123,7 @@ fn expect_open(
         panic!(rt; "closed with one taker missing");
     };
     let want = PoolFault::Passes { made: 2, given: 1 };
-    assert_eq!(rt; fault, want, "why it isn't closed");
+    assert!(rt; fault == want, "why it isn't closed");
     Ok((pool, ticker, takers))
 }
 
@@ -134,10 +156,12 @@ fn a_pool_is_closed_with_all_its_takers(rt: HostRuntime) -> Result<(), Fail> {
     let both = one_more(alloc, &pool, one, last)?;
     let ledger = expect_ledger(&rt, alloc, pool, ticker, both)?;
     let mut text = Vec::new(alloc);
-    append_ledger(&mut text, &[7, 8], &ledger)?;
+    let Ok(()) = append_ledger(&mut text, &[7, 8], &ledger) else {
+        return Err(Fail::new("no memory"));
+    };
     let want =
         b"claim 8 0 1500 paid\nclaim 7 1500 1500 paid\nclaim 8 3000 1 late\npool 3001 3000\n";
-    assert_eq!(&rt; text.as_slice(), &want[..], "by rising first byte");
+    assert!(&rt; text.as_slice() == &want[..], "by rising first byte");
     Ok(())
 }
 
@@ -184,16 +208,18 @@ fn claim_beside<R: Threads>(
 fn claims_of_two_threads_fill_the_link(rt: HostRuntime) -> Result<(), Fail> {
     let alloc = rt.alloc();
     let (pool, ticker, first, second) = two_takers(&rt, alloc)?;
-    let (first, second) = claim_beside(&rt, &pool, first, second)?;
+    let Ok((first, second)) = claim_beside(&rt, &pool, first, second) else {
+        return Err(Fail::new("no memory"));
+    };
     let one = one_more(alloc, &pool, Vec::new(alloc), first)?;
     let both = one_more(alloc, &pool, one, second)?;
     let ledger = expect_ledger(&rt, alloc, pool, ticker, both)?;
     let mut end: u64 = 0;
     for claim in &ledger.claims {
-        assert_eq!(&rt; claim.from, end, "without gap or overlap");
+        assert!(&rt; claim.from == end, "without gap or overlap");
         end = end.saturating_add(claim.bytes);
     }
-    assert_eq!(&rt; ledger.claims.len(), 2000, "all claims");
-    assert_eq!(&rt; end, 2_000_000, "all bytes");
+    assert!(&rt; ledger.claims.len() == 2000, "all claims");
+    assert!(&rt; end == 2_000_000, "all bytes");
     Ok(())
 }

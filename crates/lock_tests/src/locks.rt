@@ -15,8 +15,13 @@ use test_fixtures::test_channel::CHANNEL;
 fn new_core(alloc: Global) -> Result<Core, Fail>
     ensures { IfOk result (λ core. StandsFor core []) }
 {
-    let config = Config::check(CHANNEL, 10)?;
-    Ok(Core::new(alloc, &config)?)
+    let Ok(config) = Config::check(CHANNEL, 10) else {
+        return Err(Fail::new("lawful settings"));
+    };
+    let Ok(core) = Core::new(alloc, &config) else {
+        return Err(Fail::new("no memory"));
+    };
+    Ok(core)
 }
 
 /// A lock of three seats, and their passes.
@@ -24,7 +29,9 @@ fn three_seats(rt: &impl Abort, alloc: Global) -> Result<(ChannelLock, Pass, Pas
     ensures made { IfOk result (λ r. (r.1.lock ≡ r.0.lock) × (r.2.lock ≡ r.0.lock) × (r.3.lock ≡ r.0.lock)) }
     ensures left { IfOk result (λ r. (0 < r.1.left) × (0 < r.2.left)) }
 {
-    let (lock, mut passes) = ChannelLock::new(alloc, new_core(alloc)?, 3)?;
+    let Ok((lock, mut passes)) = ChannelLock::new(alloc, new_core(alloc)?, 3) else {
+        return Err(Fail::new("no memory"));
+    };
     let third = passes.pop().expect(rt, "the third");
     let second = passes.pop().expect(rt, "the second");
     let first = passes.pop().expect(rt, "the first");
@@ -42,7 +49,9 @@ fn place_of_tick(
     requires left { 0 < pass.old.left }
     ensures { pass.new.lock ≡ lock.now.lock }
 {
-    let (place, _) = lock.tick(rt, alloc, pass)?;
+    let Ok((place, _)) = lock.tick(rt, alloc, pass) else {
+        return Err(Fail::new("no memory"));
+    };
     Ok(place)
 }
 
@@ -59,12 +68,12 @@ fn expect_ticks(
     ensures { (first.new.lock ≡ lock.now.lock) × (second.new.lock ≡ lock.now.lock) }
 {
     let place = place_of_tick(rt, alloc, lock, first)?;
-    assert_eq!(rt; place, 0, "the place of its tick");
+    assert!(rt; place == 0, "the place of its tick");
     let place = place_of_tick(rt, alloc, lock, second)?;
-    assert_eq!(rt; place, 1, "the place of the other");
-    assert_eq!(rt; first.seen(), 1, "its own call");
+    assert!(rt; place == 1, "the place of the other");
+    assert!(rt; first.seen() == 1, "its own call");
     lock.meet(first, second);
-    assert_eq!(rt; first.seen(), 2, "and what the other had seen");
+    assert!(rt; first.seen() == 2, "and what the other had seen");
     Ok(())
 }
 
@@ -108,8 +117,8 @@ fn expect_open(
         panic!(rt; "closed with one pass missing");
     };
     let want = CloseFault::Passes { made: 3, given: 2 };
-    assert_eq!(rt; fault, want, "why it isn't closed");
-    assert_eq!(rt; passes.len(), 2, "all is given back");
+    assert!(rt; fault == want, "why it isn't closed");
+    assert!(rt; passes.len() == 2, "all is given back");
     Ok((lock, passes))
 }
 
@@ -131,7 +140,7 @@ fn expect_closing(
     let Ok(book) = closed(lock, all) else {
         panic!(rt; "not closed with all passes");
     };
-    assert_eq!(rt; book.entries().len(), 2, "the two ticks");
+    assert!(rt; book.entries().len() == 2, "the two ticks");
     Ok(())
 }
 

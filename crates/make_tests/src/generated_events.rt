@@ -1,4 +1,5 @@
 //! The events of a seed, one after another; the bytes are those of an independent model.
+use crate::fixtures::done;
 use generated::trace_gen::{Event, Kind, Made, config_of, event_into, event_of};
 use rams_model::Access;
 use std::test::Fail;
@@ -34,18 +35,9 @@ const HEADER: [u8; 12] = [
 fn settings_are_those_of_the_trace(rt: HostRuntime) -> Result<(), Fail> {
     let config = config_of();
     let c = config.channel();
-    assert_eq!(rt;
-        (config.tick_ms(), c.id, c.ssrc, c.pt, c.rtx),
-        (10, 1, 0x11223344, 33, 99)
-    );
-    assert_eq!(rt;
-        (c.ring, c.window, c.access, c.share, c.reserve),
-        (1024, 8, Access::Marker, 200_000, 20_000)
-    );
-    assert_eq!(rt;
-        (c.burst, c.declared, c.minwire, c.limit, c.idle, c.clients),
-        (60_000, 20_000, 142, 400, 400, 64)
-    );
+    assert!(rt; (config.tick_ms(), c.id, c.ssrc, c.pt, c.rtx) == (10, 1, 0x11223344, 33, 99));
+    assert!(rt; (c.ring, c.window, c.access, c.share, c.reserve) == (1024, 8, Access::Marker, 200_000, 20_000));
+    assert!(rt; (c.burst, c.declared, c.minwire, c.limit, c.idle, c.clients) == (60_000, 20_000, 142, 400, 400, 64));
     Ok(())
 }
 
@@ -54,11 +46,11 @@ fn first_packets(rt: HostRuntime) -> Result<(), Fail> {
     let mut page = Vec::new(rt.alloc());
     let mut at = Made::new(7);
     for length in LENGTHS {
-        let kind = event_into(4, &mut at, &mut page)?;
-        assert_eq!(rt; (kind, page.len()), (Some(Kind::Live), length));
+        let kind = done(event_into(4, &mut at, &mut page))?;
+        assert!(rt; (kind, page.len()) == (Some(Kind::Live), length));
     }
-    assert_eq!(rt; event_into(4, &mut at, &mut page)?, Some(Kind::Tick));
-    assert_eq!(rt; event_into(1, &mut at, &mut page)?, None);
+    assert!(rt; done(event_into(4, &mut at, &mut page))? == Some(Kind::Tick));
+    assert!(rt; done(event_into(1, &mut at, &mut page))? == None);
     Ok(())
 }
 
@@ -69,15 +61,15 @@ fn four_blocks(rt: HostRuntime) -> Result<(), Fail> {
     let mut ticks = Vec::new(rt.alloc());
     let mut at = Made::new(7);
     for i in 0..47u8 {
-        match event_into(4, &mut at, &mut page)? {
+        match done(event_into(4, &mut at, &mut page))? {
             Some(Kind::Feedback { client: 25 }) => datagrams.extend_from_slice(&page)?,
             Some(Kind::Tick) => ticks.push(i)?,
-            other => assert_eq!(rt; other, Some(Kind::Live)),
+            other => assert!(rt; other == Some(Kind::Live)),
         }
     }
-    assert_eq!(rt; event_into(4, &mut at, &mut page)?, None);
-    assert_eq!(rt; ticks.as_slice(), [10, 22, 34, 46].as_slice());
-    assert_eq!(rt; datagrams.as_slice(), DATAGRAMS.as_slice());
+    assert!(rt; done(event_into(4, &mut at, &mut page))? == None);
+    assert!(rt; ticks.as_slice() == [10, 22, 34, 46].as_slice());
+    assert!(rt; datagrams.as_slice() == DATAGRAMS.as_slice());
     Ok(())
 }
 
@@ -85,13 +77,13 @@ fn four_blocks(rt: HostRuntime) -> Result<(), Fail> {
 fn an_event_with_its_bytes(rt: HostRuntime) -> Result<(), Fail> {
     let alloc = rt.alloc();
     let mut at = Made::new(7);
-    let Some(Event::Live(packet)) = event_of(alloc, 7, 1, &mut at)? else {
+    let Some(Event::Live(packet)) = done(event_of(alloc, 7, 1, &mut at))? else {
         assert!(rt; false);
         return Ok(());
     };
-    assert_eq!(rt; packet.bytes().len(), 790);
+    assert!(rt; packet.bytes().len() == 790);
     assert!(rt; packet.bytes().starts_with(&HEADER));
-    let none = event_of(alloc, 7, 0, &mut at)?;
+    let none = done(event_of(alloc, 7, 0, &mut at))?;
     assert!(rt; none.is_none());
     Ok(())
 }

@@ -1,5 +1,5 @@
 //! What the tests of several crates begin with, and what is compared.
-use std::fmt::Debug;
+use std::fmt::Display;
 use std::process::Abort;
 use test_fixtures::test_words::Words;
 
@@ -13,13 +13,13 @@ pub const MEDIA: u32 = 0x1122_3344;
 pub type Reading = (&'static str, Words, &'static str);
 
 /// The value is the one that is wanted of this.
-pub fn same<T: Debug + PartialEq, C: Debug>(rt: &impl Abort, got: &T, want: &T, of: &C) {
-    assert_eq!(rt; *got, *want, "{of:?}");
+pub fn same<T: PartialEq, C: Display>(rt: &impl Abort, got: &T, want: &T, of: &C) {
+    assert!(rt; *got == *want, "{of}");
 }
 
 /// It holds of this.
-pub fn holds<C: Debug>(rt: &impl Abort, is_so: bool, of: &C) {
-    assert!(rt; is_so, "{of:?}");
+pub fn holds<C: Display>(rt: &impl Abort, is_so: bool, of: &C) {
+    assert!(rt; is_so, "{of}");
 }
 
 /// The feedback control information of a feedback packet (RFC 4585, 6.1).

@@ -20,12 +20,17 @@ const SETTINGS: Channel = Channel {
 };
 
 fn parts(alloc: Global) -> Result<Parts, Fail> {
-    let config = Config::check(SETTINGS, 10)?;
-    Ok(Parts::new(alloc, &config)?)
+    let Ok(config) = Config::check(SETTINGS, 10) else {
+        return Err(Fail::new("lawful settings"));
+    };
+    let Ok(parts) = Parts::new(alloc, &config) else {
+        return Err(Fail::new("no memory"));
+    };
+    Ok(parts)
 }
 
 /// What parts hold, whom they know and what they may send.
-#[derive(Clone, Copy, Debug, PartialEq)]
+#[derive(Clone, Copy, PartialEq)]
 struct Amounts {
     cache: (u64, u64),
     clients: u32,
@@ -85,7 +90,9 @@ fn second_client(
     parts: &mut Parts,
 ) -> Result<Option<AdmitFault>, Fail> {
     assert!(rt; parts.table.find(9).is_none());
-    parts.table.admit(alloc, 9, 9, 500)?;
+    let Ok(()) = parts.table.admit(alloc, 9, 9, 500) else {
+        return Err(Fail::new("the first client"));
+    };
     assert!(rt; parts.table.find(5).is_none());
     Ok(parts.table.admit(alloc, 5, 5, 500).err())
 }

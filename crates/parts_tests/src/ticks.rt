@@ -13,8 +13,15 @@ const SWELLING: Channel = Channel {
 // Ticks of a channel to which nothing came: its budget keeps up to the swell.
 #[test]
 fn quiet_ticks(rt: HostRuntime) -> Result<(), Fail> {
-    let mut parts = Parts::new(rt.alloc(), &Config::check(SWELLING, 10)?)?;
-    let first = plan_tick(rt.alloc(), &parts)?;
+    let Ok(config) = Config::check(SWELLING, 10) else {
+        return Err(Fail::new("lawful settings"));
+    };
+    let Ok(mut parts) = Parts::new(rt.alloc(), &config) else {
+        return Err(Fail::new("no memory"));
+    };
+    let Ok(first) = plan_tick(rt.alloc(), &parts) else {
+        return Err(Fail::new("no memory"));
+    };
     same(
         &rt,
         &(first.answer.notes.as_slice().len(), first.done.len()),
@@ -23,7 +30,9 @@ fn quiet_ticks(rt: HostRuntime) -> Result<(), Fail> {
     );
     commit_tick(&mut parts, &first);
     same(&rt, &parts.budget.left(), &10000, &"the first tick");
-    let second = plan_tick(rt.alloc(), &parts)?;
+    let Ok(second) = plan_tick(rt.alloc(), &parts) else {
+        return Err(Fail::new("no memory"));
+    };
     commit_tick(&mut parts, &second);
     same(&rt, &parts.budget.left(), &11400, &"the second tick");
     Ok(())

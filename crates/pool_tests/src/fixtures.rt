@@ -47,11 +47,13 @@ fn burst_of_two(alloc: Global) -> Result<Vec<Event>, AllocError> {
 pub fn sends_two(rt: &impl Abort, alloc: Global) -> Result<Lane, Fail>
     ensures { IfOk result IsFresh }
 {
-    let config = Config::check(NARROW, 10)?;
+    let Ok(config) = Config::check(NARROW, 10) else {
+        return Err(Fail::new("lawful settings"));
+    };
     let events = burst_of_two(alloc)?;
     assert!(rt; events.len() <= 200_000, "few events");
-    Ok(Lane {
-        core: Core::new(alloc, &config)?,
-        events,
-    })
+    let Ok(core) = Core::new(alloc, &config) else {
+        return Err(Fail::new("no memory"));
+    };
+    Ok(Lane { core, events })
 }

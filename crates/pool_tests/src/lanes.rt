@@ -6,7 +6,7 @@ ghost use Rattle.pool.specs.pool_run.{IsFresh};
 use crate::fixtures::sends_two;
 use crate::gates::Meeting;
 use pool::ledger_text::append_ledger;
-use pool::pool_run::{Lane, Ledger, NoMemory, Pooled, run_pool};
+use pool::pool_run::{Lane, Ledger, Pooled, run_pool};
 use ram_io::{Gate, Open};
 use std::alloc::Global;
 use std::process::Abort;
@@ -31,11 +31,13 @@ fn two_lanes(rt: &impl Abort, alloc: Global) -> Result<Vec<Lane>, Fail>
 }
 
 /// The text of a ledger all of whose takers claim for channel 7.
-fn text_of(alloc: Global, ledger: &Ledger) -> Result<Vec<u8>, NoMemory>
+fn text_of(alloc: Global, ledger: &Ledger) -> Result<Vec<u8>, Fail>
     requires { claimed ledger.now.claims.items < 2 ^ 64 }
 {
     let mut text = Vec::new(alloc);
-    append_ledger(&mut text, &[7, 7], ledger)?;
+    let Ok(()) = append_ledger(&mut text, &[7, 7], ledger) else {
+        return Err(Fail::new("no memory"));
+    };
     Ok(text)
 }
 
@@ -47,8 +49,10 @@ fn ledger_of_one(
 ) -> Result<Vec<u8>, Fail>
     requires { rate ≤ 1000000000 }
 {
-    let pooled = run_pool(rt, alloc, one_lane(rt, alloc)?, 2, rate, &Open)?;
-    Ok(text_of(alloc, &pooled.ledger)?)
+    let Ok(pooled) = run_pool(rt, alloc, one_lane(rt, alloc)?, 2, rate, &Open) else {
+        return Err(Fail::new("no memory"));
+    };
+    text_of(alloc, &pooled.ledger)
 }
 
 /// One channel: at 1,500 bytes in a tick both claims are paid, at 1,499 the second is late.
@@ -56,10 +60,10 @@ fn ledger_of_one(
 fn late_by_one_byte(rt: HostRuntime) -> Result<(), Fail> {
     let text = ledger_of_one(&rt, rt.alloc(), 1500)?;
     let want = b"claim 7 0 1500 paid\nclaim 7 1500 1500 paid\npool 3000 3000\n";
-    assert_eq!(&rt; text.as_slice(), &want[..], "both paid");
+    assert!(&rt; text.as_slice() == &want[..], "both paid");
     let text = ledger_of_one(&rt, rt.alloc(), 1499)?;
     let want = b"claim 7 0 1500 paid\nclaim 7 1500 1500 late\npool 3000 2998\n";
-    assert_eq!(&rt; text.as_slice(), &want[..], "the second late");
+    assert!(&rt; text.as_slice() == &want[..], "the second late");
     Ok(())
 }
 
@@ -70,19 +74,19 @@ fn expect_two(rt: &impl Abort, alloc: Global, pooled: &Pooled) -> Result<(), Fai
     let text = text_of(alloc, &pooled.ledger)?;
     let want =
         b"claim 7 0 1500 paid\nclaim 7 1500 1500 paid\nclaim 7 3000 1500 late\nclaim 7 4500 1500 late\npool 6000 3000\n";
-    assert_eq!(rt; text.as_slice(), &want[..], "whoever draws first");
+    assert!(rt; text.as_slice() == &want[..], "whoever draws first");
     expect_shares(rt, pooled);
     Ok(())
 }
 
 /// A book of each channel, and two claims of each.
 fn expect_shares(rt: &impl Abort, pooled: &Pooled) {
-    assert_eq!(rt; pooled.books.len(), 2, "a book each");
+    assert!(rt; pooled.books.len() == 2, "a book each");
     for book in &pooled.books {
-        assert_eq!(rt; book.entries().len(), 6, "with the channel's events");
+        assert!(rt; book.entries().len() == 6, "with the channel's events");
     }
     let of_first = pooled.ledger.claims.iter().filter(|claim| claim.taker == 0);
-    assert_eq!(rt; of_first.count(), 2, "two claims of each");
+    assert!(rt; of_first.count() == 2, "two claims of each");
 }
 
 /// Two channels run, while a gate looks on.
@@ -91,7 +95,9 @@ fn two_claim<G: Gate + Sync>(
     alloc: Global,
     gate: &G,
 ) -> Result<(), Fail> {
-    let pooled = run_pool(rt, alloc, two_lanes(rt, alloc)?, 2, 1500, gate)?;
+    let Ok(pooled) = run_pool(rt, alloc, two_lanes(rt, alloc)?, 2, 1500, gate) else {
+        return Err(Fail::new("no memory"));
+    };
     expect_two(rt, alloc, &pooled)
 }
 

@@ -2,7 +2,6 @@
 use pool_loop::{Open, Status, Stop, write_pool};
 use ram_io::{MemSink, MemSource};
 use std::alloc::{AllocError, Global};
-use std::fmt::Debug;
 use std::process::Abort;
 use std::str;
 use std::test::Fail;
@@ -104,8 +103,8 @@ fn pooled(
 }
 
 /// The value is the one that is wanted.
-fn same<T: Debug + PartialEq>(rt: &impl Abort, got: &T, want: &T, of: &str) {
-    assert_eq!(rt; *got, *want, "{of}");
+fn same<T: PartialEq>(rt: &impl Abort, got: &T, want: &T, of: &str) {
+    assert!(rt; *got == *want, "{of}");
 }
 
 /// The trace of one channel that asks for a burst.

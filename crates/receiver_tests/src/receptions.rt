@@ -246,9 +246,9 @@ fn unfit_media(rt: HostRuntime) -> Result<(), Fail> {
 fn tune_and_leave(rt: HostRuntime) -> Result<(), Fail> {
     let alloc = rt.alloc();
     let (receiver, request) = Receiver::tune(alloc, TUNED)?;
-    assert_eq!(rt; request, datagram(alloc, REQUEST)?);
+    assert!(rt; request == datagram(alloc, REQUEST)?);
     assert!(rt; receiver.first().is_none() && receiver.next().is_none());
     let bye = receiver.leave(alloc).map_err(|(_, e)| e)?;
-    assert_eq!(rt; bye, datagram(alloc, &["81cb0001", "0000c001"])?);
+    assert!(rt; bye == datagram(alloc, &["81cb0001", "0000c001"])?);
     Ok(())
 }

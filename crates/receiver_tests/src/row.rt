@@ -4,7 +4,7 @@ ghost use Rattle.receiver_core.specs.{reach};
 
 use receiver_core::{InfoCame, MediaCame, Receiver, Shown, Tuned};
 use std::alloc::Global;
-use std::fmt::Debug;
+use std::fmt::Display;
 use std::process::Abort;
 use std::test::Fail;
 
@@ -27,7 +27,7 @@ const FRONT: &[&str] = &[
 pub type Words = &'static [&'static str];
 
 /// What is done with a receiver.
-#[derive(Clone, Copy, Debug)]
+#[derive(Clone, Copy)]
 pub enum Call {
     Info(Words),
     Rtx(Words),
@@ -36,7 +36,7 @@ pub enum Call {
 }
 
 /// What it answers. Messages stand behind the report and the name.
-#[derive(Clone, Copy, Debug)]
+#[derive(Clone, Copy)]
 pub enum Said {
     Told(InfoCame),
     Came(MediaCame),
@@ -74,8 +74,8 @@ pub fn tuned(alloc: Global) -> Result<Receiver, Fail>
 }
 
 /// The value is the one that is wanted of this.
-fn same<T: Debug + PartialEq, C: Debug>(rt: &impl Abort, got: &T, want: &T, of: &C) {
-    assert_eq!(rt; *got, *want, "{of:?}");
+fn same<T: PartialEq, C: Display>(rt: &impl Abort, got: &T, want: &T, of: &C) {
+    assert!(rt; *got == *want, "{of}");
 }
 
 // A RAMS-I is answered so.

@@ -1,15 +1,15 @@
 //! How a row is run.
 use rams_replay::Status;
 use std::alloc::Global;
-use std::fmt::Debug;
+use std::fmt::Display;
 use std::process::Abort;
 use std::str;
 use std::test::Fail;
 use trace_rows::{Command, Row, WHOLE, book_of, ran, trace_of};
 
 /// The value is the one that is wanted of this.
-pub fn same<T: Debug + PartialEq, C: Debug>(rt: &impl Abort, got: &T, want: &T, of: &C) {
-    assert_eq!(rt; *got, *want, "{of:?}");
+pub fn same<T: PartialEq, C: Display>(rt: &impl Abort, got: &T, want: &T, of: &C) {
+    assert!(rt; *got == *want, "{of}");
 }
 
 /// How a run ends that writes this book.

@@ -13,7 +13,7 @@ use std::test::Fail;
 use test_fixtures::test_channel::{SOURCE, bytes_of};
 
 /// What comes to a channel.
-#[derive(Clone, Copy, Debug)]
+#[derive(Clone, Copy)]
 pub enum Given {
     /// A packet of its source with the marker (RFC 3550, 5.1): its sequence number, its timestamp, and
     /// the zeros behind its header. Its retransmission takes 42 bytes more than the zeros.

@@ -57,7 +57,7 @@ fn check(
     let text = joined(alloc, front, text)?;
     let mut standby = Standby::new(alloc)?;
     let got = outcome(alloc, &mut standby, &text, size.max(1));
-    assert_eq!(rt; got, *want, "{name}, in pieces of {size}");
+    assert!(rt; got == *want, "{name}, in pieces of {size}");
     Ok(())
 }
 
@@ -104,10 +104,10 @@ fn a_line_is_too_long_from_4097_bytes_on(rt: HostRuntime) -> Result<(), Fail> {
     let fault = LineFault::Form;
     for size in [1, 1_000, 5_000] {
         let short = long_line(rt.alloc(), 4096, size)?;
-        assert_eq!(&rt; short, Ok((0, false)), "in pieces of {size}");
+        assert!(&rt; short == Ok((0, false)), "in pieces of {size}");
         let long = long_line(rt.alloc(), 4097, size)?;
         let want = Err(FeedFault::Line { line: 3, fault });
-        assert_eq!(&rt; long, want, "in pieces of {size}");
+        assert!(&rt; long == want, "in pieces of {size}");
     }
     Ok(())
 }

@@ -54,8 +54,8 @@ fn check_cut(rt: &impl Abort, alloc: Global, text: &[u8]) -> Result<(), Fail> {
     let _ = take(alloc, &WHOLE, front, 64, &mut sink, &mut wire)?;
     let want = text_of(alloc, text.len())?;
     let got = str::from_utf8(sink.held())?;
-    assert_eq!(rt; got, str::from_utf8(&want)?, "{} bytes", text.len());
-    assert_eq!(rt; wire.sent().len(), 0, "{} bytes", text.len());
+    assert!(rt; got == str::from_utf8(&want)?, "{} bytes", text.len());
+    assert!(rt; wire.sent().len() == 0, "{} bytes", text.len());
     Ok(())
 }
 

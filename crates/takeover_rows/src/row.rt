@@ -111,23 +111,19 @@ pub fn take(
 /// The sink got the lines of the row.
 fn check_text(rt: &impl Abort, alloc: Global, row: &Row, held: &[u8]) -> Result<(), Fail> {
     let text = joined(alloc, row.text)?;
-    assert_eq!(rt;
-        str::from_utf8(held)?,
-        str::from_utf8(&text)?,
-        "{}",
-        row.name
-    );
+    assert!(rt; str::from_utf8(held)? == str::from_utf8(&text)?, "{}",
+        row.name);
     Ok(())
 }
 
 /// The wire sent the datagrams of the row, in order.
 fn check_sent(rt: &impl Abort, row: &Row, wire: &MemWire) -> Result<(), Fail> {
-    assert_eq!(rt; wire.sent().len(), row.sent.len(), "{}", row.name);
+    assert!(rt; wire.sent().len() == row.sent.len(), "{}", row.name);
     for (sent, (to, port, bytes)) in wire.sent().iter().zip(row.sent.iter()) {
-        assert_eq!(rt; (sent.to, sent.port), (*to, *port), "{}", row.name);
+        assert!(rt; (sent.to, sent.port) == (*to, *port), "{}", row.name);
         let end = sent.start.checked_add(sent.len).ok_or("a datagram")?;
         let got = wire.sent_bytes().get(sent.start..end);
-        assert_eq!(rt; got.ok_or("a datagram")?, *bytes, "{}", row.name);
+        assert!(rt; got.ok_or("a datagram")? == *bytes, "{}", row.name);
     }
     Ok(())
 }
@@ -142,7 +138,7 @@ pub fn check_row(rt: &impl Abort, alloc: Global, row: &Row, most: usize) -> Resu
     let wire = MemWire::new(alloc, arrivals, 10_000, 10, row.wire_fails.to_vec(alloc)?);
     let mut wire = wire.ok().ok_or("memory")?;
     let ended = take(alloc, row, journal(alloc, row)?, most, &mut sink, &mut wire)?;
-    assert_eq!(rt; ended, row.ended, "{}", row.name);
+    assert!(rt; ended == row.ended, "{}", row.name);
     check_text(rt, alloc, row, sink.held())?;
     check_sent(rt, row, &wire)
 }

@@ -1,5 +1,5 @@
 //! Lines of a book behind a text, written by hand.
-use crate::fixtures::same;
+use crate::fixtures::{done, same};
 use book_text::{Pen, append_count, append_no_channel, append_refused, append_send};
 use ram_io::NoMemory;
 use rams_model::{Cause, FrameFault, LineFault, LiveNote, Note, RtpFault};
@@ -247,19 +247,19 @@ fn expect_line(rt: &impl Abort, text: &[u8], line: &str) {
 
 fn note_line(alloc: Global, note: &Note) -> Result<Vec<u8>, Fail> {
     let mut text = b"a\n".to_vec(alloc)?;
-    Pen::new().append_note(&mut text, 4, 7, note)?;
+    done(Pen::new().append_note(&mut text, 4, 7, note))?;
     Ok(text)
 }
 
 fn send_line(alloc: Global, bytes: &[u8]) -> Result<Vec<u8>, Fail> {
     let mut text = b"a\n".to_vec(alloc)?;
-    append_send(&mut text, 4, 7, 5, bytes)?;
+    done(append_send(&mut text, 4, 7, 5, bytes))?;
     Ok(text)
 }
 
 fn refused_line(alloc: Global, fault: LineFault) -> Result<Vec<u8>, Fail> {
     let mut text = b"a\n".to_vec(alloc)?;
-    append_refused(&mut text, 4, fault)?;
+    done(append_refused(&mut text, 4, fault))?;
     Ok(text)
 }
 
@@ -299,9 +299,9 @@ const FORGOT: Note = Note::Forgot {
 #[test]
 fn the_greatest_numbers_are_written(rt: HostRuntime) -> Result<(), Fail> {
     let mut text = Vec::new(rt.alloc());
-    Pen::new().append_note(&mut text, u64::MAX, 65_535, &FORGOT)?;
-    append_no_channel(&mut text, 4, 7)?;
-    append_count(&mut text, b"done", 0)?;
+    done(Pen::new().append_note(&mut text, u64::MAX, 65_535, &FORGOT))?;
+    done(append_no_channel(&mut text, 4, 7))?;
+    done(append_count(&mut text, b"done", 0))?;
     let want = b"18446744073709551615 65535 forgot 281474976710655\n4 7 no-channel\ndone 0\n";
     same(&rt, &text.as_slice(), &want.as_slice(), &"the last lines");
     Ok(())
@@ -334,8 +334,8 @@ fn append_others(pen: &mut Pen, text: &mut Vec<u8>) -> Result<(), NoMemory> {
 fn a_pen_writes_one_line_after_another(rt: HostRuntime) -> Result<(), Fail> {
     let mut pen = Pen::new();
     let mut text = Vec::new(rt.alloc());
-    append_first(&mut pen, &mut text)?;
-    append_others(&mut pen, &mut text)?;
+    done(append_first(&mut pen, &mut text))?;
+    done(append_others(&mut pen, &mut text))?;
     let want = b"4 7 repair 5 98 500\n4 7 send 5 ab\n4 7 repair 5 100 500\n4 7 send 5 -\n\
         4 7 repair 60 100 500\n4 7 send 60 01\n4 8 forgot 281474976710655\n\
         12 8 repair 60 9 500\n12 8 send 60 02\n12 8 forgot 281474976710655\n12 8 send 60 03\n";

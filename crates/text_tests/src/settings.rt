@@ -136,8 +136,8 @@ fn fault_of(changes: &[(&str, u32)]) -> Result<Option<ConfigFault>, Fail> {
 }
 
 fn expect(rt: &impl Abort, rows: &[Row]) -> Result<(), Fail> {
-    for (changes, fault) in rows {
-        same(rt, &fault_of(changes)?, fault, changes);
+    for (place, (changes, fault)) in rows.iter().enumerate() {
+        same(rt, &fault_of(changes)?, fault, &place);
     }
     Ok(())
 }

@@ -1,5 +1,5 @@
 //! Lines of a trace: each kind, other forms, and numbers out of their ranges.
-use crate::fixtures::{holds, same};
+use crate::fixtures::{done, holds, same};
 use crate::trace_words::{Answer, expect_words, line_of, word_of};
 use ram_io::NoMemory;
 use rams_model::{Access, Channel};
@@ -256,7 +256,7 @@ fn expect_spelled(rt: &impl Abort, alloc: Global, rows: &[Spelled]) -> Result<()
     for (text, line) in rows {
         let text = line_of(alloc, text)?;
         holds(rt, is_read(text.as_bytes(), line), &text);
-        holds(rt, is_written(alloc, text.as_bytes(), line)?, &text);
+        holds(rt, done(is_written(alloc, text.as_bytes(), line))?, &text);
     }
     Ok(())
 }
@@ -285,9 +285,9 @@ fn filled(alloc: Global, front: &str, len: usize) -> Result<String, AllocError> 
 
 #[test]
 fn a_line_has_at_most_4096_bytes(rt: HostRuntime) -> Result<(), Fail> {
-    for (front, len, want) in LONG {
+    for (place, (front, len, want)) in LONG.iter().enumerate() {
         let line = filled(rt.alloc(), front, *len)?;
-        same(&rt, &word_of(line.as_bytes()), want, front);
+        same(&rt, &word_of(line.as_bytes()), want, &place);
     }
     Ok(())
 }
@@ -304,8 +304,8 @@ fn live_bytes(alloc: Global, text: &str) -> Result<[Vec<u8>; 2], Fail> {
         return Err(Fail::from("no live line"));
     };
     let mut room = b"before".to_vec(alloc)?;
-    decode_to(hex, &mut room)?;
-    Ok([decode(alloc, hex)?, room])
+    done(decode_to(hex, &mut room))?;
+    Ok([done(decode(alloc, hex))?, room])
 }
 
 #[test]

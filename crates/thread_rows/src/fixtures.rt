@@ -1,8 +1,8 @@
 //! What is compared.
-use std::fmt::Debug;
+use std::fmt::Display;
 use std::process::Abort;
 
 /// The value is the one that is wanted of this.
-pub fn same<T: Debug + PartialEq, C: Debug>(rt: &impl Abort, got: &T, want: &T, of: &C) {
-    assert_eq!(rt; *got, *want, "{of:?}");
+pub fn same<T: PartialEq, C: Display>(rt: &impl Abort, got: &T, want: &T, of: &C) {
+    assert!(rt; *got == *want, "{of}");
 }

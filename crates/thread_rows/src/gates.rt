@@ -10,7 +10,7 @@ use std::thread;
 const TURNS: u32 = 2_000_000;
 
 /// Where in a call it waits.
-#[derive(Clone, Copy, Debug, PartialEq, Eq)]
+#[derive(Clone, Copy, PartialEq, Eq)]
 pub enum Point {
     /// Before the step.
     Enter,
@@ -19,14 +19,14 @@ pub enum Point {
 }
 
 /// One of two things that a gate is told.
-#[derive(Clone, Copy, Debug, PartialEq, Eq)]
+#[derive(Clone, Copy, PartialEq, Eq)]
 pub enum Sign {
     One,
     Other,
 }
 
 /// What a call of a list does at a point: it gives a sign, and waits for one.
-#[derive(Clone, Copy, Debug)]
+#[derive(Clone, Copy)]
 pub struct Stop {
     pub point: Point,
     pub list: u16,

@@ -7,7 +7,7 @@ use std::thread;
 const TURNS: u32 = 2_000_000;
 
 /// Where in a call they wait.
-#[derive(Clone, Copy, Debug, PartialEq, Eq)]
+#[derive(Clone, Copy, PartialEq, Eq)]
 pub enum Point {
     /// Before the step.
     Enter,

@@ -33,7 +33,7 @@ fn a_clock_repeats_its_last_moment(rt: HostRuntime) {
         readings: Cell::new(0),
     });
     for moment in [0, 10, 10, 30, 30, 50] {
-        assert_eq!(rt; clock.now_ms(), moment);
+        assert!(rt; clock.now_ms() == moment);
     }
 }
 

@@ -14,7 +14,7 @@ fn bound_ports_are_refused(rt: HostRuntime) -> Result<(), Fail> {
     let held = wire(&rt, first, 1)?;
     for port in [first, first - 1, first - 3, first + 3] {
         let again = UdpWire::bind(&rt, rt.alloc(), port, 2, 1);
-        assert_eq!(rt; again.map(|_| ()), Err(BindFault::Failed), "port {port}");
+        assert!(rt; again.map(|_| ()) == Err(BindFault::Failed), "port {port}");
     }
     drop(held);
     let _ = wire(&rt, first, 1)?;
@@ -29,11 +29,11 @@ fn datagrams_that_cant_be_sent_are_faults(rt: HostRuntime) -> Result<(), Fail> {
     let mut wire = wire(&rt, first, 1)?;
     let to = client(peer(&rt)?.local_addr()?.port());
     let long = Vec::from_elem(rt.alloc(), 7u8, 65_508)?;
-    assert_eq!(rt; wire.send(to, first + 4, b"late"), Err(Failed));
-    assert_eq!(rt; wire.send(to, first - 1, b"late"), Err(Failed));
-    assert_eq!(rt; wire.send(NOBODY, first, b"late"), Err(Failed));
-    assert_eq!(rt; wire.send(to, first, &long), Err(Failed));
-    assert_eq!(rt; wire.send(to, first, b"late"), Ok(()));
+    assert!(rt; wire.send(to, first + 4, b"late") == Err(Failed));
+    assert!(rt; wire.send(to, first - 1, b"late") == Err(Failed));
+    assert!(rt; wire.send(NOBODY, first, b"late") == Err(Failed));
+    assert!(rt; wire.send(to, first, &long) == Err(Failed));
+    assert!(rt; wire.send(to, first, b"late") == Ok(()));
     Ok(())
 }
 
@@ -42,7 +42,7 @@ fn datagrams_that_cant_be_sent_are_faults(rt: HostRuntime) -> Result<(), Fail> {
 fn a_failed_wire_fails(rt: HostRuntime) {
     let mut wire = FailedWire::new();
     for _ in 0..2 {
-        assert_eq!(rt; wire.receive(&mut [0; 2_000]), Err(Failed));
-        assert_eq!(rt; wire.send(client(9), 5_000, b"late"), Err(Failed));
+        assert!(rt; wire.receive(&mut [0; 2_000]) == Err(Failed));
+        assert!(rt; wire.send(client(9), 5_000, b"late") == Err(Failed));
     }
 }
