@@ -1,5 +1,6 @@
 //! What the repairs of clients may still take.
 ghost use Rattle.std.specs.Prelude.{◌≡◌, ℕ, cond, nat_eq, Some, None, IfOk, OnErr};
+ghost use Rattle.std.specs.HashMap.{get};
 ghost use Rattle.tick_core.specs.{told_by};
 
 use crate::allowance::Allowance;
@@ -39,17 +40,29 @@ impl Allowances {
         self.others.get(&client).copied()
     }
 
-    /// Another allowance for its client; the others keep theirs. After want of memory all is as before.
+    /// Another allowance for its client; the others keep theirs. After want of memory all is as before. Mostly it is
+    /// that of the last client, and then this is to cost no call.
+    #[inline(always)]
     pub fn put(&mut self, allowance: Allowance) -> Result<(), NoMemory>
         ensures same { OnErr result ((other : ℕ) → told_by self.new other ≡ told_by self.old other) }
         ensures put { IfOk result (λ _. (other : ℕ) → told_by self.new other ≡ cond (nat_eq allowance.client other) (Some allowance) (told_by self.old other)) }
     {
         if let Some(last) = self.last {
             if last.client != allowance.client {
-                self.others.insert(last.client, last)?;
+                store(&mut self.others, last)?;
             }
         }
         self.last = Some(allowance);
         Ok(())
     }
+}
+
+// The map has this allowance for its client.
+#[inline(never)]
+fn store(others: &mut HashMap<u64, Allowance>, allowance: Allowance) -> Result<(), NoMemory>
+    ensures same { OnErr result ((other : ℕ) → get nat_eq others.new other ≡ get nat_eq others.old other) }
+    ensures stored { IfOk result (λ _. (other : ℕ) → get nat_eq others.new other ≡ cond (nat_eq allowance.client other) (Some allowance) (get nat_eq others.old other)) }
+{
+    others.insert(allowance.client, allowance)?;
+    Ok(())
 }

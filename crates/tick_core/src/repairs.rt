@@ -219,7 +219,8 @@ impl<'a> Repairs<'a> {
         self.draft.left() < holding.least_wire()
     }
 
-    /// Nothing fits any more: these wait but for those whose packets are gone.
+    /// Nothing fits any more: these wait but for those whose packets are gone. Pieces of which all wait are passed
+    /// together.
     fn pass_rest(
         &mut self,
         holding: &Holding<'_>,
@@ -230,23 +231,19 @@ impl<'a> Repairs<'a> {
         requires few { length (all_of pieces.now ++ last.now) ≤ 4096 }
         ensures { IfOk result (λ _. self.new ≡ with_all_wanted holding.now (all_of pieces.now ++ last.now) self.old) }
     {
+        let mut waiting = 0;
         for piece in pieces {
-            self.pass_piece(holding, piece)?;
+            let pending = piece.pending();
+            if holding.has_all(piece) {
+                waiting += pending.len();
+                continue;
+            }
+            self.wait_all(waiting)?;
+            waiting = 0;
+            self.pass_over(holding, pending)?;
         }
+        self.wait_all(waiting)?;
         self.pass_over(holding, last)
-    }
-
-    /// The same of a piece.
-    fn pass_piece(&mut self, holding: &Holding<'_>, piece: &Piece) -> Result<(), NoMemory>
-        requires spent { IsSpent holding.now self.old }
-        requires few { length piece.now ≤ 4096 }
-        ensures { IfOk result (λ _. self.new ≡ with_all_wanted holding.now piece.now self.old) }
-    {
-        if holding.has_all(piece) {
-            self.wait_all(piece.pending().len())
-        } else {
-            self.pass_over(holding, piece.pending())
-        }
     }
 
     /// So many repairs wait on.
