@@ -127,7 +127,9 @@ const BARE: [u8; 30] = [
 fn cache_of(rt: &impl Abort, alloc: Global, channel: Channel) -> Result<Cache, Fail>
     ensures { IfOk result (λ cache. StandsForFewer cache 1) }
 {
-    let config = Config::check(channel, 10).ok().expect(rt, "lawful settings");
+    let config = Config::check(channel, 10)
+        .ok()
+        .expect(rt, "lawful settings");
     let Ok(cache) = Cache::new(alloc, &config) else {
         return Err(Fail::new("no memory"));
     };

@@ -131,12 +131,7 @@ fn expect_spent(rt: &impl Abort, rows: &[Spent]) {
     for (place, (before, client_left, size, fits)) in rows.iter().enumerate() {
         let taken = if *fits { *size } else { 0 };
         let got = spent(*before, *client_left, *size);
-        same(
-            rt,
-            &got,
-            &Some((*fits, taken)),
-            &place,
-        );
+        same(rt, &got, &Some((*fits, taken)), &place);
     }
 }
 

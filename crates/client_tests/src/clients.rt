@@ -158,12 +158,7 @@ fn written_table(rt: &impl Abort, alloc: Global, written: u32) -> Result<Table, 
 fn expect_written(rt: &impl Abort, table: &Table, written: u32) {
     for client in CLIENTS {
         let entry = table.find(u64::from(client));
-        same(
-            rt,
-            &entry,
-            &Some(entry_of(client, written)),
-            &written,
-        );
+        same(rt, &entry, &Some(entry_of(client, written)), &written);
     }
 }
 

@@ -81,10 +81,10 @@ fn ran(alloc: Global, words: &[&str], lines: &str) -> Result<(Status, Vec<u8>), 
 
 #[test]
 fn settings_and_descriptions_are_written(rt: HostRuntime) -> Result<(), Fail> {
-    for (words, lines, status, text) in ROWS {
+    for (place, (words, lines, status, text)) in ROWS.iter().enumerate() {
         let (got, written) = ran(rt.alloc(), words, lines)?;
-        same(&rt, &got, status, words);
-        same(&rt, &str::from_utf8(&written)?, text, words);
+        same(&rt, &got, status, &place);
+        same(&rt, &str::from_utf8(&written)?, text, &place);
     }
     Ok(())
 }

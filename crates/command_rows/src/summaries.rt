@@ -37,7 +37,7 @@ const ROWS: &[(&[&str], usize, Status, &str)] = &[
 
 #[test]
 fn summaries_are_those_of_the_generated_trace(rt: HostRuntime) -> Result<(), Fail> {
-    for (words, room, status, text) in ROWS {
+    for (place, (words, room, status, text)) in ROWS.iter().enumerate() {
         let got = written(
             rt.alloc(),
             words,
@@ -46,8 +46,8 @@ fn summaries_are_those_of_the_generated_trace(rt: HostRuntime) -> Result<(), Fai
             PIECES,
             *room,
         )?;
-        same(&rt, &got.0, status, words);
-        same(&rt, &got.1.as_slice(), &text.as_bytes(), words);
+        same(&rt, &got.0, status, &place);
+        same(&rt, &got.1.as_slice(), &text.as_bytes(), &place);
     }
     Ok(())
 }

@@ -36,8 +36,14 @@ fn settings_are_those_of_the_trace(rt: HostRuntime) -> Result<(), Fail> {
     let config = config_of();
     let c = config.channel();
     assert!(rt; (config.tick_ms(), c.id, c.ssrc, c.pt, c.rtx) == (10, 1, 0x11223344, 33, 99));
-    assert!(rt; (c.ring, c.window, c.access, c.share, c.reserve) == (1024, 8, Access::Marker, 200_000, 20_000));
-    assert!(rt; (c.burst, c.declared, c.minwire, c.limit, c.idle, c.clients) == (60_000, 20_000, 142, 400, 400, 64));
+    assert!(rt;
+        (c.ring, c.window, c.access, c.share, c.reserve)
+            == (1024, 8, Access::Marker, 200_000, 20_000)
+    );
+    assert!(rt;
+        (c.burst, c.declared, c.minwire, c.limit, c.idle, c.clients)
+            == (60_000, 20_000, 142, 400, 400, 64)
+    );
     Ok(())
 }
 

@@ -1,36 +1,35 @@
 //! Feedback messages and generic NACKs, byte for byte (RFC 4585, 6.1 and 6.2.1).
-use crate::fixtures::{CLIENT, MEDIA, Reading, holds, is_twice};
-use std::alloc::{AllocError, Global};
-use std::fmt::Write;
+use crate::fixtures::{CLIENT, MEDIA, done, holds, is_twice};
+use std::alloc::Global;
+use std::process::Abort;
 use std::test::Fail;
 use test_fixtures::test_words::{Words, bytes_of};
-use wire_packets::rtcp_feedback::{Feedback, append_nack, feedback, nack_numbers, write_nack};
+use wire_packets::rtcp_feedback::{
+    Feedback, NackFault, NackIter, append_nack, feedback, nack_numbers, write_nack,
+};
 use wire_packets::rtcp_frame::Packet;
 
 /// The numbers of feedback control information, or the fault.
-pub fn numbers(alloc: Global, fci: &[u8]) -> Result<String, Fail> {
-    let mut text = String::new(alloc);
-    match nack_numbers(fci) {
-        Err(fault) => write!(text, "{fault:?}")?,
-        Ok(all) => {
-            for n in all {
-                write!(text, "{n} ")?;
-            }
-        }
-    }
-    Ok(text)
-}
+type Numbers = Result<&'static [u16], NackFault>;
 
 /// Words of a sequence number and the bits of those behind it, and what they name.
-pub const WORDS: &[Reading] = &[
-    ("no bytes", &[], "Empty"),
-    ("three bytes", &["000c00"], "Length"),
-    ("no bit", &["000c0000"], "12 "),
-    ("the first behind it", &["000c0001"], "12 13 "),
-    ("the second behind it", &["000c0002"], "12 14 "),
-    ("the first and the sixteenth", &["000a8001"], "10 11 26 "),
-    ("the wrap", &["ffff0001"], "65535 0 "),
-    ("the sixteenth behind the wrap", &["fff88000"], "65528 8 "),
+const WORDS: &[(&str, Words, Numbers)] = &[
+    ("no bytes", &[], Err(NackFault::Empty)),
+    ("three bytes", &["000c00"], Err(NackFault::Length)),
+    ("no bit", &["000c0000"], Ok(&[12])),
+    ("the first behind it", &["000c0001"], Ok(&[12, 13])),
+    ("the second behind it", &["000c0002"], Ok(&[12, 14])),
+    (
+        "the first and the sixteenth",
+        &["000a8001"],
+        Ok(&[10, 11, 26]),
+    ),
+    ("the wrap", &["ffff0001"], Ok(&[65535, 0])),
+    (
+        "the sixteenth behind the wrap",
+        &["fff88000"],
+        Ok(&[65528, 8]),
+    ),
     (
         "three words",
         &[
@@ -38,9 +37,38 @@ pub const WORDS: &[Reading] = &[
             "00070000", // 7
             "00070001", // 7, and the first behind it
         ],
-        "12 14 7 7 8 ",
+        Ok(&[12, 14, 7, 7, 8]),
     ),
 ];
+
+/// The numbers are these.
+fn are_numbers(all: NackIter<'_>, want: &[u16]) -> bool {
+    let mut rest = want.iter();
+    for n in all {
+        if rest.next() != Some(&n) {
+            return false;
+        }
+    }
+    rest.next().is_none()
+}
+
+/// The feedback control information has these numbers, or this fault.
+fn is_read(fci: &[u8], want: Numbers) -> bool {
+    match (nack_numbers(fci), want) {
+        (Ok(all), Ok(want)) => are_numbers(all, want),
+        (Err(fault), Err(want)) => fault == want,
+        _ => false,
+    }
+}
+
+/// Each row's words have its numbers, or its fault.
+pub fn expect_numbers(rt: &impl Abort, alloc: Global) -> Result<(), Fail> {
+    for (name, words, want) in WORDS {
+        let fci = bytes_of(alloc, words)?;
+        holds(rt, is_read(&fci, *want), name);
+    }
+    Ok(())
+}
 
 /// NACKs, and their numbers.
 const NACKS: &[(&str, Words, &[u16])] = &[
@@ -84,8 +112,8 @@ fn is_nack(alloc: Global, packet: &[u8], numbers: &[u16]) -> Result<bool, Fail> 
     if numbers.is_empty() || numbers.len() > 8_000 {
         return Err(Fail::from("numbers"));
     }
-    let mut text = write_nack(alloc, CLIENT, MEDIA, numbers)?;
-    append_nack(&mut text, CLIENT, MEDIA, numbers)?;
+    let mut text = done(write_nack(alloc, CLIENT, MEDIA, numbers))?;
+    done(append_nack(&mut text, CLIENT, MEDIA, numbers))?;
     Ok(is_twice(&text, packet))
 }
 
@@ -98,8 +126,11 @@ fn nacks_are_written(rt: HostRuntime) -> Result<(), Fail> {
     Ok(())
 }
 
+/// The sources, the format and the information of a packet.
+type Message<'a> = (u32, u32, u8, &'a [u8]);
+
 /// The packet type and the body of packets of format 6, and what is read of them.
-pub const MESSAGES: &[Reading] = &[
+const MESSAGES: &[(&str, Words, Option<Message<'static>>)] = &[
     (
         "RTPFB",
         &[
@@ -108,28 +139,24 @@ pub const MESSAGES: &[Reading] = &[
             "11223344", // SSRC of the media source
             "01000000", // RAMS-R
         ],
-        "0000c001 11223344 6 [1, 0, 0, 0]",
+        Some((CLIENT, MEDIA, 6, &[1, 0, 0, 0])),
     ),
     (
         "RTPFB without information",
         &["cd", "0000c001", "11223344"],
-        "0000c001 11223344 6 []",
+        Some((CLIENT, MEDIA, 6, &[])),
     ),
-    (
-        "RTPFB of seven bytes",
-        &["cd", "0000c001", "112233"],
-        "none",
-    ),
-    ("PSFB", &["ce", "0000c001", "11223344", "01000000"], "none"),
-    ("APP", &["cc", "0000c001", "11223344", "01000000"], "none"),
+    ("RTPFB of seven bytes", &["cd", "0000c001", "112233"], None),
+    ("PSFB", &["ce", "0000c001", "11223344", "01000000"], None),
+    ("APP", &["cc", "0000c001", "11223344", "01000000"], None),
 ];
 
-fn text_of(alloc: Global, f: &Feedback<'_>) -> Result<String, AllocError> {
-    format!(in alloc; "{:08x} {:08x} {} {:?}", f.sender, f.media, f.fmt, f.fci)
+fn parts<'a>(f: &Feedback<'a>) -> Message<'a> {
+    (f.sender, f.media, f.fmt, f.fci)
 }
 
-/// The sources, the format and the information of a packet of format 6: its type, then its body.
-pub fn message(alloc: Global, bytes: &[u8]) -> Result<String, Fail> {
+/// What is read of a packet of format 6: its type, then its body.
+fn message(bytes: &[u8]) -> Result<Option<Message<'_>>, Fail> {
     let (kind, body) = bytes.split_first().ok_or("no type")?;
     let packet = Packet {
         kind: *kind,
@@ -137,7 +164,16 @@ pub fn message(alloc: Global, bytes: &[u8]) -> Result<String, Fail> {
         body,
     };
     Ok(match feedback(&packet) {
-        None => String::from_str(alloc, "none")?,
-        Some(f) => text_of(alloc, &f)?,
+        None => None,
+        Some(f) => Some(parts(&f)),
     })
+}
+
+/// Of each row's packet is read what it says.
+pub fn expect_messages(rt: &impl Abort, alloc: Global) -> Result<(), Fail> {
+    for (name, words, want) in MESSAGES {
+        let bytes = bytes_of(alloc, words)?;
+        holds(rt, message(&bytes)? == *want, name);
+    }
+    Ok(())
 }

@@ -1,5 +1,5 @@
 //! RAMS messages, byte for byte, and each fault at its edge (RFC 6285, 7).
-use crate::fixtures::{CLIENT, MEDIA, fci_of, holds, is_twice, same};
+use crate::fixtures::{CLIENT, MEDIA, done, fci_of, holds, is_twice, same};
 use std::alloc::Global;
 use std::process::Abort;
 use std::test::Fail;
@@ -180,8 +180,8 @@ const LISTS: &[(Request<'static>, bool)] = &[
 
 #[test]
 fn requests_name_sources(rt: HostRuntime) {
-    for (request, want) in LISTS {
-        same(&rt, &names(request, MEDIA), want, request);
+    for (place, (request, want)) in LISTS.iter().enumerate() {
+        assert!(rt; names(request, MEDIA) == *want, "list {place}");
     }
 }
 
@@ -233,8 +233,8 @@ fn is_request(alloc: Global, packet: &[u8], request: &Request<'_>) -> Result<boo
             return Err(Fail::from("a list that isn't written"));
         }
     }
-    let mut text = write_request(alloc, CLIENT, MEDIA, request)?;
-    append_request(&mut text, CLIENT, MEDIA, request)?;
+    let mut text = done(write_request(alloc, CLIENT, MEDIA, request))?;
+    done(append_request(&mut text, CLIENT, MEDIA, request))?;
     Ok(is_twice(&text, packet) && read_request(fci_of(packet)) == Ok(*request))
 }
 
@@ -301,8 +301,8 @@ const INFOS: &[(&str, Words, Info)] = &[
 
 /// The packet is this information, alone and behind others, and is read as it.
 fn is_info(alloc: Global, packet: &[u8], info: &Info) -> Result<bool, Fail> {
-    let mut text = write_info(alloc, SENDER, MEDIA, info)?;
-    append_info(&mut text, SENDER, MEDIA, info)?;
+    let mut text = done(write_info(alloc, SENDER, MEDIA, info))?;
+    done(append_info(&mut text, SENDER, MEDIA, info))?;
     Ok(is_twice(&text, packet) && read_info(fci_of(packet)) == Ok(*info))
 }
 
@@ -319,7 +319,7 @@ fn information_goes_there_and_back(rt: HostRuntime) -> Result<(), Fail> {
         &rt,
         &read_info(&LONG_JOIN),
         &Err(TlvFault::Length(0x21)),
-        &LONG_JOIN,
+        "a join time of 8 bytes",
     );
     Ok(())
 }
@@ -356,8 +356,8 @@ const STOPS: &[(&str, Words, Stop)] = &[
 
 /// The packet is this termination, alone and behind others, and is read as it.
 fn is_stop(alloc: Global, packet: &[u8], stop: &Stop) -> Result<bool, Fail> {
-    let mut text = write_stop(alloc, CLIENT, MEDIA, stop)?;
-    append_stop(&mut text, CLIENT, MEDIA, stop)?;
+    let mut text = done(write_stop(alloc, CLIENT, MEDIA, stop))?;
+    done(append_stop(&mut text, CLIENT, MEDIA, stop))?;
     Ok(is_twice(&text, packet) && read_stop(fci_of(packet)) == Ok(*stop))
 }
 
@@ -371,7 +371,7 @@ fn terminations_go_there_and_back(rt: HostRuntime) -> Result<(), Fail> {
         &rt,
         &read_stop(&[4, 0, 0, 0]),
         &Err(TlvFault::Form),
-        &"format 4",
+        "format 4",
     );
     Ok(())
 }

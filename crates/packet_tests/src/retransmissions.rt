@@ -1,11 +1,11 @@
 //! Worked retransmissions, and what is restored of them (RFC 4588, 4).
-use crate::fixtures::{Reading, holds, is_twice};
+use crate::fixtures::{done, holds, is_twice, same};
 use std::alloc::Global;
 use std::process::Abort;
 use std::test::Fail;
 use test_fixtures::test_words::{Words, bytes_of};
 use wire_packets::rtx_payload::{
-    Rtp, append_rtx, restore, restoring_gives_the_original, write_rtx,
+    Rtp, RtxFault, append_rtx, restore, restoring_gives_the_original, write_rtx,
 };
 
 /// Packets, and their retransmissions under payload type 99 and sequence number 500.
@@ -51,14 +51,14 @@ const ROWS: &[(&str, Words, Words)] = &[
 
 /// The packet of these bytes.
 fn packet_of<'a>(bytes: &'a [u8]) -> Result<Rtp<'a>, Fail> {
-    Ok(Rtp::read(bytes).ok().ok_or("a packet")?)
+    done(Rtp::read(bytes))
 }
 
 /// The packet is sent again as these bytes, alone and behind others.
 fn goes_again(alloc: Global, packet: &[u8], again: &[u8]) -> Result<bool, Fail> {
     let original = packet_of(packet)?;
-    let mut text = write_rtx(alloc, &original, 99, 500)?;
-    append_rtx(&mut text, &original, 99, 500)?;
+    let mut text = done(write_rtx(alloc, &original, 99, 500))?;
+    done(append_rtx(&mut text, &original, 99, 500))?;
     Ok(is_twice(&text, again))
 }
 
@@ -66,8 +66,8 @@ fn goes_again(alloc: Global, packet: &[u8], again: &[u8]) -> Result<bool, Fail> 
 fn comes_back(alloc: Global, packet: &[u8], again: &[u8]) -> Result<bool, Fail> {
     let original = packet_of(packet)?;
     let again = packet_of(again)?;
-    let (number, restored) = restore(alloc, &again, 33).ok().ok_or("an original")?;
-    Ok(number == original.sequence() && restored == original.strip(alloc)?)
+    let (number, restored) = done(restore(alloc, &again, 33))?;
+    Ok(number == original.sequence() && restored == done(original.strip(alloc))?)
 }
 
 /// The packet is sent again as these bytes, and they bring it back.
@@ -78,8 +78,8 @@ fn expect_back(
     packet: &[u8],
     again: &[u8],
 ) -> Result<(), Fail> {
-    holds(rt, goes_again(alloc, packet, again)?, &name);
-    holds(rt, comes_back(alloc, packet, again)?, &name);
+    holds(rt, goes_again(alloc, packet, again)?, name);
+    holds(rt, comes_back(alloc, packet, again)?, name);
     Ok(())
 }
 
@@ -95,37 +95,45 @@ fn packets_go_there_and_back(rt: HostRuntime) -> Result<(), Fail> {
 }
 
 /// Retransmissions, and why nothing is restored.
-pub const PAYLOADS: &[Reading] = &[
+const PAYLOADS: &[(&str, Words, Option<RtxFault>)] = &[
     (
         "one byte",
         &["806301f4", "00000000", "00000001", "07"],
-        "Some(Short)",
+        Some(RtxFault::Short),
     ),
     (
         "two bytes",
         &["806301f4", "00000000", "00000001", "0708"],
-        "None",
+        None,
     ),
     (
         "one byte, and padding of one",
         &["a06301f4", "00000000", "00000001", "0701"],
-        "Some(Short)",
+        Some(RtxFault::Short),
     ),
     (
         "two bytes, and padding of one",
         &["a06301f4", "00000000", "00000001", "070801"],
-        "None",
+        None,
     ),
     (
         "one byte behind an extension",
         &["906301f4", "00000000", "00000001", "00000000", "07"],
-        "Some(Short)",
+        Some(RtxFault::Short),
     ),
 ];
 
 /// Why nothing is restored of a retransmission.
-pub fn fault(alloc: Global, bytes: &[u8]) -> Result<String, Fail> {
+fn fault_of(alloc: Global, bytes: &[u8]) -> Result<Option<RtxFault>, Fail> {
     let packet = packet_of(bytes)?;
-    let fault = restore(alloc, &packet, 33).err();
-    Ok(format!(in alloc; "{fault:?}")?)
+    Ok(restore(alloc, &packet, 33).err())
+}
+
+/// Each row's retransmission has its fault, or none.
+pub fn expect_faults(rt: &impl Abort, alloc: Global) -> Result<(), Fail> {
+    for (name, words, want) in PAYLOADS {
+        let bytes = bytes_of(alloc, words)?;
+        same(rt, &fault_of(alloc, &bytes)?, want, name);
+    }
+    Ok(())
 }

@@ -1,11 +1,13 @@
 //! Datagrams of RTCP packets, byte for byte, and each fault at its edge (RFC 3550, 6).
-use crate::fixtures::{CLIENT, Reading, same};
-use std::alloc::{AllocError, Global};
-use std::fmt::Write;
+use crate::fixtures::{CLIENT, done, holds, same};
+use rams_model::FrameFault;
+use std::alloc::Global;
+use std::process::Abort;
 use std::test::Fail;
 use test_fixtures::test_words::{Words, bytes_of};
 use wire_packets::rtcp_frame::{
-    Packet, append_bye, append_rr, append_sdes, bye_names, packets, write_bye, write_rr, write_sdes,
+    Packet, Packets, append_bye, append_rr, append_sdes, bye_names, packets, write_bye, write_rr,
+    write_sdes,
 };
 
 /// What a receiver writes in front of its feedback, and its goodbye.
@@ -20,22 +22,29 @@ const COMPOUND: Words = &[
     "0000c001", // SSRC
 ];
 
+/// Type, count and length of the body of each packet, or the fault.
+type Framed = Result<&'static [(u8, u8, usize)], FrameFault>;
+
 /// Datagrams, and their packets.
-pub const DATAGRAMS: &[Reading] = &[
-    ("nothing", &[], "Empty"),
-    ("three bytes", &["80c900"], "Short"),
+const DATAGRAMS: &[(&str, Words, Framed)] = &[
+    ("nothing", &[], Err(FrameFault::Empty)),
+    ("three bytes", &["80c900"], Err(FrameFault::Short)),
     (
         "a packet, then two bytes",
         &[
             "80c90000", // v=2, p=0, count=0, RR, length 0
             "80c9",
         ],
-        "Short",
+        Err(FrameFault::Short),
     ),
-    ("version 1", &["40c90000"], "Version"),
-    ("version before length", &["c0c90001"], "Version"),
-    ("a word is missing", &["80c90001"], "Length"),
-    ("a header alone", &["80c90000"], "201 0 0, "),
+    ("version 1", &["40c90000"], Err(FrameFault::Version)),
+    (
+        "version before length",
+        &["c0c90001"],
+        Err(FrameFault::Version),
+    ),
+    ("a word is missing", &["80c90001"], Err(FrameFault::Length)),
+    ("a header alone", &["80c90000"], Ok(&[(201, 0, 0)])),
     (
         "two packets",
         &[
@@ -43,7 +52,7 @@ pub const DATAGRAMS: &[Reading] = &[
             "0000c001", // its body
             "80cc0000", // v=2, p=0, subtype=0, APP, length 0
         ],
-        "202 31 4, 204 0 0, ",
+        Ok(&[(202, 31, 4), (204, 0, 0)]),
     ),
     (
         "padding",
@@ -52,7 +61,7 @@ pub const DATAGRAMS: &[Reading] = &[
             "0000c001", // SSRC
             "00000004", // padding of four bytes
         ],
-        "201 0 4, ",
+        Ok(&[(201, 0, 4)]),
     ),
     (
         "padding of no bytes",
@@ -60,7 +69,7 @@ pub const DATAGRAMS: &[Reading] = &[
             "a0c90001", // v=2, p=1, count=0, RR, length 1
             "00000000",
         ],
-        "Padding",
+        Err(FrameFault::Padding),
     ),
     (
         "padding of six bytes",
@@ -69,7 +78,7 @@ pub const DATAGRAMS: &[Reading] = &[
             "00000000", // SSRC
             "00000006",
         ],
-        "Padding",
+        Err(FrameFault::Padding),
     ),
     (
         "padding beyond the body",
@@ -77,9 +86,13 @@ pub const DATAGRAMS: &[Reading] = &[
             "a0c90001", // v=2, p=1, count=0, RR, length 1
             "00000008",
         ],
-        "Padding",
+        Err(FrameFault::Padding),
     ),
-    ("padding in a header alone", &["a0c90000"], "Padding"),
+    (
+        "padding in a header alone",
+        &["a0c90000"],
+        Err(FrameFault::Padding),
+    ),
     (
         "feedback of its two sources",
         &[
@@ -87,7 +100,7 @@ pub const DATAGRAMS: &[Reading] = &[
             "0000c001", // SSRC of the packet's sender
             "11223344", // SSRC of the media source
         ],
-        "205 0 8, ",
+        Ok(&[(205, 0, 8)]),
     ),
     (
         "feedback of one source",
@@ -95,7 +108,7 @@ pub const DATAGRAMS: &[Reading] = &[
             "80cd0001", // v=2, p=0, format 0, RTPFB, length 1
             "0000c001", // SSRC of the packet's sender
         ],
-        "Body",
+        Err(FrameFault::Body),
     ),
     (
         "feedback of one source and padding",
@@ -104,9 +117,9 @@ pub const DATAGRAMS: &[Reading] = &[
             "0000c001", // SSRC of the packet's sender
             "00000004", // padding of four bytes
         ],
-        "Body",
+        Err(FrameFault::Body),
     ),
-    ("a BYE of none", &["80cb0000"], "203 0 0, "),
+    ("a BYE of none", &["80cb0000"], Ok(&[(203, 0, 0)])),
     (
         "a BYE of two",
         &[
@@ -114,7 +127,7 @@ pub const DATAGRAMS: &[Reading] = &[
             "00000001", // SSRC
             "00000002", // SSRC
         ],
-        "203 2 8, ",
+        Ok(&[(203, 2, 8)]),
     ),
     (
         "a BYE of two in one word",
@@ -122,12 +135,12 @@ pub const DATAGRAMS: &[Reading] = &[
             "82cb0001", // v=2, p=0, count=2, BYE, length 1
             "00000001", // SSRC
         ],
-        "Body",
+        Err(FrameFault::Body),
     ),
     (
         "a receiver's packets",
         COMPOUND,
-        "201 0 4, 202 1 12, 203 1 4, ",
+        Ok(&[(201, 0, 4), (202, 1, 12), (203, 1, 4)]),
     ),
     (
         "a receiver's packets without their last byte",
@@ -141,49 +154,58 @@ pub const DATAGRAMS: &[Reading] = &[
             "81cb0001", // v=2, p=0, count=1, BYE, length 1
             "0000c0", // three bytes of the SSRC
         ],
-        "Length",
+        Err(FrameFault::Length),
     ),
 ];
 
-/// Writes type, count and length of the body of a packet.
-fn write_frame(text: &mut String, packet: &Packet<'_>) -> Result<(), AllocError> {
-    write!(
-        text,
-        "{} {} {}, ",
-        packet.kind,
-        packet.count,
-        packet.body.len()
-    )
+/// Type, count and length of the body of a packet.
+fn shape(packet: &Packet<'_>) -> (u8, u8, usize) {
+    (packet.kind, packet.count, packet.body.len())
 }
 
-/// Type, count and length of the body of each packet, or the fault.
-pub fn framed(alloc: Global, datagram: &[u8]) -> Result<String, Fail> {
-    let mut text = String::new(alloc);
-    match packets(datagram) {
-        Err(fault) => write!(text, "{fault:?}")?,
-        Ok(all) => {
-            for packet in all {
-                write_frame(&mut text, &packet)?;
-            }
+/// The packets are of these shapes.
+fn are_framed(all: Packets<'_>, want: &[(u8, u8, usize)]) -> bool {
+    let mut rest = want.iter();
+    for packet in all {
+        if rest.next() != Some(&shape(&packet)) {
+            return false;
         }
     }
-    Ok(text)
+    rest.next().is_none()
+}
+
+/// The datagram has these packets, or this fault.
+fn is_framed(datagram: &[u8], want: Framed) -> bool {
+    match (packets(datagram), want) {
+        (Ok(all), Ok(want)) => are_framed(all, want),
+        (Err(fault), Err(want)) => fault == want,
+        _ => false,
+    }
+}
+
+/// Each row's datagram has its packets, or its fault.
+pub fn expect_framed(rt: &impl Abort, alloc: Global) -> Result<(), Fail> {
+    for (name, words, want) in DATAGRAMS {
+        let datagram = bytes_of(alloc, words)?;
+        holds(rt, is_framed(&datagram, *want), name);
+    }
+    Ok(())
 }
 
 /// A receiver's packets, each written alone or behind the others.
 fn written(alloc: Global) -> Result<Vec<u8>, Fail> {
-    let mut text = write_rr(alloc, CLIENT)?;
-    append_sdes(&mut text, CLIENT)?;
-    append_bye(&mut text, CLIENT)?;
+    let mut text = done(write_rr(alloc, CLIENT))?;
+    done(append_sdes(&mut text, CLIENT))?;
+    done(append_bye(&mut text, CLIENT))?;
     Ok(text)
 }
 
 /// The same, the other way round.
 fn appended(alloc: Global) -> Result<Vec<u8>, Fail> {
     let mut text = Vec::new(alloc);
-    append_rr(&mut text, CLIENT)?;
-    text.extend_from_slice(&write_sdes(alloc, CLIENT)?)?;
-    text.extend_from_slice(&write_bye(alloc, CLIENT)?)?;
+    done(append_rr(&mut text, CLIENT))?;
+    text.extend_from_slice(&done(write_sdes(alloc, CLIENT))?)?;
+    text.extend_from_slice(&done(write_bye(alloc, CLIENT))?)?;
     Ok(text)
 }
 
@@ -194,19 +216,19 @@ fn receivers_packets_are_written(rt: HostRuntime) -> Result<(), Fail> {
         &rt,
         &written(rt.alloc())?,
         &compound,
-        &"write, append, append",
+        "write, append, append",
     );
     same(
         &rt,
         &appended(rt.alloc())?,
         &compound,
-        &"append, write, write",
+        "append, write, write",
     );
     Ok(())
 }
 
 /// Packets whose second and third word are 0xc001 and 0xc002, and whether they are BYEs of each.
-pub const BYES: &[Reading] = &[
+const BYES: &[(&str, Words, (bool, bool))] = &[
     (
         "a BYE of one, and a reason",
         &[
@@ -214,7 +236,7 @@ pub const BYES: &[Reading] = &[
             "0000c001", // SSRC
             "0000c002", // a reason
         ],
-        "(true, false)",
+        (true, false),
     ),
     (
         "a BYE of two",
@@ -223,7 +245,7 @@ pub const BYES: &[Reading] = &[
             "0000c001", // SSRC
             "0000c002", // SSRC
         ],
-        "(true, true)",
+        (true, true),
     ),
     (
         "a BYE of none",
@@ -232,7 +254,7 @@ pub const BYES: &[Reading] = &[
             "0000c001", // a reason
             "0000c002",
         ],
-        "(false, false)",
+        (false, false),
     ),
     (
         "no BYE",
@@ -241,14 +263,22 @@ pub const BYES: &[Reading] = &[
             "0000c001", // SSRC
             "0000c002", // its name
         ],
-        "(false, false)",
+        (false, false),
     ),
 ];
 
 /// Whether the first packet says goodbye for 0xc001, and whether for 0xc002.
-pub fn named(alloc: Global, datagram: &[u8]) -> Result<String, Fail> {
-    let mut all = packets(datagram).ok().ok_or("packets")?;
+fn named(datagram: &[u8]) -> Result<(bool, bool), Fail> {
+    let mut all = done(packets(datagram))?;
     let packet = all.next().ok_or("a packet")?;
-    let named = (bye_names(&packet, 0xc001), bye_names(&packet, 0xc002));
-    Ok(format!(in alloc; "{named:?}")?)
+    Ok((bye_names(&packet, 0xc001), bye_names(&packet, 0xc002)))
+}
+
+/// Each row's packet says goodbye as it says.
+pub fn expect_byes(rt: &impl Abort, alloc: Global) -> Result<(), Fail> {
+    for (name, words, want) in BYES {
+        let datagram = bytes_of(alloc, words)?;
+        holds(rt, named(&datagram)? == *want, name);
+    }
+    Ok(())
 }

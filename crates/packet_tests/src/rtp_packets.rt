@@ -1,10 +1,12 @@
 //! A packet with every part, and each fault at its edge (RFC 3550, 5.1).
-use crate::fixtures::{Reading, holds, is_twice, same};
-use std::alloc::{AllocError, Global};
-use std::fmt::Write;
+use crate::fixtures::{done, holds, is_twice, same};
+use std::alloc::Global;
+use std::process::Abort;
 use std::test::Fail;
 use test_fixtures::test_words::{Words, bytes_of};
-use wire_packets::rtp_record::{Rtp, RtpFields, append_rtp, append_rtp_behind, write_rtp};
+use wire_packets::rtp_record::{
+    Rtp, RtpFault, RtpFields, append_rtp, append_rtp_behind, write_rtp,
+};
 
 const PADDED: Words = &[
     "b2a1000a", // v=2, p=1, x=1, count=2, m=1, type 33, sequence number 10
@@ -28,58 +30,55 @@ const STRIPPED: Words = &[
     "aabb", // payload
 ];
 
-/// A packet, and what its calls say.
-pub const PARTS: &[Reading] = &[(
-    "every part",
-    PADDED,
-    "(true, 33, 10, 900, 287454020) \
-        0000000100000002 bede000110ff0000 aabb 30",
-)];
-
 /// Marker, payload type, sequence number, timestamp and SSRC of a packet.
-fn header(alloc: Global, packet: &Rtp<'_>) -> Result<String, AllocError> {
-    let header = (
+type Header = (bool, u8, u16, u32, u32);
+
+fn header(packet: &Rtp<'_>) -> Header {
+    (
         packet.marker(),
         packet.payload_type(),
         packet.sequence(),
         packet.timestamp(),
         packet.ssrc(),
+    )
+}
+
+/// The contributing sources, the extension and the payload of `PADDED`.
+const PIECES: [&[u8]; 3] = [
+    &[0, 0, 0, 1, 0, 0, 0, 2],
+    &[0xbe, 0xde, 0x00, 0x01, 0x10, 0xff, 0x00, 0x00],
+    &[0xaa, 0xbb],
+];
+
+/// The calls of a packet with every part say what its bytes are.
+pub fn expect_parts(rt: &impl Abort, alloc: Global) -> Result<(), Fail> {
+    let bytes = bytes_of(alloc, PADDED)?;
+    let packet = done(Rtp::read(&bytes))?;
+    holds(
+        rt,
+        header(&packet) == (true, 33, 10, 900, 287_454_020),
+        "header",
     );
-    format!(in alloc; "{header:?}")
-}
-
-/// Writes a space and the digits of bytes.
-fn append_digits(alloc: Global, text: &mut String, bytes: &[u8]) -> Result<(), AllocError> {
-    let digits = hex::encode(alloc, bytes)?;
-    write!(text, " {digits}")
-}
-
-/// A packet's header; its contributing sources, its extension and its payload, and how long it is without
-/// padding.
-pub fn parts(alloc: Global, bytes: &[u8]) -> Result<String, Fail> {
-    let packet = Rtp::read(bytes).ok().ok_or("a packet")?;
-    let mut text = header(alloc, &packet)?;
-    append_digits(alloc, &mut text, packet.csrc())?;
-    append_digits(alloc, &mut text, packet.extension())?;
-    append_digits(alloc, &mut text, packet.payload())?;
-    write!(text, " {}", packet.stripped_len())?;
-    Ok(text)
+    let pieces = [packet.csrc(), packet.extension(), packet.payload()];
+    holds(rt, pieces == PIECES, "pieces");
+    holds(rt, packet.stripped_len() == 30, "length");
+    Ok(())
 }
 
 /// The packet without its padding: twice, and what its fields are written as.
 fn stripped(alloc: Global, padded: &[u8]) -> Result<(Vec<u8>, Vec<u8>), Fail> {
-    let packet = Rtp::read(padded).ok().ok_or("a packet")?;
-    let mut text = packet.strip(alloc)?;
-    packet.append_stripped(&mut text)?;
-    Ok((text, write_rtp(alloc, &packet.fields())?))
+    let packet = done(Rtp::read(padded))?;
+    let mut text = done(packet.strip(alloc))?;
+    done(packet.append_stripped(&mut text))?;
+    Ok((text, done(write_rtp(alloc, &packet.fields()))?))
 }
 
 #[test]
 fn padding_is_left_out(rt: HostRuntime) -> Result<(), Fail> {
     let want = bytes_of(rt.alloc(), STRIPPED)?;
     let (text, fields) = stripped(rt.alloc(), &bytes_of(rt.alloc(), PADDED)?)?;
-    holds(&rt, is_twice(&text, &want), &"strip");
-    same(&rt, &fields, &want, &"fields");
+    holds(&rt, is_twice(&text, &want), "strip");
+    same(&rt, &fields, &want, "fields");
     Ok(())
 }
 
@@ -110,8 +109,8 @@ const SPELLED: Words = &[
 /// Two packets behind a front, of which the second has the first's payload.
 fn written_behind(alloc: Global) -> Result<Vec<u8>, Fail> {
     let mut text = b"front".to_vec(alloc)?;
-    append_rtp(&mut text, &PLAIN)?;
-    append_rtp_behind(&mut text, &BARE, PLAIN.payload)?;
+    done(append_rtp(&mut text, &PLAIN))?;
+    done(append_rtp_behind(&mut text, &BARE, PLAIN.payload))?;
     Ok(text)
 }
 
@@ -120,108 +119,111 @@ fn packets_are_written_behind_what_is_there(rt: HostRuntime) -> Result<(), Fail>
     let text = written_behind(rt.alloc())?;
     let written = text.strip_prefix(b"front").ok_or("the front")?;
     let want = bytes_of(rt.alloc(), SPELLED)?;
-    holds(&rt, is_twice(written, &want), &"behind");
+    holds(&rt, is_twice(written, &want), "behind");
     Ok(())
 }
 
 /// Packets whose header is of zeros but for its first byte, and the fault.
-pub const PACKETS: &[Reading] = &[
-    ("no bytes", &[], "Some(Short)"),
+const PACKETS: &[(&str, Words, Option<RtpFault>)] = &[
+    ("no bytes", &[], Some(RtpFault::Short)),
     (
         "eleven bytes",
         &["00000000", "00000000", "000000"],
-        "Some(Short)",
+        Some(RtpFault::Short),
     ),
     (
         "a header alone",
         &["80000000", "00000000", "00000000"],
-        "None",
+        None,
     ),
     (
         "version 1",
         &["40000000", "00000000", "00000000"],
-        "Some(Version)",
+        Some(RtpFault::Version),
     ),
     (
         "version 3",
         &["c0000000", "00000000", "00000000"],
-        "Some(Version)",
+        Some(RtpFault::Version),
     ),
     (
         "one contributing source in three bytes",
         &["81000000", "00000000", "00000000", "000000"],
-        "Some(Csrc)",
+        Some(RtpFault::Csrc),
     ),
     (
         "one contributing source",
         &["81000000", "00000000", "00000000", "00000000"],
-        "None",
+        None,
     ),
     (
         "an extension in three bytes",
         &["90000000", "00000000", "00000000", "000000"],
-        "Some(Extension)",
+        Some(RtpFault::Extension),
     ),
     (
         "an extension of no words",
         &["90000000", "00000000", "00000000", "00000000"],
-        "None",
+        None,
     ),
     (
         "an extension of a word, in three bytes",
         &["90000000", "00000000", "00000000", "00000001", "000000"],
-        "Some(Extension)",
+        Some(RtpFault::Extension),
     ),
     (
         "an extension of a word",
         &["90000000", "00000000", "00000000", "00000001", "00000000"],
-        "None",
+        None,
     ),
     (
         "padding of no bytes",
         &["a0000000", "00000000", "00000000", "00"],
-        "Some(Padding)",
+        Some(RtpFault::Padding),
     ),
     (
         "padding of one byte",
         &["a0000000", "00000000", "00000000", "01"],
-        "None",
+        None,
     ),
     (
         "padding of two bytes, in one",
         &["a0000000", "00000000", "00000000", "02"],
-        "Some(Padding)",
+        Some(RtpFault::Padding),
     ),
     (
         "padding of two bytes",
         &["a0000000", "00000000", "00000000", "0902"],
-        "None",
+        None,
     ),
     (
         "padding into the extension",
         &["b0000000", "00000000", "00000000", "00000000", "0903"],
-        "Some(Padding)",
+        Some(RtpFault::Padding),
     ),
     // the first fault that is true
     (
         "version 1, and no contributing sources",
         &["4f000000", "00000000", "00000000"],
-        "Some(Version)",
+        Some(RtpFault::Version),
     ),
     (
         "neither contributing sources nor an extension",
         &["bf000000", "00000000", "00000000"],
-        "Some(Csrc)",
+        Some(RtpFault::Csrc),
     ),
     (
         "an extension and padding in three bytes",
         &["b0000000", "00000000", "00000000", "000000"],
-        "Some(Extension)",
+        Some(RtpFault::Extension),
     ),
 ];
 
 /// Why bytes are no packet.
-pub fn fault(alloc: Global, bytes: &[u8]) -> Result<String, Fail> {
-    let fault = Rtp::read(bytes).err();
-    Ok(format!(in alloc; "{fault:?}")?)
+pub fn expect_faults(rt: &impl Abort, alloc: Global) -> Result<(), Fail> {
+    for (name, words, want) in PACKETS {
+        let bytes = bytes_of(alloc, words)?;
+        same(rt, &Rtp::read(&bytes).err(), want, name);
+    }
+    Ok(())
 }

@@ -245,10 +245,14 @@ fn unfit_media(rt: HostRuntime) -> Result<(), Fail> {
 #[test]
 fn tune_and_leave(rt: HostRuntime) -> Result<(), Fail> {
     let alloc = rt.alloc();
-    let (receiver, request) = Receiver::tune(alloc, TUNED)?;
+    let Ok((receiver, request)) = Receiver::tune(alloc, TUNED) else {
+        return Err(Fail::new("no memory"));
+    };
     assert!(rt; request == datagram(alloc, REQUEST)?);
     assert!(rt; receiver.first().is_none() && receiver.next().is_none());
-    let bye = receiver.leave(alloc).map_err(|(_, e)| e)?;
+    let Ok(bye) = receiver.leave(alloc) else {
+        return Err(Fail::new("no memory"));
+    };
     assert!(rt; bye == datagram(alloc, &["81cb0001", "0000c001"])?);
     Ok(())
 }

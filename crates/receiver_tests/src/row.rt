@@ -69,7 +69,9 @@ pub fn datagram(alloc: Global, message: &[&str]) -> Result<Vec<u8>, Fail> {
 pub fn tuned(alloc: Global) -> Result<Receiver, Fail>
     ensures { IfOk result (λ receiver. reach receiver ≡ 0) }
 {
-    let (receiver, _) = Receiver::tune(alloc, TUNED)?;
+    let Ok((receiver, _)) = Receiver::tune(alloc, TUNED) else {
+        return Err(Fail::new("no memory"));
+    };
     Ok(receiver)
 }
 
@@ -85,11 +87,12 @@ fn expect_told(
     receiver: &mut Receiver,
     words: Words,
     expected: InfoCame,
+    place: usize,
 ) -> Result<(), Fail>
     ensures { OnOk result (reach receiver.new ≡ reach receiver.old) }
 {
     let came = receiver.info(&bytes_of(alloc, words)?);
-    same(rt, &came, &expected, &words);
+    same(rt, &came, &expected, &place);
     Ok(())
 }
 
@@ -100,12 +103,15 @@ fn expect_again(
     receiver: &mut Receiver,
     words: Words,
     expected: MediaCame,
+    place: usize,
 ) -> Result<(), Fail>
     requires { reach receiver.old < 2 ^ 40 }
     ensures { OnOk result (reach receiver.new ≤ reach receiver.old + 1) }
 {
-    let came = receiver.rtx(alloc, &bytes_of(alloc, words)?)?;
-    same(rt, &came, &expected, &words);
+    let Ok(came) = receiver.rtx(alloc, &bytes_of(alloc, words)?) else {
+        return Err(Fail::new("no memory"));
+    };
+    same(rt, &came, &expected, &place);
     Ok(())
 }
 
@@ -118,7 +124,10 @@ fn answer(
     requires { reach receiver.old < 2 ^ 40 }
     ensures { OnOk result (reach receiver.new ≤ reach receiver.old + 1) }
 {
-    Ok(receiver.multicast(alloc, &bytes_of(alloc, words)?)?)
+    let Ok(answer) = receiver.multicast(alloc, &bytes_of(alloc, words)?) else {
+        return Err(Fail::new("no memory"));
+    };
+    Ok(answer)
 }
 
 // The answer is as it is said.
@@ -128,18 +137,19 @@ fn expect_answer(
     came: MediaCame,
     text: Option<Vec<u8>>,
     said: Said,
+    place: usize,
 ) -> Result<(), Fail> {
     match said {
         Said::Joined(expected, message) => {
-            same(rt, &came, &expected, &said);
+            same(rt, &came, &expected, &place);
             let stop = text.expect(rt, "a RAMS-T");
-            same(rt, &stop, &datagram(alloc, message)?, &said);
+            same(rt, &stop, &datagram(alloc, message)?, &place);
         }
         Said::Came(expected) => {
-            same(rt, &came, &expected, &said);
-            assert!(rt; text.is_none());
+            same(rt, &came, &expected, &place);
+            assert!(rt; text.is_none(), "{place}");
         }
-        _ => assert!(rt; false, "{said:?}"),
+        _ => assert!(rt; false, "{place}"),
     }
     Ok(())
 }
@@ -151,12 +161,13 @@ fn expect_multicast(
     receiver: &mut Receiver,
     words: Words,
     said: Said,
+    place: usize,
 ) -> Result<(), Fail>
     requires { reach receiver.old < 2 ^ 40 }
     ensures { OnOk result (reach receiver.new ≤ reach receiver.old + 1) }
 {
     let (came, text) = answer(alloc, receiver, words)?;
-    expect_answer(rt, alloc, came, text, said)
+    expect_answer(rt, alloc, came, text, said, place)
 }
 
 // The receiver asks by these datagrams.
@@ -165,12 +176,15 @@ fn expect_datagrams(
     alloc: Global,
     receiver: &Receiver,
     messages: &[Words],
+    place: usize,
 ) -> Result<(), Fail> {
-    let datagrams = receiver.ask(alloc)?;
-    same(rt, &datagrams.len(), &messages.len(), &messages);
+    let Ok(datagrams) = receiver.ask(alloc) else {
+        return Err(Fail::new("no memory"));
+    };
+    same(rt, &datagrams.len(), &messages.len(), &place);
     for (asked, message) in datagrams.iter().zip(messages) {
         let expected = datagram(alloc, message)?;
-        same(rt, &asked.bytes(), &expected.as_slice(), message);
+        same(rt, &asked.bytes(), &expected.as_slice(), &place);
     }
     Ok(())
 }
@@ -182,21 +196,22 @@ fn expect(
     receiver: &mut Receiver,
     call: Call,
     said: Said,
+    place: usize,
 ) -> Result<(), Fail>
     requires { reach receiver.old < 2 ^ 40 }
     ensures { OnOk result (reach receiver.new ≤ reach receiver.old + 1) }
 {
     match (call, said) {
         (Call::Info(words), Said::Told(expected)) => {
-            expect_told(rt, alloc, receiver, words, expected)
+            expect_told(rt, alloc, receiver, words, expected, place)
         }
         (Call::Rtx(words), Said::Came(expected)) => {
-            expect_again(rt, alloc, receiver, words, expected)
+            expect_again(rt, alloc, receiver, words, expected, place)
         }
-        (Call::Multicast(words), _) => expect_multicast(rt, alloc, receiver, words, said),
-        (Call::Ask, Said::Asks(messages)) => expect_datagrams(rt, alloc, receiver, messages),
+        (Call::Multicast(words), _) => expect_multicast(rt, alloc, receiver, words, said, place),
+        (Call::Ask, Said::Asks(messages)) => expect_datagrams(rt, alloc, receiver, messages, place),
         _ => {
-            assert!(rt; false, "{call:?} {said:?}");
+            assert!(rt; false, "{place}");
             Ok(())
         }
     }
@@ -236,8 +251,8 @@ fn expect_shown(
 pub fn expect_all(rt: &impl Abort, alloc: Global, rows: &[Row]) -> Result<(), Fail> {
     assert!(rt; rows.len() < 1000);
     let mut receiver = tuned(alloc)?;
-    for (call, said, shown) in rows {
-        expect(rt, alloc, &mut receiver, *call, *said)?;
+    for (place, (call, said, shown)) in rows.iter().enumerate() {
+        expect(rt, alloc, &mut receiver, *call, *said, place)?;
         expect_shown(rt, alloc, &mut receiver, shown)?;
     }
     Ok(())

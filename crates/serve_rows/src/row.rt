@@ -89,8 +89,11 @@ pub fn serve_row<T: Watch>(
 /// The sink got the lines of the row.
 fn check_text(rt: &impl Abort, alloc: Global, row: &Row, held: &[u8]) -> Result<(), Fail> {
     let text = joined(alloc, row.text)?;
-    assert!(rt; str::from_utf8(held)? == str::from_utf8(&text)?, "{}",
-        row.name);
+    assert!(rt;
+        str::from_utf8(held)? == str::from_utf8(&text)?,
+        "{}",
+        row.name
+    );
     Ok(())
 }
 

@@ -3,7 +3,12 @@ use crate::fixtures::{BYE, NACK, REQUEST, SENDER, STOP};
 use crate::row::Given::{Asks, Heard, Next, Start};
 use crate::row::{Case, Row, expect_all};
 use channel_config::Channel;
-use rams_model::Info;
+use rams_model::LiveNote::Took;
+use rams_model::Note::{
+    Accept, Again, Already, BadFeedback, Bye, ByeIdle, Early, End, ForeignNack, Live, Queued,
+    Refuse, StopAt, StopIdle, StopKept, TableFull, Unheld, Update,
+};
+use rams_model::{Cause, FrameFault, Info};
 use std::test::Fail;
 use test_fixtures::test_channel::{CHANNEL, SOURCE};
 
@@ -58,10 +63,10 @@ const REFUSED: Info = Info {
 /// The messages of a datagram are answered in their order, of the RAMS messages the first alone; one that
 /// doesn't frame changes nothing.
 const MESSAGES: &[Row] = &[
-    (Start(65534, 0, 4), "[Live(Took(131070))]", 0, None),
-    (Next(65535, 900, 4), "[Live(Took(131071))]", 0, None),
-    (Next(0, 1800, 4), "[Live(Took(131072))]", 0, None),
-    (Next(1, 2700, 4), "[Live(Took(131073))]", 0, None),
+    (Start(65534, 0, 4), &[Live(Took(131070))], 0, None),
+    (Next(65535, 900, 4), &[Live(Took(131071))], 0, None),
+    (Next(0, 1800, 4), &[Live(Took(131072))], 0, None),
+    (Next(1, 2700, 4), &[Live(Took(131073))], 0, None),
     (
         Heard(
             5,
@@ -75,50 +80,97 @@ const MESSAGES: &[Row] = &[
                 &BYE,
             ],
         ),
-        "[Queued { client: 5, n: 131070 }, Accept { client: 5, first: 131070, rate: 4000, join: 1 }, Early { client: 5, n: 131071 }, Bye { client: 5 }, End { client: 5, cause: Bye }]",
+        &[
+            Queued {
+                client: 5,
+                n: 131070,
+            },
+            Accept {
+                client: 5,
+                first: 131070,
+                rate: 4000,
+                join: 1,
+            },
+            Early {
+                client: 5,
+                n: 131071,
+            },
+            Bye { client: 5 },
+            End {
+                client: 5,
+                cause: Cause::Bye,
+            },
+        ],
         1,
         Some(ACCEPTED),
     ),
     (
         Heard(5, &[&PLAIN_STOP, &REQUEST]),
-        "[StopIdle { client: 5 }]",
+        &[StopIdle { client: 5 }],
         0,
         None,
     ),
     (
         // 65535, and the first and third number behind it.
         Heard(5, &[&[NACK, SENDER, SOURCE, 0xffff_0005]]),
-        "[Queued { client: 5, n: 131071 }, Queued { client: 5, n: 131072 }, Unheld { client: 5, low: 2 }]",
+        &[
+            Queued {
+                client: 5,
+                n: 131071,
+            },
+            Queued {
+                client: 5,
+                n: 131072,
+            },
+            Unheld { client: 5, low: 2 },
+        ],
         0,
         None,
     ),
     (
         Heard(5, &[&[NACK, SENDER, SOURCE, 0xffff_0000]]),
-        "[Already { client: 5, n: 131071 }]",
+        &[Already {
+            client: 5,
+            n: 131071,
+        }],
         0,
         None,
     ),
     (
         Heard(5, &[&REQUEST, &[NACK, SENDER, SOURCE]]),
-        "[BadFeedback { client: 5, fault: Length }]",
+        &[BadFeedback {
+            client: 5,
+            fault: FrameFault::Length,
+        }],
         0,
         None,
     ),
     (
         Heard(5, &[&REQUEST]),
-        "[Accept { client: 5, first: 131070, rate: 4000, join: 1 }]",
+        &[Accept {
+            client: 5,
+            first: 131070,
+            rate: 4000,
+            join: 1,
+        }],
         1,
         Some(ACCEPTED),
     ),
     (
         Heard(5, &[&STOP]),
-        "[StopAt { client: 5, n: 131073 }]",
+        &[StopAt {
+            client: 5,
+            n: 131073,
+        }],
         0,
         None,
     ),
     (
         Heard(5, &[&PLAIN_STOP]),
-        "[StopKept { client: 5, n: 131073 }]",
+        &[StopKept {
+            client: 5,
+            n: 131073,
+        }],
         0,
         None,
     ),
@@ -131,13 +183,22 @@ const MESSAGES: &[Row] = &[
                 &[NACK, SENDER, SOURCE, 0x0001_0000],
             ],
         ),
-        "[Early { client: 5, n: 131070 }, Queued { client: 5, n: 131073 }]",
+        &[
+            Early {
+                client: 5,
+                n: 131070,
+            },
+            Queued {
+                client: 5,
+                n: 131073,
+            },
+        ],
         0,
         None,
     ),
     (
         Heard(5, &[&REQUEST]),
-        "[Again { client: 5 }]",
+        &[Again { client: 5 }],
         1,
         Some(ACCEPTED),
     ),
@@ -150,13 +211,19 @@ const MESSAGES: &[Row] = &[
                 &[NACK, SENDER, 0x9999_9999, 0xffff_0000],
             ],
         ),
-        "[ByeIdle { client: 5 }, ForeignNack { client: 5 }]",
+        &[ByeIdle { client: 5 }, ForeignNack { client: 5 }],
         0,
         None,
     ),
     (
         Heard(5, &[&BYE]),
-        "[Bye { client: 5 }, End { client: 5, cause: Bye }]",
+        &[
+            Bye { client: 5 },
+            End {
+                client: 5,
+                cause: Cause::Bye,
+            },
+        ],
         0,
         None,
     ),
@@ -187,10 +254,13 @@ const UPDATED: Info = Info {
 /// A request that names another bit rate changes the rate; the stop is the packet that is next. A RAMS-T
 /// that can't be read is refused.
 const UPDATES: &[Row] = &[
-    (Start(10, 0, 4), "[Live(Took(65546))]", 0, None),
+    (Start(10, 0, 4), &[Live(Took(65546))], 0, None),
     (
         Heard(5, &[&UNREADABLE_STOP]),
-        "[Refuse { client: 5, code: 404 }]",
+        &[Refuse {
+            client: 5,
+            code: 404,
+        }],
         1,
         Some(Info {
             code: 404,
@@ -199,20 +269,32 @@ const UPDATES: &[Row] = &[
     ),
     (
         Asks(5, &SLOW),
-        "[Accept { client: 5, first: 65546, rate: 1600, join: 46 }]",
+        &[Accept {
+            client: 5,
+            first: 65546,
+            rate: 1600,
+            join: 46,
+        }],
         1,
         Some(ACCEPTED_SLOW),
     ),
     (
         Asks(5, &FAST),
-        "[Update { client: 5, rate: 3200, join: 1 }]",
+        &[Update {
+            client: 5,
+            rate: 3200,
+            join: 1,
+        }],
         1,
         Some(UPDATED),
     ),
-    (Asks(5, &[]), "[Again { client: 5 }]", 1, Some(UPDATED)),
+    (Asks(5, &[]), &[Again { client: 5 }], 1, Some(UPDATED)),
     (
         Asks(5, &TOO_SLOW),
-        "[Refuse { client: 5, code: 403 }]",
+        &[Refuse {
+            client: 5,
+            code: 403,
+        }],
         1,
         Some(Info {
             code: 403,
@@ -221,7 +303,16 @@ const UPDATES: &[Row] = &[
     ),
     (
         Heard(5, &[&PLAIN_STOP]),
-        "[StopAt { client: 5, n: 65546 }, End { client: 5, cause: Stopped }]",
+        &[
+            StopAt {
+                client: 5,
+                n: 65546,
+            },
+            End {
+                client: 5,
+                cause: Cause::Stopped,
+            },
+        ],
         1,
         Some(Info {
             msn: 2,
@@ -240,12 +331,17 @@ const ONE_BURST: Channel = Channel {
 /// Access points that are 200 and 100 ms old, and a burst of another client that leaves no room for a
 /// second. Of several causes of a refusal the first counts.
 const BUSY: &[Row] = &[
-    (Start(10, 0, 4), "[Live(Took(65546))]", 0, None),
-    (Start(11, 9000, 4), "[Live(Took(65547))]", 0, None),
-    (Next(12, 18000, 4), "[Live(Took(65548))]", 0, None),
+    (Start(10, 0, 4), &[Live(Took(65546))], 0, None),
+    (Start(11, 9000, 4), &[Live(Took(65547))], 0, None),
+    (Next(12, 18000, 4), &[Live(Took(65548))], 0, None),
     (
         Asks(6, &[]),
-        "[Accept { client: 6, first: 65547, rate: 4000, join: 1 }]",
+        &[Accept {
+            client: 6,
+            first: 65547,
+            rate: 4000,
+            join: 1,
+        }],
         1,
         Some(ACCEPTED),
     ),
@@ -260,7 +356,10 @@ const BUSY: &[Row] = &[
                 0,
             ],
         ),
-        "[Refuse { client: 5, code: 400 }]",
+        &[Refuse {
+            client: 5,
+            code: 400,
+        }],
         1,
         Some(REFUSED),
     ),
@@ -273,7 +372,10 @@ const BUSY: &[Row] = &[
                 0x0500_0000, // TLV 5 (preamble only), length 0
             ],
         ),
-        "[Refuse { client: 5, code: 512 }]",
+        &[Refuse {
+            client: 5,
+            code: 512,
+        }],
         1,
         Some(Info {
             code: 512,
@@ -290,7 +392,10 @@ const BUSY: &[Row] = &[
                 201, // ms
             ],
         ),
-        "[Refuse { client: 5, code: 509 }]",
+        &[Refuse {
+            client: 5,
+            code: 509,
+        }],
         1,
         Some(Info {
             code: 509,
@@ -307,7 +412,10 @@ const BUSY: &[Row] = &[
                 99, // ms
             ],
         ),
-        "[Refuse { client: 5, code: 401 }]",
+        &[Refuse {
+            client: 5,
+            code: 401,
+        }],
         1,
         Some(Info {
             code: 401,
@@ -324,7 +432,10 @@ const BUSY: &[Row] = &[
                 199, // ms
             ],
         ),
-        "[Refuse { client: 5, code: 402 }]",
+        &[Refuse {
+            client: 5,
+            code: 402,
+        }],
         1,
         Some(Info {
             code: 402,
@@ -333,7 +444,10 @@ const BUSY: &[Row] = &[
     ),
     (
         Asks(5, &TOO_SLOW),
-        "[Refuse { client: 5, code: 403 }]",
+        &[Refuse {
+            client: 5,
+            code: 403,
+        }],
         1,
         Some(Info {
             code: 403,
@@ -342,7 +456,10 @@ const BUSY: &[Row] = &[
     ),
     (
         Asks(5, &SLOW),
-        "[Refuse { client: 5, code: 501 }]",
+        &[Refuse {
+            client: 5,
+            code: 501,
+        }],
         1,
         Some(Info {
             code: 501,
@@ -363,7 +480,7 @@ const ONE_PLACE: Channel = Channel {
 /// The only packet isn't eligible: the 46 bytes behind it are more than the 45 that the ring is sure to
 /// hold. Once another client has the only place, that comes first.
 const NO_PLACE: &[Row] = &[
-    (Start(10, 0, 4), "[Live(Took(65546))]", 0, None),
+    (Start(10, 0, 4), &[Live(Took(65546))], 0, None),
     (
         Asks(
             5,
@@ -372,7 +489,10 @@ const NO_PLACE: &[Row] = &[
                 201, // ms
             ],
         ),
-        "[Refuse { client: 5, code: 507 }]",
+        &[Refuse {
+            client: 5,
+            code: 507,
+        }],
         1,
         Some(Info {
             code: 507,
@@ -381,19 +501,28 @@ const NO_PLACE: &[Row] = &[
     ),
     (
         Heard(6, &[&[NACK, 0x0000_c002, SOURCE, 0x000a_0000]]), // number 10
-        "[Queued { client: 6, n: 65546 }]",
+        &[Queued {
+            client: 6,
+            n: 65546,
+        }],
         0,
         None,
     ),
     (
         Heard(5, &[&[NACK, SENDER, SOURCE, 0x000a_0000]]), // number 10
-        "[TableFull { client: 5, n: 65546 }]",
+        &[TableFull {
+            client: 5,
+            n: 65546,
+        }],
         0,
         None,
     ),
     (
         Asks(5, &[]),
-        "[Refuse { client: 5, code: 503 }]",
+        &[Refuse {
+            client: 5,
+            code: 503,
+        }],
         1,
         Some(Info {
             code: 503,
@@ -410,22 +539,35 @@ const NARROW: Channel = Channel {
 /// Two bursts of 7,200 bytes a tick together leave the reserve of 1,500 where the share is 8,700; here it
 /// is one byte less.
 const RESERVED: &[Row] = &[
-    (Start(10, 0, 4), "[Live(Took(65546))]", 0, None),
+    (Start(10, 0, 4), &[Live(Took(65546))], 0, None),
     (
         Asks(5, &SLOW),
-        "[Accept { client: 5, first: 65546, rate: 1600, join: 46 }]",
+        &[Accept {
+            client: 5,
+            first: 65546,
+            rate: 1600,
+            join: 46,
+        }],
         1,
         Some(ACCEPTED_SLOW),
     ),
     (
         Asks(6, &[]),
-        "[Accept { client: 6, first: 65546, rate: 4000, join: 1 }]",
+        &[Accept {
+            client: 6,
+            first: 65546,
+            rate: 4000,
+            join: 1,
+        }],
         1,
         Some(ACCEPTED),
     ),
     (
         Asks(5, &FAST),
-        "[Refuse { client: 5, code: 501 }]",
+        &[Refuse {
+            client: 5,
+            code: 501,
+        }],
         1,
         Some(Info {
             code: 501,

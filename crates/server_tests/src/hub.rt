@@ -3,33 +3,56 @@ ghost use Rattle.std.specs.Prelude.{◌≡◌, ◌+◌, ◌<◌, OnOk, length};
 
 use crate::fixtures::{holds, same};
 use crate::row::Given::{Asks, Start, Tick};
-use crate::row::{Given, event_of, text_of};
+use crate::row::{Given, event_of};
 use channel_config::Config;
-use rams_model::Event;
+use rams_model::LiveNote::Took;
+use rams_model::Note::{Accept, Burst, Live};
+use rams_model::{Event, Note};
 use server_hub::{AddFault, At, Hub, HubAnswer, HubEvent};
 use std::alloc::Global;
-use std::fmt::Write;
 use std::process::Abort;
+use std::slice;
 use std::test::Fail;
 use test_fixtures::test_channel::CHANNEL;
 
-/// The channel that an event names, the event, and the notes of each channel that answers it.
-type Step = (u16, Given, &'static str);
+/// The channel that an event names, the event, and what is answered.
+type Step = (u16, Given, Said);
+
+/// The notes of each channel that answers; or the number of no channel.
+type Said = Result<&'static [(u16, &'static [Note])], u16>;
 
 const STEPS: &[Step] = &[
-    (7, Start(10, 0, 4), "7 [Live(Took(65546))]\n"),
-    (8, Start(20, 0, 4), "8 [Live(Took(65556))]\n"),
-    (9, Start(10, 0, 4), "no channel 9"),
+    (7, Start(10, 0, 4), Ok(&[(7, &[Live(Took(65546))])])),
+    (8, Start(20, 0, 4), Ok(&[(8, &[Live(Took(65556))])])),
+    (9, Start(10, 0, 4), Err(9)),
     (
         7,
         Asks(5, &[]),
-        "7 [Accept { client: 5, first: 65546, rate: 4000, join: 1 }]\n",
+        Ok(&[(
+            7,
+            &[Accept {
+                client: 5,
+                first: 65546,
+                rate: 4000,
+                join: 1,
+            }],
+        )]),
     ),
-    (9, Asks(5, &[]), "no channel 9"),
+    (9, Asks(5, &[]), Err(9)),
     (
         0,
         Tick,
-        "7 [Burst { client: 5, n: 65546, seq: 500 }]\n8 []\n",
+        Ok(&[
+            (
+                7,
+                &[Burst {
+                    client: 5,
+                    n: 65546,
+                    seq: 500,
+                }],
+            ),
+            (8, &[]),
+        ]),
     ),
 ];
 
@@ -40,7 +63,9 @@ fn add(rt: &impl Abort, alloc: Global, hub: &mut Hub, id: u16, share: u64) -> Re
     let mut settings = CHANNEL;
     settings.id = id;
     settings.share = share;
-    let config = Config::check(settings, hub.tick_ms()).expect(rt, "lawful settings");
+    let config = Config::check(settings, hub.tick_ms())
+        .ok()
+        .expect(rt, "lawful settings");
     assert!(rt; config.tick_ms() == hub.tick_ms());
     hub.add(alloc, config)
 }
@@ -75,36 +100,32 @@ fn event_at(alloc: Global, id: u16, given: Given) -> Result<HubEvent, Fail> {
     })
 }
 
-/// What is answered, as text.
-fn text(alloc: Global, answer: &HubAnswer) -> Result<String, Fail> {
-    let mut text = String::new(alloc);
-    match answer {
-        HubAnswer::NoChannel(id) => write!(text, "no channel {id}")?,
-        HubAnswer::Answer(at) => write_at(alloc, &mut text, at)?,
-        HubAnswer::Answers(answers) => write_all(alloc, &mut text, answers)?,
-    }
-    Ok(text)
+/// These channels answer, each with these notes.
+fn are_noted(answers: &[At], want: &[(u16, &[Note])]) -> bool {
+    answers.len() == want.len()
+        && answers.iter().zip(want).all(|(at, (id, notes))| at.id == *id
+            && at.answer.notes.as_slice() == *notes)
 }
 
-fn write_at(alloc: Global, text: &mut String, at: &At) -> Result<(), Fail> {
-    writeln!(text, "{} {}", at.id, text_of(alloc, &at.answer)?)?;
-    Ok(())
-}
-
-fn write_all(alloc: Global, text: &mut String, answers: &[At]) -> Result<(), Fail> {
-    for at in answers {
-        write_at(alloc, text, at)?;
+/// This is answered.
+fn is_said(answer: &HubAnswer, want: &Said) -> bool {
+    match (answer, want) {
+        (HubAnswer::NoChannel(id), Err(want)) => id == want,
+        (HubAnswer::Answer(at), Ok(want)) => are_noted(slice::from_ref(at), want),
+        (HubAnswer::Answers(answers), Ok(want)) => are_noted(answers, want),
+        _ => false,
     }
-    Ok(())
 }
 
 fn expect_steps(rt: &impl Abort, alloc: Global, hub: &mut Hub, steps: &[Step]) -> Result<(), Fail>
     requires { hub.old.calls + length steps.now < 100 }
 {
-    for (id, given, expected) in steps {
+    for (place, (id, given, expected)) in steps.iter().enumerate() {
         let event = event_at(alloc, *id, *given)?;
-        let answer = hub.step(alloc, &event)?;
-        same(rt, &text(alloc, &answer)?.as_str(), expected, id);
+        let Ok(answer) = hub.step(alloc, &event) else {
+            return Err(Fail::new("no memory"));
+        };
+        holds(rt, is_said(&answer, expected), &place);
     }
     Ok(())
 }
@@ -112,7 +133,9 @@ fn expect_steps(rt: &impl Abort, alloc: Global, hub: &mut Hub, steps: &[Step]) -
 // Each event goes to its channel alone, and a tick to both.
 #[test]
 fn events_go_to_their_channels(rt: HostRuntime) -> Result<(), Fail> {
-    let mut hub = Hub::new(rt.alloc(), 10, 100_000)?;
+    let Ok(mut hub) = Hub::new(rt.alloc(), 10, 100_000) else {
+        return Err(Fail::new("no memory"));
+    };
     same(
         &rt,
         &(hub.tick_ms(), hub.link()),
@@ -127,7 +150,9 @@ fn events_go_to_their_channels(rt: HostRuntime) -> Result<(), Fail> {
 
 // A hub of 63 channels.
 fn with_63_channels(rt: &impl Abort, alloc: Global) -> Result<Hub, Fail> {
-    let mut hub = Hub::new(alloc, 10, 64 * 6_000)?;
+    let Ok(mut hub) = Hub::new(alloc, 10, 64 * 6_000) else {
+        return Err(Fail::new("no memory"));
+    };
     for id in 1..=63 {
         same(rt, &add(rt, alloc, &mut hub, id, 6_000), &Ok(()), &id);
     }

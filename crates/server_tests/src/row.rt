@@ -3,9 +3,9 @@ ghost use Rattle.std.specs.Prelude.{◌+◌, ◌<◌, ◌^◌, List, [], IfOk, l
 ghost use Rattle.rams_model.specs.declared.event.Event.{Event};
 ghost use Rattle.server_hub.specs.session_core.{StandsFor};
 
-use crate::fixtures::{REQUEST, same};
+use crate::fixtures::REQUEST;
 use channel_config::{Channel, Config};
-use rams_model::{Answer, Event, Info, Octets, Order};
+use rams_model::{Answer, Event, Info, Note, Octets, Order};
 use server_hub::session_core::{Core, Stepped};
 use std::alloc::{AllocError, Global};
 use std::process::Abort;
@@ -28,7 +28,7 @@ pub enum Given {
 }
 
 /// What comes, what is noted of it, how many datagrams are sent, and what a client is told.
-pub type Row = (Given, &'static str, usize, Option<Info>);
+pub type Row = (Given, &'static [Note], usize, Option<Info>);
 
 /// A packet's first word is the one given, but for its number.
 fn packet(
@@ -91,17 +91,17 @@ fn told(answer: &Answer) -> Option<Info> {
     })
 }
 
-/// What is noted, as text.
-pub fn text_of(alloc: Global, answer: &Answer) -> Result<String, Fail> {
-    Ok(format!(in alloc; "{:?}", answer.notes.as_slice())?)
-}
-
 /// A channel to which nothing came.
 fn new_core(alloc: Global, channel: Channel) -> Result<Core, Fail>
     ensures { IfOk result (λ core. StandsFor core []) }
 {
-    let config = Config::check(channel, 10)?;
-    Ok(Core::new(alloc, &config)?)
+    let Ok(config) = Config::check(channel, 10) else {
+        return Err(Fail::new("lawful settings"));
+    };
+    let Ok(core) = Core::new(alloc, &config) else {
+        return Err(Fail::new("no memory"));
+    };
+    Ok(core)
 }
 
 /// Each row's event is answered as it says.
@@ -110,15 +110,20 @@ fn expect<S: Stepped>(
     alloc: Global,
     stepped: &mut S,
     rows: &[Row],
+    case: usize,
 ) -> Result<(), Fail>
     requires { (events : List Event) × S.stands stepped.old events × (length events + length rows.now < 2 ^ 40) }
 {
-    for (given, notes, orders, info) in rows {
+    for (place, (given, notes, orders, info)) in rows.iter().enumerate() {
         let event = event_of(alloc, *given)?;
-        let answer = stepped.step(alloc, &event)?;
-        let text = text_of(alloc, &answer)?;
-        let got = (text.as_str(), answer.orders.len(), told(&answer));
-        same(rt, &got, &(*notes, *orders, *info), given);
+        let Ok(answer) = stepped.step(alloc, &event) else {
+            return Err(Fail::new("no memory"));
+        };
+        let got = (answer.notes.as_slice(), answer.orders.len(), told(&answer));
+        assert!(rt;
+            got == (*notes, *orders, *info),
+            "row {place} of case {case}"
+        );
     }
     Ok(())
 }
@@ -127,18 +132,24 @@ fn expect<S: Stepped>(
 pub type Case = (Channel, &'static [Row]);
 
 /// A new channel with these settings answers each row's event as it says.
-fn expect_case(rt: &impl Abort, alloc: Global, channel: Channel, rows: &[Row]) -> Result<(), Fail>
+fn expect_case(
+    rt: &impl Abort,
+    alloc: Global,
+    channel: Channel,
+    rows: &[Row],
+    case: usize,
+) -> Result<(), Fail>
     requires { length rows.now < 1000 }
 {
     let mut core = new_core(alloc, channel)?;
-    expect(rt, alloc, &mut core, rows)
+    expect(rt, alloc, &mut core, rows, case)
 }
 
 /// Each case's events are answered as its rows say.
 pub fn expect_all(rt: &impl Abort, alloc: Global, cases: &[Case]) -> Result<(), Fail> {
-    for (channel, rows) in cases {
+    for (case, (channel, rows)) in cases.iter().enumerate() {
         assert!(rt; rows.len() < 1000);
-        expect_case(rt, alloc, *channel, rows)?;
+        expect_case(rt, alloc, *channel, rows, case)?;
     }
     Ok(())
 }

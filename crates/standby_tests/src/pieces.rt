@@ -55,7 +55,9 @@ fn check(
 ) -> Result<(), Fail> {
     let (name, front, text) = row;
     let text = joined(alloc, front, text)?;
-    let mut standby = Standby::new(alloc)?;
+    let Ok(mut standby) = Standby::new(alloc) else {
+        return Err(Fail::new("no memory"));
+    };
     let got = outcome(alloc, &mut standby, &text, size.max(1));
     assert!(rt; got == *want, "{name}, in pieces of {size}");
     Ok(())
@@ -95,7 +97,9 @@ fn with_long_line(alloc: Global, count: usize) -> Result<Vec<u8>, Fail> {
 /// What reading such a line comes to, in pieces of at most so many bytes.
 fn long_line(alloc: Global, count: usize, size: usize) -> Result<Outcome, Fail> {
     let text = with_long_line(alloc, count)?;
-    let mut standby = Standby::new(alloc)?;
+    let Ok(mut standby) = Standby::new(alloc) else {
+        return Err(Fail::new("no memory"));
+    };
     Ok(outcome(alloc, &mut standby, &text, size.max(1)))
 }
 

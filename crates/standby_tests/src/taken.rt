@@ -2,99 +2,116 @@
 ghost use Rattle.std.specs.Prelude.{◌^◌, ◌<◌};
 
 use crate::fixtures::{HEAD, JOURNAL, follow, joined};
+use rams_model::Note;
 use server_hub::{At, Heard, Hub, HubAnswer};
 use standby::Standby;
 use std::alloc::Global;
-use std::fmt::Write;
 use std::process::Abort;
 use std::rt::HostRuntime;
 use std::test::Fail;
 
-/// A journal, and what the channels answer to a tick that take over behind it.
+/// A journal, and what the channels answer to a tick that take over behind it; nothing where none is taken
+/// over.
 #[derive(Clone, Copy)]
 struct Row {
     name: &'static str,
     front: &'static str,
     text: &'static str,
-    /// The notes and the number of datagrams of each channel.
-    want: &'static str,
+    want: Option<&'static [Noted]>,
 }
 
-const BURST: &str = "7 [Burst { client: 5, n: 65546, seq: 500 }] 1\n";
+/// A channel, its notes, and how many datagrams it sends.
+type Noted = (u16, &'static [Note], usize);
+
+const BURST: &[Noted] = &[(
+    7,
+    &[Note::Burst {
+        client: 5,
+        n: 65546,
+        seq: 500,
+    }],
+    1,
+)];
+
+const QUIET: &[Noted] = &[(7, &[], 0)];
 
 const ROWS: &[Row] = &[
     Row {
         name: "a part of a tick",
         front: JOURNAL,
         text: "ti",
-        want: BURST,
+        want: Some(BURST),
     },
     Row {
         name: "a whole tick",
         front: JOURNAL,
         text: "tick\n",
-        want: "7 [] 0\n",
+        want: Some(QUIET),
     },
     Row {
         name: "`end`, and a tick behind it",
         front: JOURNAL,
         text: "end\ntick\n",
-        want: BURST,
+        want: Some(BURST),
     },
     Row {
         name: "no event",
         front: HEAD,
         text: "",
-        want: "7 [] 0\n",
+        want: Some(QUIET),
     },
     Row {
         name: "the head line alone",
         front: "",
         text: "rams-trace 1 tick 10 link 100000\n",
-        want: "refused",
+        want: None,
     },
     Row {
         name: "a line that is refused",
         front: JOURNAL,
         text: "live 7 0\n",
-        want: "refused",
+        want: None,
     },
 ];
 
-fn write_answers(text: &mut String, answers: &[At]) -> Result<(), Fail> {
-    for at in answers {
-        let orders = at.answer.orders.len();
-        writeln!(text, "{} {:?} {orders}", at.id, at.answer.notes.as_slice())?;
-    }
-    Ok(())
+/// This is what the channels answer.
+fn are_noted(answers: &[At], want: &[Noted]) -> bool {
+    answers.len() == want.len()
+        && answers.iter().zip(want).all(|(at, (id, notes, orders))| {
+            at.id == *id
+                && at.answer.notes.as_slice() == *notes
+                && at.answer.orders.len() == *orders
+        })
 }
 
-/// What the channels answer to a tick.
-fn tick(alloc: Global, hub: &mut Hub) -> Result<String, Fail>
+/// This is what they answer to a tick.
+fn is_ticked(alloc: Global, hub: &mut Hub, want: &[Noted]) -> Result<bool, Fail>
     requires { hub.old.calls < 2 ^ 40 }
 {
-    let mut text = String::new(alloc);
-    match hub.hear(alloc, Heard::Tick)? {
-        HubAnswer::Answers(answers) => write_answers(&mut text, &answers)?,
-        HubAnswer::Answer(_) | HubAnswer::NoChannel(_) => text.push_str("one")?,
+    match hub.hear(alloc, Heard::Tick) {
+        Ok(HubAnswer::Answers(answers)) => Ok(are_noted(&answers, want)),
+        Ok(_) => Ok(false),
+        Err(_) => Err(Fail::new("no memory")),
     }
-    Ok(text)
 }
 
-/// What is taken over from a text that is read in pieces of at most so many bytes.
-fn taken(alloc: Global, row: &Row, size: usize) -> Result<String, Fail> {
+/// This is taken over from a text that is read in pieces of at most so many bytes.
+fn is_taken(alloc: Global, row: &Row, size: usize) -> Result<bool, Fail> {
     let text = joined(alloc, row.front, row.text)?;
-    let mut standby = Standby::new(alloc)?;
+    let Ok(mut standby) = Standby::new(alloc) else {
+        return Err(Fail::new("no memory"));
+    };
     let _ = follow(alloc, &mut standby, &text, size.max(1));
-    match standby.take_over() {
-        Ok(mut hub) => tick(alloc, &mut hub),
-        Err(_) => Ok(String::from_str(alloc, "refused")?),
+    match (standby.take_over(), row.want) {
+        (Ok(mut hub), Some(want)) => is_ticked(alloc, &mut hub, want),
+        (Ok(_), None) => Ok(false),
+        (Err(_), want) => Ok(want.is_none()),
     }
 }
 
 fn check(rt: &impl Abort, alloc: Global, row: &Row, size: usize) -> Result<(), Fail> {
-    let got = taken(alloc, row, size)?;
-    assert!(rt; got.as_str() == row.want, "{}, in pieces of {size}", row.name);
+    let is_so = is_taken(alloc, row, size)?;
+    assert!(rt; is_so, "{}, in pieces of {size}", row.name);
     Ok(())
 }
 

@@ -51,9 +51,9 @@ const ROWS: &[(&[&str], &str, Status, &str)] = &[
 
 #[test]
 fn refused_words_and_lines(rt: HostRuntime) -> Result<(), Fail> {
-    for (words, rest, status, text) in ROWS {
+    for (place, (words, rest, status, text)) in ROWS.iter().enumerate() {
         let (got, written) = ran(&rt, rt.alloc(), words, rest, (&[], &[]), &Open)?;
-        same(&rt, &(got, written.as_str()), &(*status, *text), words);
+        same(&rt, &(got, written.as_str()), &(*status, *text), &place);
     }
     Ok(())
 }
@@ -67,10 +67,10 @@ const FAULTS: &[(&[u64], &[u64], Status)] = &[
 /// A source that fails leaves the sink without a byte, and a sink that fails gets none.
 #[test]
 fn faults_are_told(rt: HostRuntime) -> Result<(), Fail> {
-    for (takes, puts, status) in FAULTS {
+    for (place, (takes, puts, status)) in FAULTS.iter().enumerate() {
         let words = &["threads", "2"];
         let got = ran(&rt, rt.alloc(), words, "tick\nend\n", (takes, puts), &Open)?;
-        same(&rt, &(got.0, got.1.len()), &(*status, 0), status);
+        same(&rt, &(got.0, got.1.len()), &(*status, 0), &place);
     }
     Ok(())
 }
@@ -95,7 +95,7 @@ fn one_event_too_many(rt: HostRuntime) -> Result<(), Fail> {
         &rt,
         &(got, text.as_str()),
         &(Status::TooLong, "too-long\n"),
-        words,
+        &"too long",
     );
     Ok(())
 }

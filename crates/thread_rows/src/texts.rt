@@ -48,7 +48,7 @@ fn written(
     rest: &str,
 ) -> Result<String, Fail> {
     let (status, text) = ran(rt, alloc, words, rest, (&[], &[]), &Open)?;
-    same(rt, &status, &Status::Done, &words);
+    same(rt, &status, &Status::Done, &rest);
     Ok(text)
 }
 

@@ -24,10 +24,10 @@ fn words_of_no_form(rt: HostRuntime) -> Result<(), Fail> {
     let whole = book_of(rt.alloc(), RUN, &STOP_ACROSS_THE_WRAP)?.len();
     let mut sink = sink_of(rt.alloc(), &[])?;
     let mut source = MemSource::new(trace, 4_096, Vec::new(rt.alloc()));
-    for (words, status, is_whole) in CASES {
+    for (place, (words, status, is_whole)) in CASES.iter().enumerate() {
         let got = status_of(&rt, rt.alloc(), words, &mut source, &mut sink, &Open)?;
         let length = if *is_whole { whole } else { 0 };
-        same(&rt, &(got, sink.held().len()), &(*status, length), words);
+        same(&rt, &(got, sink.held().len()), &(*status, length), &place);
     }
     Ok(())
 }

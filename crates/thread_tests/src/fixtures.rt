@@ -21,8 +21,13 @@ const WIDE: Channel = Channel {
 pub fn new_core(alloc: Global) -> Result<Core, Fail>
     ensures { IfOk result (λ core. StandsFor core []) }
 {
-    let config = Config::check(WIDE, 10)?;
-    Ok(Core::new(alloc, &config)?)
+    let Ok(config) = Config::check(WIDE, 10) else {
+        return Err(Fail::new("lawful settings"));
+    };
+    let Ok(core) = Core::new(alloc, &config) else {
+        return Err(Fail::new("no memory"));
+    };
+    Ok(core)
 }
 
 /// A packet (RFC 3550, 5.1) with this number and four bytes of payload. Only number 0 has the marker.

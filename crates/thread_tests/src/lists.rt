@@ -27,7 +27,10 @@ fn run<G: Gate + Sync>(
     requires short { All (λ l. length l.items ≤ 2 ^ 34) lists.items }
     requires workers { 0 < workers }
 {
-    Ok(run_lists(rt, alloc, new_core(alloc)?, lists, workers, gate)?)
+    let Ok(worked) = run_lists(rt, alloc, new_core(alloc)?, lists, workers, gate) else {
+        return Err(Fail::new("no memory"));
+    };
+    Ok(worked)
 }
 
 /// The threads of two packets and of two ticks wait for each other at this point.

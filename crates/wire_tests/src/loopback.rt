@@ -1,5 +1,5 @@
 //! What a wire receives and sends on loopback.
-use crate::peers::{client, first_port, local, peer, wire};
+use crate::peers::{client, done, first_port, local, peer, wire};
 use ram_io::{Arrival, Wire};
 use std::test::Fail;
 use std::thread;
@@ -32,7 +32,7 @@ fn datagrams_come_with_port_and_sender(rt: HostRuntime) -> Result<(), Fail> {
     for (place, len) in LENGTHS {
         let port = first + place % 4;
         peer.send_to(bytes.get(..len).unwrap_or(&[]), local(port))?;
-        let got = wire.receive(&mut buf)?;
+        let got = done(wire.receive(&mut buf))?;
         let len = len.min(2_000);
         assert!(rt; got == Some(Arrival { from, port, len }));
         assert!(rt; buf.get(..len) == bytes.get(..len), "{len} bytes");
@@ -53,10 +53,10 @@ fn busy_sockets_take_turns(rt: HostRuntime) -> Result<(), Fail> {
         }
         thread::sleep(&rt, Duration::from_millis(20));
         for place in order {
-            let got = wire.receive(&mut buf)?.map(|arrival| arrival.port);
+            let got = done(wire.receive(&mut buf))?.map(|arrival| arrival.port);
             assert!(rt; got == Some(first + place % 4), "in round {round}");
         }
-        assert!(rt; wire.receive(&mut buf)? == None);
+        assert!(rt; done(wire.receive(&mut buf))? == None);
     }
     Ok(())
 }
@@ -66,7 +66,7 @@ fn busy_sockets_take_turns(rt: HostRuntime) -> Result<(), Fail> {
 fn nothing_comes_after_the_wait(rt: HostRuntime) -> Result<(), Fail> {
     let mut wire = wire(&rt, first_port(&rt) + 16, 50)?;
     let start = Instant::now(&rt)?;
-    assert!(rt; wire.receive(&mut [0; 2_000])? == None);
+    assert!(rt; done(wire.receive(&mut [0; 2_000]))? == None);
     assert!(rt; start.elapsed(&rt)? >= Duration::from_millis(50));
     Ok(())
 }
@@ -85,11 +85,11 @@ fn clients_get_what_is_sent(rt: HostRuntime) -> Result<(), Fail> {
         for gone in [client(closed), client(closed), client(0)] {
             assert!(rt; wire.send(gone, first + place, &LIVE) == Ok(()));
         }
-        wire.send(to, first + place, &LIVE)?;
+        done(wire.send(to, first + place, &LIVE))?;
         let (len, from) = peer.recv_from(&mut buf)?;
         assert!(rt; (len, from) == (16, local(first + place)));
         assert!(rt; buf.starts_with(&LIVE));
-        assert!(rt; wire.receive(&mut buf)? == None);
+        assert!(rt; done(wire.receive(&mut buf))? == None);
     }
     Ok(())
 }

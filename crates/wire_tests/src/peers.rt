@@ -20,7 +20,7 @@ pub fn wire(rt: &HostRuntime, port: u16, wait_ms: u32) -> Result<UdpWire<HostRun
     requires low { 16_000 ≤ port }
     requires high { port ≤ 33_000 }
 {
-    Ok(UdpWire::bind(rt, rt.alloc(), port, 2, wait_ms)?)
+    done(UdpWire::bind(rt, rt.alloc(), port, 2, wait_ms))
 }
 
 /// A socket of a peer, at a port that the system picks, that waits for at most a second.
@@ -38,4 +38,12 @@ pub fn local(port: u16) -> SocketAddr {
 /// This port of 127.0.0.1 as the number of a client.
 pub fn client(port: u16) -> u64 {
     0x7f00_0001 << 16 | u64::from(port)
+}
+
+/// What a call gives that succeeds in a test.
+pub fn done<T, E: Drop>(outcome: Result<T, E>) -> Result<T, Fail> {
+    match outcome {
+        Ok(value) => Ok(value),
+        Err(_) => Err(Fail::new("a call failed")),
+    }
 }
