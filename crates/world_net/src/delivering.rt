@@ -101,8 +101,8 @@ impl Parts {
             return say(notes, id, WorldItem::TooFar(client));
         }
         let seat = &mut self.seats[place];
-        let bytes = self.parcels[at].bytes();
-        let heard = hear_again(alloc, seat, id, client, n, bytes, &mut self.room, notes);
+        let parcel = &self.parcels[at];
+        let heard = hear_again(alloc, seat, id, client, n, parcel, &mut self.room, notes);
         self.places.keep(id, client, place);
         heard
     }

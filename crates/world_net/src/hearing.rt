@@ -15,7 +15,7 @@ use crate::telling::say;
 use ram_io::NoMemory;
 use receiver_core::{MediaCame, Receiver};
 use std::alloc::Global;
-use world_laws::{SentBytes, WorldItem, WorldNote};
+use world_laws::{WorldItem, WorldNote};
 
 /// A RAMS-I (RFC 6285, 7.3) is delivered to the client's receiver.
 pub(crate) fn hear_info(
@@ -47,21 +47,21 @@ pub(crate) fn hear_again(
     id: u16,
     client: u64,
     x: u64,
-    bytes: &SentBytes,
+    parcel: &Parcel,
     room: &mut Vec<u8>,
     notes: &mut Vec<WorldNote>,
 ) -> Result<(), NoMemory>
     requires there { IsSome seat.old.receiver }
     requires few { IfSome seat.old.receiver (λ r. reach r < 2 ^ 40) }
     ensures takes { (l : Listener) → Follows seat.old l → IsAt id client l
-        → OnOk result (Took (item.Media l.tuned.client (media_answer (brought_again l.tuned bytes.now) (reception l.turns))) (delivers x (brought_again l.tuned bytes.now) ∷ l.turns) [] l
+        → OnOk result (Took (item.Media l.tuned.client (media_answer (brought_again l.tuned parcel.now.bytes) (reception l.turns))) (delivers x (brought_again l.tuned parcel.now.bytes) ∷ l.turns) [] l
         notes.old.items notes.new.items [] [] seat.new) }
     ensures few { (n : ℕ) → HasFew n seat.old → HasFew (n + 1) seat.new }
 {
     let Some(receiver) = &mut seat.receiver else {
         unreachable!()
     };
-    let (came, first) = come_again(alloc, receiver, seat.first, x, bytes, room)?;
+    let (came, first) = come_again(alloc, receiver, seat.first, x, parcel, room)?;
     seat.first = first;
     say(notes, id, WorldItem::Media { client, came })?;
     present_all(receiver, id, client, notes)
@@ -74,23 +74,22 @@ fn come_again(
     receiver: &mut Receiver,
     first: Option<u64>,
     x: u64,
-    bytes: &SentBytes,
+    parcel: &Parcel,
     room: &mut Vec<u8>,
 ) -> Result<(MediaCame, Option<u64>), NoMemory>
     requires few { reach receiver.old < 2 ^ 40 }
-    ensures came { IfOk result (λ r. r.0 ≡ media_answer (brought_again receiver.old.tuned bytes.now) receiver.old.got) }
-    ensures first { IfOk result (λ r. r.1 ≡ first_with first x (distance_of (brought_again receiver.old.tuned bytes.now) receiver.old.got)) }
-    ensures after { OnOk result (receiver.new ≡ with_got (after_media (brought_again receiver.old.tuned bytes.now) receiver.old.got) receiver.old) }
+    ensures came { IfOk result (λ r. r.0 ≡ media_answer (brought_again receiver.old.tuned parcel.now.bytes) receiver.old.got) }
+    ensures first { IfOk result (λ r. r.1 ≡ first_with first x (distance_of (brought_again receiver.old.tuned parcel.now.bytes) receiver.old.got)) }
+    ensures after { OnOk result (receiver.new ≡ with_got (after_media (brought_again receiver.old.tuned parcel.now.bytes) receiver.old.got) receiver.old) }
     ensures few { reach receiver.new ≤ reach receiver.old + 1 }
 {
     if first.is_some()
-        && let Some(repeat) = bytes.repeat()
+        && let Some(repeat) = parcel.repeat()
     {
         let came = receiver.again(alloc, repeat.packet, repeat.payload_type, repeat.sequence)?;
         return Ok((came, first));
     }
-    room.clear();
-    bytes.append_to(room)?;
+    parcel.spell(room)?;
     let first = first_after(first, receiver, x, room);
     let came = receiver.rtx(alloc, room)?;
     Ok((came, first))

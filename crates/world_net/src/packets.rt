@@ -33,6 +33,10 @@ impl Model for Packets {
     ghost invariant = { λ p. AreWithin (length p.bytes.items) p.spans.entries };
 }
 
+/// Room for so many bytes is asked for with the first packet. The system gives a block of this size page by
+/// page, as it is written, and lets it grow without a copy.
+const ROOM: usize = 1 << 22;
+
 impl Packets {
     /// No packets. It takes no memory.
     pub(crate) fn new(alloc: Global) -> Packets
@@ -48,6 +52,7 @@ impl Packets {
     pub(crate) fn add(&mut self, id: u16, n: u64, packet: &[u8]) -> Result<(), NoMemory>
         ensures { OnOk result ((i m : ℕ) → at_pair self.new i m ≡ (if id == i && n == m then Some packet.now else at_pair self.old i m)) }
     {
+        make_room(&mut self.bytes);
         let start = self.bytes.len();
         self.bytes.extend_from_slice(packet)?;
         let end = self.bytes.len();
@@ -63,6 +68,15 @@ impl Packets {
             Some(span) => Some(part(&self.bytes, *span)),
             None => None,
         }
+    }
+}
+
+// Asks for that room. Where there is none, it grows as it is needed.
+fn make_room(bytes: &mut Vec<u8>)
+    ensures { bytes.new.items ≡ bytes.old.items }
+{
+    if bytes.capacity() == 0 {
+        let _ = bytes.try_reserve(ROOM);
     }
 }
 

@@ -1,7 +1,8 @@
 //! The datagrams of a world.
-ghost use Rattle.std.specs.Prelude.{◌≡◌, IfOk, OnOk};
-ghost use Rattle.rams_model.specs.Service.{client_of, datagram};
-ghost use Rattle.world_laws.specs.{posts, way_of};
+ghost use Rattle.std.specs.Prelude.{◌≡◌, ◌<◌, IfOk, IfSome, OnOk};
+ghost use Rattle.rams_model.specs.Formats.{packet_at};
+ghost use Rattle.rams_model.specs.Service.{sent_again};
+ghost use Rattle.world_laws.specs.{posts};
 ghost use Rattle.world_laws.specs.declared.world.WorldItem.TheVariants as item;
 ghost use Rattle.world_net.specs.{as_way, sent_of};
 
@@ -11,7 +12,7 @@ use ram_io::NoMemory;
 use rams_model::Order;
 use std::alloc::Global;
 use std::marker::Model;
-use world_laws::{SentBytes, WorldItem};
+use world_laws::{Repeat, SentBytes, WorldItem};
 
 /// Why a datagram was sent.
 #[derive(Clone, Copy)]
@@ -24,22 +25,53 @@ pub(crate) enum Way {
     Repeats(u64),
 }
 
-/// A datagram that was sent. Its bytes are shared with what is said of it.
+/// Room for so many datagrams is asked for with the first that is posted. The system gives a block of this
+/// size page by page, as it is written, and lets it grow without a copy.
+const ROOM: usize = 1 << 16;
+
+/// Makes that room. Where there is none, it grows as it is needed.
+pub(crate) fn make_room(parcels: &mut Vec<Parcel>)
+    ensures { parcels.new.items ≡ parcels.old.items }
+{
+    if parcels.capacity() == 0 {
+        let _ = parcels.try_reserve(ROOM);
+    }
+}
+
+/// What a datagram's bytes are.
+#[derive(Clone, Copy)]
+enum Kind {
+    Posted,
+    Told,
+    /// The bytes are the packet that is repeated.
+    Repeated,
+}
+
+/// A datagram that was sent. Its bytes are shared with what is said of it. A world keeps very many, so
+/// that its parts are few bytes.
 #[derive(Drop)]
 pub(crate) struct Parcel {
-    id: u16,
     client: u64,
-    way: Way,
-    bytes: SentBytes,
+    /// The number of the packet that is repeated; 0 where none is.
+    n: u64,
+    bytes: Bytes,
+    id: u16,
+    /// What a retransmission has in place of its packet's own (RFC 4588, 4); 0 of all else.
+    sequence: u16,
+    payload_type: u8,
+    kind: Kind,
 }
 
 impl Model for Parcel {
+    ghost use Rattle.std.specs.Prelude.{◌<◌};
     ghost use Rattle.world_laws.specs.World.{Datagram};
-    ghost use Rattle.world_net.specs.Ways.{as_way};
+    ghost use Rattle.world_net.specs.Ways.{way_by, bytes_by};
 
     ghost Value = { Datagram };
 
-    ghost view = { λ p. record { id = p.id; client = p.client; way = as_way p.way; bytes = p.bytes } };
+    ghost view = { λ p. record { id = p.id; client = p.client; way = way_by p.kind p.n; bytes = bytes_by p.kind p.payload_type p.sequence p.bytes } };
+
+    ghost invariant = { λ p. p.payload_type < 128 };
 }
 
 impl Parcel {
@@ -48,23 +80,46 @@ impl Parcel {
         ensures { result ≡ record { id = id; client = client; way = posts; bytes = bytes } }
     {
         Parcel {
-            id,
             client,
-            way: Way::Posts,
-            bytes: SentBytes::whole(bytes),
+            n: 0,
+            bytes,
+            id,
+            sequence: 0,
+            payload_type: 0,
+            kind: Kind::Posted,
         }
     }
 
     /// The datagram of an order of a channel with these settings.
+    #[tactic(auto, unfolding(rams_model::specs::Service::Orders::datagram))]
     pub(crate) fn ordered(alloc: Global, config: &Config, order: Order) -> Result<Parcel, NoMemory>
         ensures { IfOk result (λ parcel. parcel ≡ sent_of config.now order) }
     {
-        Ok(Parcel {
-            id: config.channel().id,
-            client: client_of(&order),
-            way: way_of(&order),
-            bytes: bytes_of(alloc, config, order)?,
-        })
+        match order {
+            Order::Rtx {
+                client,
+                n,
+                seq,
+                packet,
+            } => Ok(Parcel {
+                client,
+                n,
+                bytes: packet,
+                id: config.channel().id,
+                sequence: seq,
+                payload_type: config.channel().rtx,
+                kind: Kind::Repeated,
+            }),
+            Order::Info { client, .. } => Ok(Parcel {
+                client,
+                n: 0,
+                bytes: Bytes::from_vec(render_order(alloc, config, &order)?)?,
+                id: config.channel().id,
+                sequence: 0,
+                payload_type: 0,
+                kind: Kind::Told,
+            }),
+        }
     }
 
     /// The number of its channel.
@@ -84,13 +139,37 @@ impl Parcel {
     pub(crate) fn way(&self) -> Way
         ensures { as_way result ≡ self.now.way }
     {
-        self.way
+        match self.kind {
+            Kind::Posted => Way::Posts,
+            Kind::Told => Way::Tells,
+            Kind::Repeated => Way::Repeats(self.n),
+        }
     }
 
-    pub(crate) fn bytes(&self) -> &SentBytes
-        ensures { result.now ≡ self.now.bytes }
+    /// The packet that its bytes repeat, where they are a retransmission.
+    pub(crate) fn repeat(&self) -> Option<Repeat<'_>>
+        ensures bytes { IfSome result (λ r. self.now.bytes ≡ sent_again r.payload_type r.sequence (packet_at r.packet.now)) }
+        ensures kind { IfSome result (λ r. r.payload_type < 128) }
     {
-        &self.bytes
+        match self.kind {
+            Kind::Repeated => Some(Repeat {
+                packet: &self.bytes,
+                payload_type: self.payload_type,
+                sequence: self.sequence,
+            }),
+            Kind::Posted | Kind::Told => None,
+        }
+    }
+
+    // Its bytes, which are shared.
+    fn share(&self) -> Result<SentBytes, NoMemory>
+        ensures { IfOk result (λ bytes. bytes ≡ self.now.bytes) }
+    {
+        let bytes = self.bytes.clone()?;
+        Ok(match self.kind {
+            Kind::Repeated => SentBytes::again(bytes, self.payload_type, self.sequence),
+            Kind::Posted | Kind::Told => SentBytes::whole(bytes),
+        })
     }
 
     /// Its bytes stand in `room` then; what stood there goes.
@@ -98,7 +177,7 @@ impl Parcel {
         ensures { OnOk result (room.new.items ≡ self.now.bytes) }
     {
         room.clear();
-        self.bytes.append_to(room)
+        self.share()?.append_to(room)
     }
 
     /// What is said of it where the server sent it.
@@ -107,41 +186,7 @@ impl Parcel {
     {
         Ok(WorldItem::Send {
             client: self.client,
-            bytes: self.bytes.share()?,
+            bytes: self.share()?,
         })
-    }
-}
-
-// The bytes of an order's datagram.
-#[tactic(auto, unfolding(rams_model::specs::Service::Orders::datagram))]
-fn bytes_of(alloc: Global, config: &Config, order: Order) -> Result<SentBytes, NoMemory>
-    ensures { IfOk result (λ bytes. bytes ≡ datagram config.now order) }
-{
-    match order {
-        Order::Rtx { seq, packet, .. } => {
-            let rtx = config.channel().rtx;
-            Ok(SentBytes::again(packet, rtx, seq))
-        }
-        Order::Info { .. } => {
-            let text = render_order(alloc, config, &order)?;
-            Ok(SentBytes::whole(Bytes::from_vec(text)?))
-        }
-    }
-}
-
-fn client_of(order: &Order) -> u64
-    ensures { result ≡ client_of order.now }
-{
-    match order {
-        Order::Rtx { client, .. } | Order::Info { client, .. } => *client,
-    }
-}
-
-fn way_of(order: &Order) -> Way
-    ensures { as_way result ≡ way_of order.now }
-{
-    match order {
-        Order::Rtx { n, .. } => Way::Repeats(*n),
-        Order::Info { .. } => Way::Tells,
     }
 }

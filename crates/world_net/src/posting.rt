@@ -3,7 +3,7 @@ ghost use Rattle.std.specs.Prelude.{◌≡◌, ◌∷◌, [], ◌++◌, OnOk, ma
 ghost use Rattle.std.specs.Option.{option_to_list};
 ghost use Rattle.world_net.specs.{post_at, posted_at};
 
-use crate::parcel::Parcel;
+use crate::parcel::{Parcel, make_room};
 use crate::telling::say;
 use bytes::Bytes;
 use ram_io::NoMemory;
@@ -27,6 +27,7 @@ pub(crate) fn post(
         bytes: bytes.clone()?,
     };
     say(notes, id, item)?;
+    make_room(parcels);
     parcels.push(Parcel::posted(id, client, bytes))?;
     Ok(())
 }

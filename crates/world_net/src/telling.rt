@@ -35,6 +35,7 @@ pub(crate) fn tell(
 }
 
 /// Adds what is said of a channel.
+#[inline(always)]
 pub(crate) fn say(notes: &mut Vec<WorldNote>, id: u16, item: WorldItem) -> Result<(), NoMemory>
     ensures { OnOk result (notes.new.items ≡ notes.old.items ++ note id item ∷ []) }
 {

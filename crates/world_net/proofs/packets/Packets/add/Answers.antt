@@ -13,8 +13,9 @@ invariant_of-self-2 c =
     let x = c.self.inside.bytes.items in
     let y = c.args.packet.now in
     let s : Span = record { start = c.len-start.result; end = c.len-end.result } in
-    let grew = c.in_ok-extend_from_slice.ensures.items in
-    let starts : s.start ≡ length x = c.len-start.ensures ∙ c.self.inside.bytes.ok.0 in
+    let room = c.make_room.ensures in
+    let grew : c.extend_from_slice.new.self.items ≡ x ++ y = c.in_ok-extend_from_slice.ensures.items ∙ ap (λ (l : List ℕ). l ++ y) room in
+    let starts : s.start ≡ length x = c.len-start.ensures ∙ (c.make_room.new.bytes.ok.0 ∙ ap length room) in
     let ends : s.end ≡ length (x ++ y) = c.len-end.ensures ∙ c.extend_from_slice.new.self.ok.0 ∙ ap length grew in
     subst (λ (bs : List ℕ). AreWithin (length bs) new) (sym grew)
     (within_more x y s starts ends old new c.args.id c.args.n c.self.invariant
@@ -27,8 +28,9 @@ returns c = λ i m.
     let x = c.self.inside.bytes.items in
     let y = c.args.packet.now in
     let s : Span = record { start = c.len-start.result; end = c.len-end.result } in
-    let grew = c.in_ok-extend_from_slice.ensures.items in
-    let starts : s.start ≡ length x = c.len-start.ensures ∙ c.self.inside.bytes.ok.0 in
+    let room = c.make_room.ensures in
+    let grew : c.extend_from_slice.new.self.items ≡ x ++ y = c.in_ok-extend_from_slice.ensures.items ∙ ap (λ (l : List ℕ). l ++ y) room in
+    let starts : s.start ≡ length x = c.len-start.ensures ∙ (c.make_room.new.bytes.ok.0 ∙ ap length room) in
     let ends : s.end ≡ length (x ++ y) = c.len-end.ensures ∙ c.extend_from_slice.new.self.ok.0 ∙ ap length grew in
     let t : Bool = eqb c.args.id i && eqb c.args.n m in
     let more = cut_more x y s starts ends old new c.args.id c.args.n c.self.invariant

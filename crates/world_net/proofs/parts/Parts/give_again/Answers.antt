@@ -56,7 +56,7 @@ returns-clause-goes c = λ w d k is.
     let new = c.hear_again-heard.new.notes.items in
     let i : c.id-id.result ≡ d.id = c.id-id.ensures ∙ ap (λ (x : Datagram). x.id) (parcel_is _ _ d _ c.requires.there is c.index.ensures) in
     let n : c.client-client.result ≡ d.client = c.client-client.ensures ∙ ap (λ (x : Datagram). x.client) (parcel_is _ _ d _ c.requires.there is c.index-2.ensures) in
-    let b : c.bytes-bytes.result.now ≡ d.bytes = c.bytes-bytes.ensures ∙ ap (λ (x : Datagram). x.bytes) (parcel_is _ _ d _ c.requires.there is c.index-4.ensures) in
+    let b : c.index-parcel.result.now.bytes ≡ d.bytes = ap (λ (x : Datagram). x.bytes) (parcel_is _ _ d _ c.requires.there is c.index-parcel.ensures) in
     let s = sits v c.id-id.result c.client-client.result c.in-Some.place c.in-Some.ensures in
     let x = listens_there v w _ _ _ s k in
     let f : List ℕ → Listener → Step = λ y l. delivering_near c.args.n (brought_again l.tuned y) l w in
@@ -64,7 +64,7 @@ returns-clause-goes c = λ w d k is.
     let far = far_so v w _ _ _ s x c.args.n _ _ _ c.index-3.ensures c.is_too_far.ensures c.if-is_too_far.false in
     ok_then c.hear_again-heard.result (c.hear_again-heard.ensures.takes x.listener (follows_so v w _ _ _ s x _ c.index_mut-seat.ensures.value) x.at) (λ t.
     let r = of_three (Went later old new) (λ (a m : ℕ) (y : List ℕ). if_listening a m (listener_of a m w) w (f y)) _ _ _ _ _ _ i n b
-    (is_listening v w _ _ _ s x (f c.bytes-bytes.result.now) (Went later old new)
-    (near later w c.args.n (brought_again x.listener.tuned c.bytes-bytes.result.now) x.listener old new far
-    (again_delivers later w c.args.n c.bytes-bytes.result.now x.listener old new (turned v w _ _ _ s x _ _ [] _ old new [] [] v.parcels k t (sym (append-nil v.parcels)))))) in
+    (is_listening v w _ _ _ s x (f c.index-parcel.result.now.bytes) (Went later old new)
+    (near later w c.args.n (brought_again x.listener.tuned c.index-parcel.result.now.bytes) x.listener old new far
+    (again_delivers later w c.args.n c.index-parcel.result.now.bytes x.listener old new (turned v w _ _ _ s x _ _ [] _ old new [] [] v.parcels k t (sym (append-nil v.parcels)))))) in
     record { notes = r.0; stands = subst (λ (p : List ((ℕ × ℕ) × ℕ)). KeptFor (record later { places = p }) (giving_by (repeats c.args.n) d w).world) (sym c.keep.ensures) r.1 })
