@@ -14,3 +14,6 @@ behind_live bytes rest e r = ap words_of (behind bytes (codes "live ") rest 5 e 
 
 pub behind_fb : (bytes rest : List ℕ) → bytes_eq (take 3 bytes) (codes "fb ") ≡ true → rest ≡ drop 3 bytes → words_of bytes ≡ codes "fb" ∷ words_of rest
 behind_fb bytes rest e r = ap words_of (behind bytes (codes "fb ") rest 3 e r) ∙ word_first (codes "fb") rest refl
+
+pub behind_give : (bytes rest : List ℕ) → bytes_eq (take 5 bytes) (codes "give ") ≡ true → rest ≡ drop 5 bytes → words_of bytes ≡ codes "give" ∷ words_of rest
+behind_give bytes rest e r = ap words_of (behind bytes (codes "give ") rest 5 e r) ∙ word_first (codes "give") rest refl

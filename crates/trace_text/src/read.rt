@@ -52,6 +52,9 @@ fn read_front(line: &[u8]) -> Result<Line<'_>, LineFault>
     if let Some(rest) = line.strip_prefix(b"fb ".as_slice()) {
         return feedback(&mut Words::of(rest));
     }
+    if let Some(rest) = line.strip_prefix(b"give ".as_slice()) {
+        return give(&mut Words::of(rest));
+    }
     read_words(Words::of(line))
 }
 
