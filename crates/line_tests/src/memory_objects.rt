@@ -138,10 +138,10 @@ fn put(
 
 #[test]
 fn sinks_take_bytes(rt: HostRuntime) -> Result<(), Fail> {
-    for (room, most, fails, want, held) in SINKS {
+    for (place, (room, most, fails, want, held)) in SINKS.iter().enumerate() {
         let (got, sink) = put(rt.alloc(), *room, *most, fails)?;
-        same(&rt, &got.as_str(), want, want);
-        same(&rt, &sink.held(), held, want);
+        same(&rt, &got.as_str(), want, &place);
+        same(&rt, &sink.held(), held, &place);
     }
     Ok(())
 }
@@ -284,10 +284,14 @@ fn went_there(wire: &MemWire) -> bool {
 
 #[test]
 fn a_wire_sends(rt: HostRuntime) -> Result<(), Fail> {
-    for (room, datagrams, fails, want, bytes) in SENDS {
+    for (place, (room, datagrams, fails, want, bytes)) in SENDS.iter().enumerate() {
         let (got, wire) = sent(rt.alloc(), *room, *datagrams, *fails)?;
-        same(&rt, &got.as_str(), want, want);
-        holds(&rt, went_there(&wire) && wire.sent_bytes() == *bytes, want);
+        same(&rt, &got.as_str(), want, &place);
+        holds(
+            &rt,
+            went_there(&wire) && wire.sent_bytes() == *bytes,
+            &place,
+        );
     }
     Ok(())
 }

@@ -48,7 +48,8 @@ fn written(
     rest: &str,
 ) -> Result<String, Fail> {
     let (status, text) = ran(rt, alloc, words, rest, (&[], &[]), &Open)?;
-    same(rt, &status, &Status::Done, &rest);
+    let of = words.last().unwrap_or(&"");
+    same(rt, &status, &Status::Done, of);
     Ok(text)
 }
 
