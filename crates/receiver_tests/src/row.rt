@@ -251,9 +251,11 @@ fn expect_shown(
 pub fn expect_all(rt: &impl Abort, alloc: Global, rows: &[Row]) -> Result<(), Fail> {
     assert!(rt; rows.len() < 1000);
     let mut receiver = tuned(alloc)?;
-    for (place, (call, said, shown)) in rows.iter().enumerate() {
+    let mut place = 0usize;
+    for (call, said, shown) in rows {
         expect(rt, alloc, &mut receiver, *call, *said, place)?;
         expect_shown(rt, alloc, &mut receiver, shown)?;
+        place = place.wrapping_add(1);
     }
     Ok(())
 }

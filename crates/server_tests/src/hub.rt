@@ -120,12 +120,14 @@ fn is_said(answer: &HubAnswer, want: &Said) -> bool {
 fn expect_steps(rt: &impl Abort, alloc: Global, hub: &mut Hub, steps: &[Step]) -> Result<(), Fail>
     requires { hub.old.calls + length steps.now < 100 }
 {
-    for (place, (id, given, expected)) in steps.iter().enumerate() {
+    let mut place = 0usize;
+    for (id, given, expected) in steps {
         let event = event_at(alloc, *id, *given)?;
         let Ok(answer) = hub.step(alloc, &event) else {
             return Err(Fail::new("no memory"));
         };
         holds(rt, is_said(&answer, expected), &place);
+        place = place.wrapping_add(1);
     }
     Ok(())
 }

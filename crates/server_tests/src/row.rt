@@ -114,7 +114,8 @@ fn expect<S: Stepped>(
 ) -> Result<(), Fail>
     requires { (events : List Event) × S.stands stepped.old events × (length events + length rows.now < 2 ^ 40) }
 {
-    for (place, (given, notes, orders, info)) in rows.iter().enumerate() {
+    let mut place = 0usize;
+    for (given, notes, orders, info) in rows {
         let event = event_of(alloc, *given)?;
         let Ok(answer) = stepped.step(alloc, &event) else {
             return Err(Fail::new("no memory"));
@@ -124,6 +125,7 @@ fn expect<S: Stepped>(
             got == (*notes, *orders, *info),
             "row {place} of case {case}"
         );
+        place = place.wrapping_add(1);
     }
     Ok(())
 }

@@ -10,4 +10,4 @@ step-requires g c = let i = c.loop-given.invariant in record { few = (i.0, i.1, 
 pub loop-given-preserved : goal.loop-given-preserved
 loop-given-preserved g c =
     let i = c.loop-given.invariant in
-    (c.in_ok-event.event ∷ i.0, (c.in_ok-answer.ensures.stands i.0 i.1).1, omega (arith, i.2))
+    (c.in_ok-event.event ∷ i.0, (c.in-Ok.ensures.stands i.0 i.1).1, omega (arith, i.2))
