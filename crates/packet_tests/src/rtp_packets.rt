@@ -44,11 +44,11 @@ fn header(packet: &Rtp<'_>) -> Header {
 }
 
 /// The contributing sources, the extension and the payload of `PADDED`.
-const PIECES: [&[u8]; 3] = [
-    &[0, 0, 0, 1, 0, 0, 0, 2],
-    &[0xbe, 0xde, 0x00, 0x01, 0x10, 0xff, 0x00, 0x00],
-    &[0xaa, 0xbb],
-];
+const SOURCES: &[u8] = &[0, 0, 0, 1, 0, 0, 0, 2];
+
+const EXTENSION: &[u8] = &[0xbe, 0xde, 0x00, 0x01, 0x10, 0xff, 0x00, 0x00];
+
+const PAYLOAD: &[u8] = &[0xaa, 0xbb];
 
 /// The calls of a packet with every part say what its bytes are.
 pub fn expect_parts(rt: &impl Abort, alloc: Global) -> Result<(), Fail> {
@@ -59,8 +59,9 @@ pub fn expect_parts(rt: &impl Abort, alloc: Global) -> Result<(), Fail> {
         header(&packet) == (true, 33, 10, 900, 287_454_020),
         "header",
     );
-    let pieces = [packet.csrc(), packet.extension(), packet.payload()];
-    holds(rt, pieces == PIECES, "pieces");
+    holds(rt, packet.csrc() == SOURCES, "sources");
+    holds(rt, packet.extension() == EXTENSION, "extension");
+    holds(rt, packet.payload() == PAYLOAD, "payload");
     holds(rt, packet.stripped_len() == 30, "length");
     Ok(())
 }
