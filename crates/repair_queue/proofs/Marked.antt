@@ -1,9 +1,10 @@
 -- Dropping what is marked, in place.
-use Rattle.std.proofs.Common.{◌≡◌, ℕ, zero, suc, ◌+◌, ◌-◌, ◌<◌, ◌≤◌, Bool, true, false, not, cond, List, [], ◌∷◌, ◌++◌, length, take, drop, get_or, refl, ap, sym, ◌∙◌, subst, arith, append_assoc, append-nil, length-drop, set}
+use Rattle.std.proofs.Common.{◌≡◌, ℕ, zero, suc, ◌+◌, ◌-◌, ◌<◌, ◌≤◌, Bool, true, false, not, cond, List, [], ◌∷◌, ◌++◌, length, take, drop, get_or, refl, ap, sym, ◌∙◌, subst, arith, append_assoc, append-nil, length-append, length-drop, set, Vec}
 use Rattle.std.specs.List.{list_any}
-use Rattle.std.proofs.lemmas.List.{take_more, drop_more, drop_at, drop-drop, take-take, drop-take, take_at as take_front, length-take-le, nil_from_length}
+use Rattle.std.proofs.lemmas.List.{take_more, drop_more, drop_at, drop-drop, take-take, drop-take, take_at as take_front, take_rest, length-take-le, nil_from_length, with_items_is}
 use Rattle.std.proofs.lemmas.List.Edits.{length-paste}
 use Rattle.std.proofs.Math.Seq.{paste}
+use Rattle.std.specs.Vec.{with_items}
 use Rattle.rams_model.specs.Service.{Wanted, wanted}
 use Rattle.repair_queue.specs.{unmarked}
 use Rattle.repair_queue.proofs.Pending.{unmarked_none}
@@ -143,6 +144,18 @@ pub drop_written : (xs written post : List Wanted) (from n : ℕ) → from ≤ l
 drop_written xs written post from n within none =
     sym (drop-drop n from (take from xs ++ (written ++ post)))
     ∙ ap (drop n) (drop_at (take from xs) (written ++ post) from (length-take-le from xs within) ∙ (ap (λ (l : List Wanted). written ++ l) (nil_from_length post none) ∙ append-nil written))
+
+-- the places of a vector from one on, after those that are marked went out of them
+pub moved_places : {Z : Type 0} (v : Vec Wanted Z) (places written post : List Wanted) (done : List Bool) (from gone : ℕ) → places ≡ v.items → length places ≡ v.len → from ≤ v.len → length post ≡ 0
+    → length written ≡ length (take (length places - from) (drop from places)) → drop gone written ≡ unmarked (take (length places - from) (drop from places)) done
+    → drop (from + gone) (with_items v (take from places ++ (written ++ post))).items ≡ unmarked (drop from v.items) done
+moved_places v places written post done from gone is len low none same made =
+    let within : from ≤ length places = omega arith in
+    let whole = take from places ++ (written ++ post) in
+    let long : length whole ≡ v.len =
+    omega (arith, length-append (take from places) (written ++ post), length-append written post, length-take-le from places within, ap length (take_rest places from), length-drop from places) in
+    ap (drop (from + gone)) (with_items_is v whole long)
+    ∙ (drop_written places written post from gone within none ∙ (made ∙ ap (λ (l : List Wanted). unmarked l done) (take_rest places from ∙ ap (drop from) is)))
 
 -- those behind the flags stay
 pub unmarked_rest : (ws : List Wanted) (done : List Bool) → length done ≤ length ws → unmarked (take (length done) ws) (take (length done) done) ++ drop (length done) ws ≡ unmarked ws done

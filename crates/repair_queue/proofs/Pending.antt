@@ -110,3 +110,9 @@ module _ (P : Wanted → Type 0) where
   pub each_filtered : (p : Wanted → Bool) (ws : List Wanted) → Each P ws → Each P (filter p ws)
   each_filtered p [] all = tt
   each_filtered p (w ∷ ws) all = cond_both (p w) (w ∷ filter p ws) (filter p ws) (Each P) (λ t. (all.0, each_filtered p ws all.1)) (λ f. each_filtered p ws all.1)
+
+  pub each_unmarked : (ws : List Wanted) (done : List Bool) → Each P ws → Each P (unmarked ws done)
+  each_unmarked [] done all = tt
+  each_unmarked (w ∷ ws) [] all = all
+  each_unmarked (w ∷ ws) (true ∷ done) all = each_unmarked ws done all.1
+  each_unmarked (w ∷ ws) (false ∷ done) all = (all.0, each_unmarked ws done all.1)

@@ -2,9 +2,9 @@
 use Rattle.std.proofs.Common.{◌≡◌, ℕ, zero, suc, ◌+◌, ◌<◌, ◌≤◌, Bool, true, false, ◌||◌, not, cond, nat_eq, List, [], ◌∷◌, ◌++◌, length, take, drop, get_or, set, filter, refl, ap, sym, ◌∙◌, subst, arith, append_assoc, append-nil, length-append, eqb}
 use Rattle.std.specs.List.{list_any}
 use Rattle.std.proofs.lemmas.Bool.{eqb-true}
-use Rattle.std.proofs.lemmas.List.{take-append-drop, get_or-drop, drop-set-lt, drop-drop}
+use Rattle.std.proofs.lemmas.List.{take-append-drop, get_or-drop, drop-set-lt, drop-drop, length-take-le}
 use Rattle.std.proofs.lemmas.List.Elements.{filter-append}
-use Rattle.std.proofs.Math.Seq.{take-suc-set}
+use Rattle.std.proofs.Math.Seq.{take-suc-set, take-add}
 use Rattle.rams_model.specs.Service.{Wanted, is_wanted}
 use Rattle.repair_queue.specs.declared.index.Index.{Index}
 use Rattle.repair_queue.specs.declared.index.Run.{Run}
@@ -80,6 +80,9 @@ unmarked_split (w ∷ p) q (false ∷ f) g same = ap (λ (l : List Wanted). w �
 pub middle : (front u x back : List Wanted) → front ++ (u ++ x) ++ back ≡ front ++ u ++ (x ++ back)
 middle front u x back = ap (λ (l : List Wanted). l ++ back) (sym (append_assoc front u x)) ∙ append_assoc (front ++ u) x back
 
+run_first : (front run rest back : List Wanted) → front ++ (run ++ rest ++ back) ≡ front ++ run ++ (rest ++ back)
+run_first front run rest back = ap (λ (l : List Wanted). front ++ l) (append_assoc run rest back) ∙ sym (append_assoc front run (rest ++ back))
+
 pub once_middle : (front u seg back : List Wanted) (i : ℕ) → ((f : Wanted → Bool) → length (filter f u) ≤ length (filter f (take i seg))) → AreOnce (front ++ seg ++ back) → AreOnce (front ++ (u ++ drop i seg) ++ back)
 once_middle front u seg back i less once = λ k m.
     let f = is_wanted k m in
@@ -112,6 +115,23 @@ goes P Q front u next seg back i w removes lt at is once so_far =
     ap (λ (l : List Wanted). front ++ (u ++ l) ++ back) (rest_is seg i w lt (sym at)) ∙ middle front u (w ∷ rest) back in
     let made = removes (front ++ u) (rest ++ back) (subst AreOnce split once) (subst P split so_far) in
     subst Q (sym (ap (λ (l : List Wanted). front ++ (l ++ rest) ++ back) is ∙ middle front u rest back)) made
+
+-- or some of a run go
+pub run_goes : (P Q : List Wanted → Type 0) (front u ws run rest left next back : List Wanted) → ((f b : List Wanted) → AreOnce (f ++ run ++ b) → P (f ++ run ++ b) → Q (f ++ left ++ b))
+    → ws ≡ run ++ rest → next ≡ u ++ left → AreOnce (front ++ (u ++ ws) ++ back) → P (front ++ (u ++ ws) ++ back) → Q (front ++ (next ++ rest) ++ back)
+run_goes P Q front u ws run rest left next back removes split is once so_far =
+    let before : front ++ (u ++ ws) ++ back ≡ front ++ u ++ run ++ (rest ++ back) =
+    ap (λ (l : List Wanted). front ++ (u ++ l) ++ back) split ∙ (middle front u (run ++ rest) back ∙ run_first (front ++ u) run rest back) in
+    let after : front ++ u ++ left ++ (rest ++ back) ≡ front ++ (next ++ rest) ++ back =
+    sym (ap (λ (l : List Wanted). front ++ (l ++ rest) ++ back) is ∙ (ap (λ (l : List Wanted). front ++ l ++ back) (append_assoc u left rest) ∙ (middle front u (left ++ rest) back ∙ run_first (front ++ u) left rest back))) in
+    subst Q after (removes (front ++ u) (rest ++ back) (subst AreOnce before once) (subst P before so_far))
+
+-- the first n of those from i on
+pub unmarked_run : (ws : List Wanted) (done : List Bool) (i n : ℕ) → i + n ≤ length ws → i + n ≤ length done → unmarked (take (i + n) ws) (take (i + n) done) ≡ unmarked (take i ws) (take i done) ++ unmarked (take n (drop i ws)) (take n (drop i done))
+unmarked_run ws done i n short flags =
+    ap (λ (l : List Wanted). unmarked l (take (i + n) done)) (take-add i n ws)
+    ∙ (ap (λ (l : List Bool). unmarked (take i ws ++ take n (drop i ws)) l) (take-add i n done)
+    ∙ unmarked_split (take i ws) (take n (drop i ws)) (take i done) (take n (drop i done)) (length-take-le i done (omega arith) ∙ sym (length-take-le i ws (omega arith))))
 
 -- ---- pieces behind some that were looked at
 pub all_none : (ps : List (List Wanted)) (i : ℕ) → length ps ≤ i → all_of (drop i ps) ≡ []

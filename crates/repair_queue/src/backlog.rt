@@ -185,7 +185,7 @@ fn drop_of_pieces(index: &mut Index, pieces: &mut Vec<Piece>, done: &[bool]) -> 
     run
 }
 
-// The same of one piece. Where no flag is set, nothing of it is looked at.
+// The same of one piece. Where no flag is set, none of its repairs is looked at, but for once after some went.
 fn drop_of_piece(index: &mut Index, run: Run, piece: &mut Piece, done: &[bool]) -> Run
     requires few { run.len + length piece.old ≤ 4096 }
     requires one_each { length done.now ≡ length piece.old }
@@ -194,6 +194,7 @@ fn drop_of_piece(index: &mut Index, run: Run, piece: &mut Piece, done: &[bool]) 
     ensures len { result.len ≤ run.len + length piece.old }
 {
     if !is_any_set(done) {
+        piece.close_span();
         return run;
     }
     let run = index.drop_of(run, piece.pending(), done);

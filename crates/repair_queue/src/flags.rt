@@ -4,8 +4,8 @@ ghost use Rattle.std.specs.List.{list_any};
 
 use crate::block::is_any_set;
 
-// So many flags are looked at together.
-const FLAGS: usize = 16;
+/// So many flags are looked at together.
+pub(crate) const FLAGS: usize = 8;
 
 /// One above the place of the last flag that is set; 0 where none is.
 pub(crate) fn end_of_set(done: &[bool]) -> usize

@@ -5,7 +5,9 @@ ghost use Rattle.rams_model.specs.Service.{Wanted as Repair, wanted, is_wanted};
 ghost use Rattle.repair_queue.specs.{count_of, asked_of, answered, unmarked, without, AreOnce, Indexes, Owes, marked};
 
 use crate::backlog::Backlog;
+use crate::block::is_any_set;
 use crate::counts::Counts;
+use crate::flags::FLAGS;
 use crate::marks::Marks;
 use crate::wanted::{Asked, MOST_OF_CLIENT, MOST_PENDING, Wanted};
 use ram_io::NoMemory;
@@ -207,8 +209,29 @@ impl Index {
         }
     }
 
-    /// The pairs of the marked ones of these go, with one flag for each.
+    /// The pairs of the marked ones of these go, with one flag for each. Of whole blocks in which no flag is set
+    /// nothing is looked at.
     pub(crate) fn drop_of(&mut self, run: Run, pending: &[Wanted], done: &[bool]) -> Run
+        requires few { run.len + length pending.now ≤ 4096 }
+        requires one_each { length done.now ≡ length pending.now }
+        ensures removed { (front back : List Repair) → AreOnce (front ++ pending.now ++ back) → Owes self.old (front ++ pending.now ++ back) run → Owes self.new (front ++ unmarked pending.now done.now ++ back) result }
+        ensures len { result.len ≤ run.len + length pending.now }
+    {
+        let mut run = run;
+        let mut start = 0;
+        while done.len() - start >= FLAGS {
+            let end = start + FLAGS;
+            let flags = &done[start..end];
+            if is_any_set(flags) {
+                run = self.drop_each(run, &pending[start..end], flags);
+            }
+            start = end;
+        }
+        self.drop_each(run, &pending[start..], &done[start..])
+    }
+
+    // The pairs of the marked ones of these go, by a walk over their flags.
+    fn drop_each(&mut self, run: Run, pending: &[Wanted], done: &[bool]) -> Run
         requires few { run.len + length pending.now ≤ 4096 }
         requires one_each { length done.now ≡ length pending.now }
         ensures removed { (front back : List Repair) → AreOnce (front ++ pending.now ++ back) → Owes self.old (front ++ pending.now ++ back) run → Owes self.new (front ++ unmarked pending.now done.now ++ back) result }

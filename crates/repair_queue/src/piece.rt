@@ -1,6 +1,6 @@
 //! Some pending repairs, one after another.
 ghost use Rattle.std.specs.Prelude.{◌≡◌, true, length};
-ghost use Rattle.repair_queue.specs.{unmarked, without, AreFrom, Spans};
+ghost use Rattle.repair_queue.specs.{unmarked, without, AreFrom, AreNoLess, Spans};
 
 use crate::places::{drop_client, move_down, move_unmarked};
 use crate::span::Span;
@@ -64,14 +64,24 @@ impl Piece {
     }
 
     /// The repairs whose flag is set go, and those in front of them move up. There is one flag for each. The span
-    /// is anew.
+    /// is open until a tick in which none goes: of a run of numbers mostly one goes in each tick.
     pub(crate) fn drop_marked(&mut self, done: &[bool])
         requires { length done.now ≡ length self.old }
         ensures { self.new ≡ unmarked self.old done.now }
     {
         let gone = move_unmarked(&mut self.wanted[self.from..], done);
         self.from += gone;
-        self.span = span_of(&self.wanted[self.from..]);
+        self.span = self.span.open();
+    }
+
+    /// An open span begins with the least number from here on.
+    pub(crate) fn close_span(&mut self)
+        ensures { self.new ≡ self.old }
+    {
+        if self.span.is_open() {
+            let least = least_of(&self.wanted[self.from..]);
+            self.span = self.span.since(least);
+        }
     }
 
     /// The client's repairs go.
@@ -93,4 +103,15 @@ fn span_of(pending: &[Wanted]) -> Span
         span = span.with(wanted.n);
     }
     span
+}
+
+// A number than which none of these has a lesser one.
+fn least_of(pending: &[Wanted]) -> u64
+    ensures { AreNoLess result pending.now }
+{
+    let mut least = u64::MAX;
+    for wanted in pending {
+        least = least.min(wanted.n);
+    }
+    least
 }

@@ -1,5 +1,6 @@
 //! Repairs that move within a vector.
-ghost use Rattle.std.specs.Prelude.{◌≡◌, ◌≤◌, length, drop, vec_len, vec_capacity};
+ghost use Rattle.std.specs.Prelude.{◌≡◌, ◌+◌, ◌-◌, ◌≤◌, length, drop, vec_len, vec_capacity};
+ghost use Rattle.std.specs.List.{copy_within};
 ghost use Rattle.repair_queue.specs.{unmarked, without};
 
 use crate::flags::{end_of_set, start_of_set};
@@ -18,10 +19,22 @@ pub(crate) fn move_unmarked(pending: &mut [Wanted], done: &[bool]) -> usize
         let behind = start_of_set(&done[..end]);
         let from = end_of_set(&done[..behind]);
         start -= behind - from;
-        pending.copy_within(from..behind, start);
+        move_run(pending, from, behind, start);
         end = from.saturating_sub(1);
     }
     start
+}
+
+// Moves those of a run to a place. It stands apart, so that the walk over the flags that finds the run keeps
+// few values.
+#[inline(never)]
+fn move_run(pending: &mut [Wanted], from: usize, behind: usize, to: usize)
+    requires order { from ≤ behind }
+    requires within { behind ≤ length pending.old }
+    requires room { to + (behind - from) ≤ length pending.old }
+    ensures { pending.new ≡ copy_within pending.old from behind to }
+{
+    pending.copy_within(from..behind, to);
 }
 
 /// Moves those behind the first places to the front.

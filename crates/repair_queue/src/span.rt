@@ -1,9 +1,9 @@
 //! Between which numbers the pending repairs are.
-ghost use Rattle.std.specs.Prelude.{◌≡◌, ◌≤◌, ◌<◌, ◌++◌, true, List, [], ◌∷◌};
+ghost use Rattle.std.specs.Prelude.{◌≡◌, ◌==◌, ◌≤◌, ◌<◌, ◌++◌, true, List, [], ◌∷◌};
 ghost use Rattle.rams_model.specs.Service.{Wanted as Repair, wanted};
-ghost use Rattle.repair_queue.specs.{AreFrom, Spans};
+ghost use Rattle.repair_queue.specs.{AreFrom, AreNoLess, Spans};
 
-/// The least and the greatest number of the repairs that were asked for since none was pending.
+/// A number that none of some repairs is below, and one that none is above.
 #[derive(Clone, Copy, PartialEq, Eq)]
 pub(crate) struct Span {
     least: u64,
@@ -29,6 +29,27 @@ impl Span {
             least: self.least.min(n),
             most: self.most.max(n),
         }
+    }
+
+    /// The span that is open below: it begins with 0.
+    pub(crate) fn open(self) -> Span
+        ensures { (ws : List Repair) → Spans self ws → Spans result ws }
+    {
+        Span { least: 0, ..self }
+    }
+
+    /// Whether it is open below.
+    pub(crate) fn is_open(&self) -> bool
+        ensures { result ≡ (self.now.least == 0) }
+    {
+        self.least == 0
+    }
+
+    /// The span that begins with `least`, where no number is less.
+    pub(crate) fn since(self, least: u64) -> Span
+        ensures { (ws : List Repair) → Spans self ws → AreNoLess least ws → Spans result ws }
+    {
+        Span { least, ..self }
     }
 
     /// Whether each number is at least `lo` and below `hi`; where some went it may say no although they

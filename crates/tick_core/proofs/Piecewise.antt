@@ -6,16 +6,18 @@ use Rattle.rams_model.specs.Service.{Wanted}
 use Rattle.channel_cache.specs.packet_ring.{packet_of}
 use Rattle.repair_queue.specs.{all_of}
 use Rattle.repair_queue.proofs.Pieces.{all_from, all_none}
-use Rattle.tick_core.specs.{Repaired, with_wanted, with_all_wanted, AreHeld, IsSpent}
+use Rattle.tick_core.specs.{Repaired, with_waiting, with_wanted, with_all_wanted, AreHeld, IsSpent}
 use Rattle.tick_core.proofs.Spent.{spent_still, rest_waits}
 
--- so many more wait
-abbrev pub with_waiting : ℕ → Repaired → Repaired
-with_waiting k r = record r { done = r.done ++ replicate k false }
-
--- none more
+-- none more wait
 pub none_wait : (r : Repaired) → with_waiting 0 r ≡ r
 none_wait r = ap (λ (l : List Bool). record r { done = l }) (append-nil r.done)
+
+-- so many wait, and then so many more
+pub more_wait : (j k : ℕ) (r : Repaired) → with_waiting (j + k) r ≡ with_waiting k (with_waiting j r)
+more_wait j k r =
+    ap (λ (l : List Bool). record r { done = l })
+    (sym (append_assoc r.done (replicate j false) (replicate k false) ∙ ap (λ (l : List Bool). r.done ++ l) (replicate-append-replicate j k false)))
 
 with_append : (held : List Held) (xs ys : List Wanted) (r : Repaired) → with_all_wanted held (xs ++ ys) r ≡ with_all_wanted held ys (with_all_wanted held xs r)
 unfolding with_all_wanted
@@ -52,10 +54,3 @@ piece_waits held ps i k m n q last r end lt at long sum all spent so_far =
     let made : with_waiting n r ≡ with_all_wanted held q r1 =
     sym (rest_waits held q r1 spent all ∙ ap (λ (l : List Bool). record r { done = l }) (append_assoc r.done (replicate k false) (replicate (length q) false) ∙ ap (λ (l : List Bool). r.done ++ l) joins)) in
     piece_turn held ps i q q last r1 (with_waiting n r) end lt at refl made so_far
-
--- and else they wait first
-pub piece_passes : (held : List Held) (ps : List (List Wanted)) (i k : ℕ) (q p last : List Wanted) (r r1 r2 end : Repaired) → i < length ps → q ≡ get_or ps i q → p ≡ q → r1 ≡ with_waiting k r → r2 ≡ with_all_wanted held p r1
-    → with_all_wanted held (all_of (drop i ps) ++ last) (with_waiting k r) ≡ end → with_all_wanted held (all_of (drop (i + 1) ps) ++ last) (with_waiting 0 r2) ≡ end
-piece_passes held ps i k q p last r r1 r2 end lt at is waits made so_far =
-    ap (with_all_wanted held (all_of (drop (i + 1) ps) ++ last)) (none_wait r2)
-    ∙ piece_turn held ps i q p last (with_waiting k r) r2 end lt at is (made ∙ ap (with_all_wanted held p) waits) so_far

@@ -1,6 +1,7 @@
 -- The pending repairs that do not fit: the channel has less left than their packets take, or their clients may take less.
-use Rattle.std.proofs.Common.{◌≡◌, ℕ, zero, suc, ◌<◌, ◌≤◌, Bool, true, false, List, [], ◌∷◌, ◌++◌, length, take, drop, replicate, Option, Some, None, is_some, IfSome, refl, ap, sym, ◌∙◌, subst, arith, eqb, leb, append_assoc, append-nil, get_or}
+use Rattle.std.proofs.Common.{◌≡◌, ℕ, zero, suc, ◌+◌, ◌<◌, ◌≤◌, Bool, true, false, List, [], ◌∷◌, ◌++◌, length, take, drop, replicate, Option, Some, None, is_some, IfSome, refl, ap, sym, ◌∙◌, subst, arith, eqb, leb, append_assoc, append-nil, get_or}
 use Rattle.std.specs.List.{AllByRecursion}
+use Rattle.std.proofs.Math.Seq.{take-add}
 use Rattle.std.proofs.lemmas.Bool.{cond_both, cond-false, lt-leb, and_left, and_right}
 use Rattle.rams_model.specs.declared.held.Held.{Held}
 use Rattle.rams_model.specs.Service.{Wanted}
@@ -91,6 +92,15 @@ rest_waits held (w ∷ ws) r spent all =
     ap (with_all_wanted held ws) (held_waits w (packet_of w.n held) r (none_fits held w r spent) (some_there (packet_of w.n held) all.0))
     ∙ (rest_waits held ws (waiting r) spent all.1
     ∙ ap (λ (l : List Bool). record r { done = l }) (append_assoc r.done (false ∷ []) (replicate (length ws) false)))
+
+-- those behind some that are held are held too
+pub held_more : (held : List Held) (ws : List Wanted) (i n end : ℕ) → i + n ≡ end → AreHeld held (take i ws) → AreHeld held (take n (drop i ws)) → AreHeld held (take end ws)
+held_more held ws i n end ends front more =
+    subst (AreHeld held) (sym (take-add i n ws) ∙ ap (λ (m : ℕ). take m ws) ends) (both (take i ws) (take n (drop i ws)) front more)
+  where
+    both : (xs ys : List Wanted) → AreHeld held xs → AreHeld held ys → AreHeld held (xs ++ ys)
+    both [] ys front more = more
+    both (w ∷ xs) ys front more = (front.0, both xs ys front.1 more)
 
 -- the first of them wait where these are held
 pub front_waits : (held : List Held) (k : ℕ) (ws : List Wanted) (r r2 : Repaired) → k ≤ length ws → IsSpent held r → AreHeld held (take k ws) → r2 ≡ record r { done = r.done ++ replicate k false }

@@ -1,5 +1,5 @@
 -- What the pending repairs come to in a tick.
-use Rattle.std.specs.Prelude.{◌≡◌, ℕ, ◌<◌, ◌-◌, Bool, true, false, ◌&&◌, ◌==◌, nat_le, if◌then◌else◌, List, [], ◌∷◌, ◌++◌, Option, Some, None, IsSome, IfSome, find, map}
+use Rattle.std.specs.Prelude.{◌≡◌, ℕ, ◌<◌, ◌-◌, Bool, true, false, ◌&&◌, ◌==◌, nat_le, if◌then◌else◌, List, [], ◌∷◌, ◌++◌, Option, Some, None, IsSome, IfSome, find, map, replicate}
 use Rattle.std.specs.List.{AllByRecursion}
 use Rattle.rams_model.specs.declared.held.Held.{Held}
 use Rattle.rams_model.specs.declared.note.Note.TheVariants.{Repair, Gone}
@@ -37,6 +37,10 @@ fits h a d = nat_le h.wire a.may_take && nat_le h.wire d.left
 -- one that isn't over
 abbrev pub waiting : Repaired → Repaired
 waiting r = record r { done = r.done ++ false ∷ [] }
+
+-- so many that aren't over
+abbrev pub with_waiting : ℕ → Repaired → Repaired
+with_waiting count r = record r { done = r.done ++ replicate count false }
 
 -- a packet is sent again where it fits
 abbrev pub with_repair : Wanted → Held → Option Allowance → Repaired → Repaired

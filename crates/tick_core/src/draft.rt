@@ -12,6 +12,9 @@ use std::marker::Model;
 // There is room at once for as many packets of the present one's size as the channel has left, up to so many.
 const MOST_AT_ONCE: u64 = 256;
 
+// And for so many notes more, of what sends no packet.
+const OTHER_NOTES: usize = 16;
+
 /// The notes and orders of a tick so far, and the bytes that the channel's budget has left.
 #[derive(Drop)]
 pub struct Draft {
@@ -114,7 +117,7 @@ fn make_room(
     }
     let packets = left / u64::from(wire.max(1));
     let room = packets.min(MOST_AT_ONCE).max(1) as usize;
-    notes.reserve(room)?;
+    notes.reserve(room + OTHER_NOTES)?;
     orders.reserve(room)?;
     Ok(())
 }

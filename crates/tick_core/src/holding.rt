@@ -9,6 +9,9 @@ use rams_model::Held;
 use repair_queue::{Piece, Wanted};
 use std::marker::Model;
 
+// So many repairs are looked at together.
+const BLOCK: usize = 8;
+
 /// The packets that a cache holds. What it says of all of them was asked once.
 #[derive(Drop)]
 pub struct Holding<'a> {
@@ -75,6 +78,44 @@ impl<'a> Holding<'a> {
 
     /// How many of these repairs, from the first on, have their packets held.
     pub fn held_front(&self, pending: &[Wanted]) -> usize
+        ensures within { result ≤ length pending.now }
+        ensures held { AreHeld self.now (take result pending.now) }
+        ensures gone { IsGone self.now (drop result pending.now) }
+    {
+        let start = self.held_blocks(pending);
+        start + self.held_each(&pending[start..])
+    }
+
+    /// How many repairs are in the first whole blocks of these of which all packets are held.
+    fn held_blocks(&self, pending: &[Wanted]) -> usize
+        ensures within { result ≤ length pending.now }
+        ensures held { AreHeld self.now (take result pending.now) }
+    {
+        let mut start = 0;
+        while pending.len() - start >= BLOCK {
+            let end = start + BLOCK;
+            if !self.has_each(&pending[start..end]) {
+                return start;
+            }
+            start = end;
+        }
+        start
+    }
+
+    /// Whether the packets of all of these repairs are held.
+    fn has_each(&self, pending: &[Wanted]) -> bool
+        ensures { result ≡ true → AreHeld self.now pending.now }
+    {
+        for wanted in pending {
+            if !self.has(wanted.n) {
+                return false;
+            }
+        }
+        true
+    }
+
+    /// How many of these repairs, from the first on, have their packets held, by a walk.
+    fn held_each(&self, pending: &[Wanted]) -> usize
         ensures within { result ≤ length pending.now }
         ensures held { AreHeld self.now (take result pending.now) }
         ensures gone { IsGone self.now (drop result pending.now) }

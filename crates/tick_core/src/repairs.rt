@@ -1,7 +1,7 @@
 //! The pending repairs.
-ghost use Rattle.std.specs.Prelude.{◌≡◌, ◌<◌, ◌≤◌, ◌&&◌, nat_le, true, false, [], ◌++◌, length, take, drop, replicate, Some, None, IfSome, IfOk};
+ghost use Rattle.std.specs.Prelude.{◌≡◌, ◌<◌, ◌≤◌, ◌+◌, ◌&&◌, nat_le, true, [], ◌++◌, length, take, drop, Some, None, IfSome, IfOk};
 ghost use Rattle.client_table.specs.{AreRising};
-ghost use Rattle.tick_core.specs.{IsSpent, FitsNowhere, AreOfKnown, IsGone, told_by, all_allowances, allowance_for, after_repair, waiting, with_repair, with_wanted, with_all_wanted};
+ghost use Rattle.tick_core.specs.{IsSpent, FitsNowhere, AreOfKnown, IsGone, told_by, all_allowances, allowance_for, after_repair, waiting, with_waiting, with_repair, with_wanted, with_all_wanted};
 ghost use Rattle.channel_cache.specs.packet_ring.{packet_of};
 ghost use Rattle.repair_queue.specs.{all_of};
 
@@ -177,10 +177,11 @@ impl<'a> Repairs<'a> {
         }
     }
 
-    /// Sends the pending repairs, the oldest first.
+    /// Sends the pending repairs, the oldest first. There is room at once for a flag of each.
     pub fn repair_all(&mut self, cache: &Cache, queue: &Queue) -> Result<(), NoMemory>
         ensures { IfOk result (λ _. self.new ≡ with_all_wanted cache.now.held queue.now self.old) }
     {
+        self.done.reserve(queue.len())?;
         self.repair_held(&Holding::new(cache), queue)
     }
 
@@ -205,7 +206,7 @@ impl<'a> Repairs<'a> {
     {
         for (i, wanted) in pending.iter().enumerate() {
             if self.is_spent(holding) {
-                return self.pass_over(holding, &pending[i..]);
+                return self.pass_some(holding, &pending[i..]);
             }
             self.repair(holding, wanted)?;
         }
@@ -238,55 +239,77 @@ impl<'a> Repairs<'a> {
                 waiting += pending.len();
                 continue;
             }
-            self.wait_all(waiting)?;
-            waiting = 0;
-            self.pass_over(holding, pending)?;
+            waiting = self.pass_over(holding, waiting, pending)?;
         }
-        self.wait_all(waiting)?;
-        self.pass_over(holding, last)
+        waiting = self.pass_over(holding, waiting, last)?;
+        self.wait_all(waiting)
+    }
+
+    /// Nothing fits any more: these wait but for those whose packets are gone.
+    fn pass_some(&mut self, holding: &Holding<'_>, pending: &[Wanted]) -> Result<(), NoMemory>
+        requires spent { IsSpent holding.now self.old }
+        requires few { length pending.now ≤ 4096 }
+        ensures { IfOk result (λ _. self.new ≡ with_all_wanted holding.now pending.now self.old) }
+    {
+        let waiting = self.pass_over(holding, 0, pending)?;
+        self.wait_all(waiting)
     }
 
     /// So many repairs wait on.
     fn wait_all(&mut self, count: usize) -> Result<(), NoMemory>
         requires { count ≤ 4096 }
-        ensures { IfOk result (λ _. self.new ≡ record self.old { done = self.old.done ++ replicate count false }) }
+        ensures { IfOk result (λ _. self.new ≡ with_waiting count self.old) }
     {
         let all = self.done.len() + count;
         self.done.resize(all, false)?;
         Ok(())
     }
 
-    /// These repairs wait on but for those whose packets are gone.
-    fn pass_over(&mut self, holding: &Holding<'_>, pending: &[Wanted]) -> Result<(), NoMemory>
+    /// Once so many wait, these wait too but for those whose packets are gone. How many are to wait then: no flag
+    /// was written for them.
+    fn pass_over(
+        &mut self,
+        holding: &Holding<'_>,
+        before: usize,
+        pending: &[Wanted],
+    ) -> Result<usize, NoMemory>
         requires spent { IsSpent holding.now self.old }
-        requires few { length pending.now ≤ 4096 }
-        ensures { IfOk result (λ _. self.new ≡ with_all_wanted holding.now pending.now self.old) }
+        requires few { before + length pending.now ≤ 4096 }
+        ensures passed { IfOk result (λ waiting. with_waiting waiting self.new ≡ with_all_wanted holding.now pending.now (with_waiting before self.old)) }
+        ensures few { IfOk result (λ waiting. waiting ≤ before + length pending.now) }
     {
+        let mut waiting = before;
         let mut left = pending;
         while !left.is_empty() {
             let held = holding.held_front(left);
-            self.wait_all(held)?;
-            left = self.drop_first(holding, &left[held..])?;
+            let (then, rest) = self.drop_first(holding, waiting + held, &left[held..])?;
+            waiting = then;
+            left = rest;
         }
-        Ok(())
+        Ok(waiting)
     }
 
-    /// The packet of the first of these repairs, if there is one, is no longer held. It answers those behind it.
+    /// Once so many wait, the packet of the first of these repairs, if there is one, is no longer held. It answers
+    /// how many are to wait then, and those behind the first.
     fn drop_first<'b>(
         &mut self,
         _holding: &Holding<'_>,
+        waiting: usize,
         pending: &'b [Wanted],
-    ) -> Result<&'b [Wanted], NoMemory>
-        requires { IsGone _holding.now pending.now }
-        ensures rest { IfOk result (λ rest. rest.now ≡ drop 1 pending.now) }
-        ensures first { IfOk result (λ _. self.new ≡ with_all_wanted _holding.now (take 1 pending.now) self.old) }
+    ) -> Result<(usize, &'b [Wanted]), NoMemory>
+        requires gone { IsGone _holding.now pending.now }
+        requires few { waiting ≤ 4096 }
+        ensures rest { IfOk result (λ then. then.1.now ≡ drop 1 pending.now) }
+        ensures first { IfOk result (λ then. with_waiting then.0 self.new ≡ with_all_wanted _holding.now (take 1 pending.now) (with_waiting waiting self.old)) }
+        ensures few { IfOk result (λ then. then.0 ≤ waiting) }
     {
         match pending {
             [gone, rest @ ..] => {
+                self.wait_all(waiting)?;
                 self.drop_gone(gone)?;
-                Ok(rest)
+                Ok((0, rest))
             }
-            [] => Ok(pending),
+            [] => Ok((waiting, pending)),
         }
     }
 

@@ -5,7 +5,7 @@ use Rattle.repair_queue.proofs.Pending.{unmarked_none}
 use Rattle.repair_queue.proofs.backlog.drop_of_piece.Goals as goal
 
 pub returns-then-not-is_any_set-clause-piece : goal.returns-then-not-is_any_set-clause-piece
-returns-then-not-is_any_set-clause-piece c = sym (unmarked_none c.args.piece.now c.args.done.now (sym c.is_any_set.ensures ∙ c.if-not-is_any_set.true))
+returns-then-not-is_any_set-clause-piece c = c.close_span.ensures ∙ sym (unmarked_none c.args.piece.now c.args.done.now (sym c.is_any_set.ensures ∙ c.if-not-is_any_set.true))
 
 pub returns-clause-removed : goal.returns-clause-removed
 returns-clause-removed c = λ front back once owes.

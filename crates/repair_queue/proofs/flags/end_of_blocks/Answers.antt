@@ -8,5 +8,5 @@ loop-end-preserved c =
     let done = c.args.done.now in
     record {
       within = omega (arith, c.loop-end.invariant.within);
-      unset = unset_block done (end - 16) (end - (end - 16)) end (omega (arith, c.loop-end-test.true)) (sym c.is_any_set.ensures ∙ c.if-is_any_set.false) c.loop-end.invariant.unset;
+      unset = unset_block done (end - 8) (end - (end - 8)) end (omega (arith, c.loop-end-test.true)) (sym c.is_any_set.ensures ∙ c.if-is_any_set.false) c.loop-end.invariant.unset;
     }

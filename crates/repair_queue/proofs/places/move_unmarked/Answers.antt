@@ -18,7 +18,7 @@ loop-end-preserved c =
     let lower : behind ≤ end = omega (arith, c.start_of_set-behind.ensures.within, c.loop-end.invariant.order, c.loop-end.invariant.within, length-take-le end done (omega (arith, c.loop-end.invariant.order, c.loop-end.invariant.within))) in
     let low : from ≤ behind = omega (arith, c.end_of_set-from.ensures.within, lower, c.loop-end.invariant.order, c.loop-end.invariant.within, length-take-le behind done (omega (arith, lower, c.loop-end.invariant.order, c.loop-end.invariant.within))) in
     let gone : MovedUp ws c.loop-end.pending done c.loop-end.start behind = moved_gone ws c.loop-end.pending done c.loop-end.start behind end lower c.loop-end.invariant c.start_of_set-behind.ensures.set in
-    let run : MovedUp ws c.copy_within.new.self done to from =
-    subst (λ (l : List Wanted). MovedUp ws l done to from) (sym c.copy_within.ensures.after) (moved_run ws c.loop-end.pending done c.loop-end.start from behind to low refl gone c.end_of_set-from.ensures.unset) in
-    moved_past ws c.copy_within.new.self done to from c.saturating_sub-end.result c.saturating_sub-end.ensures run
+    let run : MovedUp ws c.move_run.new.pending done to from =
+    subst (λ (l : List Wanted). MovedUp ws l done to from) (sym c.move_run.ensures) (moved_run ws c.loop-end.pending done c.loop-end.start from behind to low refl gone c.end_of_set-from.ensures.unset) in
+    moved_past ws c.move_run.new.pending done to from c.saturating_sub-end.result c.saturating_sub-end.ensures run
     (λ some. sym (get_or-take behind done (from - 1) false (omega (arith, some, low))) ∙ c.end_of_set-from.ensures.set some)

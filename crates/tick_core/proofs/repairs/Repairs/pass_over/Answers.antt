@@ -1,8 +1,9 @@
-use Rattle.std.proofs.Common.{◌≡◌, ◌-◌, ◌≤◌, ◌++◌, List, false, length, take, drop, length-drop, replicate, refl, ap, sym, ◌∙◌, subst, arith}
+use Rattle.std.proofs.Common.{◌≡◌, ◌+◌, ◌-◌, ◌≤◌, List, length, take, drop, length-drop, refl, ap, sym, ◌∙◌, arith}
 use Rattle.std.proofs.lemmas.Bool.{eqb-true}
 use Rattle.std.proofs.lemmas.List.{take_rest}
 use Rattle.rams_model.specs.Service.{Wanted}
-use Rattle.tick_core.specs.{with_all_wanted, IsSpent}
+use Rattle.tick_core.specs.{with_waiting, with_all_wanted}
+use Rattle.tick_core.proofs.Piecewise.{more_wait}
 use Rattle.tick_core.proofs.Repairing.{wanted_end}
 use Rattle.tick_core.proofs.Spent.{front_waits, first_goes, first_leaves}
 use Rattle.tick_core.proofs.repairs.Repairs.pass_over.Goals as goal
@@ -14,21 +15,21 @@ loop-left-preserved c =
     let k = c.held_front-held.result in
     let rest = take (length ws - k) (drop k ws) in
     let is : rest ≡ drop k ws = take_rest ws k in
-    let r = c.loop-left.self in
-    let r1 = c.wait_all.new.self in
-    let waits : r1 ≡ record r { done = r.done ++ replicate k false } = c.in_ok-wait_all.ensures in
-    let spent : IsSpent held r1 = subst (IsSpent held) (sym waits) c.loop-left.invariant.spent in
+    let before = with_waiting c.loop-left.waiting c.loop-left.self in
+    let front = with_waiting (c.loop-left.waiting + k) c.loop-left.self in
+    let after = with_waiting c.in_ok-then.then c.drop_first.new.self in
+    let made = c.in_ok-then.ensures in
     record {
-      so_far = ap (λ (l : List Wanted). with_all_wanted held l c.drop_first.new.self) c.in_ok-left.ensures.rest
-          ∙ (first_goes held rest r1 c.drop_first.new.self c.in_ok-left.ensures.first
-          ∙ (ap (λ (l : List Wanted). with_all_wanted held l r1) is
-          ∙ (front_waits held k ws r r1 c.held_front-held.ensures.within c.loop-left.invariant.spent c.held_front-held.ensures.held waits ∙ c.loop-left.invariant.so_far)));
-      spent = first_leaves held rest r1 c.drop_first.new.self c.in_ok-left.ensures.first spent;
-      few = omega (arith, ap length c.in_ok-left.ensures.rest, length-drop 1 rest, ap length is, length-drop k ws, c.loop-left.invariant.few);
+      so_far = ap (λ (l : List Wanted). with_all_wanted held l after) made.rest
+          ∙ (first_goes held rest front after made.first
+          ∙ (ap (λ (l : List Wanted). with_all_wanted held l front) is
+          ∙ (front_waits held k ws before front c.held_front-held.ensures.within c.loop-left.invariant.spent c.held_front-held.ensures.held (more_wait c.loop-left.waiting k c.loop-left.self) ∙ c.loop-left.invariant.so_far)));
+      spent = first_leaves held rest front after made.first c.loop-left.invariant.spent;
+      few = omega (arith, made.few, ap length made.rest, length-drop 1 rest, ap length is, length-drop k ws, c.held_front-held.ensures.within, c.loop-left.invariant.few);
     }
 
-pub returns : goal.returns
-returns c =
+pub returns-clause-passed : goal.returns-clause-passed
+returns-clause-passed c =
     let ws = c.loop-left.left.now in
     let none : length ws ≤ 0 = omega (arith, eqb-true (length ws) 0 (sym c.loop-left-test.ensures)) in
-    wanted_end c.args.holding.now ws ws 0 c.loop-left.self _ refl none c.loop-left.invariant.so_far
+    wanted_end c.args.holding.now ws ws 0 (with_waiting c.loop-left.waiting c.loop-left.self) _ refl none c.loop-left.invariant.so_far

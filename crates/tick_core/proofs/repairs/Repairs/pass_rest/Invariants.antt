@@ -1,7 +1,6 @@
 use Rattle.std.proofs.Common.{◌≡◌, ◌+◌, ◌≤◌, ◌++◌, length, drop}
 use Rattle.repair_queue.specs.{all_of}
-use Rattle.tick_core.specs.{with_all_wanted, IsSpent}
-use Rattle.tick_core.proofs.Piecewise.{with_waiting}
+use Rattle.tick_core.specs.{with_waiting, with_all_wanted, IsSpent}
 use Rattle.tick_core.proofs.repairs.Repairs.pass_rest.Given as goal
 
 -- Once so many wait, those that are left lead to the same end, and nothing fits still.
