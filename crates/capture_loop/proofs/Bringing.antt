@@ -7,7 +7,7 @@ use Rattle.capture_loop.specs.pcap_trace.{Elapsed, ticks_between}
 use Rattle.server_hub.specs.declared.event.HubEvent.{HubEvent}
 use Rattle.server_hub.specs.declared.event.HubEvent.TheVariants.{Tick}
 use Rattle.server_hub.specs.Served.{Served}
-use Rattle.journal_book.specs.{CanCome, EventsAreSpelled, HasLine, event_line, event_lines}
+use Rattle.trace_loop.specs.journal_book.{CanCome, EventsAreSpelled, HasLine, event_line, event_lines}
 use Rattle.capture_loop.specs.{captured_in, frame_heard, record_events, ticks_and}
 use Rattle.capture_loop.proofs.Limits.{fits_or_not, lines_append, ticks_alone, ticks_first}
 

@@ -6,8 +6,8 @@ use Rattle.line_io.proofs.Passing.{Passes-more, Passes-put, Passes-then}
 use Rattle.rams_model.specs.declared.status.Status.{Status}
 use Rattle.rams_model.specs.declared.status.Status.TheVariants.{Done}
 use Rattle.server_hub.specs.declared.event.HubEvent.{HubEvent}
-use Rattle.journal_book.specs.{event_lines}
-use Rattle.trace_book.specs.trace_serving.{Outcome, after_text}
+use Rattle.trace_loop.specs.journal_book.{event_lines}
+use Rattle.trace_loop.specs.trace_book.trace_serving.{Outcome, after_text}
 use Rattle.trace_loop.specs.declared.stop.Stop.{Stop}
 use Rattle.trace_loop.specs.declared.stop.Stop.TheVariants.{Memory, Read, Write, Wire}
 use Rattle.std.specs.Prelude.{◌≤◌, IsOkAnd, MatchResult}

@@ -12,13 +12,13 @@ use Rattle.capture_loop.specs.declared.pcap_trace.head.Endian.{Endian}
 use Rattle.capture_loop.specs.pcap_trace.{Elapsed, head_at}
 use Rattle.server_hub.specs.declared.event.HubEvent.{HubEvent}
 use Rattle.server_hub.specs.Served.{Served}
-use Rattle.trace_book.specs.trace_serving.{Outcome}
+use Rattle.trace_loop.specs.trace_book.trace_serving.{Outcome}
 use Rattle.trace_loop.specs.declared.stop.Stop.{Stop}
 use Rattle.trace_loop.specs.declared.stop.Stop.TheVariants.{Memory, Read, Write, Wire}
 use Rattle.trace_loop.specs.{IfBothTold, IfTold, IsStop, IsStopped, StopsIn}
 use Rattle.trace_loop.proofs.Reading.{rose_since}
 use Rattle.trace_loop.proofs.Writing.{unwritten}
-use Rattle.journal_book.specs.{event_lines}
+use Rattle.trace_loop.specs.journal_book.{event_lines}
 use Rattle.capture_loop.specs.declared.last.End.{End}
 use Rattle.capture_loop.specs.declared.last.End.TheVariants.{Refused}
 use Rattle.capture_loop.specs.{AreWritten, ComesTo, HasLinesOf, HasOrder, file_events, file_text, last, new_clock, order_in, records_events, records_outcome, text_by_order, events_by}

@@ -6,8 +6,8 @@ use Rattle.std.proofs.lemmas.Bool.Decides.{nat_tests}
 use Rattle.std.proofs.lemmas.List.{take-append-le}
 use Rattle.server_hub.specs.declared.event.HubEvent.{HubEvent}
 use Rattle.server_hub.specs.declared.event.HubEvent.TheVariants.{Tick}
-use Rattle.trace_book.specs.trace_serving.{Outcome, after_text, too_long}
-use Rattle.journal_book.specs.{event_line, event_lines}
+use Rattle.trace_loop.specs.trace_book.trace_serving.{Outcome, after_text, too_long}
+use Rattle.trace_loop.specs.journal_book.{event_line, event_lines}
 use Rattle.capture_loop.specs.{limited, ticks_and}
 
 at_most : (a b : ℕ) → a ≤ b → nat_le a b ≡ true

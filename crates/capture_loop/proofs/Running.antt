@@ -13,12 +13,12 @@ use Rattle.capture_loop.specs.declared.pcap_trace.header.Record.{Record}
 use Rattle.capture_loop.specs.pcap_trace.{Elapsed, record_at}
 use Rattle.server_hub.specs.declared.event.HubEvent.{HubEvent}
 use Rattle.server_hub.specs.Served.{Served}
-use Rattle.trace_book.specs.trace_serving.{Outcome, after_text, too_long}
+use Rattle.trace_loop.specs.trace_book.trace_serving.{Outcome, after_text, too_long}
 use Rattle.trace_loop.specs.declared.stop.Stop.{Stop}
 use Rattle.trace_loop.specs.{IfBothTold, IfTold, StopsIn}
 use Rattle.trace_loop.proofs.Writing.{IsWriting, writing_breaks, writing_stops, writing_has_room}
-use Rattle.trace_book.specs.{most_events}
-use Rattle.journal_book.specs.{HasLine, event_lines}
+use Rattle.trace_loop.specs.trace_book.{most_events}
+use Rattle.trace_loop.specs.journal_book.{HasLine, event_lines}
 use Rattle.capture_loop.specs.declared.last.End.{End}
 use Rattle.capture_loop.specs.declared.last.End.TheVariants.{Whole, Refused, TooLong}
 use Rattle.capture_loop.specs.{AreWritten, Captured, ComesTo, HasLinesOf, Records, broken, captured_in, clock_told, ended_by, ending, event_room, events_in, last, limited, most_records, record_events, record_in, records_in, records_text, too_many, whole}

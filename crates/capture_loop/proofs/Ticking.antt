@@ -1,7 +1,7 @@
 -- Lines `tick`, one after another.
 use Rattle.std.proofs.Common.{◌≡◌, ℕ, suc, ◌+◌, ◌-◌, ◌<◌, ◌≤◌, [], ◌++◌, replicate, ap, arith}
 use Rattle.server_hub.specs.declared.event.HubEvent.TheVariants.{Tick}
-use Rattle.journal_book.specs.{event_line, event_lines}
+use Rattle.trace_loop.specs.journal_book.{event_line, event_lines}
 
 -- one of the ticks that are left
 pub ticks_next : (count done : ℕ) → done < count → event_lines (replicate (count - done) Tick) ≡ event_line Tick ++ event_lines (replicate (count - (done + 1)) Tick)

@@ -10,13 +10,13 @@ use Rattle.rams_model.specs.declared.status.Status.TheVariants.{BadTrace, Done}
 use Rattle.server_hub.specs.declared.event.HubEvent.{HubEvent}
 use Rattle.server_hub.specs.Seen.{Seen}
 use Rattle.server_hub.specs.Served.{Served}
-use Rattle.trace_book.specs.trace_serving.{Outcome, after_text, refused}
+use Rattle.trace_loop.specs.trace_book.trace_serving.{Outcome, after_text, refused}
 use Rattle.trace_loop.specs.declared.stop.Stop.{Stop}
 use Rattle.trace_loop.specs.declared.stop.Stop.TheVariants.{Memory, Read, Write, Wire}
 use Rattle.trace_loop.specs.{EndsAs, Ends, IfBothTold, IfTold, IsReadStop, IsStop, IsStopped, StopsIn}
 use Rattle.trace_loop.proofs.Reading.{passes_whole}
-use Rattle.trace_book.specs.{trace_text}
-use Rattle.journal_book.specs.{HeadsOpenNewChannels, IsJournal, RunsWriteJournals, event_lines, journal_of}
+use Rattle.trace_loop.specs.trace_book.{trace_text}
+use Rattle.trace_loop.specs.journal_book.{HeadsOpenNewChannels, IsJournal, RunsWriteJournals, event_lines, journal_of}
 use Rattle.trace_loop.specs.head_loop.{IsCutBefore, IsHeadOf, behind_head, head_end, head_stage, head_text}
 use Rattle.capture_loop.specs.{AreWritten, HasFilePart, HasLinesOf, HasReadCapture, IsCaptureEnd, IsTrace, Numbered, behind_end, capture_text, file_events, file_text, head_clock, new_clock}
 use Rattle.capture_loop.proofs.Closing.{ended_front, ended_whole}

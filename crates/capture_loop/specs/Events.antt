@@ -6,7 +6,7 @@ use Rattle.capture_loop.specs.pcap_trace.{Datagram, Elapsed, datagram_at, ticks_
 use Rattle.server_hub.specs.declared.event.HubEvent.{HubEvent}
 use Rattle.server_hub.specs.declared.event.HubEvent.TheVariants.{Tick}
 use Rattle.server_hub.specs.Served.{Served}
-use Rattle.journal_book.specs.{heard_from}
+use Rattle.trace_loop.specs.journal_book.{heard_from}
 use Rattle.capture_loop.specs.Files.{Captured, order_in, file_records}
 
 -- what a datagram is to these channels, where it has at most 2,000 bytes

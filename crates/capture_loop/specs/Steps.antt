@@ -9,10 +9,10 @@ use Rattle.capture_loop.specs.pcap_trace.{record_at}
 use Rattle.server_hub.specs.declared.event.HubEvent.{HubEvent}
 use Rattle.server_hub.specs.Served.{Served}
 use Rattle.server_hub.specs.{id_of}
-use Rattle.trace_book.specs.trace_serving.{Outcome, ended, after_text, too_long}
+use Rattle.trace_loop.specs.trace_book.trace_serving.{Outcome, ended, after_text, too_long}
 use Rattle.trace_loop.specs.{IfBothTold, IfTold}
-use Rattle.trace_book.specs.{most_events}
-use Rattle.journal_book.specs.{HasLine, IsNumber, event_lines}
+use Rattle.trace_loop.specs.trace_book.{most_events}
+use Rattle.trace_loop.specs.journal_book.{HasLine, IsNumber, event_lines}
 use Rattle.trace_loop.specs.head_loop.{numbers}
 use Rattle.capture_loop.specs.declared.last.End.{End}
 use Rattle.capture_loop.specs.declared.last.End.TheVariants.{Whole, Refused, TooLong}

@@ -3,9 +3,9 @@ use Rattle.std.specs.Prelude.{◌≡◌, ℕ, ◌⊎◌, List, [], ◌++◌, len
 use Rattle.std.specs.Io.KnownBytes.{Appends}
 use Rattle.rams_model.specs.declared.status.Status.{Status}
 use Rattle.rams_model.specs.declared.status.Status.TheVariants.{Done, BadTrace, BadCapture, TooLong}
-use Rattle.trace_book.specs.trace_serving.{done, ended}
-use Rattle.trace_book.specs.{first_line, trace_text}
-use Rattle.journal_book.specs.{IsJournal, event_lines, journal_of, text_for}
+use Rattle.trace_loop.specs.trace_book.trace_serving.{done, ended}
+use Rattle.trace_loop.specs.trace_book.{first_line, trace_text}
+use Rattle.trace_loop.specs.journal_book.{IsJournal, event_lines, journal_of, text_for}
 use Rattle.trace_loop.specs.head_loop.{IsCutBefore, behind_head, head_end, head_stage, head_text}
 use Rattle.capture_loop.specs.Events.{file_events}
 use Rattle.capture_loop.specs.Text.{capture_events, capture_text, head_clock}

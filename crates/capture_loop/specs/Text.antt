@@ -9,9 +9,9 @@ use Rattle.capture_loop.specs.declared.pcap_trace.head.Endian.{Endian}
 use Rattle.capture_loop.specs.pcap_trace.{Elapsed}
 use Rattle.server_hub.specs.declared.event.HubEvent.{HubEvent}
 use Rattle.server_hub.specs.Served.{Served}
-use Rattle.trace_book.specs.trace_serving.{Outcome, ended, after_text, too_long}
-use Rattle.trace_book.specs.{most_events}
-use Rattle.journal_book.specs.{event_lines}
+use Rattle.trace_loop.specs.trace_book.trace_serving.{Outcome, ended, after_text, too_long}
+use Rattle.trace_loop.specs.trace_book.{most_events}
+use Rattle.trace_loop.specs.journal_book.{event_lines}
 use Rattle.trace_loop.specs.head_loop.{behind_head, head_end, head_stage, head_text}
 use Rattle.capture_loop.specs.Files.{Records, RecordsEnd, whole, broken, too_many, order_in, file_records}
 use Rattle.capture_loop.specs.Events.{events_in, file_events, new_clock}

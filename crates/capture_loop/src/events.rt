@@ -4,18 +4,18 @@ ghost use Rattle.line_io.specs.Passes.{Passes};
 ghost use Rattle.server_hub.specs.{event_of};
 ghost use Rattle.server_hub.specs.Served.{Served};
 ghost use Rattle.trace_loop.specs.{IsStoppedByWrite, OnlyMemoryStops, StopsIn};
-ghost use Rattle.journal_book.specs.{CanCome, HasLine, event_lines, heard_from};
+ghost use Rattle.trace_loop.specs.journal_book.{CanCome, HasLine, event_lines, heard_from};
 ghost use Rattle.capture_loop.specs.{Numbered, captured_in, clock_told, frame_heard, record_events, ticks_and};
 
 use crate::intake::Intake;
 use crate::pcap_trace::{Due, HEADER_SIZE, Record, datagram};
 use crate::writer::{put_event, put_ticks};
-use journal_book::laws::turns_make_journals;
 use line_io::Gather;
 use ram_io::{Arrival, Sink};
 use server_hub::Heard;
 use trace_loop::Stop;
 use trace_loop::head_loop::{Opened, event_at};
+use trace_loop::journal_book::laws::turns_make_journals;
 
 /// Most bytes of an event's datagram.
 const MOST: usize = 2_000;

@@ -6,7 +6,7 @@ ghost use Rattle.rams_model.specs.declared.status.Status.TheVariants.{BadTrace, 
 ghost use Rattle.rams_model.specs.Texts.{refused_line};
 ghost use Rattle.ram_io.specs.{Rose};
 ghost use Rattle.server_hub.specs.Served.{Served};
-ghost use Rattle.trace_book.specs.trace_serving.{after_text};
+ghost use Rattle.trace_loop.specs.trace_book.trace_serving.{after_text};
 ghost use Rattle.trace_loop.specs.declared.stop.Stop.TheVariants.{Read};
 ghost use Rattle.trace_loop.specs.{Ends, IfBothTold, IfTold, IsStopped, IsStoppedByWrite, OnlyMemoryStops, StopsIn};
 ghost use Rattle.capture_loop.specs.{AreWritten, HasLinesOf, HasReadCapture, IsCaptureEnd, IsTrace, Numbered, capture_text, file_events, file_text, new_clock};
@@ -15,12 +15,12 @@ use crate::capture::write_file;
 use crate::intake::Intake;
 use crate::watch::CaptureWatch;
 use book_text::append_refused;
-use journal_book::laws::{heads_open_new_channels, runs_of_journals};
 use line_io::{Gather, LineReader};
 use ram_io::{Sink, Source};
 use rams_model::{LineFault, Status};
 use std::alloc::Global;
 use trace_loop::head_loop::{Head, Opened, read_head};
+use trace_loop::journal_book::laws::{heads_open_new_channels, runs_of_journals};
 use trace_loop::{Stop, close, flush, put};
 
 /// Writes that a line of the head is refused.

@@ -4,12 +4,12 @@ ghost use Rattle.line_io.specs.Passes.{Passes};
 ghost use Rattle.server_hub.specs.declared.event.HubEvent.TheVariants.{Tick};
 ghost use Rattle.server_hub.specs.{event_of};
 ghost use Rattle.trace_loop.specs.{IsStoppedByWrite, OnlyMemoryStops, StopsIn};
-ghost use Rattle.journal_book.specs.{event_line, event_lines};
+ghost use Rattle.trace_loop.specs.journal_book.{event_line, event_lines};
 
-use journal_book::event_text::append_event;
 use line_io::Gather;
 use ram_io::Sink;
 use server_hub::Heard;
+use trace_loop::journal_book::event_text::append_event;
 use trace_loop::{Stop, settle};
 
 /// Adds the line of an event. Where memory runs out, nothing waits that didn't.

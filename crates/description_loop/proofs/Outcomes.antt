@@ -7,7 +7,7 @@ use Rattle.rams_model.specs.declared.fault.LineFault.{LineFault}
 use Rattle.rams_model.specs.declared.status.Status.{Status}
 use Rattle.description_loop.specs.sdp_config.{sdp_at}
 use Rattle.trace_loop.specs.{IfTold, IfBothTold}
-use Rattle.trace_book.specs.trace_serving.{Outcome, refused}
+use Rattle.trace_loop.specs.trace_book.trace_serving.{Outcome, refused}
 use Rattle.description_loop.specs.declared.said.Head.TheVariants.{Lawful, Unlawful}
 use Rattle.description_loop.specs.declared.said.Heading as code
 use Rattle.description_loop.specs.declared.reply.Reply.{Reply}

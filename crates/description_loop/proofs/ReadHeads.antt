@@ -8,7 +8,7 @@ use Rattle.rams_model.specs.declared.mode.Mode.TheVariants.{Describe}
 use Rattle.rams_model.specs.Service.{settings}
 use Rattle.rams_model.specs.Texts.{TraceLine, head_line, channel_line, live_line, feedback_line, tick_line, end_line, tune_line, give_line, mcast_line, ask_line, drop_line, onto_first, lines_of, line_of, line_at, ranged, line_in_range, line_text, line_has_form, Head, Reached, nothing_reached, tick_of, version_of, kind_may_come, kind_of, has_version, may_come}
 use Rattle.trace_text.proofs.Spelling.{read_is_spelled, is_text}
-use Rattle.trace_book.proofs.trace_serving.Judged.{IsJudged, IsJoined, judged_so, channel_so}
+use Rattle.trace_loop.proofs.trace_book.trace_serving.Judged.{IsJudged, IsJoined, judged_so, channel_so}
 use Rattle.channel_config.specs.{IsLawful}
 use Rattle.channel_config.proofs.Laws.{IsLawful-from_checked}
 use Rattle.description_loop.specs.{Heading, says, behind_line, first_judged, next_judged, by_judging, behind_second, behind_first, behind_none, head_of, HeadsAreThreeLines}

@@ -14,8 +14,8 @@ use Rattle.description_loop.specs.sdp_config.{sdp_at, IsDescribable}
 use Rattle.description_loop.proofs.sdp_config.InRange as in_range
 use Rattle.description_loop.proofs.sdp_config.ReadBack.{read_back}
 use Rattle.trace_text.proofs.Spelling.{spelled_is_read}
-use Rattle.trace_book.specs.trace_serving.{ended, done, opening, turn, text_from, served_text, after_text}
-use Rattle.trace_book.specs.{first_line, run, trace_text}
+use Rattle.trace_loop.specs.trace_book.trace_serving.{ended, done, opening, turn, text_from, served_text, after_text}
+use Rattle.trace_loop.specs.trace_book.{first_line, run, trace_text}
 use Rattle.description_loop.specs.{Heading, HeadSays, says, refuses, behind_head, head_of, heading_text, with_sdp, settings_by, by_head, settings_outcome, SettingsAreTraces, SettingsAreTurnedBack}
 use Rattle.description_loop.proofs.ReadHeads.{lawful_head}
 use Rattle.description_loop.proofs.Spelled.{IsFine, fine_with}

@@ -4,8 +4,8 @@ use Rattle.rams_model.specs.declared.status.Status.TheVariants.{Done}
 use Rattle.rams_model.specs.Texts.{lines_of, head_line, channel_line, end_line, line_text}
 use Rattle.channel_config.specs.{IsLawful}
 use Rattle.description_loop.specs.sdp_config.{sdp_at, description, shown_channel}
-use Rattle.trace_book.specs.trace_serving.{ended, done}
-use Rattle.trace_book.specs.{first_line, trace_text}
+use Rattle.trace_loop.specs.trace_book.trace_serving.{ended, done}
+use Rattle.trace_loop.specs.trace_book.{first_line, trace_text}
 use Rattle.description_loop.specs.Heads.{Heading, says, head_of}
 use Rattle.description_loop.specs.Outcomes.{heading_text, settings_by, settings_outcome}
 

@@ -9,7 +9,7 @@ use Rattle.description_loop.specs.declared.sdp_config.sdp.Sdp.{Sdp}
 use Rattle.description_loop.specs.declared.sdp_config.sdp.SdpFault.{SdpFault}
 use Rattle.description_loop.specs.declared.sdp_config.sdp.SdpFault.TheVariants.{Form, Version, Long, NoChannel, NoSsrc, NoRtx, Same}
 use Rattle.description_loop.specs.sdp_config.{sdp_at, description}
-use Rattle.trace_book.specs.trace_serving.{Outcome, ended, refused}
+use Rattle.trace_loop.specs.trace_book.trace_serving.{Outcome, ended, refused}
 use Rattle.description_loop.specs.declared.reply.Reply.{Reply}
 use Rattle.description_loop.specs.Heads.{Heading, HeadSays, says, refuses, behind_head, head_of}
 

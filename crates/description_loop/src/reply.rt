@@ -4,7 +4,7 @@ ghost use Rattle.rams_model.specs.declared.status.Status.TheVariants.{Done, BadS
 ghost use Rattle.rams_model.specs.Texts.{line_text};
 ghost use Rattle.trace_text.specs.{shown};
 ghost use Rattle.description_loop.specs.sdp_config.{sdp_at};
-ghost use Rattle.trace_book.specs.trace_serving.{ended, refused};
+ghost use Rattle.trace_loop.specs.trace_book.trace_serving.{ended, refused};
 ghost use Rattle.description_loop.specs.{answered, described_by, fault_line, heading_text, said_by, settings_by, with_feed, with_sdp, with_settings, IsReplyEnd};
 
 use crate::said::Heading;

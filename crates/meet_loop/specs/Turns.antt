@@ -3,11 +3,11 @@ use Rattle.std.specs.Prelude.{◌≡◌, ℕ, Bool, false, List, [], map, Option
 use Rattle.rams_model.specs.Service.{Settings}
 use Rattle.rams_model.specs.Texts.{TraceLine, Head, Reached, judged}
 use Rattle.server_hub.specs.{refused as refused_add}
-use Rattle.trace_book.specs.trace_serving.{Stage, claim_of}
-use Rattle.trace_book.specs.trace_serving.Text as text
+use Rattle.trace_loop.specs.trace_book.trace_serving.{Stage, claim_of}
+use Rattle.trace_loop.specs.trace_book.trace_serving.Text as text
 use Rattle.trace_loop.specs.declared.turn.Turn.{Turn}
 use Rattle.trace_loop.specs.{ending, written, Took as TookSo}
-use Rattle.trace_book.specs.{settings_of}
+use Rattle.trace_loop.specs.trace_book.{settings_of}
 use Rattle.world_laws.specs.declared.world.WorldEvent.{WorldEvent}
 use Rattle.world_laws.specs.declared.world.WorldNote.{WorldNote}
 use Rattle.world_laws.specs.{new_world, happens}

@@ -2,7 +2,7 @@
 ghost use Rattle.std.specs.Prelude.{◌≡◌, ◌≤◌, ◌+◌, ◌-◌, ◌^◌, ℕ, true, IfOk, IsSomeAnd, is_some, None};
 ghost use Rattle.rams_model.specs.Texts.{tick_of};
 ghost use Rattle.trace_text.specs.{shown, told, HasDigits, IsOther, IsSettled};
-ghost use Rattle.trace_book.specs.trace_serving.{Stage, opening, turn, after_line, eventless, counted, brought};
+ghost use Rattle.trace_loop.specs.trace_book.trace_serving.{Stage, opening, turn, after_line, eventless, counted, brought};
 ghost use Rattle.trace_loop.specs.{StandsSomewhere};
 ghost use Rattle.trace_loop.specs.declared.turn.Turn.TheVariants.{GoesOn};
 ghost use Rattle.world_laws.specs.World.{World as Worlds};

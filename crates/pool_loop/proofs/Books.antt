@@ -16,9 +16,9 @@ use Rattle.server_hub.specs.declared.event.HubEvent.{HubEvent}
 use Rattle.server_hub.specs.declared.event.HubEvent.TheVariants.{Live, Feedback, Tick}
 use Rattle.server_hub.specs.{Pairwise, served, id_of, after_event, events_of, ticks_among}
 use Rattle.server_hub.specs.Served.{Served}
-use Rattle.trace_book.specs.trace_serving.{events_text, after_all}
-use Rattle.trace_book.specs.{run, new_channels, event_text}
-use Rattle.journal_book.specs.{text_for}
+use Rattle.trace_loop.specs.trace_book.trace_serving.{events_text, after_all}
+use Rattle.trace_loop.specs.trace_book.{run, new_channels, event_text}
+use Rattle.trace_loop.specs.journal_book.{text_for}
 use Rattle.pool.specs.declared.link_pool.claim.Claim.{Claim}
 use Rattle.pool.specs.link_pool.{bytes_of, claims_of}
 use Rattle.pool.specs.declared.pool_run.lane.Lane.{Lane}

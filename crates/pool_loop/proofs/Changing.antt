@@ -13,7 +13,7 @@ use Rattle.server_hub.specs.declared.event.HubEvent.TheVariants.{Live, Feedback,
 use Rattle.server_hub.specs.{served, id_of, with_event, after_event_of, after_tick, after_event, ids_of}
 use Rattle.server_hub.specs.Served.{Served}
 use Rattle.server_hub.proofs.Changing.{untouched, changed}
-use Rattle.trace_book.specs.{settings_of}
+use Rattle.trace_loop.specs.trace_book.{settings_of}
 use Rattle.pool_loop.specs.declared.dealing.Coming.{Coming}
 use Rattle.pool_loop.specs.{served_so, all_served, HaveAtMost}
 use Rattle.pool_loop.proofs.Halves.{Half, half_more}

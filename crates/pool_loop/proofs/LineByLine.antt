@@ -14,8 +14,8 @@ use Rattle.rams_model.specs.declared.status.Status.TheVariants.{Done, BadTrace, 
 use Rattle.rams_model.specs.Texts.{TraceLine, Reached, judged, lines_of}
 use Rattle.server_hub.specs.declared.event.HubEvent.{HubEvent}
 use Rattle.server_hub.specs.Served.{Served}
-use Rattle.trace_book.specs.trace_serving.{Stage, Outcome, Turn, goes_on, ends, opening, done, refused, too_long, turn, after_line, brought, after_turn, text_from, served_text, stage_after, stage_from, last_stage, taken_with, taken_from}
-use Rattle.trace_book.specs.{run, trace_text, taken, event_at, came as came_in}
+use Rattle.trace_loop.specs.trace_book.trace_serving.{Stage, Outcome, Turn, goes_on, ends, opening, done, refused, too_long, turn, after_line, brought, after_turn, text_from, served_text, stage_after, stage_from, last_stage, taken_with, taken_from}
+use Rattle.trace_loop.specs.trace_book.{run, trace_text, taken, event_at, came as came_in}
 use Rattle.trace_loop.specs.{IfTold, IfBothTold}
 use Rattle.pool_loop.specs.declared.dealing.Dealt.{Dealt}
 use Rattle.pool_loop.specs.declared.dealing.Does.{Does}

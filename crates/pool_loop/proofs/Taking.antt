@@ -10,10 +10,10 @@ use Rattle.rams_model.specs.Texts.{TraceLine, head_line, channel_line, end_line,
 use Rattle.server_hub.specs.declared.event.HubEvent.{HubEvent}
 use Rattle.server_hub.specs.{served, id_of, ids_of, after_event}
 use Rattle.server_hub.specs.Served.{Served}
-use Rattle.trace_book.specs.trace_serving.{Stage, goes_on, after_line, brought, Stand, opening, claim_of}
-use Rattle.trace_book.proofs.trace_serving.Judged.{judged_so}
-use Rattle.trace_book.proofs.trace_serving.Steps.{opening_stage}
-use Rattle.trace_book.specs.{run, settings_of}
+use Rattle.trace_loop.specs.trace_book.trace_serving.{Stage, goes_on, after_line, brought, Stand, opening, claim_of}
+use Rattle.trace_loop.proofs.trace_book.trace_serving.Judged.{judged_so}
+use Rattle.trace_loop.proofs.trace_book.trace_serving.Steps.{opening_stage}
+use Rattle.trace_loop.specs.trace_book.{run, settings_of}
 use Rattle.trace_text.specs.declared.line.Line.{Line}
 use Rattle.trace_text.specs.{shown, IsOther}
 use Rattle.trace_text.specs.declared.line.Line.TheVariants as line

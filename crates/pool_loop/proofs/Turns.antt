@@ -9,11 +9,11 @@ use Rattle.server_hub.specs.declared.event.HubEvent.{HubEvent}
 use Rattle.server_hub.specs.declared.event.HubEvent.TheVariants.{Live, Feedback, Tick}
 use Rattle.server_hub.specs.{after_event}
 use Rattle.server_hub.specs.Served.{Served}
-use Rattle.trace_book.specs.trace_serving.{Stage, Outcome, Turn, goes_on, ends, done, refused, too_long, turn, brought, counted, after_line, after_judging}
-use Rattle.trace_book.proofs.trace_serving.Judged.{judged_so}
-use Rattle.trace_book.proofs.trace_serving.Runs.{stages_kept as serving_keeps}
-use Rattle.trace_book.specs.{run, event_at, event_text, IsStage}
-use Rattle.trace_book.proofs.Served.{stages_kept}
+use Rattle.trace_loop.specs.trace_book.trace_serving.{Stage, Outcome, Turn, goes_on, ends, done, refused, too_long, turn, brought, counted, after_line, after_judging}
+use Rattle.trace_loop.proofs.trace_book.trace_serving.Judged.{judged_so}
+use Rattle.trace_loop.proofs.trace_book.trace_serving.Runs.{stages_kept as serving_keeps}
+use Rattle.trace_loop.specs.trace_book.{run, event_at, event_text, IsStage}
+use Rattle.trace_loop.proofs.trace_book.Served.{stages_kept}
 use Rattle.pool_loop.specs.{pool}
 
 -- the event that the bytes of a line bring is that of the line

@@ -15,9 +15,9 @@ use Rattle.server_hub.specs.declared.event.HubEvent.TheVariants.{Live, Feedback,
 use Rattle.server_hub.specs.{Pairwise, id_of, with_event, channel_of, after_event_of, after_tick, after_event, events_of, ids_of}
 use Rattle.server_hub.specs.Served.{Served}
 use Rattle.server_hub.proofs.Changing.{first_once, rest_once}
-use Rattle.trace_book.specs.{settings_of, channel_text, named_text, event_text}
-use Rattle.trace_book.proofs.Served.{settings_after}
-use Rattle.journal_book.specs.{text_for}
+use Rattle.trace_loop.specs.trace_book.{settings_of, channel_text, named_text, event_text}
+use Rattle.trace_loop.proofs.trace_book.Served.{settings_after}
+use Rattle.trace_loop.specs.journal_book.{text_for}
 use Rattle.pool_loop.specs.declared.routes.Route.TheVariants.{To, Everyone}
 use Rattle.pool_loop.specs.{route_of, kept, number_of, next_text, turned, heard_text, past, all_past, route_text, walk_text}
 

@@ -14,8 +14,8 @@ use Rattle.channel_book.specs.{Kept}
 use Rattle.server_hub.specs.{Pairwise, id_of, ids_of, events_of, ticks_among}
 use Rattle.server_hub.specs.Served.{Served}
 use Rattle.server_hub.proofs.Pairing.{same_length}
-use Rattle.trace_book.specs.trace_serving.{Stage, Outcome, done, served_text, last_stage, EndsWith, is_missing, is_refused, is_too_long, is_done}
-use Rattle.trace_book.specs.{run, first_line, trace_text, served_by, came, events_text, settings_of, new_channels, EndsSo, IsServed}
+use Rattle.trace_loop.specs.trace_book.trace_serving.{Stage, Outcome, done, served_text, last_stage, EndsWith, is_missing, is_refused, is_too_long, is_done}
+use Rattle.trace_loop.specs.trace_book.{run, first_line, trace_text, served_by, came, events_text, settings_of, new_channels, EndsSo, IsServed}
 use Rattle.trace_loop.specs.declared.stop.Stop.{Stop}
 use Rattle.pool.specs.declared.link_pool.claim.Claim.{Claim}
 use Rattle.pool.specs.link_pool.{Fill, PaidWithin, claims_of}

@@ -4,8 +4,8 @@ use Rattle.std.specs.List.{AllByRecursion as Each}
 use Rattle.rams_model.specs.Texts.{TraceLine, end_line, judged, may_come}
 use Rattle.server_hub.specs.declared.event.HubEvent.{HubEvent}
 use Rattle.server_hub.specs.Served.{Served}
-use Rattle.trace_book.specs.trace_serving.{Stage, Turn, goes_on, ends, done, refused, too_long}
-use Rattle.trace_book.specs.{IsStage}
+use Rattle.trace_loop.specs.trace_book.trace_serving.{Stage, Turn, goes_on, ends, done, refused, too_long}
+use Rattle.trace_loop.specs.trace_book.{IsStage}
 use Rattle.pool_loop.specs.declared.dealing.Dealt.{Dealt}
 use Rattle.pool_loop.specs.declared.dealing.Does.{Does}
 use Rattle.pool_loop.specs.declared.dealing.Does.TheVariants.{GoesOn, Ends, Refused, TooLong}

@@ -8,8 +8,8 @@ use Rattle.rams_model.specs.Service.{book}
 use Rattle.service_laws.specs.book_laws.{notes_in, orders_in, note_sends, order_sends}
 use Rattle.server_hub.specs.{id_of, ticks_among}
 use Rattle.server_hub.specs.Served.{Served}
-use Rattle.trace_book.specs.trace_serving.{served_text}
-use Rattle.trace_book.specs.{trace_text, served_by, came}
+use Rattle.trace_loop.specs.trace_book.trace_serving.{served_text}
+use Rattle.trace_loop.specs.trace_book.{trace_text, served_by, came}
 use Rattle.pool.specs.declared.link_pool.claim.Claim.{Claim}
 use Rattle.pool.specs.link_pool.{Fill, PaidWithin, bytes_of, claims_of}
 use Rattle.pool.specs.ledger_text.{ledger_text}

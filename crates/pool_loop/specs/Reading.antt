@@ -4,8 +4,8 @@ use Rattle.rams_model.specs.declared.status.Status.TheVariants.{Done}
 use Rattle.rams_model.specs.Texts.{end_line, lines_of, may_come}
 use Rattle.server_hub.specs.declared.event.HubEvent.{HubEvent}
 use Rattle.server_hub.specs.Served.{Served}
-use Rattle.trace_book.specs.trace_serving.{Stage, goes_on, ends, done, refused, too_long, turn, text_from, last_stage, served_text}
-use Rattle.trace_book.specs.{run, trace_text, came as came_in, event_at}
+use Rattle.trace_loop.specs.trace_book.trace_serving.{Stage, goes_on, ends, done, refused, too_long, turn, text_from, last_stage, served_text}
+use Rattle.trace_loop.specs.trace_book.{run, trace_text, came as came_in, event_at}
 use Rattle.pool_loop.specs.declared.dealing.Dealt.{Dealt}
 use Rattle.pool_loop.specs.declared.dealing.Does.{Does}
 use Rattle.pool_loop.specs.declared.dealing.Does.TheVariants.{GoesOn, Ends, Refused, TooLong}

@@ -5,8 +5,8 @@ use Rattle.server_hub.specs.declared.event.HubEvent.{HubEvent}
 use Rattle.server_hub.specs.declared.event.HubEvent.TheVariants.{Live, Feedback, Tick}
 use Rattle.server_hub.specs.{served, after_event}
 use Rattle.server_hub.specs.Served.{Served}
-use Rattle.trace_book.specs.trace_serving.{Serving}
-use Rattle.trace_book.specs.{event_of}
+use Rattle.trace_loop.specs.trace_book.trace_serving.{Serving}
+use Rattle.trace_loop.specs.trace_book.{event_of}
 use Rattle.pool_loop.specs.declared.dealing.Coming.{Coming}
 use Rattle.pool_loop.specs.declared.routes.Route.{Route}
 use Rattle.pool_loop.specs.declared.routes.Route.TheVariants.{To, Everyone}

@@ -2,8 +2,8 @@
 use Rattle.std.specs.Prelude.{◌≡◌, ℕ, ◌++◌, List, [], length}
 use Rattle.channel_book.specs.{Kept}
 use Rattle.server_hub.specs.session_core.{StandsFor}
-use Rattle.trace_book.specs.trace_serving.{done}
-use Rattle.trace_book.specs.{first_line}
+use Rattle.trace_loop.specs.trace_book.trace_serving.{done}
+use Rattle.trace_loop.specs.trace_book.{first_line}
 use Rattle.pool.specs.declared.link_pool.claim.Claim.{Claim}
 use Rattle.pool.specs.ledger_text.{ledger_text}
 use Rattle.pool.specs.declared.pool_run.lane.Lane.{Lane}

@@ -6,8 +6,8 @@ ghost use Rattle.server_hub.specs.declared.event.HubEvent.{HubEvent};
 ghost use Rattle.server_hub.specs.{after_event_of, after_tick, id_of};
 ghost use Rattle.server_hub.specs.Served.{Served};
 ghost use Rattle.trace_text.specs.{told, shown, HasDigits, IsOther, IsSettled};
-ghost use Rattle.trace_book.specs.trace_serving.{Stage, opening, turn, after_line, brought};
-ghost use Rattle.trace_book.specs.{run, event_at};
+ghost use Rattle.trace_loop.specs.trace_book.trace_serving.{Stage, opening, turn, after_line, brought};
+ghost use Rattle.trace_loop.specs.trace_book.{run, event_at};
 ghost use Rattle.pool_loop.specs.declared.routes.Route.TheVariants.{To, Everyone};
 ghost use Rattle.pool_loop.specs.{pool, all_served, Comes, HasDealtBy, HasDealtSome, IsDealt, Took};
 

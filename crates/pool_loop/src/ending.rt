@@ -6,7 +6,7 @@ ghost use Rattle.rams_model.specs.declared.status.Status.TheVariants.{BadTrace, 
 ghost use Rattle.rams_model.specs.Texts.{refused_line};
 ghost use Rattle.server_hub.specs.declared.event.HubEvent.{HubEvent};
 ghost use Rattle.server_hub.specs.Served.{Served};
-ghost use Rattle.trace_book.specs.trace_serving.{Stage};
+ghost use Rattle.trace_loop.specs.trace_book.trace_serving.{Stage};
 ghost use Rattle.trace_loop.specs.declared.stop.Stop.TheVariants.{Read};
 ghost use Rattle.trace_loop.specs.{IfTold, IsEnd, IsStopped, IsStoppedByWrite, OnlyMemoryStops};
 ghost use Rattle.pool_loop.specs.{HasDealt, HasEnded, HasRoomFor, HasStopped, IsReadOf};
@@ -25,8 +25,8 @@ use rams_model::{LineFault, Status};
 use service_laws::book_laws::sendings::each_datagram_is_the_retransmission_of_a_source_packet;
 use std::alloc::Global;
 use std::thread::Threads;
-use trace_book::laws::{traces_are_served_by_their_lines, traces_end_so};
 use trace_loop::Stop;
+use trace_loop::trace_book::laws::{traces_are_served_by_their_lines, traces_end_so};
 
 /// Writes one line.
 fn write_alone<K: Sink>(sink: &mut K, line: &[u8]) -> Result<(), Stop>

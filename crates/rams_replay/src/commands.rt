@@ -1,7 +1,7 @@
 //! The commands.
 ghost use Rattle.std.specs.Prelude.{◌≡◌, ◌≢◌, ◌≤◌, ◌<◌, ◌⊎◌, false, is_none, not, ℕ, All, None, length};
-ghost use Rattle.trace_book.specs.printed_books.{PrintsItsBooks};
-ghost use Rattle.trace_book.specs.{EndsSo, IsServed, KeepsTheLink, KeepsPromises, served_by, run as book};
+ghost use Rattle.trace_loop.specs.trace_book.printed_books.{PrintsItsBooks};
+ghost use Rattle.trace_loop.specs.trace_book.{EndsSo, IsServed, KeepsTheLink, KeepsPromises, served_by, run as book};
 ghost use Rattle.rams_model.specs.declared.status.Status.TheVariants.{BadTrace, Done, ReadFault};
 ghost use Rattle.serve_loop.specs.{Given, HasRoom, IfBothTold, IsGiven, served_datagrams, served_text};
 ghost use Rattle.description_loop.specs.{DescribesItsHead, WritesATrace, description_outcome, settings_outcome};
@@ -34,11 +34,11 @@ use std::sync::Wait;
 use std::thread::Threads;
 use takeover_loop::laws::takeovers_make_one_journal;
 use threads_loop::write_threads;
-use trace_book::laws::{
+use trace_loop::trace_book::laws::{
     traces_are_served_by_their_lines, traces_are_served_lawfully, traces_end_so,
     traces_stay_within_the_link,
 };
-use trace_book::printed_books::laws::books_are_printed;
+use trace_loop::trace_book::printed_books::laws::books_are_printed;
 use trace_loop::{Stop, write_text};
 
 /// Runs a command over whatever it reads from, writes to, sends through and tells the time by.

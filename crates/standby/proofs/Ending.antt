@@ -7,8 +7,8 @@ use Rattle.rams_model.specs.Texts.{into_first, whole_lines}
 use Rattle.line_io.specs.{HasNoFeed}
 use Rattle.line_io.proofs.LineFeeds.{whole_lines-kept}
 use Rattle.server_hub.specs.Served.{Served}
-use Rattle.trace_book.specs.trace_serving.{Stage, Turn, Outcome, goes_on, ends, refused, opening, turn, stage_after, stage_from, taken_from, taken_with}
-use Rattle.trace_book.specs.{run}
+use Rattle.trace_loop.specs.trace_book.trace_serving.{Stage, Turn, Outcome, goes_on, ends, refused, opening, turn, stage_after, stage_from, taken_from, taken_with}
+use Rattle.trace_loop.specs.trace_book.{run}
 use Rattle.standby.specs.{Seen, HasRead, Halted, Stands, end_after, end_from, end_of, is_feed, lines_followed, looked_at, overlong, rest_of, stage_of, StaysEnded}
 use Rattle.standby.proofs.Pieces.{has_line, no_feed, no_feed_in_both, no_line_more, one_line_more, one_more_looked_at, rest_clean, rest_grows, rest_whole, split_lines}
 use Rattle.standby.proofs.Reading.{end_append, end_front, long_refused, stage_append}

@@ -9,8 +9,8 @@ use Rattle.line_io.proofs.LineFeeds.{lines_of-cut}
 use Rattle.server_hub.specs.declared.event.HubEvent.{HubEvent}
 use Rattle.server_hub.specs.{after_events}
 use Rattle.server_hub.specs.Served.{Served}
-use Rattle.trace_book.specs.trace_serving.{Stage, opening, stage_from, taken_from, event_at, last_stage}
-use Rattle.trace_book.specs.{run, IsServed, came, taken, new_channels, served_by}
+use Rattle.trace_loop.specs.trace_book.trace_serving.{Stage, opening, stage_from, taken_from, event_at, last_stage}
+use Rattle.trace_loop.specs.trace_book.{run, IsServed, came, taken, new_channels, served_by}
 use Rattle.standby.specs.{whole_text, stage_of, lines_followed, followed, IsFollowed}
 
 -- none of these lines has a line feed

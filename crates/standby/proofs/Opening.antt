@@ -18,9 +18,9 @@ use Rattle.server_hub.specs.{AddsSettings, AllServe, Pairwise, StandsFor, new_hu
 use Rattle.server_hub.specs.Seen as hubs
 use Rattle.server_hub.specs.Served.{Served}
 use Rattle.server_hub.proofs.Pairing.{same_length}
-use Rattle.trace_book.proofs.trace_serving.Judged.{IsJoined, accepted_so, channel_so}
-use Rattle.trace_book.specs.trace_serving.{Stage, goes_on, after_judging}
-use Rattle.trace_book.specs.{run, settings_of}
+use Rattle.trace_loop.proofs.trace_book.trace_serving.Judged.{IsJoined, accepted_so, channel_so}
+use Rattle.trace_loop.specs.trace_book.trace_serving.{Stage, goes_on, after_judging}
+use Rattle.trace_loop.specs.trace_book.{run, settings_of}
 use Rattle.standby.specs.declared.fault.Step.TheVariants.{GoesOn}
 use Rattle.standby.specs.{HubServes, Serves, Stands, OpensIn, Took, can_open, lacks_memory, claim_of, numbers, turn_of}
 use Rattle.standby.proofs.Turning.{accepts}

@@ -7,8 +7,8 @@ use Rattle.rams_model.specs.Texts.{Reached, judged, whole_lines}
 use Rattle.line_io.specs.{HasNoFeed}
 use Rattle.server_hub.specs.Seen as hubs
 use Rattle.server_hub.specs.Served.{Served}
-use Rattle.trace_book.specs.trace_serving.{Stage, Turn, Outcome, goes_on, ends, done, refused, too_long, opening, turn, stage_after, stage_from, after_judging}
-use Rattle.trace_book.specs.{run}
+use Rattle.trace_loop.specs.trace_book.trace_serving.{Stage, Turn, Outcome, goes_on, ends, done, refused, too_long, opening, turn, stage_after, stage_from, after_judging}
+use Rattle.trace_loop.specs.trace_book.{run}
 use Rattle.standby.specs.declared.fault.FeedFault.{FeedFault}
 use Rattle.standby.specs.declared.fault.FeedFault.TheVariants.{Line, TooLong, NoMemory}
 use Rattle.standby.specs.declared.fault.Step.{Step}

@@ -15,10 +15,10 @@ use Rattle.server_hub.specs.{StandsFor, id_of, with_event, after_event, after_ev
 use Rattle.server_hub.specs.declared.event.HubEvent.TheVariants.{Live, Feedback, Tick}
 use Rattle.server_hub.specs.Seen as hubs
 use Rattle.server_hub.specs.Served.{Served}
-use Rattle.trace_book.specs.trace_serving.{Stage, ends, refused, too_long, done, after_judging, after_line, counted, turn, brought}
-use Rattle.trace_book.proofs.trace_serving.Judged.{judged_so}
+use Rattle.trace_loop.specs.trace_book.trace_serving.{Stage, ends, refused, too_long, done, after_judging, after_line, counted, turn, brought}
+use Rattle.trace_loop.proofs.trace_book.trace_serving.Judged.{judged_so}
 use Rattle.trace_text.proofs.Judging.{expected_is}
-use Rattle.trace_book.specs.{run, event_text}
+use Rattle.trace_loop.specs.trace_book.{run, event_text}
 use Rattle.standby.specs.declared.fault.Step.TheVariants.{GoesOn}
 use Rattle.standby.specs.{HubServes, Stands, Took, claim_of, numbers, turn_of}
 

@@ -3,8 +3,8 @@ use Rattle.std.specs.Prelude.{◌≡◌, ℕ, ◌≤◌, Bool, true, false, List
 use Rattle.rams_model.specs.Texts.{Reached, tick_of, has_channel, whole_lines}
 use Rattle.server_hub.specs.{StandsFor, after_events}
 use Rattle.server_hub.specs.Seen as hubs
-use Rattle.trace_book.specs.trace_serving.{Outcome, done, refused, too_long, last_stage}
-use Rattle.trace_book.specs.{run, new_channels, came, taken}
+use Rattle.trace_loop.specs.trace_book.trace_serving.{Outcome, done, refused, too_long, last_stage}
+use Rattle.trace_loop.specs.trace_book.{run, new_channels, came, taken}
 use Rattle.standby.specs.declared.fault.FeedFault.{FeedFault}
 use Rattle.standby.specs.declared.fault.FeedFault.TheVariants.{Line, TooLong, NoMemory}
 use Rattle.standby.specs.Reading.{rest_of, end_of, stage_of, followed, lines_followed, whole_text}

@@ -9,8 +9,8 @@ use Rattle.server_hub.specs.declared.event.AddFault.TheVariants.{NoMemory as Out
 use Rattle.server_hub.specs.{StandsFor, ids_of, refused as refused_add, served}
 use Rattle.server_hub.specs.Seen as hubs
 use Rattle.server_hub.specs.Served.{Served}
-use Rattle.trace_book.specs.trace_serving.{Stage, Turn, goes_on, ends, done, refused, too_long, after_judging}
-use Rattle.trace_book.specs.{run, settings_of}
+use Rattle.trace_loop.specs.trace_book.trace_serving.{Stage, Turn, goes_on, ends, done, refused, too_long, after_judging}
+use Rattle.trace_loop.specs.trace_book.{run, settings_of}
 use Rattle.standby.specs.declared.fault.FeedFault.{FeedFault}
 use Rattle.standby.specs.declared.fault.FeedFault.TheVariants.{Line, TooLong, NoMemory}
 use Rattle.standby.specs.declared.fault.Step.{Step}

@@ -2,7 +2,7 @@
 //! follows from.
 ghost use Rattle.standby.specs.{NothingBehindCounts, WholeLinesAreFollowed};
 
-use trace_book::laws::traces_are_served_by_their_lines;
+use trace_loop::trace_book::laws::traces_are_served_by_their_lines;
 
 /// The whole lines of any bytes are a trace, and what they lead to is what the events of these lines
 /// make of the channels, in order, up to `end` or a line that is refused.

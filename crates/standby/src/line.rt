@@ -2,8 +2,8 @@
 ghost use Rattle.std.specs.Prelude.{◌≡◌, ◌+◌, Ok, List, ℕ, true};
 ghost use Rattle.rams_model.specs.Texts.{TraceLine, Reached, may_come, line_in_range, judged};
 ghost use Rattle.server_hub.specs.Served.{Served};
-ghost use Rattle.trace_book.specs.trace_serving.{Stage, turn};
-ghost use Rattle.trace_book.specs.{run};
+ghost use Rattle.trace_loop.specs.trace_book.trace_serving.{Stage, turn};
+ghost use Rattle.trace_loop.specs.trace_book.{run};
 ghost use Rattle.trace_text.specs.{shown, HasDigits};
 ghost use Rattle.standby.specs.declared.fault.Step.TheVariants as steps;
 ghost use Rattle.standby.specs.{Halting, IsSame, Stands, StandsSomewhere, Took, count_of, turn_of};

@@ -2,8 +2,8 @@
 ghost use Rattle.std.specs.Prelude.{◌≡◌, ◌+◌, ◌++◌, ◌<◌, ◌≤◌, [], List, ℕ, Ok, MatchOption, OnErr, OnOk, IfErr, length, vec_capacity};
 ghost use Rattle.line_io.specs.{HasNoFeed, IsCutAt};
 ghost use Rattle.server_hub.specs.Served.{Served};
-ghost use Rattle.trace_book.specs.trace_serving.{Stage, turn};
-ghost use Rattle.trace_book.specs.{run};
+ghost use Rattle.trace_loop.specs.trace_book.trace_serving.{Stage, turn};
+ghost use Rattle.trace_loop.specs.trace_book.{run};
 ghost use Rattle.rams_model.specs.declared.fault.LineFault.TheVariants as line_faults;
 ghost use Rattle.standby.specs.declared.fault.FeedFault.TheVariants as faults;
 ghost use Rattle.standby.specs.declared.fault.Step.TheVariants as steps;

@@ -15,9 +15,9 @@ use Rattle.server_hub.specs.Seen.{Seen}
 use Rattle.server_hub.specs.{StandsFor, ids_of}
 use Rattle.rams_model.specs.Service.{Settings}
 use Rattle.rams_model.specs.Texts.{tick_of}
-use Rattle.trace_book.specs.trace_serving.{Outcome, after_text}
-use Rattle.trace_book.specs.Stages.{settings_of}
-use Rattle.journal_book.specs.{HeadsOpenNewChannels, behind, event_lines, events_of}
+use Rattle.trace_loop.specs.trace_book.trace_serving.{Outcome, after_text}
+use Rattle.trace_loop.specs.trace_book.Stages.{settings_of}
+use Rattle.trace_loop.specs.journal_book.{HeadsOpenNewChannels, behind, event_lines, events_of}
 use Rattle.trace_loop.specs.declared.stop.Stop.{Stop}
 use Rattle.trace_loop.specs.declared.stop.Stop.TheVariants.{Memory, Read, Write, Wire}
 use Rattle.serve_loop.specs.{Begun, Broken, Given, GoOut, HasRoom, IsBetween, OnlyMemoryStops, Room, Serving, StopsIn, WaitsIn, sent_by}

@@ -8,9 +8,9 @@ use Rattle.rams_model.specs.Texts.{bytes_in, TraceLine, head_line, channel_line,
 use Rattle.server_hub.specs.declared.event.HubEvent.{HubEvent}
 use Rattle.server_hub.specs.declared.event.HubEvent.TheVariants.{Live, Feedback, Tick}
 use Rattle.server_hub.specs.Served.{Served}
-use Rattle.trace_book.specs.trace_serving.{Stage, Outcome, Turn, goes_on, ends, refused, too_long, opening, turn, after_line, after_judging, counted, brought, stage_after, stage_from}
-use Rattle.trace_book.proofs.trace_serving.Judged.{judged_so}
-use Rattle.trace_book.specs.{run, most_events}
+use Rattle.trace_loop.specs.trace_book.trace_serving.{Stage, Outcome, Turn, goes_on, ends, refused, too_long, opening, turn, after_line, after_judging, counted, brought, stage_after, stage_from}
+use Rattle.trace_loop.proofs.trace_book.trace_serving.Judged.{judged_so}
+use Rattle.trace_loop.specs.trace_book.{run, most_events}
 use Rattle.standby.specs.{end_after, end_from, end_of, lines_followed, overlong, rest_of, stage_of}
 use Rattle.standby.proofs.Reading.{long_refused}
 use Rattle.takeover_loop.specs.{end_or, opened_by, reading_end}

@@ -8,7 +8,7 @@ use Rattle.rams_model.specs.Texts.{whole_lines}
 use Rattle.line_io.specs.{HasNoFeed}
 use Rattle.line_io.specs.Passes.{Passes}
 use Rattle.line_io.proofs.Passing.{Passes-more, Passes-then}
-use Rattle.trace_book.specs.trace_serving.{Outcome, done}
+use Rattle.trace_loop.specs.trace_book.trace_serving.{Outcome, done}
 use Rattle.trace_loop.specs.declared.stop.Stop.{Stop}
 use Rattle.trace_loop.specs.declared.stop.Stop.TheVariants.{Memory, Read, Write, Wire}
 use Rattle.serve_loop.specs.{StopsIn}

@@ -12,11 +12,11 @@ use Rattle.server_hub.specs.declared.event.HubEvent.{HubEvent}
 use Rattle.server_hub.specs.declared.event.HubEvent.TheVariants.{Live, Feedback}
 use Rattle.server_hub.specs.Served.{Served}
 use Rattle.server_hub.specs.{id_of}
-use Rattle.trace_book.specs.trace_serving.{Outcome, Stage, after_text, ended, opening, stage_from}
-use Rattle.trace_book.proofs.trace_serving.Runs.{is_served_so}
-use Rattle.trace_book.specs.{most_events, run, trace_text}
-use Rattle.trace_book.specs.Stages.{settings_of}
-use Rattle.journal_book.specs.{CanArrive, HasLine, Opens, TurnsMakeJournals, behind, due_after, event_lines, events_of_turns, heard, heard_from, most_turns, replayed, sent_for, ServerTurn}
+use Rattle.trace_loop.specs.trace_book.trace_serving.{Outcome, Stage, after_text, ended, opening, stage_from}
+use Rattle.trace_loop.proofs.trace_book.trace_serving.Runs.{is_served_so}
+use Rattle.trace_loop.specs.trace_book.{most_events, run, trace_text}
+use Rattle.trace_loop.specs.trace_book.Stages.{settings_of}
+use Rattle.trace_loop.specs.journal_book.{CanArrive, HasLine, Opens, TurnsMakeJournals, behind, due_after, event_lines, events_of_turns, heard, heard_from, most_turns, replayed, sent_for, ServerTurn}
 use Rattle.serve_loop.specs.{Given, datagrams_by}
 use Rattle.serve_loop.proofs.Telling.{settled_behind}
 use Rattle.standby.specs.{followed, stage_of, whole_text}

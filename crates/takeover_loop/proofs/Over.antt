@@ -9,8 +9,8 @@ use Rattle.rams_model.specs.declared.status.Status.{Status}
 use Rattle.rams_model.specs.declared.status.Status.TheVariants.{Done, NoMemory as LacksMemory, Words, ReadFault, WriteFault, BadTrace, WireFault, TooLong, BadCapture, BadSdp}
 use Rattle.ram_io.specs.{Outgoing, Rose}
 use Rattle.ram_io.specs.declared.wire.Incoming.{Incoming}
-use Rattle.trace_book.specs.trace_serving.{Outcome, after_text}
-use Rattle.journal_book.specs.{event_lines, sent_for}
+use Rattle.trace_loop.specs.trace_book.trace_serving.{Outcome, after_text}
+use Rattle.trace_loop.specs.journal_book.{event_lines, sent_for}
 use Rattle.trace_loop.specs.declared.stop.Stop.{Stop}
 use Rattle.trace_loop.specs.declared.stop.Stop.TheVariants.{Memory, Read, Write, Wire}
 use Rattle.serve_loop.specs.{Given, HasRoom, IfBothTold, IsGiven, IsOutStop, IsStop, IsStopped, IsStoppedByWrite, IsStoppedOutside, IsWriteStop, OnlyMemoryStops, Room, StopsIn, datagrams_by}

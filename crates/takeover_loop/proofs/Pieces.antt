@@ -7,7 +7,7 @@ use Rattle.std.specs.List.{flat_map}
 use Rattle.rams_model.specs.Texts.{whole_lines}
 use Rattle.line_io.specs.Passes.{Passes}
 use Rattle.line_io.proofs.Passing.{Passes-none, Passes-then}
-use Rattle.trace_book.specs.trace_serving.{Outcome}
+use Rattle.trace_loop.specs.trace_book.trace_serving.{Outcome}
 use Rattle.trace_loop.specs.declared.stop.Stop.{Stop}
 use Rattle.trace_loop.specs.declared.stop.Stop.TheVariants.{Memory}
 use Rattle.serve_loop.specs.{IfBothTold, StopsIn}

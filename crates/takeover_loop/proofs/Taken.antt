@@ -10,8 +10,8 @@ use Rattle.server_hub.specs.{IsHub}
 use Rattle.server_hub.specs.Seen as hubs
 use Rattle.server_hub.specs.Served.{Served}
 use Rattle.trace_loop.proofs.head_loop.Channels.{settings_stand}
-use Rattle.trace_book.specs.trace_serving.{Outcome, done, refused}
-use Rattle.trace_book.specs.Stages.{settings_of as settings_all}
+use Rattle.trace_loop.specs.trace_book.trace_serving.{Outcome, done, refused}
+use Rattle.trace_loop.specs.trace_book.Stages.{settings_of as settings_all}
 use Rattle.serve_loop.specs.{numbers}
 use Rattle.standby.specs.declared.fault.FeedFault.{FeedFault}
 use Rattle.standby.specs.declared.fault.FeedFault.TheVariants.{Line, TooLong, NoMemory}

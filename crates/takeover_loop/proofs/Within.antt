@@ -4,7 +4,7 @@ use Rattle.std.specs.Prelude.{IfSome}
 use Rattle.ram_io.specs.{Outgoing}
 use Rattle.server_hub.specs.declared.event.HubEvent.{HubEvent}
 use Rattle.server_hub.specs.Served.{Served}
-use Rattle.journal_book.specs.{behind, event_lines, sent_for}
+use Rattle.trace_loop.specs.journal_book.{behind, event_lines, sent_for}
 use Rattle.trace_loop.specs.declared.stop.Stop.{Stop}
 use Rattle.serve_loop.specs.{Begun, Broken, HasRoom, Room}
 use Rattle.serve_loop.proofs.Rooms.{room_for, room_split}

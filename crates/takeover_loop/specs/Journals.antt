@@ -2,8 +2,8 @@
 use Rattle.std.specs.Prelude.{◌≡◌, ℕ, ◌+◌, ◌≤◌, List, ◌++◌, All}
 use Rattle.rams_model.specs.declared.status.Status.TheVariants.{Done}
 use Rattle.server_hub.specs.Served.{Served}
-use Rattle.trace_book.specs.{trace_text}
-use Rattle.journal_book.specs.{CanArrive, IsJournal, behind, journal_of, most_turns, replayed, sent_for}
+use Rattle.trace_loop.specs.trace_book.{trace_text}
+use Rattle.trace_loop.specs.journal_book.{CanArrive, IsJournal, behind, journal_of, most_turns, replayed, sent_for}
 use Rattle.serve_loop.specs.{Given}
 use Rattle.standby.specs.{followed, stage_of}
 use Rattle.takeover_loop.specs.Taking.{given_events, taken_datagrams, taken_text}

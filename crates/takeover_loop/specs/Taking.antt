@@ -10,9 +10,9 @@ use Rattle.ram_io.specs.{Outgoing}
 use Rattle.server_hub.specs.declared.event.HubEvent.{HubEvent}
 use Rattle.server_hub.specs.{StandsFor}
 use Rattle.server_hub.specs.Seen as hubs
-use Rattle.trace_book.specs.trace_serving.{Outcome, after_text, done, refused, too_long}
-use Rattle.trace_book.specs.{most_events}
-use Rattle.journal_book.specs.{event_lines, events_of, sent_for}
+use Rattle.trace_loop.specs.trace_book.trace_serving.{Outcome, after_text, done, refused, too_long}
+use Rattle.trace_loop.specs.trace_book.{most_events}
+use Rattle.trace_loop.specs.journal_book.{event_lines, events_of, sent_for}
 use Rattle.serve_loop.specs.{Given, GoOut, datagrams_by, numbers}
 use Rattle.standby.specs.declared.fault.FeedFault.{FeedFault}
 use Rattle.standby.specs.declared.fault.FeedFault.TheVariants.{Line}

@@ -5,8 +5,8 @@ use Rattle.rams_model.specs.declared.status.Status.TheVariants.{Done}
 use Rattle.ram_io.specs.{Outgoing}
 use Rattle.line_io.specs.Passes.{Passes}
 use Rattle.server_hub.specs.declared.event.HubEvent.{HubEvent}
-use Rattle.trace_book.specs.trace_serving.{Outcome, ended, too_long}
-use Rattle.journal_book.specs.{event_lines}
+use Rattle.trace_loop.specs.trace_book.trace_serving.{Outcome, ended, too_long}
+use Rattle.trace_loop.specs.journal_book.{event_lines}
 use Rattle.trace_loop.specs.declared.stop.Stop.{Stop}
 use Rattle.trace_loop.specs.declared.stop.Stop.TheVariants.{Memory}
 use Rattle.serve_loop.specs.{Begun, GoOut, WaitsIn, sent_by}

@@ -1,7 +1,7 @@
 //! A piece of a journal, and the whole lines that it makes.
 ghost use Rattle.std.specs.Prelude.{◌≡◌, ◌+◌, ◌<◌, ◌≤◌, ◌++◌, ◌-◌, Bool, ℕ, List, [], Ok, None, Some, Option, IfErr, IfOk, IfSome, MatchBool, MatchOption, OnOk, false, if◌then◌else◌, length};
 ghost use Rattle.std.specs.Io.KnownBytes.{Keeps};
-ghost use Rattle.trace_book.specs.trace_serving.{Outcome};
+ghost use Rattle.trace_loop.specs.trace_book.trace_serving.{Outcome};
 ghost use Rattle.serve_loop.specs.{IsStoppedByWrite, OnlyMemoryStops, StopsIn};
 ghost use Rattle.standby.specs.{HasRead, HasReadSome, end_of, first_part, whole_text};
 ghost use Rattle.standby.specs.standby_book.{followed_text};

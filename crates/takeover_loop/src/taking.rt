@@ -4,7 +4,7 @@ ghost use Rattle.std.specs.Io.KnownBytes.{Appends};
 ghost use Rattle.line_io.specs.Passes.{Passes};
 ghost use Rattle.rams_model.specs.declared.status.Status.TheVariants.{BadTrace, Done};
 ghost use Rattle.ram_io.specs.declared.wire.Incoming.{Incoming};
-ghost use Rattle.journal_book.specs.{event_lines, events_of, sent_for};
+ghost use Rattle.trace_loop.specs.journal_book.{event_lines, events_of, sent_for};
 ghost use Rattle.server_hub.specs.{IsHub};
 ghost use Rattle.trace_loop.specs.declared.stop.Stop.TheVariants.{Read};
 ghost use Rattle.serve_loop.specs.{Begun, Given, HasRoom, IfBothTold, IsBetween, IsGiven, IsServer, IsStopped, IsStoppedByWrite, IsStoppedOutside, OnlyMemoryStops, Room, StandsSomewhere, StopsIn};
@@ -15,7 +15,6 @@ ghost use Rattle.takeover_loop.specs.{Ending, HasEnded, HasStopped, HoldsItsLine
 use crate::following::follow;
 use crate::reading::{Reading, new_reading, next_number};
 use crate::turns::take_turns;
-use journal_book::laws::heads_open_new_channels;
 use line_io::Gather;
 use ram_io::{Clock, NoMemory, Sink, Source, Wire};
 use rams_model::{LineFault, Status};
@@ -23,6 +22,7 @@ use serve_loop::{Server, Watch, new_server, tell_ports, write_refused};
 use standby::standby_book::laws::journals_are_taken_over;
 use standby::{FeedFault, Hub, Standby};
 use std::alloc::Global;
+use trace_loop::journal_book::laws::heads_open_new_channels;
 use trace_loop::{Stop, close, flush, put};
 
 /// Most events of a journal.

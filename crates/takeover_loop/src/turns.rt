@@ -4,7 +4,7 @@ ghost use Rattle.ram_io.specs.declared.wire.Incoming.{Incoming};
 ghost use Rattle.ram_io.specs.{later};
 ghost use Rattle.server_hub.specs.declared.event.HubEvent.{HubEvent};
 ghost use Rattle.server_hub.specs.{event_of};
-ghost use Rattle.journal_book.specs.{next_moment, tick_at, due_after, event_lines, events_of, sent_for, behind};
+ghost use Rattle.trace_loop.specs.journal_book.{next_moment, tick_at, due_after, event_lines, events_of, sent_for, behind};
 ghost use Rattle.serve_loop.specs.{AnswersFrom, Begun, Broken, HasRoom, IsBetween, IsServer, IsStoppedOutside, OnlyMemoryStops, Room, Serving, next_events};
 ghost use Rattle.takeover_loop.specs.{DoesWithin, IsWithin};
 

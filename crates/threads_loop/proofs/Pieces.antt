@@ -7,7 +7,7 @@ use Rattle.rams_model.specs.Service.{Settings}
 use Rattle.channel_book.specs.declared.entry.Entry.{Entry}
 use Rattle.session_worker.specs.live_writer.{datagrams_of}
 use Rattle.session_worker.specs.{answered_with}
-use Rattle.trace_book.specs.trace_serving.{done}
+use Rattle.trace_loop.specs.trace_book.trace_serving.{done}
 use Rattle.threads_loop.specs.declared.writing.Part.{Part}
 use Rattle.threads_loop.specs.declared.writing.Part.TheVariants.{Trace, Book}
 use Rattle.threads_loop.specs.{piece_text, part_text}

@@ -12,10 +12,10 @@ use Rattle.server_hub.specs.declared.event.HubEvent.TheVariants as hub
 use Rattle.server_hub.specs.{served, ids_of, channel_of}
 use Rattle.server_hub.specs.Served.{Served}
 use Rattle.server_hub.proofs.Finding.{with_id, one_has}
-use Rattle.trace_book.specs.trace_serving.{AreLawful}
-use Rattle.trace_book.specs.{settings_of, new_channels}
-use Rattle.trace_book.proofs.Lawful.{lawful_range}
-use Rattle.trace_book.proofs.Served.{settings_after}
+use Rattle.trace_loop.specs.trace_book.trace_serving.{AreLawful}
+use Rattle.trace_loop.specs.trace_book.{settings_of, new_channels}
+use Rattle.trace_loop.proofs.trace_book.Lawful.{lawful_range}
+use Rattle.trace_loop.proofs.trace_book.Served.{settings_after}
 use Rattle.world_laws.specs.declared.world.WorldEvent.{WorldEvent}
 use Rattle.world_laws.specs.declared.world.WorldEvent.TheVariants.{Hub, Tune, Give, Mcast, Ask, Drop}
 use Rattle.world_laws.specs.World.{Way, posts, tells, repeats, Datagram, Listener, World, Step}

@@ -14,7 +14,7 @@ use Rattle.server_hub.specs.declared.event.HubEvent.{HubEvent}
 use Rattle.server_hub.specs.declared.event.HubEvent.TheVariants as hub
 use Rattle.server_hub.specs.{id_of, with_event, after_event_of, after_tick, after_event, answer_to, channel_of}
 use Rattle.server_hub.specs.Served.{Served}
-use Rattle.trace_book.specs.{IsOfBytes}
+use Rattle.trace_loop.specs.trace_book.{IsOfBytes}
 use Rattle.world_laws.specs.declared.world.WorldEvent.{WorldEvent}
 use Rattle.world_laws.specs.declared.world.WorldEvent.TheVariants.{Hub, Tune, Give, Mcast, Ask, Drop}
 use Rattle.world_laws.specs.declared.world.WorldNote.{WorldNote}

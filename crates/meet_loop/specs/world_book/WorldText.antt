@@ -9,7 +9,7 @@ use Rattle.world_laws.specs.declared.world.WorldEvent.TheVariants.{Hub, Tune, Gi
 use Rattle.world_laws.specs.World.{World}
 use Rattle.world_laws.specs.{new_world, happens}
 use Rattle.meet_loop.specs.world_text.{first_line, event_lines}
-use Rattle.trace_book.specs.trace_serving.{Serving, Outcome, served_text, last_stage}
+use Rattle.trace_loop.specs.trace_book.trace_serving.{Serving, Outcome, served_text, last_stage}
 
 -- the event that a line brings to the world
 abbrev pub event_of : TraceLine → Option WorldEvent

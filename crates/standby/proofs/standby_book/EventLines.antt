@@ -8,9 +8,9 @@ use Rattle.rams_model.specs.Texts.{bytes_in, decoded, hex_word, is_hex, is_hex_d
 use Rattle.trace_text.proofs.Spelled.{is_word}
 use Rattle.server_hub.specs.declared.event.HubEvent.{HubEvent}
 use Rattle.server_hub.specs.declared.event.HubEvent.TheVariants.{Live, Feedback, Tick}
-use Rattle.trace_book.specs.trace_serving.{brought}
-use Rattle.trace_book.specs.{run}
-use Rattle.journal_book.specs.{line_of_event}
+use Rattle.trace_loop.specs.trace_book.trace_serving.{brought}
+use Rattle.trace_loop.specs.trace_book.{run}
+use Rattle.trace_loop.specs.journal_book.{line_of_event}
 
 -- the parts of a word of digits
 some_digits : (long even digits : Bool) → (false || ((long && even) && digits)) ≡ true → (long ≡ true) × ((even && digits) ≡ true)

@@ -16,12 +16,12 @@ use Rattle.ram_io.specs.{Outgoing}
 use Rattle.server_hub.specs.declared.event.HubEvent.{HubEvent}
 use Rattle.server_hub.specs.{after_event}
 use Rattle.server_hub.specs.Served.{Served}
-use Rattle.trace_book.specs.trace_serving.{Stage, Turn, goes_on, ends, too_long, opening, turn, after_judging, after_line, counted, with_opened, brought, event_at, stage_after, stage_from, taken_from, taken_with}
-use Rattle.trace_book.proofs.trace_serving.Judged.{IsAccepted, channel_so, judged_so}
-use Rattle.trace_book.specs.{run, most_events, event_text}
+use Rattle.trace_loop.specs.trace_book.trace_serving.{Stage, Turn, goes_on, ends, too_long, opening, turn, after_judging, after_line, counted, with_opened, brought, event_at, stage_after, stage_from, taken_from, taken_with}
+use Rattle.trace_loop.proofs.trace_book.trace_serving.Judged.{IsAccepted, channel_so, judged_so}
+use Rattle.trace_loop.specs.trace_book.{run, most_events, event_text}
 use Rattle.trace_text.proofs.Spelling.{is_text, read_is_spelled}
-use Rattle.journal_book.specs.{HasLine, JournalsGrow, Leads, nothing, behind, event_line, event_lines, sent_for, stage_behind, starting, datagrams_of}
-use Rattle.journal_book.proofs.Heads.{heads_grow}
+use Rattle.trace_loop.specs.journal_book.{HasLine, JournalsGrow, Leads, nothing, behind, event_line, event_lines, sent_for, stage_behind, starting, datagrams_of}
+use Rattle.trace_loop.proofs.journal_book.Heads.{heads_grow}
 use Rattle.standby.proofs.Followed.{AreClean}
 use Rattle.standby.proofs.Turning.{begun_by, event_kind, never_receiver}
 use Rattle.standby.proofs.standby_book.EventLines.{event_is}

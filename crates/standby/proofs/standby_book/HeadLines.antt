@@ -6,8 +6,8 @@ use Rattle.rams_model.specs.declared.channel.Channel.{Channel}
 use Rattle.rams_model.specs.declared.mode.Mode.{Mode}
 use Rattle.rams_model.specs.declared.mode.Mode.TheVariants.{Run, Serve}
 use Rattle.rams_model.specs.Texts.{TraceLine, head_line, channel_line, line_in_range, line_of, Head, Reached, may_come, with_channel, with_line, judged}
-use Rattle.trace_book.proofs.trace_serving.Judged.{IsJoined, channel_so}
-use Rattle.journal_book.proofs.Modes.{accepts, judges}
+use Rattle.trace_loop.proofs.trace_book.trace_serving.Judged.{IsJoined, channel_so}
+use Rattle.trace_loop.proofs.journal_book.Modes.{accepts, judges}
 
 -- The lines so far, before any event, read for this.
 abbrev pub before_events : Mode → Reached → Reached

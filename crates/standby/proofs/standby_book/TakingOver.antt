@@ -6,9 +6,9 @@ use Rattle.std.proofs.lemmas.List.Elements.{All-append}
 use Rattle.rams_model.specs.Texts.{Reached, end_line, has_channel, may_come, whole_lines}
 use Rattle.server_hub.specs.declared.event.HubEvent.{HubEvent}
 use Rattle.server_hub.specs.Served.{Served}
-use Rattle.trace_book.specs.trace_serving.{opening}
-use Rattle.trace_book.specs.{run, most_events, trace_text}
-use Rattle.journal_book.specs.{HasLine, IsJournal, JournalsGrow, JournalsReplay, Opens, behind, event_line, event_lines, journal_of, replayed, sent_for}
+use Rattle.trace_loop.specs.trace_book.trace_serving.{opening}
+use Rattle.trace_loop.specs.trace_book.{run, most_events, trace_text}
+use Rattle.trace_loop.specs.journal_book.{HasLine, IsJournal, JournalsGrow, JournalsReplay, Opens, behind, event_line, event_lines, journal_of, replayed, sent_for}
 use Rattle.standby.specs.{followed, lines_followed, stage_of}
 use Rattle.standby.proofs.Followed.{lines_clean}
 use Rattle.standby.specs.standby_book.{followed_text, IsTakenOver}

@@ -5,8 +5,8 @@ use Rattle.rams_model.specs.declared.status.Status.TheVariants.{Done}
 use Rattle.rams_model.specs.Texts.{has_channel}
 use Rattle.server_hub.specs.declared.event.HubEvent.{HubEvent}
 use Rattle.server_hub.specs.Served.{Served}
-use Rattle.trace_book.specs.{most_events, trace_text}
-use Rattle.journal_book.specs.{HasLine, IsJournal, Opens, behind, event_lines, journal_of, replayed, sent_for}
+use Rattle.trace_loop.specs.trace_book.{most_events, trace_text}
+use Rattle.trace_loop.specs.journal_book.{HasLine, IsJournal, Opens, behind, event_lines, journal_of, replayed, sent_for}
 use Rattle.standby.specs.{followed, lines_followed, stage_of}
 
 -- the whole lines that are followed, each with its line feed

@@ -1,7 +1,7 @@
 //! The law of journals that are taken over.
 ghost use Rattle.standby.specs.standby_book.{JournalsAreTakenOver};
 
-use journal_book::laws::{journals_grow, journals_replay};
+use trace_loop::journal_book::laws::{journals_grow, journals_replay};
 
 /// What a standby has followed of a journal is a head and the lines of events. With whatever comes to
 /// the channels behind them it makes one journal, and the replay of that sends what the old server sends

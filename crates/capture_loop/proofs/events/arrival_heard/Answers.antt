@@ -3,7 +3,7 @@ use Rattle.std.specs.Prelude.{IfSome}
 use Rattle.std.proofs.lemmas.List.Elements.{All-from_get_or}
 use Rattle.server_hub.specs.declared.event.HubEvent.{HubEvent}
 use Rattle.server_hub.specs.{event_of}
-use Rattle.journal_book.specs.{CanCome, heard_from}
+use Rattle.trace_loop.specs.journal_book.{CanCome, heard_from}
 use Rattle.capture_loop.proofs.events.arrival_heard.Goals as goal
 
 pub returns-clause-spelled : goal.returns-clause-spelled

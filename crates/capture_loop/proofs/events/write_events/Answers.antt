@@ -6,7 +6,7 @@ use Rattle.server_hub.specs.declared.event.Heard.{Heard}
 use Rattle.server_hub.specs.declared.event.HubEvent.{HubEvent}
 use Rattle.server_hub.specs.declared.event.HubEvent.TheVariants.{Tick}
 use Rattle.server_hub.specs.{event_of}
-use Rattle.journal_book.specs.{event_line, event_lines}
+use Rattle.trace_loop.specs.journal_book.{event_line, event_lines}
 use Rattle.trace_loop.specs.{StopsIn}
 use Rattle.capture_loop.specs.{ticks_and}
 use Rattle.capture_loop.proofs.Bringing.{only_ticks, ticks_and_none, ticks_and_one, ticks_front}

@@ -5,7 +5,7 @@ use Rattle.line_io.specs.Passes.{Passes}
 use Rattle.server_hub.specs.declared.event.Heard.{Heard}
 use Rattle.server_hub.specs.declared.event.HubEvent.{HubEvent}
 use Rattle.server_hub.specs.{event_of}
-use Rattle.journal_book.specs.{CanCome, HasLine, event_lines}
+use Rattle.trace_loop.specs.journal_book.{CanCome, HasLine, event_lines}
 use Rattle.trace_loop.specs.{StopsIn}
 use Rattle.capture_loop.specs.{Numbered, ticks_and}
 use Rattle.capture_loop.proofs.Bringing.{events_are, events_spelled, frame_is}

@@ -4,7 +4,7 @@ use Rattle.std.specs.Io.KnownBytes.{Appends, prepend_known}
 use Rattle.line_io.specs.Passes.{Passes}
 use Rattle.line_io.proofs.Passing.{Passes-none}
 use Rattle.rams_model.specs.declared.status.Status.TheVariants.{Done}
-use Rattle.trace_book.specs.trace_serving.{Outcome, refused}
+use Rattle.trace_loop.specs.trace_book.trace_serving.{Outcome, refused}
 use Rattle.trace_loop.specs.declared.stop.Stop.TheVariants.{Memory}
 use Rattle.trace_loop.specs.{IfBothTold, IfTold}
 use Rattle.trace_loop.proofs.Running.{told_gives}

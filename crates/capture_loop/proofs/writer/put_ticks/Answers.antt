@@ -1,7 +1,7 @@
 use Rattle.std.proofs.Common.{◌≡◌, ℕ, ◌+◌, List, ◌++◌, replicate, length, refl, sym, subst, arith, length-append}
 use Rattle.std.proofs.lemmas.Result.{err_from_is_err_and}
 use Rattle.server_hub.specs.declared.event.HubEvent.TheVariants.{Tick}
-use Rattle.journal_book.specs.{event_line, event_lines}
+use Rattle.trace_loop.specs.journal_book.{event_line, event_lines}
 use Rattle.trace_loop.proofs.Writing.{IsWriting, writing_begins, writing_has_room, writing_goes_on, writing_stops, writing_ends, writing_ends_steadily}
 use Rattle.trace_loop.proofs.Stopping.{err_so, only_err}
 use Rattle.capture_loop.proofs.Closing.{err_since}

@@ -1,6 +1,6 @@
 use Rattle.std.proofs.Common.{◌-◌, ◌++◌, replicate}
 use Rattle.server_hub.specs.declared.event.HubEvent.TheVariants.{Tick}
-use Rattle.journal_book.specs.{event_lines}
+use Rattle.trace_loop.specs.journal_book.{event_lines}
 use Rattle.trace_loop.proofs.Writing.{IsWriting}
 use Rattle.capture_loop.proofs.writer.put_ticks.Given as goal
 

@@ -2,7 +2,7 @@ use Rattle.std.proofs.Common.{◌≡◌, ℕ, List, [], ◌++◌, ap, ◌∙◌}
 use Rattle.rams_model.specs.declared.channel.Channel.{Channel}
 use Rattle.rams_model.specs.declared.status.Status.TheVariants.{Done}
 use Rattle.rams_model.specs.Texts.{head_line, channel_line, end_line, line_text}
-use Rattle.trace_book.specs.trace_serving.{ended}
+use Rattle.trace_loop.specs.trace_book.trace_serving.{ended}
 use Rattle.description_loop.specs.{heading_text, with_feed, with_settings}
 use Rattle.description_loop.proofs.reply.trace_reply.Goals as goal
 

@@ -4,8 +4,8 @@ use Rattle.rams_model.specs.declared.event.Event.TheVariants as event
 use Rattle.std.proofs.lemmas.Result.{IfOk-weaker}
 use Rattle.server_hub.specs.{after_event_of}
 use Rattle.server_hub.specs.declared.event.HubEvent.TheVariants.{Live, Feedback, Tick}
-use Rattle.trace_book.specs.{run}
-use Rattle.trace_book.specs.trace_serving.{after_line, brought}
+use Rattle.trace_loop.specs.trace_book.{run}
+use Rattle.trace_loop.specs.trace_book.trace_serving.{after_line, brought}
 use Rattle.trace_text.specs.declared.line.Line.{Line}
 use Rattle.trace_text.specs.{shown}
 use Rattle.pool_loop.specs.declared.dealing.Does.TheVariants.{GoesOn, Ends}

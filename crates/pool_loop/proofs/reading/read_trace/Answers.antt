@@ -1,6 +1,6 @@
 use Rattle.std.proofs.Common.{[], subst, arith}
 use Rattle.std.specs.Io.KnownBytes.{prepend_known}
-use Rattle.trace_book.specs.trace_serving.{opening}
+use Rattle.trace_loop.specs.trace_book.trace_serving.{opening}
 use Rattle.pool_loop.specs.declared.dealing.Does.{Does}
 use Rattle.pool_loop.specs.{pool, StandsAfter}
 use Rattle.pool_loop.proofs.LineByLine.{TakesLine, reading_begins, reading_ends, reading_goes_on, reading_refuses, reading_breaks}

@@ -1,6 +1,6 @@
 use Rattle.std.proofs.Common.{◌≡◌, true, ap, sym, subst, ◌∙◌}
 use Rattle.rams_model.specs.Texts.{Reached, end_line, may_come}
-use Rattle.trace_book.specs.trace_serving.{done, ends}
+use Rattle.trace_loop.specs.trace_book.trace_serving.{done, ends}
 use Rattle.trace_text.specs.{shown}
 use Rattle.trace_text.specs.declared.line.Line.{Line}
 use Rattle.standby.specs.{turn_of}

@@ -1,6 +1,6 @@
 use Rattle.std.proofs.Common.{List, sym, subst, ◌∙◌}
 use Rattle.server_hub.specs.Served.{Served}
-use Rattle.trace_book.specs.trace_serving.{Turn}
+use Rattle.trace_loop.specs.trace_book.trace_serving.{Turn}
 use Rattle.trace_text.proofs.Judging.{expected_is}
 use Rattle.trace_text.specs.{shown}
 use Rattle.standby.specs.{Stands, Took}

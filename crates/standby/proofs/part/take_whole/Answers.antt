@@ -1,7 +1,7 @@
 use Rattle.std.proofs.Common.{◌<◌, ◌++◌, length, Result, Err, sym, subst, ◌∙◌, arith, length-append}
 use Rattle.std.proofs.lemmas.Result.{err_from_is_err_and}
-use Rattle.trace_book.specs.trace_serving.{turn}
-use Rattle.trace_book.specs.{run}
+use Rattle.trace_loop.specs.trace_book.trace_serving.{turn}
+use Rattle.trace_loop.specs.trace_book.{run}
 use Rattle.standby.specs.declared.fault.FeedFault.{FeedFault}
 use Rattle.standby.specs.declared.fault.Step.{Step}
 use Rattle.standby.specs.{Stands, Took}

@@ -3,8 +3,8 @@ use Rattle.std.specs.Prelude.{nat_lt}
 use Rattle.ram_io.specs.{Outgoing}
 use Rattle.server_hub.specs.declared.event.HubEvent.{HubEvent}
 use Rattle.server_hub.specs.Seen.{Seen}
-use Rattle.trace_book.specs.trace_serving.{Outcome}
-use Rattle.journal_book.specs.{event_lines, events_of, sent_for}
+use Rattle.trace_loop.specs.trace_book.trace_serving.{Outcome}
+use Rattle.trace_loop.specs.journal_book.{event_lines, events_of, sent_for}
 use Rattle.serve_loop.specs.{HasRoom}
 use Rattle.serve_loop.proofs.Steps.{each_error}
 use Rattle.standby.specs.{stage_of}

@@ -2,7 +2,7 @@ use Rattle.std.proofs.Common.{◌≡◌, ◌+◌, [], Bool, not, length, take, R
 use Rattle.std.specs.Prelude.{IfOk, OnOk, nat_lt}
 use Rattle.std.proofs.lemmas.Result.{err_from_is_err_and}
 use Rattle.rams_model.specs.declared.status.Status.{Status}
-use Rattle.journal_book.specs.{events_of}
+use Rattle.trace_loop.specs.journal_book.{events_of}
 use Rattle.trace_loop.specs.declared.stop.Stop.{Stop}
 use Rattle.serve_loop.specs.{HasRoom, OnlyMemoryStops}
 use Rattle.serve_loop.proofs.Between.{err_weaker}

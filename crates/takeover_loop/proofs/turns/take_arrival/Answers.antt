@@ -2,7 +2,7 @@ use Rattle.std.proofs.Common.{rules, ◌≡◌, ℕ, ◌+◌, length, refl, arit
 use Rattle.std.proofs.lemmas.Result.{err_from_is_err_and}
 use Rattle.ram_io.specs.{Outgoing}
 use Rattle.server_hub.specs.declared.event.HubEvent.{HubEvent}
-use Rattle.journal_book.specs.{behind}
+use Rattle.trace_loop.specs.journal_book.{behind}
 use Rattle.trace_loop.specs.declared.stop.Stop.{Stop}
 use Rattle.trace_loop.specs.declared.stop.Stop.TheVariants.{Wire}
 use Rattle.trace_loop.proofs.Stopping.{err_so, only_err}
