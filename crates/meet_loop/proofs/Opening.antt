@@ -12,9 +12,9 @@ use Rattle.trace_loop.proofs.trace_book.trace_serving.Judged.{IsAccepted, IsJoin
 use Rattle.trace_loop.specs.trace_book.trace_serving.{Stage, eventless, claim_of}
 use Rattle.trace_loop.specs.declared.turn.Turn.TheVariants.{GoesOn}
 use Rattle.trace_loop.specs.trace_book.{settings_of}
-use Rattle.world_laws.specs.World.{World}
-use Rattle.world_laws.specs.declared.world.WorldNote.{WorldNote}
-use Rattle.world_net.specs.{CameAtMost, Seen, StandsFor, with_channel}
+use Rattle.meet_loop.specs.world_laws.World.{World}
+use Rattle.meet_loop.specs.declared.world_laws.world.WorldNote.{WorldNote}
+use Rattle.meet_loop.specs.world_net.{CameAtMost, Seen, StandsFor, with_channel}
 use Rattle.meet_loop.specs.world_book.{meet}
 use Rattle.meet_loop.specs.{WorldServes, Serves, Stands, CanOpen, OpensIn, IsUnder, Comes, Took}
 use Rattle.meet_loop.proofs.Claims.{settings_stand, fits}

@@ -8,12 +8,12 @@ use Rattle.trace_loop.specs.trace_book.trace_serving.{Stage, after_judging, afte
 use Rattle.trace_loop.specs.declared.turn.Turn.{Turn}
 use Rattle.trace_loop.specs.declared.turn.Turn.TheVariants.{Said, Refused}
 use Rattle.trace_loop.specs.trace_book.{settings_of}
-use Rattle.world_laws.specs.declared.world.WorldEvent.{WorldEvent}
-use Rattle.world_laws.specs.declared.world.WorldNote.{WorldNote}
-use Rattle.world_laws.specs.World.{World}
-use Rattle.world_laws.specs.{happens}
-use Rattle.world_net.specs.{CameAtMost, Seen, StandsFor}
-use Rattle.world_net.proofs.Steps.{came_at_most}
+use Rattle.meet_loop.specs.declared.world_laws.world.WorldEvent.{WorldEvent}
+use Rattle.meet_loop.specs.declared.world_laws.world.WorldNote.{WorldNote}
+use Rattle.meet_loop.specs.world_laws.World.{World}
+use Rattle.meet_loop.specs.world_laws.{happens}
+use Rattle.meet_loop.specs.world_net.{CameAtMost, Seen, StandsFor}
+use Rattle.meet_loop.proofs.world_net.Steps.{came_at_most}
 use Rattle.meet_loop.specs.world_text.{notes_lines}
 use Rattle.meet_loop.specs.world_book.{meet, most_events}
 use Rattle.meet_loop.proofs.world_book.Channels.{happens_keeps}

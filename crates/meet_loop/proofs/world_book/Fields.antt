@@ -14,8 +14,8 @@ use Rattle.server_hub.specs.Served.{Served}
 use Rattle.trace_text.specs.{LinesAreSpelledAsRead}
 use Rattle.trace_loop.specs.trace_book.trace_serving.{channel_of_line, channel_at, AreLawful}
 use Rattle.trace_loop.specs.trace_book.{settings_of}
-use Rattle.world_laws.specs.{HasFields, AreInfos}
-use Rattle.world_laws.specs.World.{World}
+use Rattle.meet_loop.specs.world_laws.{HasFields, AreInfos}
+use Rattle.meet_loop.specs.world_laws.World.{World}
 use Rattle.trace_loop.proofs.trace_book.Lawful.{lawful_range, of_settings}
 
 record Has32 (c : Channel) : Type 0 where

@@ -12,9 +12,9 @@ use Rattle.trace_loop.specs.trace_book.trace_serving.{brought, ended, last_stage
 use Rattle.trace_loop.specs.trace_book.{settings_of, new_channels, IsOfBytes, KeepsPromises, ChannelsKeepTheirPromises}
 use Rattle.trace_loop.proofs.trace_book.Bytes.{hex_bytes}
 use Rattle.trace_loop.proofs.trace_book.Lawful.{lawful_all, of_settings}
-use Rattle.world_laws.specs.declared.world.WorldEvent.{WorldEvent}
-use Rattle.world_laws.specs.World.{World}
-use Rattle.world_laws.specs.{new_world, happens, world_after, BringsBytes, IsNew, HasFields, EachReceiverPresentsAPrefix, EachReceiverPresentsWhatIsDelivered, NoMediaAreForeignOrBad, NoInfosAreForeignOrBad}
+use Rattle.meet_loop.specs.declared.world_laws.world.WorldEvent.{WorldEvent}
+use Rattle.meet_loop.specs.world_laws.World.{World}
+use Rattle.meet_loop.specs.world_laws.{new_world, happens, world_after, BringsBytes, IsNew, HasFields, EachReceiverPresentsAPrefix, EachReceiverPresentsWhatIsDelivered, NoMediaAreForeignOrBad, NoInfosAreForeignOrBad}
 use Rattle.meet_loop.specs.world_text.{first_line, event_lines, world_lines}
 use Rattle.meet_loop.specs.world_book.{meet, world_of, IsServedByAWorld, EndsSo, ReceiversPresent}
 use Rattle.trace_loop.proofs.trace_book.trace_serving.Brought.{all_came}
