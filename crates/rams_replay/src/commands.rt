@@ -25,7 +25,7 @@ use meet_loop::world_book::laws::{
     worlds_end_so,
 };
 use meet_loop::write_world;
-use pool_loop::write_pool;
+use pool::pool_loop::write_pool;
 use ram_io::{Clock, Gate, Octets, Sink, Source, Wire};
 use rams_model::Status;
 use serve_loop::Watch;
