@@ -12,13 +12,13 @@ ghost use Rattle.threads_loop.specs.{HasDealt, HasEnded, HasRoomFor, HasStopped,
 
 use crate::dealing::Dealt;
 use crate::reading::{ReadTrace, read_trace};
+use crate::session_worker::run_lists;
 use crate::writing::write_worked;
 use book_text::append_refused;
 use line_io::put_all;
 use ram_io::{Gate, Sink, Source};
 use rams_model::{LineFault, Status};
 use server_hub::session_core::Core;
-use session_worker::run_lists;
 use std::alloc::Global;
 use std::mem;
 use std::sync::Wait;

@@ -3,8 +3,8 @@ ghost use Rattle.std.specs.Prelude.{◌≡◌, ◌+◌, ◌++◌, ℕ, List, [],
 ghost use Rattle.std.specs.Io.KnownBytes.{Appends};
 ghost use Rattle.line_io.specs.Passes.{Passes};
 ghost use Rattle.rams_model.specs.declared.status.Status.TheVariants.{Done};
-ghost use Rattle.session_worker.specs.live_writer.{datagrams_of};
-ghost use Rattle.session_worker.specs.{answered_with};
+ghost use Rattle.threads_loop.specs.session_worker.live_writer.{datagrams_of};
+ghost use Rattle.threads_loop.specs.session_worker.{answered_with};
 ghost use Rattle.trace_loop.specs.trace_book.trace_serving.{done};
 ghost use Rattle.trace_loop.specs.{IsStoppedByWrite, OnlyMemoryStops, StopsIn};
 ghost use Rattle.threads_loop.specs.{hub_event, part_text, piece_text, written_text};
