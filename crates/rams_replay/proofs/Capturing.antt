@@ -10,7 +10,7 @@ use Rattle.trace_loop.specs.trace_book.trace_serving.{Outcome}
 use Rattle.trace_loop.specs.declared.stop.Stop.{Stop}
 use Rattle.trace_loop.specs.declared.stop.Stop.TheVariants.{Memory, Read, Write, Wire}
 use Rattle.trace_loop.specs.{IfTold, IfBothTold, IsStopped, OnlyMemoryStops}
-use Rattle.capture_loop.specs.{HasReadCapture, IsCaptureEnd, IsTrace, capture_text}
+use Rattle.converters.specs.capture_loop.{HasReadCapture, IsCaptureEnd, IsTrace, capture_text}
 use Rattle.rams_replay.specs.{HasCapture, IsOrLacksMemory, WritesCapture, status_of}
 
 -- the whole text of an outcome, with its status

@@ -4,7 +4,7 @@ ghost use Rattle.trace_loop.specs.trace_book.printed_books.{PrintsItsBooks};
 ghost use Rattle.trace_loop.specs.trace_book.{EndsSo, IsServed, KeepsTheLink, KeepsPromises, served_by, run as book};
 ghost use Rattle.rams_model.specs.declared.status.Status.TheVariants.{BadTrace, Done, ReadFault};
 ghost use Rattle.serve_loop.specs.{Given, HasRoom, IfBothTold, IsGiven, served_datagrams, served_text};
-ghost use Rattle.description_loop.specs.{DescribesItsHead, WritesATrace, description_outcome, settings_outcome};
+ghost use Rattle.converters.specs.description_loop.{DescribesItsHead, WritesATrace, description_outcome, settings_outcome};
 ghost use Rattle.generated.specs.summary.{made_summary};
 ghost use Rattle.meet_loop.specs.world_book.{EndsSo as WorldEndsSo, IsServedByAWorld, ReceiversPresent, meet as world, world_of};
 ghost use Rattle.std.specs.Io.KnownBytes.{IsAtEnd};
@@ -16,8 +16,8 @@ use crate::made::write_summary;
 use crate::replay::new_replay;
 use crate::served::{serve_status, takeover_status};
 use crate::words::{Command, command_of};
-use capture_loop::{CaptureWatch, write_capture};
-use description_loop::{
+use converters::capture_loop::{CaptureWatch, write_capture};
+use converters::description_loop::{
     settings_are_traces, settings_are_turned_back, write_description, write_settings,
 };
 use meet_loop::world_book::laws::{
