@@ -1,6 +1,6 @@
 //! Captures, written as traces.
 use crate::fixtures::same;
-use capture_loop::{Status, Stop, write_capture};
+use converters::capture_loop::{Status, Stop, write_capture};
 use ram_io::{MemSink, MemSource, Open};
 use std::alloc::Global;
 use std::process::Abort;

@@ -1,6 +1,6 @@
 //! Heads and records of capture files.
 use crate::fixtures::same;
-use capture_loop::pcap_trace::{
+use converters::capture_loop::pcap_trace::{
     CaptureFault, Endian, FileKind, Record, file_kind, read_head, read_record,
 };
 use std::test::Fail;

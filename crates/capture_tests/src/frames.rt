@@ -1,6 +1,6 @@
 //! Datagrams in frames (RFC 791, 3.1; RFC 768).
 use crate::fixtures::same;
-use capture_loop::pcap_trace::datagram;
+use converters::capture_loop::pcap_trace::datagram;
 use std::test::Fail;
 use test_fixtures::test_words::{Words, bytes_of};
 

@@ -2,7 +2,7 @@
 ghost use Rattle.std.specs.Prelude.{◌^◌, ◌<◌};
 
 use crate::fixtures::same;
-use capture_loop::pcap_trace::Due;
+use converters::capture_loop::pcap_trace::Due;
 
 /// The length of a tick in ms, and each moment with the ticks in front of it.
 const ROWS: &[(u16, &[(u32, u64)])] = &[

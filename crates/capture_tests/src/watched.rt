@@ -1,5 +1,5 @@
 //! What is told of a capture that is refused.
-use capture_loop::{CaptureFault, CaptureWatch, FileKind, write_capture};
+use converters::capture_loop::{CaptureFault, CaptureWatch, FileKind, write_capture};
 use ram_io::{MemSink, MemSource};
 use std::alloc::Global;
 use std::cell::Cell;

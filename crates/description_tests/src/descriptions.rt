@@ -1,6 +1,6 @@
 //! Session descriptions, read and written (RFC 8866; RFC 6285, 8.3).
 use crate::fixtures::same;
-use description_loop::sdp_config::{Sdp, SdpFault, read_sdp, write_sdp};
+use converters::description_loop::sdp_config::{Sdp, SdpFault, read_sdp, write_sdp};
 use rams_model::{Access, Channel};
 use std::alloc::Global;
 use std::str;

@@ -1,7 +1,7 @@
 //! Settings from descriptions, and descriptions of channels: from a head's bytes to what is written.
 use crate::descriptions::{MEDIA, REPAIRS, SESSION};
 use crate::fixtures::same;
-use description_loop::{Status, Stop, write_description, write_settings};
+use converters::description_loop::{Status, Stop, write_description, write_settings};
 use ram_io::{MemSink, MemSource};
 use std::alloc::{AllocError, Global};
 use std::process::Abort;

@@ -11,9 +11,9 @@ use Rattle.rams_model.specs.Texts.{Head, Reached}
 use Rattle.server_hub.specs.{Pairwise, Serves, StandsFor, settings_of as hub_settings, has_id, shares_of, refused}
 use Rattle.server_hub.specs.Seen.{Seen}
 use Rattle.server_hub.specs.Served.{Served}
-use Rattle.trace_book.proofs.trace_serving.Judged.{IsJoined}
-use Rattle.trace_book.specs.trace_serving.{claim_of}
-use Rattle.trace_book.specs.{settings_of}
+use Rattle.trace_loop.proofs.trace_book.trace_serving.Judged.{IsJoined}
+use Rattle.trace_loop.specs.trace_book.trace_serving.{claim_of}
+use Rattle.trace_loop.specs.trace_book.{settings_of}
 
 -- a hub has the settings of the channels that it stands for
 pairs_settled : {A : Type 0} (f : A → Settings) (R : A → Served → Type 0) → ((v : A) (c : Served) → R v c → f v ≡ c.settings) → (vs : List A) (channels : List Served)

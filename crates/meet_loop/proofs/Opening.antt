@@ -8,13 +8,13 @@ use Rattle.rams_model.specs.declared.mode.LineKind.TheVariants as kind
 use Rattle.rams_model.specs.Service.{Settings, settings}
 use Rattle.rams_model.specs.Texts.{TraceLine, head_line, channel_line, line_in_range, Claim, Head, Reached, tick_of, may_come, may_come_next, kind_may_come, has_channel, has_one_channel}
 use Rattle.server_hub.specs.{served, refused}
-use Rattle.trace_book.proofs.trace_serving.Judged.{IsAccepted, IsJoined, judged_so, channel_so}
-use Rattle.trace_book.specs.trace_serving.{Stage, eventless, claim_of}
+use Rattle.trace_loop.proofs.trace_book.trace_serving.Judged.{IsAccepted, IsJoined, judged_so, channel_so}
+use Rattle.trace_loop.specs.trace_book.trace_serving.{Stage, eventless, claim_of}
 use Rattle.trace_loop.specs.declared.turn.Turn.TheVariants.{GoesOn}
-use Rattle.trace_book.specs.{settings_of}
-use Rattle.world_laws.specs.World.{World}
-use Rattle.world_laws.specs.declared.world.WorldNote.{WorldNote}
-use Rattle.world_net.specs.{CameAtMost, Seen, StandsFor, with_channel}
+use Rattle.trace_loop.specs.trace_book.{settings_of}
+use Rattle.meet_loop.specs.world_laws.World.{World}
+use Rattle.meet_loop.specs.declared.world_laws.world.WorldNote.{WorldNote}
+use Rattle.meet_loop.specs.world_net.{CameAtMost, Seen, StandsFor, with_channel}
 use Rattle.meet_loop.specs.world_book.{meet}
 use Rattle.meet_loop.specs.{WorldServes, Serves, Stands, CanOpen, OpensIn, IsUnder, Comes, Took}
 use Rattle.meet_loop.proofs.Claims.{settings_stand, fits}

@@ -4,16 +4,16 @@ use Rattle.std.proofs.lemmas.Bool.{and_parts, lt-ltb}
 use Rattle.rams_model.specs.declared.fault.LineFault.{LineFault}
 use Rattle.rams_model.specs.Texts.{TraceLine, head_line, channel_line, live_line, feedback_line, tick_line, end_line, tune_line, give_line, mcast_line, ask_line, drop_line, Claim, Head, Reached, has_channel, has_events, has_receivers, judged, kind_of, kind_may_come, with_line}
 use Rattle.server_hub.specs.Served.{Served}
-use Rattle.trace_book.specs.trace_serving.{Stage, after_judging, after_line, counted, turn, brought, claim_of}
+use Rattle.trace_loop.specs.trace_book.trace_serving.{Stage, after_judging, after_line, counted, turn, brought, claim_of}
 use Rattle.trace_loop.specs.declared.turn.Turn.{Turn}
 use Rattle.trace_loop.specs.declared.turn.Turn.TheVariants.{Said, Refused}
-use Rattle.trace_book.specs.{settings_of}
-use Rattle.world_laws.specs.declared.world.WorldEvent.{WorldEvent}
-use Rattle.world_laws.specs.declared.world.WorldNote.{WorldNote}
-use Rattle.world_laws.specs.World.{World}
-use Rattle.world_laws.specs.{happens}
-use Rattle.world_net.specs.{CameAtMost, Seen, StandsFor}
-use Rattle.world_net.proofs.Steps.{came_at_most}
+use Rattle.trace_loop.specs.trace_book.{settings_of}
+use Rattle.meet_loop.specs.declared.world_laws.world.WorldEvent.{WorldEvent}
+use Rattle.meet_loop.specs.declared.world_laws.world.WorldNote.{WorldNote}
+use Rattle.meet_loop.specs.world_laws.World.{World}
+use Rattle.meet_loop.specs.world_laws.{happens}
+use Rattle.meet_loop.specs.world_net.{CameAtMost, Seen, StandsFor}
+use Rattle.meet_loop.proofs.world_net.Steps.{came_at_most}
 use Rattle.meet_loop.specs.world_text.{notes_lines}
 use Rattle.meet_loop.specs.world_book.{meet, most_events}
 use Rattle.meet_loop.proofs.world_book.Channels.{happens_keeps}

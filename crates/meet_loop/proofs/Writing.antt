@@ -2,7 +2,7 @@
 use Rattle.std.proofs.Common.{◌≡◌, ℕ, List, [], ◌++◌, length, take, drop, sym, ap, ap₂, ◌∙◌}
 use Rattle.std.proofs.lemmas.Grind.{flat_map-append}
 use Rattle.std.proofs.lemmas.List.{take-append-drop, nil_from_length}
-use Rattle.world_laws.specs.declared.world.WorldNote.{WorldNote}
+use Rattle.meet_loop.specs.declared.world_laws.world.WorldNote.{WorldNote}
 use Rattle.meet_loop.specs.world_text.{notes_lines, world_line}
 
 pub notes_lines-split : (event : ℕ) (left part rest : List WorldNote) (count : ℕ) → part ≡ take count left → rest ≡ drop count left

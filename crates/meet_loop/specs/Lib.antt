@@ -1,3 +1,5 @@
+pub mod world_laws
+pub mod world_net
 pub mod world_book
 pub mod world_text
 pub mod Turns

@@ -3,16 +3,16 @@ use Rattle.std.specs.Prelude.{◌≡◌, ℕ, Bool, false, List, [], map, Option
 use Rattle.rams_model.specs.Service.{Settings}
 use Rattle.rams_model.specs.Texts.{TraceLine, Head, Reached, judged}
 use Rattle.server_hub.specs.{refused as refused_add}
-use Rattle.trace_book.specs.trace_serving.{Stage, claim_of}
-use Rattle.trace_book.specs.trace_serving.Text as text
+use Rattle.trace_loop.specs.trace_book.trace_serving.{Stage, claim_of}
+use Rattle.trace_loop.specs.trace_book.trace_serving.Text as text
 use Rattle.trace_loop.specs.declared.turn.Turn.{Turn}
 use Rattle.trace_loop.specs.{ending, written, Took as TookSo}
-use Rattle.trace_book.specs.{settings_of}
-use Rattle.world_laws.specs.declared.world.WorldEvent.{WorldEvent}
-use Rattle.world_laws.specs.declared.world.WorldNote.{WorldNote}
-use Rattle.world_laws.specs.{new_world, happens}
-use Rattle.world_laws.specs.World.{World}
-use Rattle.world_net.specs.{CameAtMost, StandsFor, Seen, with_channel}
+use Rattle.trace_loop.specs.trace_book.{settings_of}
+use Rattle.meet_loop.specs.declared.world_laws.world.WorldEvent.{WorldEvent}
+use Rattle.meet_loop.specs.declared.world_laws.world.WorldNote.{WorldNote}
+use Rattle.meet_loop.specs.world_laws.{new_world, happens}
+use Rattle.meet_loop.specs.world_laws.World.{World}
+use Rattle.meet_loop.specs.world_net.{CameAtMost, StandsFor, Seen, with_channel}
 use Rattle.meet_loop.specs.world_text.{notes_lines}
 use Rattle.meet_loop.specs.world_book.{meet}
 

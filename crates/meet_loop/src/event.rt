@@ -2,15 +2,15 @@
 ghost use Rattle.std.specs.Prelude.{◌≡◌, IfOk, IsTrue};
 ghost use Rattle.rams_model.specs.Texts.{is_hex, bytes_in};
 ghost use Rattle.trace_text.specs.{shown, HasDigits};
-ghost use Rattle.trace_book.specs.trace_serving.{brought};
+ghost use Rattle.trace_loop.specs.trace_book.trace_serving.{brought};
 ghost use Rattle.meet_loop.specs.world_book.{meet};
 
+use crate::world_net::WorldEvent;
 use ram_io::NoMemory;
 use rams_model::Octets;
 use server_hub::HubEvent;
 use std::alloc::Global;
 use trace_text::{Line, decode};
-use world_net::WorldEvent;
 
 /// The event that a line brings; `None` exactly where it is a head line, a channel line or `end`.
 pub(crate) fn event_of(alloc: Global, line: Line<'_>) -> Result<Option<WorldEvent>, NoMemory>

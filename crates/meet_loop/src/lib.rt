@@ -5,6 +5,8 @@ mod event;
 mod meeting;
 mod text;
 pub mod world_book;
+pub mod world_laws;
+pub mod world_net;
 pub mod world_text;
 mod writer;
 

@@ -2,17 +2,18 @@
 ghost use Rattle.std.specs.Prelude.{◌≡◌, ◌≤◌, ◌+◌, ◌-◌, ◌^◌, ℕ, true, IfOk, IsSomeAnd, is_some, None};
 ghost use Rattle.rams_model.specs.Texts.{tick_of};
 ghost use Rattle.trace_text.specs.{shown, told, HasDigits, IsOther, IsSettled};
-ghost use Rattle.trace_book.specs.trace_serving.{Stage, opening, turn, after_line, eventless, counted, brought};
+ghost use Rattle.trace_loop.specs.trace_book.trace_serving.{Stage, opening, turn, after_line, eventless, counted, brought};
 ghost use Rattle.trace_loop.specs.{StandsSomewhere};
 ghost use Rattle.trace_loop.specs.declared.turn.Turn.TheVariants.{GoesOn};
-ghost use Rattle.world_laws.specs.World.{World as Worlds};
-ghost use Rattle.world_laws.specs.declared.world.WorldEvent.{WorldEvent};
-ghost use Rattle.world_net.specs.{CameAtMost, StandsFor};
+ghost use Rattle.meet_loop.specs.world_laws.World.{World as Worlds};
+ghost use Rattle.meet_loop.specs.declared.world_laws.world.WorldEvent.{WorldEvent};
+ghost use Rattle.meet_loop.specs.world_net.{CameAtMost, StandsFor};
 ghost use Rattle.meet_loop.specs.world_text.{notes_lines};
 ghost use Rattle.meet_loop.specs.world_book.{meet};
 ghost use Rattle.meet_loop.specs.{Stands, Comes, CanOpen, OpensIn, IsUnder, Happens, Took};
 
 use crate::event::event_of;
+use crate::world_net::{Hub, World, WorldEvent, WorldNote};
 use crate::writer::write_notes;
 use channel_config::Config;
 use ram_io::{NoMemory, Sink};
@@ -20,7 +21,6 @@ use rams_model::LineFault;
 use std::alloc::Global;
 use trace_loop::{Stop, TraceServer, Writer};
 use trace_text::{Judged, Line, Mode, State};
-use world_net::{Hub, World, WorldEvent, WorldNote};
 
 /// Most events of a trace.
 const MOST_EVENTS: u64 = 100_000;

@@ -5,6 +5,6 @@
 mod line;
 pub mod rows;
 
+pub use crate::world_laws::{WorldItem, WorldNote};
 pub use line::{append_world_note, append_world_part};
 pub use ram_io::NoMemory;
-pub use world_laws::{WorldItem, WorldNote};

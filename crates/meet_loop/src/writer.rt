@@ -4,10 +4,10 @@ ghost use Rattle.line_io.specs.Passes.{Passes};
 ghost use Rattle.trace_loop.specs.{IsStoppedByWrite, OnlyMemoryStops, StopsIn};
 ghost use Rattle.meet_loop.specs.world_text.{notes_lines};
 
+use crate::world_net::{WorldItem, WorldNote};
 use crate::world_text::append_world_part;
 use ram_io::Sink;
 use trace_loop::{Stop, Writer, settle};
-use world_net::{WorldItem, WorldNote};
 
 /// Adds the lines of what is said of an event.
 pub(crate) fn write_notes<K: Sink>(

@@ -3,4 +3,5 @@
 
 pub mod ledger_text;
 pub mod link_pool;
+pub mod pool_loop;
 pub mod pool_run;

@@ -1,5 +1,5 @@
 //! Traces of channels that share a link: their books, and the ledgers behind.
-use pool_loop::{Open, Status, Stop, write_pool};
+use pool::pool_loop::{Open, Status, Stop, write_pool};
 use ram_io::{MemSink, MemSource};
 use std::alloc::{AllocError, Global};
 use std::process::Abort;

@@ -12,10 +12,10 @@ use Rattle.server_hub.specs.{AllServe, new_hub, settings_of, has_id, shares_of, 
 use Rattle.server_hub.specs.Seen.{Seen}
 use Rattle.server_hub.specs.Served.{Served}
 use Rattle.server_hub.proofs.Pairing.{same_length}
-use Rattle.trace_book.proofs.trace_serving.Judged.{IsAccepted, accepted_so, channel_so}
-use Rattle.trace_book.specs.trace_serving.{Stage, eventless}
+use Rattle.trace_loop.proofs.trace_book.trace_serving.Judged.{IsAccepted, accepted_so, channel_so}
+use Rattle.trace_loop.specs.trace_book.trace_serving.{Stage, eventless}
 use Rattle.trace_loop.specs.declared.turn.Turn.TheVariants.{GoesOn}
-use Rattle.trace_book.specs.{run}
+use Rattle.trace_loop.specs.trace_book.{run}
 use Rattle.rams_replay.specs.{HubServes, Serves, Stands, CanOpen, OpensIn, Comes, Took, claim_of}
 use Rattle.rams_replay.proofs.Telling.{settings_all, settings_stand}
 

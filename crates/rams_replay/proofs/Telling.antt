@@ -15,7 +15,7 @@ use Rattle.server_hub.specs.declared.event.HubEvent.TheVariants.{Live, Feedback,
 use Rattle.server_hub.specs.Seen.{Seen}
 use Rattle.server_hub.specs.Served.{Served}
 use Rattle.server_hub.proofs.Finding.{with_id, one_has, settings_found}
-use Rattle.trace_book.specs.{channel_text, event_text, named_text}
+use Rattle.trace_loop.specs.trace_book.{channel_text, event_text, named_text}
 use Rattle.rams_replay.specs.{AllRender, Tells, at_text, settled_text, told_text}
 
 -- the settings of the channels

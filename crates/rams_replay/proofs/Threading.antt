@@ -8,7 +8,7 @@ use Rattle.trace_loop.specs.declared.stop.Stop.{Stop}
 use Rattle.trace_loop.specs.declared.stop.Stop.TheVariants.{Memory, Read, Write, Wire}
 use Rattle.trace_loop.specs.{IfTold, IsEnd, OnlyMemoryStops}
 use Rattle.threads_loop.specs.{HasEnded, HasRoomFor, HasStopped, MayWrite}
-use Rattle.pool_loop.specs.{HasEnded as PoolHasEnded, HasRoomFor as PoolHasRoomFor, HasStopped as PoolHasStopped, MayWrite as PoolMayWrite}
+use Rattle.pool.specs.pool_loop.{HasEnded as PoolHasEnded, HasRoomFor as PoolHasRoomFor, HasStopped as PoolHasStopped, MayWrite as PoolMayWrite}
 use Rattle.rams_replay.specs.{IsEndOr, IsOrLacksMemory, WritesOneOf, WritesPool, WritesThreads, pool_end, status_of, threads_end}
 use Rattle.rams_replay.proofs.Capturing.{HasNoWire}
 

@@ -13,12 +13,12 @@ use Rattle.server_hub.specs.{StandsFor, id_of, with_event, after_event, after_ev
 use Rattle.server_hub.specs.declared.event.HubEvent.TheVariants.{Live, Feedback, Tick}
 use Rattle.server_hub.specs.Seen.{Seen}
 use Rattle.server_hub.specs.Served.{Served}
-use Rattle.trace_book.proofs.trace_serving.Judged.{accepted_so}
-use Rattle.trace_book.specs.trace_serving.{Stage, goes_on, after_judging, after_line, counted, turn, brought}
-use Rattle.trace_book.specs.trace_serving.Text as text
+use Rattle.trace_loop.proofs.trace_book.trace_serving.Judged.{accepted_so}
+use Rattle.trace_loop.specs.trace_book.trace_serving.{Stage, goes_on, after_judging, after_line, counted, turn, brought}
+use Rattle.trace_loop.specs.trace_book.trace_serving.Text as text
 use Rattle.trace_loop.specs.declared.turn.Turn.{Turn}
 use Rattle.trace_loop.specs.declared.turn.Turn.TheVariants.{GoesOn, Said, Refused}
-use Rattle.trace_book.specs.{run, most_events, event_text}
+use Rattle.trace_loop.specs.trace_book.{run, most_events, event_text}
 use Rattle.rams_replay.specs.{Comes, HubServes, Stands, CountsOne, Tells, Took, claim_of}
 use Rattle.trace_text.specs.declared.line.Line.{Line}
 use Rattle.trace_text.specs.{shown, IsOther}

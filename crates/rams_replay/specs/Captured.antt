@@ -5,9 +5,9 @@ use Rattle.line_io.specs.Passes.{Passes}
 use Rattle.rams_model.specs.declared.status.Status.{Status}
 use Rattle.rams_model.specs.declared.status.Status.TheVariants.{Done, NoMemory, ReadFault, WriteFault, BadTrace, TooLong, BadCapture}
 use Rattle.ram_io.specs.{Rose}
-use Rattle.trace_book.specs.trace_serving.{Outcome}
+use Rattle.trace_loop.specs.trace_book.trace_serving.{Outcome}
 use Rattle.trace_loop.specs.{IfTold, IfBothTold}
-use Rattle.capture_loop.specs.{HasReadCapture, IsTrace, capture_text}
+use Rattle.converters.specs.capture_loop.{HasReadCapture, IsTrace, capture_text}
 use Rattle.rams_replay.specs.Statuses.{IsOrLacksMemory}
 
 -- The command came to an end of its own, and the sink got exactly the text; or memory, the source or the sink stopped it. It ends in no other way.

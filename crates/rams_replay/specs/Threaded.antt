@@ -2,11 +2,11 @@
 use Rattle.std.specs.Prelude.{◌≡◌, ℕ, ◌⊎◌, List, All, Option}
 use Rattle.rams_model.specs.declared.status.Status.{Status}
 use Rattle.rams_model.specs.declared.status.Status.TheVariants.{Done, NoMemory, ReadFault, WriteFault, BadTrace, TooLong}
-use Rattle.trace_book.specs.trace_serving.{served_text}
+use Rattle.trace_loop.specs.trace_book.trace_serving.{served_text}
 use Rattle.trace_loop.specs.{IfTold}
-use Rattle.trace_book.specs.{EndsSo, IsServed, KeepsPromises, KeepsTheLink, served_by}
+use Rattle.trace_loop.specs.trace_book.{EndsSo, IsServed, KeepsPromises, KeepsTheLink, served_by}
 use Rattle.threads_loop.specs.{HasEnded, HasRoomFor, HasStopped, MayCome, threads}
-use Rattle.pool_loop.specs.{HasEnded as PoolHasEnded, HasRoomFor as PoolHasRoomFor, HasStopped as PoolHasStopped, pool}
+use Rattle.pool.specs.pool_loop.{HasEnded as PoolHasEnded, HasRoomFor as PoolHasRoomFor, HasStopped as PoolHasStopped, pool}
 use Rattle.rams_replay.specs.Statuses.{IsOrLacksMemory}
 
 -- The command came to an end of its own, of which Ended tells; or memory, the source or the sink stopped it. It ends in no other way.

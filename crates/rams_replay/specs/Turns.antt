@@ -11,11 +11,11 @@ use Rattle.server_hub.specs.declared.event.HubAnswer.{HubAnswer}
 use Rattle.server_hub.specs.{StandsFor, Told, no_channel, says, told, answers_said, settings_of, refused as refused_add, served, after_event}
 use Rattle.server_hub.specs.Seen.{Seen}
 use Rattle.server_hub.specs.Served.{Served}
-use Rattle.trace_book.specs.trace_serving.{Stage}
-use Rattle.trace_book.specs.trace_serving.Text as text
+use Rattle.trace_loop.specs.trace_book.trace_serving.{Stage}
+use Rattle.trace_loop.specs.trace_book.trace_serving.Text as text
 use Rattle.trace_loop.specs.declared.turn.Turn.{Turn}
 use Rattle.trace_loop.specs.{ending, written, Took as TookSo}
-use Rattle.trace_book.specs.{event_text}
+use Rattle.trace_loop.specs.trace_book.{event_text}
 
 -- what a trace's lines keep of a channel
 abbrev pub claim_of : Served → Claim

@@ -1,23 +1,23 @@
 //! The commands.
 ghost use Rattle.std.specs.Prelude.{◌≡◌, ◌≢◌, ◌≤◌, ◌<◌, ◌⊎◌, false, is_none, not, ℕ, All, None, length};
-ghost use Rattle.trace_book.specs.printed_books.{PrintsItsBooks};
-ghost use Rattle.trace_book.specs.{EndsSo, IsServed, KeepsTheLink, KeepsPromises, served_by, run as book};
+ghost use Rattle.trace_loop.specs.trace_book.printed_books.{PrintsItsBooks};
+ghost use Rattle.trace_loop.specs.trace_book.{EndsSo, IsServed, KeepsTheLink, KeepsPromises, served_by, run as book};
 ghost use Rattle.rams_model.specs.declared.status.Status.TheVariants.{BadTrace, Done, ReadFault};
 ghost use Rattle.serve_loop.specs.{Given, HasRoom, IfBothTold, IsGiven, served_datagrams, served_text};
-ghost use Rattle.description_loop.specs.{DescribesItsHead, WritesATrace, description_outcome, settings_outcome};
+ghost use Rattle.converters.specs.description_loop.{DescribesItsHead, WritesATrace, description_outcome, settings_outcome};
 ghost use Rattle.generated.specs.summary.{made_summary};
 ghost use Rattle.meet_loop.specs.world_book.{EndsSo as WorldEndsSo, IsServedByAWorld, ReceiversPresent, meet as world, world_of};
 ghost use Rattle.std.specs.Io.KnownBytes.{IsAtEnd};
 ghost use Rattle.rams_replay.specs.{AreDescribe, AreMake, AreMeet, ArePcap, ArePool, AreRun, AreSdp, AreServe, AreTakeover, AreThreads, ComesPromised, HasTakenOver, Replies, WritesCapture, WritesPool, WritesThreads, command_of, is_plain, no_room, port_of, status_of, is_words, HasServed, HasSummary, IsCaused, IsCausedOverWire, IsOrLacksMemory, Writes};
-ghost use Rattle.takeover_loop.specs.{HoldsItsLines, MakesOneJournal, taken_datagrams, taken_text};
+ghost use Rattle.serve_loop.specs.takeover_loop.{HoldsItsLines, MakesOneJournal, taken_datagrams, taken_text};
 ghost use Rattle.trace_loop.specs.{IfTold};
 
 use crate::made::write_summary;
 use crate::replay::new_replay;
 use crate::served::{serve_status, takeover_status};
 use crate::words::{Command, command_of};
-use capture_loop::{CaptureWatch, write_capture};
-use description_loop::{
+use converters::capture_loop::{CaptureWatch, write_capture};
+use converters::description_loop::{
     settings_are_traces, settings_are_turned_back, write_description, write_settings,
 };
 use meet_loop::world_book::laws::{
@@ -25,20 +25,20 @@ use meet_loop::world_book::laws::{
     worlds_end_so,
 };
 use meet_loop::write_world;
-use pool_loop::write_pool;
+use pool::pool_loop::write_pool;
 use ram_io::{Clock, Gate, Octets, Sink, Source, Wire};
 use rams_model::Status;
 use serve_loop::Watch;
+use serve_loop::takeover_loop::laws::takeovers_make_one_journal;
 use std::alloc::Global;
 use std::sync::Wait;
 use std::thread::Threads;
-use takeover_loop::laws::takeovers_make_one_journal;
 use threads_loop::write_threads;
-use trace_book::laws::{
+use trace_loop::trace_book::laws::{
     traces_are_served_by_their_lines, traces_are_served_lawfully, traces_end_so,
     traces_stay_within_the_link,
 };
-use trace_book::printed_books::laws::books_are_printed;
+use trace_loop::trace_book::printed_books::laws::books_are_printed;
 use trace_loop::{Stop, write_text};
 
 /// Runs a command over whatever it reads from, writes to, sends through and tells the time by.

@@ -8,8 +8,8 @@ mod served;
 mod words;
 mod writer;
 
-pub use capture_loop::{CaptureFault, CaptureWatch, FileKind};
 pub use commands::{plain, run};
+pub use converters::capture_loop::{CaptureFault, CaptureWatch, FileKind};
 pub use ram_io::{NoMemory, Octets, Sink, Source};
 pub use rams_model::Status;
 pub use serve_loop::Watch;

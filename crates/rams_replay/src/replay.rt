@@ -5,10 +5,10 @@ ghost use Rattle.server_hub.specs.{StandsFor, event_of, told as said};
 ghost use Rattle.server_hub.specs.Served.{Served};
 ghost use Rattle.rams_model.specs.Texts.{tick_of};
 ghost use Rattle.trace_text.specs.{shown, told, HasDigits, IsOther, IsSettled};
-ghost use Rattle.trace_book.specs.trace_serving.{Stage, opening, turn, after_line, counted, brought};
+ghost use Rattle.trace_loop.specs.trace_book.trace_serving.{Stage, opening, turn, after_line, counted, brought};
 ghost use Rattle.trace_loop.specs.{StandsSomewhere, CanWrite, ending};
 ghost use Rattle.trace_loop.specs.declared.turn.Turn.TheVariants.{GoesOn};
-ghost use Rattle.trace_book.specs.{run};
+ghost use Rattle.trace_loop.specs.trace_book.{run};
 ghost use Rattle.rams_replay.specs.{Stands, Comes, CanOpen, OpensIn, CountsOne, Tells, Took, SaidRender, told_text};
 
 use crate::writer::write_said;

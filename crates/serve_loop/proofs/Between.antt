@@ -9,7 +9,7 @@ use Rattle.ram_io.specs.{GivesNext, Outgoing, TakesNext, cut, later, next_answer
 use Rattle.server_hub.specs.declared.event.HubEvent.{HubEvent}
 use Rattle.server_hub.specs.declared.event.HubEvent.TheVariants.{Tick}
 use Rattle.server_hub.specs.Seen.{Seen}
-use Rattle.journal_book.specs.{heard, heard_from, next_moment, tick_at}
+use Rattle.trace_loop.specs.journal_book.{heard, heard_from, next_moment, tick_at}
 use Rattle.trace_loop.specs.declared.stop.Stop.{Stop}
 use Rattle.serve_loop.specs.{Begun, Ready, GoesOn, IsBetween, AnswersFrom, next_events}
 

@@ -17,9 +17,9 @@ use Rattle.server_hub.specs.Seen.{Seen}
 use Rattle.ram_io.specs.{Outgoing}
 use Rattle.server_hub.specs.declared.event.HubEvent.{HubEvent}
 use Rattle.server_hub.specs.Served.{Served}
-use Rattle.trace_book.specs.trace_serving.{Outcome, done, ended, refused}
-use Rattle.trace_book.specs.{trace_text}
-use Rattle.journal_book.specs.{HasLine, IsJournal, event_lines, events_of, journal_of, replayed, sent_for, behind, FrontsReplay, HeadsOpenNewChannels, JournalsReplay, RunsWriteJournals}
+use Rattle.trace_loop.specs.trace_book.trace_serving.{Outcome, done, ended, refused}
+use Rattle.trace_loop.specs.trace_book.{trace_text}
+use Rattle.trace_loop.specs.journal_book.{HasLine, IsJournal, event_lines, events_of, journal_of, replayed, sent_for, behind, FrontsReplay, HeadsOpenNewChannels, JournalsReplay, RunsWriteJournals}
 use Rattle.trace_loop.specs.declared.stop.Stop.{Stop}
 use Rattle.trace_loop.specs.declared.stop.Stop.TheVariants.{Memory, Read, Write, Wire}
 use Rattle.serve_loop.specs.{Begun, Broken, Ending, EndsAs, Given, GoOut, HasEnded, HasRoom, HasStopped, IsBetween, IsHeadOf, OnlyMemoryStops, Room, Serving, Stopping, StopsIn, WaitsIn, datagrams_by, given_events, given_journal, head_end, head_stage, head_text, sent_by, served_datagrams, served_text, text_by}

@@ -7,7 +7,7 @@ use Rattle.ram_io.specs.{Outgoing}
 use Rattle.server_hub.specs.declared.event.HubEvent.{HubEvent}
 use Rattle.server_hub.specs.{after_event}
 use Rattle.server_hub.specs.Served.{Served}
-use Rattle.journal_book.specs.{behind, datagrams_of, event_line, event_lines, sent_for}
+use Rattle.trace_loop.specs.journal_book.{behind, datagrams_of, event_line, event_lines, sent_for}
 use Rattle.trace_loop.specs.declared.stop.Stop.{Stop}
 use Rattle.serve_loop.specs.{bytes_of, OnlyMemoryStops, Room, HasRoom}
 

@@ -16,9 +16,9 @@ use Rattle.server_hub.specs.declared.event.HubEvent.{HubEvent}
 use Rattle.server_hub.specs.{StandsFor, settings_of, ids_of, after_event, Told, told, told_to, answers_said}
 use Rattle.server_hub.specs.Seen.{Seen}
 use Rattle.server_hub.proofs.Finding.{with_id}
-use Rattle.trace_book.specs.Stages.{settings_of as settings_all}
-use Rattle.journal_book.specs.{behind, datagrams_of, event_line, event_lines}
-use Rattle.journal_book.proofs.Served.{journal_grows}
+use Rattle.trace_loop.specs.trace_book.Stages.{settings_of as settings_all}
+use Rattle.trace_loop.specs.journal_book.{behind, datagrams_of, event_line, event_lines}
+use Rattle.trace_loop.proofs.journal_book.Served.{journal_grows}
 use Rattle.trace_loop.specs.declared.stop.Stop.{Stop}
 use Rattle.trace_loop.specs.declared.stop.Stop.TheVariants.{Memory, Read, Write, Wire}
 use Rattle.serve_loop.specs.{Begun, Ready, Serving, Broken, WaitsIn, sent_by, AnswersFrom, Sends, StopsIn, GoOut, order_datagrams, settled_datagrams, said_datagrams}

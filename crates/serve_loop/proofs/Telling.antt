@@ -16,9 +16,9 @@ use Rattle.server_hub.specs.Seen.{Seen}
 use Rattle.server_hub.specs.Served.{Served}
 use Rattle.server_hub.proofs.Changing.{rest_once, later_differs}
 use Rattle.server_hub.proofs.Finding.{with_id, one_has, settings_found}
-use Rattle.trace_book.specs.Stages.{settings_of as settings_all}
-use Rattle.journal_book.specs.{AreApart, answer_datagrams, datagrams_of, behind}
-use Rattle.journal_book.proofs.Channels.{one_answers}
+use Rattle.trace_loop.specs.trace_book.Stages.{settings_of as settings_all}
+use Rattle.trace_loop.specs.journal_book.{AreApart, answer_datagrams, datagrams_of, behind}
+use Rattle.trace_loop.proofs.journal_book.Channels.{one_answers}
 use Rattle.trace_loop.proofs.head_loop.Channels.{settings_stand, at_place}
 use Rattle.serve_loop.specs.{AllRender, settled_datagrams, said_datagrams, AnswersFrom, numbers}
 

@@ -5,7 +5,7 @@ use Rattle.ram_io.specs.{Outgoing, later}
 use Rattle.server_hub.specs.declared.event.HubEvent.{HubEvent}
 use Rattle.server_hub.specs.Seen.{Seen}
 use Rattle.server_hub.specs.Served.{Served}
-use Rattle.journal_book.specs.{behind, due_after, event_lines, events_of, events_of_turns, next_moment, sent_for, tick_at, turns_of}
+use Rattle.trace_loop.specs.journal_book.{behind, due_after, event_lines, events_of, events_of_turns, next_moment, sent_for, tick_at, turns_of}
 use Rattle.trace_loop.specs.declared.stop.Stop.{Stop}
 use Rattle.serve_loop.specs.{Begun, Broken, HasRoom, IsBetween, Room, Serving, next_events}
 use Rattle.serve_loop.proofs.Rooms.{behind_append, room_for, room_join, room_none, room_split}

@@ -7,10 +7,10 @@ use Rattle.rams_model.specs.Texts.{tick_of}
 use Rattle.ram_io.specs.declared.wire.Incoming.{Incoming}
 use Rattle.ram_io.specs.{Outgoing, Rose}
 use Rattle.server_hub.specs.declared.event.HubEvent.{HubEvent}
-use Rattle.trace_book.specs.trace_serving.{Outcome, done, ended}
-use Rattle.trace_book.specs.{first_line, trace_text}
+use Rattle.trace_loop.specs.trace_book.trace_serving.{Outcome, done, ended}
+use Rattle.trace_loop.specs.trace_book.{first_line, trace_text}
 use Rattle.line_io.specs.Passes.{Passes}
-use Rattle.journal_book.specs.{CanArrive, IsJournal, event_lines, events_of, journal_of, replayed, sent_for, text_for}
+use Rattle.trace_loop.specs.journal_book.{CanArrive, IsJournal, event_lines, events_of, journal_of, replayed, sent_for, text_for}
 use Rattle.trace_loop.specs.declared.stop.Stop.{Stop}
 use Rattle.trace_loop.specs.declared.stop.Stop.TheVariants.{Memory, Read, Write, Wire}
 use Rattle.trace_loop.specs.head_loop.{head_end, head_stage, head_text}

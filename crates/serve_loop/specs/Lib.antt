@@ -1,3 +1,5 @@
+pub mod standby
+pub mod takeover_loop
 pub mod Sending
 pub mod Progress
 pub mod Steady

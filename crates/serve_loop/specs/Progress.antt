@@ -7,7 +7,7 @@ use Rattle.server_hub.specs.declared.event.HubEvent.{HubEvent}
 use Rattle.server_hub.specs.{StandsFor}
 use Rattle.server_hub.specs.Seen.{Seen}
 use Rattle.server_hub.specs.Served.{Served}
-use Rattle.journal_book.specs.{AreApart, heard, behind, event_lines, sent_for}
+use Rattle.trace_loop.specs.journal_book.{AreApart, heard, behind, event_lines, sent_for}
 use Rattle.trace_loop.specs.head_loop.{numbers, AnswersFrom, StandsSomewhere}
 use Rattle.trace_loop.specs.declared.stop.Stop.{Stop}
 use Rattle.trace_loop.specs.declared.stop.Stop.TheVariants.{Memory, Read, Write, Wire}

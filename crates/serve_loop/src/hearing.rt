@@ -3,7 +3,7 @@ ghost use Rattle.std.specs.Prelude.{◌≡◌, ◌+◌, ◌^◌, ◌<◌, ◌≤
 ghost use Rattle.std.specs.List.{list_any};
 ghost use Rattle.server_hub.specs.declared.event.HubEvent.{HubEvent};
 ghost use Rattle.server_hub.specs.{answers_said, event_of, told};
-ghost use Rattle.journal_book.specs.{behind, datagrams_of, event_line};
+ghost use Rattle.trace_loop.specs.journal_book.{behind, datagrams_of, event_line};
 ghost use Rattle.serve_loop.specs.{Begun, Ready, Broken, GoesOn, HasRoom, IsStoppedOutside, OnlyMemoryStops, Room, StandsSomewhere};
 
 use crate::journal::write_event;

@@ -3,15 +3,15 @@ ghost use Rattle.std.specs.Prelude.{ℕ, ◌+◌, ◌++◌, IfErr, OnOk, length}
 ghost use Rattle.line_io.specs.Passes.{Passes};
 ghost use Rattle.rams_model.specs.Texts.{refused_line};
 ghost use Rattle.server_hub.specs.{event_of};
-ghost use Rattle.journal_book.specs.{event_line};
+ghost use Rattle.trace_loop.specs.journal_book.{event_line};
 ghost use Rattle.serve_loop.specs.{IsStoppedByWrite, OnlyMemoryStops, StopsIn};
 
 use book_text::append_refused;
-use journal_book::event_text::append_event;
 use line_io::Gather;
 use ram_io::Sink;
 use rams_model::LineFault;
 use server_hub::Heard;
+use trace_loop::journal_book::event_text::append_event;
 use trace_loop::{Stop, settle};
 
 /// Adds the line of an event. Where memory runs out, nothing waits that didn't.

@@ -7,6 +7,8 @@ mod hearing;
 mod journal;
 mod send;
 mod serving;
+pub mod standby;
+pub mod takeover_loop;
 mod turns;
 mod watch;
 

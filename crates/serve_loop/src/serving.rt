@@ -5,7 +5,7 @@ ghost use Rattle.line_io.specs.Passes.{Passes};
 ghost use Rattle.rams_model.specs.declared.status.Status.TheVariants.{BadTrace, Done};
 ghost use Rattle.rams_model.specs.Texts.{refused_line};
 ghost use Rattle.ram_io.specs.declared.wire.Incoming.{Incoming};
-ghost use Rattle.journal_book.specs.{event_lines, events_of, sent_for};
+ghost use Rattle.trace_loop.specs.journal_book.{event_lines, events_of, sent_for};
 ghost use Rattle.trace_loop.specs.declared.stop.Stop.TheVariants.{Read, Write};
 ghost use Rattle.serve_loop.specs.{Begun, Ending, EndsAs, Given, HasEnded, HasRoom, HasStopped, IsBetween, IsGiven, IsHeadOf, IsServeEnd, IsServer, IsStopped, IsStoppedByWrite, IsStoppedOutside, OnlyMemoryStops, Room, StandsSomewhere, Stopping, served_datagrams, served_text};
 
@@ -14,14 +14,14 @@ use crate::hearing::{Server, new_server};
 use crate::journal::write_refused;
 use crate::turns::take_turns;
 use crate::watch::{Watch, tell_ports};
-use journal_book::laws::{
-    heads_open_new_channels, journals_replay, runs_of_journals, turns_make_journals,
-};
 use line_io::Gather;
 use ram_io::{Clock, Sink, Source, Wire};
 use rams_model::{LineFault, Status};
 use std::alloc::Global;
 use trace_loop::head_loop::{Head, Opened};
+use trace_loop::journal_book::laws::{
+    heads_open_new_channels, journals_replay, runs_of_journals, turns_make_journals,
+};
 use trace_loop::{Stop, flush, put};
 
 /// Writes that a line of the head is refused.

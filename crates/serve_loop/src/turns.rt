@@ -3,7 +3,7 @@ ghost use Rattle.std.specs.Prelude.{◌≡◌, ◌+◌, ◌^◌, ◌<◌, ◌≤
 ghost use Rattle.ram_io.specs.declared.wire.Incoming.{Incoming};
 ghost use Rattle.ram_io.specs.{later};
 ghost use Rattle.server_hub.specs.declared.event.HubEvent.{HubEvent};
-ghost use Rattle.journal_book.specs.{next_moment, tick_at, due_after, event_lines, events_of, sent_for, behind};
+ghost use Rattle.trace_loop.specs.journal_book.{next_moment, tick_at, due_after, event_lines, events_of, sent_for, behind};
 ghost use Rattle.serve_loop.specs.{Begun, Broken, HasRoom, IsBetween, IsServer, IsStoppedOutside, OnlyMemoryStops, Room, Serving, next_events};
 
 use crate::hearing::{Server, hear};

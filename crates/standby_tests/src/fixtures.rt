@@ -1,8 +1,8 @@
 //! A journal, and how it is read.
 ghost use Rattle.std.specs.Prelude.{◌≤◌};
-ghost use Rattle.standby.specs.{HasReadSome};
+ghost use Rattle.serve_loop.specs.standby.{HasReadSome};
 
-use standby::{FeedFault, Standby};
+use serve_loop::standby::{FeedFault, Standby};
 use std::alloc::{AllocError, Global};
 
 /// The head line and the line of a channel.

@@ -1,9 +1,9 @@
 //! How far a journal is read, whatever its pieces.
 ghost use Rattle.std.specs.Prelude.{◌≤◌};
-ghost use Rattle.standby.specs.{HasReadSome};
+ghost use Rattle.serve_loop.specs.standby.{HasReadSome};
 
 use crate::fixtures::{HEAD, JOURNAL, follow, joined};
-use standby::{FeedFault, LineFault, Standby};
+use serve_loop::standby::{FeedFault, LineFault, Standby};
 use std::alloc::Global;
 use std::process::Abort;
 use std::rt::HostRuntime;

@@ -3,8 +3,8 @@ ghost use Rattle.std.specs.Prelude.{◌^◌, ◌<◌};
 
 use crate::fixtures::{HEAD, JOURNAL, follow, joined};
 use rams_model::Note;
+use serve_loop::standby::Standby;
 use server_hub::{At, Heard, Hub, HubAnswer};
-use standby::Standby;
 use std::alloc::Global;
 use std::process::Abort;
 use std::rt::HostRuntime;

@@ -4,11 +4,11 @@ ghost use Rattle.ram_io.specs.{IsFromClient};
 
 use ram_io::{Incoming, MemClock, MemSink, MemSource, MemWire, Octets, Open};
 use rams_model::Status;
+use serve_loop::takeover_loop::{Stop, take_over};
 use std::alloc::{AllocError, Global};
 use std::process::Abort;
 use std::str;
 use std::test::Fail;
-use takeover_loop::{Stop, take_over};
 
 /// A journal that is taken over for some turns, what comes in them, and what is written and sent.
 #[derive(Clone, Copy)]

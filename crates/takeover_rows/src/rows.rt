@@ -1,9 +1,9 @@
 //! Rows of takeovers, of what stops them, and of journals that aren't taken over.
 use crate::row::{Row, check_row};
 use rams_model::Status;
+use serve_loop::takeover_loop::Stop;
 use std::rt::HostRuntime;
 use std::test::Fail;
-use takeover_loop::Stop;
 
 pub const HEAD: &str = "rams-trace 1 tick 10 link 100000";
 

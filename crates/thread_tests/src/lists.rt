@@ -5,12 +5,12 @@ use crate::fixtures::{new_core, packet, pair, request};
 use crate::gates::{Meeting, Point};
 use ram_io::{Gate, Open};
 use rams_model::{Event, Octets};
-use session_worker::{Worked, run_lists};
 use std::alloc::{AllocError, Global};
 use std::process::Abort;
 use std::sync::Wait;
 use std::test::Fail;
 use std::thread::Threads;
+use threads_loop::session_worker::{Worked, run_lists};
 
 /// Packets of the long list. So many orders of one answer are rendered by several threads, where there may be.
 const PACKETS: u16 = 20_000;

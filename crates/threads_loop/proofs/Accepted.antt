@@ -10,9 +10,9 @@ use Rattle.rams_model.specs.Service.{Settings}
 use Rattle.rams_model.specs.Texts.{TraceLine, line_in_range, line_of, line_at, ranged, Reached, Claim, is_spelled, may_come, line_is_served, is_served, has_channel, has_one_channel, with_line, accepted, with_reached, judged_line, judged}
 use Rattle.server_hub.specs.Served.{Served}
 use Rattle.trace_text.proofs.Spelling.{read_is_spelled}
-use Rattle.trace_book.specs.trace_serving.{claim_of}
-use Rattle.trace_book.proofs.trace_serving.Judged.{IsAccepted, judged_so}
-use Rattle.trace_book.specs.{settings_of}
+use Rattle.trace_loop.specs.trace_book.trace_serving.{claim_of}
+use Rattle.trace_loop.proofs.trace_book.trace_serving.Judged.{IsAccepted, judged_so}
+use Rattle.trace_loop.specs.trace_book.{settings_of}
 
 served_so : (r : Reached) (line : TraceLine) (later : Reached) → accepted r line ≡ Ok later → line_is_served r line ≡ true
 unfolding accepted

@@ -5,7 +5,7 @@ use Rattle.std.specs.Io.KnownBytes.{Appends}
 use Rattle.line_io.specs.Passes.{Passes}
 use Rattle.rams_model.specs.declared.status.Status.{Status}
 use Rattle.rams_model.specs.declared.status.Status.TheVariants.{Done}
-use Rattle.trace_book.specs.trace_serving.{Outcome, served_text}
+use Rattle.trace_loop.specs.trace_book.trace_serving.{Outcome, served_text}
 use Rattle.trace_loop.specs.declared.stop.Stop.{Stop}
 use Rattle.trace_loop.specs.{IfTold, OnlyMemoryStops}
 use Rattle.threads_loop.specs.declared.dealing.Dealt.{Dealt}

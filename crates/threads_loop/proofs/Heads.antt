@@ -15,10 +15,10 @@ use Rattle.server_hub.specs.declared.event.HubEvent.{HubEvent}
 use Rattle.server_hub.specs.declared.event.HubEvent.TheVariants.{Live, Feedback, Tick}
 use Rattle.server_hub.specs.{served, id_of, with_event, after_event, after_event_of, after_tick}
 use Rattle.server_hub.specs.Served.{Served}
-use Rattle.trace_book.specs.trace_serving.{Stage, Outcome, Turn, goes_on, ends, too_long, turn, brought, event_at, eventless, after_line, after_judging, counted}
-use Rattle.trace_book.proofs.trace_serving.Judged.{channel_so}
-use Rattle.trace_book.specs.{run, new_channels}
-use Rattle.journal_book.proofs.Modes.{accepts, judges}
+use Rattle.trace_loop.specs.trace_book.trace_serving.{Stage, Outcome, Turn, goes_on, ends, too_long, turn, brought, event_at, eventless, after_line, after_judging, counted}
+use Rattle.trace_loop.proofs.trace_book.trace_serving.Judged.{channel_so}
+use Rattle.trace_loop.specs.trace_book.{run, new_channels}
+use Rattle.trace_loop.proofs.journal_book.Modes.{accepts, judges}
 use Rattle.threads_loop.specs.{threads}
 use Rattle.threads_loop.proofs.Accepted.{IsTaken, taken_so}
 

@@ -14,9 +14,9 @@ use Rattle.channel_book.specs.declared.entry.Entry.{Entry}
 use Rattle.channel_book.specs.{LegalFrom, IsLegal, calls_by}
 use Rattle.server_hub.specs.declared.event.HubEvent.{HubEvent}
 use Rattle.server_hub.specs.{served, after_event}
-use Rattle.trace_book.specs.trace_serving.{ended, done}
-use Rattle.trace_book.specs.{event_text, first_line, trace_text}
-use Rattle.journal_book.specs.{HasLine, Opens, IsJournal, RunsWriteJournals, event_line, event_lines, journal_of, text_for}
+use Rattle.trace_loop.specs.trace_book.trace_serving.{ended, done}
+use Rattle.trace_loop.specs.trace_book.{event_text, first_line, trace_text}
+use Rattle.trace_loop.specs.journal_book.{HasLine, Opens, IsJournal, RunsWriteJournals, event_line, event_lines, journal_of, text_for}
 use Rattle.threads_loop.specs.declared.writing.Part.TheVariants.{Trace, Book}
 use Rattle.threads_loop.specs.{list_of, dealt, hub_event, Interleaves, part_text, written_text}
 

@@ -13,9 +13,9 @@ use Rattle.rams_model.specs.declared.status.Status.TheVariants.{Done, BadTrace, 
 use Rattle.rams_model.specs.Texts.{TraceLine, Reached, judged, lines_of, may_come, end_line}
 use Rattle.server_hub.specs.declared.event.HubEvent.{HubEvent}
 use Rattle.server_hub.specs.Served.{Served}
-use Rattle.trace_book.specs.trace_serving.{Stage, Outcome, Turn, goes_on, ends, opening, done, refused, too_long, turn, after_line, after_judging, after_turn, text_from, served_text, stage_after, stage_from, last_stage, taken_with, taken_from, brought, event_at}
-use Rattle.trace_book.specs.{run, new_channels}
-use Rattle.journal_book.specs.{Leads, line as leads_on, nothing, starting}
+use Rattle.trace_loop.specs.trace_book.trace_serving.{Stage, Outcome, Turn, goes_on, ends, opening, done, refused, too_long, turn, after_line, after_judging, after_turn, text_from, served_text, stage_after, stage_from, last_stage, taken_with, taken_from, brought, event_at}
+use Rattle.trace_loop.specs.trace_book.{run, new_channels}
+use Rattle.trace_loop.specs.journal_book.{Leads, line as leads_on, nothing, starting}
 use Rattle.trace_loop.specs.{IfTold, IfBothTold}
 use Rattle.threads_loop.specs.declared.dealing.Dealt.{Dealt}
 use Rattle.threads_loop.specs.declared.dealing.Does.{Does}

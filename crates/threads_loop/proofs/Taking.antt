@@ -15,13 +15,13 @@ use Rattle.rams_model.specs.Texts.{TraceLine, head_line, channel_line, live_line
 use Rattle.server_hub.specs.declared.event.HubEvent.TheVariants.{Live, Feedback}
 use Rattle.server_hub.specs.{served, after_event}
 use Rattle.server_hub.specs.Served.{Served}
-use Rattle.trace_book.specs.trace_serving.{Stage, claim_of, after_line, brought}
-use Rattle.trace_book.proofs.trace_serving.Judged.{channel_so, claim}
-use Rattle.trace_book.specs.{settings_of}
+use Rattle.trace_loop.specs.trace_book.trace_serving.{Stage, claim_of, after_line, brought}
+use Rattle.trace_loop.proofs.trace_book.trace_serving.Judged.{channel_so, claim}
+use Rattle.trace_loop.specs.trace_book.{settings_of}
 use Rattle.trace_text.specs.declared.line.Line.{Line}
 use Rattle.trace_text.specs.{shown, IsOther}
 use Rattle.trace_text.specs.declared.line.Line.TheVariants as line
-use Rattle.journal_book.specs.{HasLine}
+use Rattle.trace_loop.specs.journal_book.{HasLine}
 use Rattle.threads_loop.specs.declared.dealing.Dealt.{Dealt}
 use Rattle.threads_loop.specs.declared.dealing.Does.{Does}
 use Rattle.threads_loop.specs.declared.dealing.Does.TheVariants.{GoesOn, Ends, Refused, TooLong}

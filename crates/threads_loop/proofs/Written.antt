@@ -14,9 +14,9 @@ use Rattle.channel_book.specs.declared.entry.Entry.{Entry}
 use Rattle.channel_book.specs.{IsLegal, IsInterleaving}
 use Rattle.server_hub.specs.{served}
 use Rattle.server_hub.specs.Served.{Served}
-use Rattle.trace_book.specs.trace_serving.{Stage, last_stage, served_text}
-use Rattle.trace_book.specs.{new_channels}
-use Rattle.journal_book.specs.{Opens, RunsWriteJournals, journal_of}
+use Rattle.trace_loop.specs.trace_book.trace_serving.{Stage, last_stage, served_text}
+use Rattle.trace_loop.specs.trace_book.{new_channels}
+use Rattle.trace_loop.specs.journal_book.{Opens, RunsWriteJournals, journal_of}
 use Rattle.threads_loop.specs.declared.dealing.Dealt.{Dealt}
 use Rattle.threads_loop.specs.{threads, list_of, dealt, hub_event, holding, HaveLines, lists_in, HasDealt, IsReadOf, MayWrite, HasEnded, HasStopped, HasRoomFor, written_text}
 use Rattle.threads_loop.proofs.Histories.{event_in, interleaves, written_so}

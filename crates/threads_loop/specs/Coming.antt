@@ -7,9 +7,9 @@ use Rattle.rams_model.specs.declared.status.Status.{Status}
 use Rattle.rams_model.specs.declared.status.Status.TheVariants.{Done}
 use Rattle.rams_model.specs.Service.{Settings}
 use Rattle.server_hub.specs.{served}
-use Rattle.trace_book.specs.trace_serving.{served_text, last_stage}
-use Rattle.trace_book.specs.{trace_text}
-use Rattle.journal_book.specs.{journal_of}
+use Rattle.trace_loop.specs.trace_book.trace_serving.{served_text, last_stage}
+use Rattle.trace_loop.specs.trace_book.{trace_text}
+use Rattle.trace_loop.specs.journal_book.{journal_of}
 use Rattle.threads_loop.specs.Dealing.{threads, hub_event, head_lines, Interleaves}
 
 -- Of a trace xs this one may come: it has the same lines of head and channel, and its events are an interleaving of the lists into which those of xs are dealt.

@@ -8,8 +8,8 @@ use Rattle.server_hub.specs.declared.event.HubEvent.{HubEvent}
 use Rattle.server_hub.specs.declared.event.HubEvent.TheVariants.{Live, Feedback, Tick}
 use Rattle.server_hub.specs.{served, after_event}
 use Rattle.server_hub.specs.Served.{Served}
-use Rattle.trace_book.specs.trace_serving.{Serving, event_at, taken}
-use Rattle.trace_book.specs.{event_of}
+use Rattle.trace_loop.specs.trace_book.trace_serving.{Serving, event_at, taken}
+use Rattle.trace_loop.specs.trace_book.{event_of}
 
 -- A trace for threads is served as by `run`, but it is of one channel, it has 200,000 events at most, and nothing is written for an event while it is read.
 abbrev pub threads : Serving (List Served) HubEvent

@@ -1,3 +1,4 @@
+pub mod session_worker
 pub mod Dealing
 pub mod Coming
 pub mod Lines

@@ -8,9 +8,9 @@ use Rattle.rams_model.specs.Texts.{TraceLine, end_line, judged, may_come}
 use Rattle.server_hub.specs.declared.event.HubEvent.{HubEvent}
 use Rattle.server_hub.specs.{served}
 use Rattle.server_hub.specs.Served.{Served}
-use Rattle.trace_book.specs.trace_serving.{Stage, Turn, goes_on, ends, done, refused, too_long, claim_of}
-use Rattle.trace_book.specs.{settings_of}
-use Rattle.journal_book.specs.{HasLine}
+use Rattle.trace_loop.specs.trace_book.trace_serving.{Stage, Turn, goes_on, ends, done, refused, too_long, claim_of}
+use Rattle.trace_loop.specs.trace_book.{settings_of}
+use Rattle.trace_loop.specs.journal_book.{HasLine}
 use Rattle.threads_loop.specs.declared.dealing.Dealt.{Dealt}
 use Rattle.threads_loop.specs.declared.dealing.Does.{Does}
 use Rattle.threads_loop.specs.declared.dealing.Does.TheVariants.{GoesOn, Ends, Refused, TooLong}

@@ -3,9 +3,9 @@ use Rattle.std.specs.Prelude.{◌≡◌, ℕ, List, [], ◌∷◌, ◌++◌, is_
 use Rattle.rams_model.specs.Texts.{end_line, lines_of, may_come}
 use Rattle.line_io.specs.{HasNoFeed}
 use Rattle.server_hub.specs.Served.{Served}
-use Rattle.trace_book.specs.trace_serving.{Stage, goes_on, done, refused, too_long, turn, text_from, stage_from, taken_from, last_stage, served_text}
-use Rattle.trace_book.specs.{new_channels}
-use Rattle.journal_book.specs.{Opens}
+use Rattle.trace_loop.specs.trace_book.trace_serving.{Stage, goes_on, done, refused, too_long, turn, text_from, stage_from, taken_from, last_stage, served_text}
+use Rattle.trace_loop.specs.trace_book.{new_channels}
+use Rattle.trace_loop.specs.journal_book.{Opens}
 use Rattle.threads_loop.specs.declared.dealing.Dealt.{Dealt}
 use Rattle.threads_loop.specs.declared.dealing.Does.{Does}
 use Rattle.threads_loop.specs.declared.dealing.Does.TheVariants.{GoesOn, Ends, Refused, TooLong}

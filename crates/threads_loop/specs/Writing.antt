@@ -3,8 +3,8 @@ use Rattle.std.specs.Prelude.{ℕ, ◌+◌, List, [], ◌∷◌, ◌++◌, lengt
 use Rattle.rams_model.specs.Service.{Settings}
 use Rattle.rams_model.specs.Texts.{answer_text}
 use Rattle.channel_book.specs.declared.entry.Entry.{Entry}
-use Rattle.trace_book.specs.trace_serving.{done}
-use Rattle.journal_book.specs.{event_line}
+use Rattle.trace_loop.specs.trace_book.trace_serving.{done}
+use Rattle.trace_loop.specs.journal_book.{event_line}
 use Rattle.threads_loop.specs.declared.writing.Part.{Part}
 use Rattle.threads_loop.specs.declared.writing.Part.TheVariants.{Trace, Book}
 use Rattle.threads_loop.specs.Dealing.{hub_event}

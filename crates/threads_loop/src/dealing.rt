@@ -3,7 +3,7 @@ ghost use Rattle.std.specs.Prelude.{◌≡◌, ◌+◌, ◌<◌, ◌≤◌, ◌+
 ghost use Rattle.rams_model.specs.Texts.{tick_of};
 ghost use Rattle.server_hub.specs.Served.{Served};
 ghost use Rattle.trace_text.specs.{told, shown, HasDigits, IsOther, IsSettled};
-ghost use Rattle.trace_book.specs.trace_serving.{Stage, opening, turn, after_line, brought, event_at};
+ghost use Rattle.trace_loop.specs.trace_book.trace_serving.{Stage, opening, turn, after_line, brought, event_at};
 ghost use Rattle.threads_loop.specs.{threads, list_of, with_feed, Comes, Grows, HasDealtBy, HasDealtSome, IsDealt, Took};
 
 use channel_config::Config;

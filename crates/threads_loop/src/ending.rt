@@ -5,26 +5,26 @@ ghost use Rattle.line_io.specs.Passes.{Passes};
 ghost use Rattle.rams_model.specs.declared.status.Status.TheVariants.{BadTrace, Done, TooLong};
 ghost use Rattle.rams_model.specs.Texts.{refused_line};
 ghost use Rattle.server_hub.specs.Served.{Served};
-ghost use Rattle.trace_book.specs.trace_serving.{Stage};
+ghost use Rattle.trace_loop.specs.trace_book.trace_serving.{Stage};
 ghost use Rattle.trace_loop.specs.declared.stop.Stop.TheVariants.{Read};
 ghost use Rattle.trace_loop.specs.{IfTold, IsEnd, IsStopped, IsStoppedByWrite, OnlyMemoryStops};
 ghost use Rattle.threads_loop.specs.{HasDealt, HasEnded, HasRoomFor, HasStopped, IsReadOf};
 
 use crate::dealing::Dealt;
 use crate::reading::{ReadTrace, read_trace};
+use crate::session_worker::run_lists;
 use crate::writing::write_worked;
 use book_text::append_refused;
-use journal_book::laws::{journals_replay, runs_of_journals};
 use line_io::put_all;
 use ram_io::{Gate, Sink, Source};
 use rams_model::{LineFault, Status};
 use server_hub::session_core::Core;
-use session_worker::run_lists;
 use std::alloc::Global;
 use std::mem;
 use std::sync::Wait;
 use std::thread::Threads;
 use trace_loop::Stop;
+use trace_loop::journal_book::laws::{journals_replay, runs_of_journals};
 
 /// Writes one line.
 fn write_alone<K: Sink>(sink: &mut K, line: &[u8]) -> Result<(), Stop>

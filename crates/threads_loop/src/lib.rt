@@ -6,6 +6,7 @@ mod dealing;
 mod ending;
 mod event;
 mod reading;
+pub mod session_worker;
 mod writing;
 
 pub use dealing::Dealt;

@@ -2,7 +2,7 @@
 ghost use Rattle.std.specs.Prelude.{◌≡◌, ◌<◌, ◌≤◌, ℕ, List, IfOk};
 ghost use Rattle.std.specs.Io.KnownBytes.{prepend_known};
 ghost use Rattle.server_hub.specs.Served.{Served};
-ghost use Rattle.trace_book.specs.trace_serving.{Stage};
+ghost use Rattle.trace_loop.specs.trace_book.trace_serving.{Stage};
 ghost use Rattle.trace_loop.specs.{IfTold, IfBothTold, IsStoppedByRead, OnlyMemoryStops};
 ghost use Rattle.threads_loop.specs.{HasDealtBy, HasDealtSome, HasRead, IsFirstLine, IsWhole, StandsAfter};
 

@@ -3,12 +3,12 @@ ghost use Rattle.std.specs.Prelude.{◌≡◌, ◌+◌, ◌++◌, ℕ, List, [],
 ghost use Rattle.std.specs.Io.KnownBytes.{Appends};
 ghost use Rattle.line_io.specs.Passes.{Passes};
 ghost use Rattle.rams_model.specs.declared.status.Status.TheVariants.{Done};
-ghost use Rattle.session_worker.specs.live_writer.{datagrams_of};
-ghost use Rattle.session_worker.specs.{answered_with};
-ghost use Rattle.trace_book.specs.trace_serving.{done};
+ghost use Rattle.threads_loop.specs.session_worker.live_writer.{datagrams_of};
+ghost use Rattle.threads_loop.specs.session_worker.{answered_with};
+ghost use Rattle.trace_loop.specs.trace_book.trace_serving.{done};
 ghost use Rattle.trace_loop.specs.{IsStoppedByWrite, OnlyMemoryStops, StopsIn};
 ghost use Rattle.threads_loop.specs.{hub_event, part_text, piece_text, written_text};
-ghost use Rattle.journal_book.specs.{event_line};
+ghost use Rattle.trace_loop.specs.journal_book.{event_line};
 ghost use Rattle.rams_model.specs.Texts.{answer_text};
 
 use crate::event::heard_at;
@@ -16,11 +16,11 @@ use book_text::answer_text::append_answer_with;
 use book_text::{Pen, append_count};
 use channel_book::Entry;
 use channel_config::Config;
-use journal_book::event_text::append_event;
 use line_io::Gather;
 use ram_io::{NoMemory, Octets, Sink};
 use rams_model::{Answer, Event, Status};
 use std::alloc::Global;
+use trace_loop::journal_book::event_text::append_event;
 use trace_loop::{Stop, flush, put, settle};
 
 /// The text that waits for the sink, and what writes the lines of notes.

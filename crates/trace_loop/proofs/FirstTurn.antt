@@ -6,7 +6,7 @@ use Rattle.rams_model.specs.declared.fault.LineFault.TheVariants.{Order}
 use Rattle.rams_model.specs.declared.status.Status.{Status}
 use Rattle.rams_model.specs.declared.status.Status.TheVariants.{BadTrace}
 use Rattle.rams_model.specs.Texts.{lines_of}
-use Rattle.trace_book.specs.trace_serving.{Serving, Stage, Turn, Outcome, goes_on, ends, refused, after_turn, turn, text_from}
+use Rattle.trace_loop.specs.trace_book.trace_serving.{Serving, Stage, Turn, Outcome, goes_on, ends, refused, after_turn, turn, text_from}
 use Rattle.trace_loop.specs.{IfBothTold, IsFirstTurn, StandsSomewhere, Took}
 use Rattle.trace_loop.proofs.LongLines.{turn_by_front, long_ends}
 

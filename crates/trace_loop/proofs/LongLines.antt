@@ -3,7 +3,7 @@ use Rattle.std.proofs.Common.{◌≡◌, ℕ, ◌<◌, List, length, take, Err, 
 use Rattle.std.proofs.lemmas.Bool.{lt-ltb}
 use Rattle.rams_model.specs.declared.fault.LineFault.TheVariants.{Form}
 use Rattle.rams_model.specs.Texts.{Reached, judged}
-use Rattle.trace_book.specs.trace_serving.{Serving, Stage, Outcome, ends, refused, after_judging, turn}
+use Rattle.trace_loop.specs.trace_book.trace_serving.{Serving, Stage, Outcome, ends, refused, after_judging, turn}
 
 -- a line that is too long has no form
 judged_by : (r : Reached) (bytes : List ℕ) → 4096 < length bytes → judged r bytes ≡ Err Form

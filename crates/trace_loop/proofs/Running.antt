@@ -5,7 +5,7 @@ use Rattle.line_io.specs.{HasNoFeed}
 use Rattle.line_io.specs.Passes.{Passes}
 use Rattle.rams_model.specs.declared.status.Status.{Status}
 use Rattle.rams_model.specs.Texts.{lines_of}
-use Rattle.trace_book.specs.trace_serving.{Serving, Stage, Turn, Outcome, opening, after_text, after_turn, text_from}
+use Rattle.trace_loop.specs.trace_book.trace_serving.{Serving, Stage, Turn, Outcome, opening, after_text, after_turn, text_from}
 use Rattle.trace_loop.specs.declared.stop.Stop.{Stop}
 use Rattle.trace_loop.specs.{StopsIn, IfTold, IfBothTold, GoesOnAfter, EndsIn, IsFirstTurn, Ends, HasLinesText}
 use Rattle.trace_loop.proofs.Reading.{HasRead, reading_begins, reading_goes_on, reading_stops}

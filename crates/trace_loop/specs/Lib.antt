@@ -1,3 +1,5 @@
+pub mod trace_book
+pub mod journal_book
 pub mod head_loop
 pub mod Stops
 pub mod Turns

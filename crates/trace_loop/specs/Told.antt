@@ -5,7 +5,7 @@ use Rattle.line_io.specs.{IsCutOff}
 use Rattle.line_io.specs.Passes.{Passes}
 use Rattle.rams_model.specs.declared.status.Status.{Status}
 use Rattle.rams_model.specs.Texts.{lines_of, whole_lines}
-use Rattle.trace_book.specs.trace_serving.{Serving, Stage, Outcome, opening, goes_on, turn, text_from, lines_text}
+use Rattle.trace_loop.specs.trace_book.trace_serving.{Serving, Stage, Outcome, opening, goes_on, turn, text_from, lines_text}
 
 -- P of the bytes, where they are told
 abbrev pub IfTold : Option (List ℕ) → (List ℕ → Type 0) → Type 0

@@ -2,8 +2,8 @@
 use Rattle.std.specs.Prelude.{◌≡◌, ℕ, List, [], Option, Some, None}
 use Rattle.rams_model.specs.declared.status.Status.{Status}
 use Rattle.rams_model.specs.declared.status.Status.TheVariants as statuses
-use Rattle.trace_book.specs.trace_serving.{Stage, goes_on, ends, refused, too_long, done}
-use Rattle.trace_book.specs.trace_serving.Text as text
+use Rattle.trace_loop.specs.trace_book.trace_serving.{Stage, goes_on, ends, refused, too_long, done}
+use Rattle.trace_loop.specs.trace_book.trace_serving.Text as text
 use Rattle.trace_loop.specs.declared.turn.Turn.{Turn}
 use Rattle.trace_loop.specs.declared.turn.Turn.TheVariants.{GoesOn, Said, Refused, TooLong, Done}
 

@@ -2,10 +2,12 @@
 #![tactic(auto)]
 
 pub mod head_loop;
+pub mod journal_book;
 mod lines;
 mod server;
 mod stop;
 mod text;
+pub mod trace_book;
 mod turn;
 mod writer;
 

@@ -4,7 +4,7 @@ ghost use Rattle.std.specs.Io.KnownBytes.{Keeps, prepend_known};
 ghost use Rattle.line_io.specs.{HasNoFeed};
 ghost use Rattle.trace_loop.specs.declared.stop.Stop.TheVariants.{Read};
 ghost use Rattle.rams_model.specs.Texts.{lines_of};
-ghost use Rattle.trace_book.specs.trace_serving.{Stage, opening, text_from};
+ghost use Rattle.trace_loop.specs.trace_book.trace_serving.{Stage, opening, text_from};
 ghost use Rattle.trace_loop.specs.{IsStopped, IsStoppedByRead, OnlyMemoryStops, StopsIn, IfTold, IfBothTold, IsFirstTurn, Ends, HasLinesText, StandsSomewhere, CanWrite, IsEnd, ending, written};
 
 use crate::server::TraceServer;

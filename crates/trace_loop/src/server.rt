@@ -1,7 +1,7 @@
 //! What serves a trace, line by line.
 ghost use Rattle.std.specs.Prelude.{◌≡◌, ◌+◌, ◌++◌, IfOk, IfErr, OnOk, length};
 ghost use Rattle.line_io.specs.Passes.{Passes};
-ghost use Rattle.trace_book.specs.trace_serving.{turn};
+ghost use Rattle.trace_loop.specs.trace_book.trace_serving.{turn};
 ghost use Rattle.trace_loop.specs.{StandsSomewhere, Took, ending, written, CanWrite, StopsIn, IsStoppedByWrite, OnlyMemoryStops};
 
 use crate::stop::Stop;
@@ -16,7 +16,7 @@ use std::alloc::Global;
 /// reached.
 pub trait TraceServer {
     ghost use Rattle.std.specs.Prelude.{ℕ, List};
-    ghost use Rattle.trace_book.specs.trace_serving.{Serving, Stage};
+    ghost use Rattle.trace_loop.specs.trace_book.trace_serving.{Serving, Stage};
 
     /// What an event is answered with.
     type Answer: Drop;

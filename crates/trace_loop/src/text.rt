@@ -4,7 +4,7 @@ ghost use Rattle.std.specs.Prelude.{◌≡◌, ◌≤◌, ◌⊎◌, Err, List, 
 ghost use Rattle.std.specs.Io.KnownBytes.{Appends};
 ghost use Rattle.line_io.specs.Passes.{Passes};
 ghost use Rattle.trace_loop.specs.declared.stop.Stop.TheVariants.{Read, Write};
-ghost use Rattle.trace_book.specs.trace_serving.{opening, served_text};
+ghost use Rattle.trace_loop.specs.trace_book.trace_serving.{opening, served_text};
 ghost use Rattle.trace_loop.specs.{IsStopped, OnlyMemoryStops, EndsAs, IfTold, IfBothTold, HasReadText, IsEnd};
 
 use crate::lines::write_lines;

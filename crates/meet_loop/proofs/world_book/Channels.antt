@@ -12,15 +12,15 @@ use Rattle.server_hub.specs.declared.event.HubEvent.TheVariants as hub
 use Rattle.server_hub.specs.{served, ids_of, channel_of}
 use Rattle.server_hub.specs.Served.{Served}
 use Rattle.server_hub.proofs.Finding.{with_id, one_has}
-use Rattle.trace_book.specs.trace_serving.{AreLawful}
-use Rattle.trace_book.specs.{settings_of, new_channels}
-use Rattle.trace_book.proofs.Lawful.{lawful_range}
-use Rattle.trace_book.proofs.Served.{settings_after}
-use Rattle.world_laws.specs.declared.world.WorldEvent.{WorldEvent}
-use Rattle.world_laws.specs.declared.world.WorldEvent.TheVariants.{Hub, Tune, Give, Mcast, Ask, Drop}
-use Rattle.world_laws.specs.World.{Way, posts, tells, repeats, Datagram, Listener, World, Step}
-use Rattle.world_laws.specs.{datagram_at, is_listener, listener_of, refused, packet_of_source, next_number, is_too_far, delivering, delivering_near, serving, new_listener, with_listener, tuning, if_listening, giving_by, giving, casting_packet, casting, asking, leaving, happens, IsNew}
-use Rattle.world_laws.specs.declared.world.WorldItem.TheVariants as item
+use Rattle.trace_loop.specs.trace_book.trace_serving.{AreLawful}
+use Rattle.trace_loop.specs.trace_book.{settings_of, new_channels}
+use Rattle.trace_loop.proofs.trace_book.Lawful.{lawful_range}
+use Rattle.trace_loop.proofs.trace_book.Served.{settings_after}
+use Rattle.meet_loop.specs.declared.world_laws.world.WorldEvent.{WorldEvent}
+use Rattle.meet_loop.specs.declared.world_laws.world.WorldEvent.TheVariants.{Hub, Tune, Give, Mcast, Ask, Drop}
+use Rattle.meet_loop.specs.world_laws.World.{Way, posts, tells, repeats, Datagram, Listener, World, Step}
+use Rattle.meet_loop.specs.world_laws.{datagram_at, is_listener, listener_of, refused, packet_of_source, next_number, is_too_far, delivering, delivering_near, serving, new_listener, with_listener, tuning, if_listening, giving_by, giving, casting_packet, casting, asking, leaving, happens, IsNew}
+use Rattle.meet_loop.specs.declared.world_laws.world.WorldItem.TheVariants as item
 
 -- After a step of a world its channels have the same settings.
 abbrev pub KeepsSettings : World → Step → Type 0

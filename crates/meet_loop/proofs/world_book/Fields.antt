@@ -12,11 +12,11 @@ use Rattle.rams_model.proofs.Legality.{found}
 use Rattle.server_hub.specs.{id_of, channel_of}
 use Rattle.server_hub.specs.Served.{Served}
 use Rattle.trace_text.specs.{LinesAreSpelledAsRead}
-use Rattle.trace_book.specs.trace_serving.{channel_of_line, channel_at, AreLawful}
-use Rattle.trace_book.specs.{settings_of}
-use Rattle.world_laws.specs.{HasFields, AreInfos}
-use Rattle.world_laws.specs.World.{World}
-use Rattle.trace_book.proofs.Lawful.{lawful_range, of_settings}
+use Rattle.trace_loop.specs.trace_book.trace_serving.{channel_of_line, channel_at, AreLawful}
+use Rattle.trace_loop.specs.trace_book.{settings_of}
+use Rattle.meet_loop.specs.world_laws.{HasFields, AreInfos}
+use Rattle.meet_loop.specs.world_laws.World.{World}
+use Rattle.trace_loop.proofs.trace_book.Lawful.{lawful_range, of_settings}
 
 record Has32 (c : Channel) : Type 0 where
   media : c.ssrc < 2 ^ 32

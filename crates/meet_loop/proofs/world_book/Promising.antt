@@ -14,13 +14,13 @@ use Rattle.server_hub.specs.declared.event.HubEvent.{HubEvent}
 use Rattle.server_hub.specs.declared.event.HubEvent.TheVariants as hub
 use Rattle.server_hub.specs.{id_of, with_event, after_event_of, after_tick, after_event, answer_to, channel_of}
 use Rattle.server_hub.specs.Served.{Served}
-use Rattle.trace_book.specs.{IsOfBytes}
-use Rattle.world_laws.specs.declared.world.WorldEvent.{WorldEvent}
-use Rattle.world_laws.specs.declared.world.WorldEvent.TheVariants.{Hub, Tune, Give, Mcast, Ask, Drop}
-use Rattle.world_laws.specs.declared.world.WorldNote.{WorldNote}
-use Rattle.world_laws.specs.declared.world.WorldItem.TheVariants as item
-use Rattle.world_laws.specs.World.{Way, posts, tells, repeats, Datagram, Listener, World, Step}
-use Rattle.world_laws.specs.{datagram_at, is_listener, listener_of, note, refused, packet_of_source, next_number, is_too_far, posted, after_turns, hearing, delivering, delivering_near, sent, sent_by, sent_where, all_sent, serving, new_listener, with_listener, tuning, if_listening, giving_by, giving, casting_packet, casting, asking, leaving, happens}
+use Rattle.trace_loop.specs.trace_book.{IsOfBytes}
+use Rattle.meet_loop.specs.declared.world_laws.world.WorldEvent.{WorldEvent}
+use Rattle.meet_loop.specs.declared.world_laws.world.WorldEvent.TheVariants.{Hub, Tune, Give, Mcast, Ask, Drop}
+use Rattle.meet_loop.specs.declared.world_laws.world.WorldNote.{WorldNote}
+use Rattle.meet_loop.specs.declared.world_laws.world.WorldItem.TheVariants as item
+use Rattle.meet_loop.specs.world_laws.World.{Way, posts, tells, repeats, Datagram, Listener, World, Step}
+use Rattle.meet_loop.specs.world_laws.{datagram_at, is_listener, listener_of, note, refused, packet_of_source, next_number, is_too_far, posted, after_turns, hearing, delivering, delivering_near, sent, sent_by, sent_where, all_sent, serving, new_listener, with_listener, tuning, if_listening, giving_by, giving, casting_packet, casting, asking, leaving, happens}
 use Rattle.meet_loop.proofs.world_book.Posts.{AreBytes, AllBytes, requested_is, joined_is, asked_is, left_is}
 
 -- an event of the server that is made of bytes

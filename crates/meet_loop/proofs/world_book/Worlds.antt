@@ -8,16 +8,16 @@ use Rattle.rams_model.specs.Texts.{Head, TraceLine, head_line, channel_line, liv
 use Rattle.server_hub.specs.{served}
 use Rattle.server_hub.specs.Served.{Served}
 use Rattle.trace_text.specs.{LinesAreSpelledAsRead}
-use Rattle.trace_book.specs.trace_serving.{brought, ended, last_stage, taken, AreLawful, Stand, opened_all, after_all, events_text, came, IsServedSo}
-use Rattle.trace_book.specs.{settings_of, new_channels, IsOfBytes, KeepsPromises, ChannelsKeepTheirPromises}
-use Rattle.trace_book.proofs.Bytes.{hex_bytes}
-use Rattle.trace_book.proofs.Lawful.{lawful_all, of_settings}
-use Rattle.world_laws.specs.declared.world.WorldEvent.{WorldEvent}
-use Rattle.world_laws.specs.World.{World}
-use Rattle.world_laws.specs.{new_world, happens, world_after, BringsBytes, IsNew, HasFields, EachReceiverPresentsAPrefix, EachReceiverPresentsWhatIsDelivered, NoMediaAreForeignOrBad, NoInfosAreForeignOrBad}
+use Rattle.trace_loop.specs.trace_book.trace_serving.{brought, ended, last_stage, taken, AreLawful, Stand, opened_all, after_all, events_text, came, IsServedSo}
+use Rattle.trace_loop.specs.trace_book.{settings_of, new_channels, IsOfBytes, KeepsPromises, ChannelsKeepTheirPromises}
+use Rattle.trace_loop.proofs.trace_book.Bytes.{hex_bytes}
+use Rattle.trace_loop.proofs.trace_book.Lawful.{lawful_all, of_settings}
+use Rattle.meet_loop.specs.declared.world_laws.world.WorldEvent.{WorldEvent}
+use Rattle.meet_loop.specs.world_laws.World.{World}
+use Rattle.meet_loop.specs.world_laws.{new_world, happens, world_after, BringsBytes, IsNew, HasFields, EachReceiverPresentsAPrefix, EachReceiverPresentsWhatIsDelivered, NoMediaAreForeignOrBad, NoInfosAreForeignOrBad}
 use Rattle.meet_loop.specs.world_text.{first_line, event_lines, world_lines}
 use Rattle.meet_loop.specs.world_book.{meet, world_of, IsServedByAWorld, EndsSo, ReceiversPresent}
-use Rattle.trace_book.proofs.trace_serving.Brought.{all_came}
+use Rattle.trace_loop.proofs.trace_book.trace_serving.Brought.{all_came}
 use Rattle.meet_loop.proofs.world_book.Promising.{IsWorldOfBytes, IsOf, happens_stays}
 use Rattle.meet_loop.proofs.world_book.Fields.{settings_have, each_informed}
 use Rattle.meet_loop.proofs.world_book.Channels.{happens_keeps, new_of, settings_are, new_are, are_new}

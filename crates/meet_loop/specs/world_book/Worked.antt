@@ -1,9 +1,9 @@
 -- Worked examples: small traces with their whole text.
 use Rattle.std.specs.Prelude.{◌≡◌, ℕ, Bool, [], ◌++◌, codes}
 use Rattle.rams_model.specs.declared.status.Status.TheVariants.{Done, BadTrace, TooLong}
-use Rattle.trace_book.specs.trace_serving.{Stage, goes_on, ends, ended, turn, last_stage}
-use Rattle.trace_book.specs.Worked.{head_text, plain_line}
-use Rattle.world_laws.specs.World.{World}
+use Rattle.trace_loop.specs.trace_book.trace_serving.{Stage, goes_on, ends, ended, turn, last_stage}
+use Rattle.trace_loop.specs.trace_book.Worked.{head_text, plain_line}
+use Rattle.meet_loop.specs.world_laws.World.{World}
 use Rattle.meet_loop.specs.world_book.WorldText.{meet, meet_text}
 
 -- A receiver asks for a burst as it is tuned. A datagram that isn't there has no channel.

@@ -4,12 +4,12 @@ use Rattle.rams_model.specs.declared.mode.Mode.TheVariants.{Meet}
 use Rattle.rams_model.specs.Texts.{bytes_in, TraceLine, live_line, feedback_line, tick_line, tune_line, give_line, mcast_line, ask_line, drop_line}
 use Rattle.server_hub.specs.declared.event.HubEvent.TheVariants as hub
 use Rattle.server_hub.specs.{served}
-use Rattle.world_laws.specs.declared.world.WorldEvent.{WorldEvent}
-use Rattle.world_laws.specs.declared.world.WorldEvent.TheVariants.{Hub, Tune, Give, Mcast, Ask, Drop}
-use Rattle.world_laws.specs.World.{World}
-use Rattle.world_laws.specs.{new_world, happens}
+use Rattle.meet_loop.specs.declared.world_laws.world.WorldEvent.{WorldEvent}
+use Rattle.meet_loop.specs.declared.world_laws.world.WorldEvent.TheVariants.{Hub, Tune, Give, Mcast, Ask, Drop}
+use Rattle.meet_loop.specs.world_laws.World.{World}
+use Rattle.meet_loop.specs.world_laws.{new_world, happens}
 use Rattle.meet_loop.specs.world_text.{first_line, event_lines}
-use Rattle.trace_book.specs.trace_serving.{Serving, Outcome, served_text, last_stage}
+use Rattle.trace_loop.specs.trace_book.trace_serving.{Serving, Outcome, served_text, last_stage}
 
 -- the event that a line brings to the world
 abbrev pub event_of : TraceLine → Option WorldEvent

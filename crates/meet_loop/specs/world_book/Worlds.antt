@@ -5,11 +5,11 @@ use Rattle.rams_model.specs.Texts.{lines_of}
 use Rattle.service_laws.specs.receiver_laws.{Presents}
 use Rattle.server_hub.specs.{channel_of}
 use Rattle.server_hub.specs.Served.{Served}
-use Rattle.world_laws.specs.World.{World}
-use Rattle.world_laws.specs.{source_of, PresentsWhatIsDelivered, AreMedia, AreInfos, world_after}
+use Rattle.meet_loop.specs.world_laws.World.{World}
+use Rattle.meet_loop.specs.world_laws.{source_of, PresentsWhatIsDelivered, AreMedia, AreInfos, world_after}
 use Rattle.meet_loop.specs.world_text.{first_line, world_lines}
-use Rattle.trace_book.specs.trace_serving.{Outcome, ended, last_stage, head_at, channel_at, taken, came, EndsWith}
-use Rattle.trace_book.specs.{new_channels, KeepsPromises}
+use Rattle.trace_loop.specs.trace_book.trace_serving.{Outcome, ended, last_stage, head_at, channel_at, taken, came, EndsWith}
+use Rattle.trace_loop.specs.trace_book.{new_channels, KeepsPromises}
 use Rattle.meet_loop.specs.world_book.WorldText.{most_events, meet, meet_text, world_of}
 
 -- What a trace is served by, read off the lines that are taken.

@@ -6,10 +6,10 @@ use Rattle.rams_model.specs.declared.reception.MediaCame.TheVariants as media
 use Rattle.rams_model.specs.Worked.Setting.{packet}
 use Rattle.server_hub.specs.declared.event.HubEvent.TheVariants.{Tick}
 use Rattle.server_hub.specs.{new_channel, of_channel}
-use Rattle.world_laws.specs.declared.world.WorldEvent.TheVariants.{Hub, Tune, Give, Mcast, Ask, Drop}
-use Rattle.world_laws.specs.declared.world.WorldItem.{WorldItem}
-use Rattle.world_laws.specs.declared.world.WorldItem.TheVariants as item
-use Rattle.world_laws.specs.{note}
+use Rattle.meet_loop.specs.declared.world_laws.world.WorldEvent.TheVariants.{Hub, Tune, Give, Mcast, Ask, Drop}
+use Rattle.meet_loop.specs.declared.world_laws.world.WorldItem.{WorldItem}
+use Rattle.meet_loop.specs.declared.world_laws.world.WorldItem.TheVariants as item
+use Rattle.meet_loop.specs.world_laws.{note}
 use Rattle.meet_loop.specs.world_text.WorldLines.{world_line, world_lines}
 
 -- the lines of these, of event 9 and channel 7

@@ -8,12 +8,12 @@ use Rattle.rams_model.specs.declared.reception.MediaCame.TheVariants as media
 use Rattle.rams_model.specs.Texts.{spaced, of_client, of_word, hex_word, book_line, note_line, send_line}
 use Rattle.book_text.specs.{no_channel_line}
 use Rattle.server_hub.specs.Served.{Served}
-use Rattle.world_laws.specs.declared.world.WorldEvent.{WorldEvent}
-use Rattle.world_laws.specs.declared.world.WorldItem.{WorldItem}
-use Rattle.world_laws.specs.declared.world.WorldItem.TheVariants as item
-use Rattle.world_laws.specs.declared.world.WorldNote.{WorldNote}
-use Rattle.world_laws.specs.World.{World}
-use Rattle.world_laws.specs.Happening.{happens, world_after}
+use Rattle.meet_loop.specs.declared.world_laws.world.WorldEvent.{WorldEvent}
+use Rattle.meet_loop.specs.declared.world_laws.world.WorldItem.{WorldItem}
+use Rattle.meet_loop.specs.declared.world_laws.world.WorldItem.TheVariants as item
+use Rattle.meet_loop.specs.declared.world_laws.world.WorldNote.{WorldNote}
+use Rattle.meet_loop.specs.world_laws.World.{World}
+use Rattle.meet_loop.specs.world_laws.Happening.{happens, world_after}
 
 -- what became of a RAMS-I
 abbrev pub info_words : InfoCame → List ℕ

@@ -1,15 +1,15 @@
 //! Laws of every trace that `meet` serves: of its world, its text, and its receivers.
-ghost use Rattle.world_laws.specs.World.{World};
-ghost use Rattle.world_laws.specs.declared.world.WorldEvent.{WorldEvent};
+ghost use Rattle.meet_loop.specs.world_laws.World.{World};
+ghost use Rattle.meet_loop.specs.declared.world_laws.world.WorldEvent.{WorldEvent};
 ghost use Rattle.meet_loop.specs.world_book.{meet, WorldsAreServedByTheirLines, WorldsEndSo, ReceiversPresentTheirSources, WorldsAreServedLawfully};
 
-use trace_book::laws::channels_keep_their_promises;
-use trace_book::trace_serving::laws::{Serves, traces_are_served_so};
-use trace_text::lines_are_spelled_as_read;
-use world_laws::laws::{
+use crate::world_laws::laws::{
     each_delivery_is_of_the_source, each_info_is_of_the_channel, each_receiver_presents_a_prefix,
     each_receiver_presents_what_is_delivered,
 };
+use trace_loop::trace_book::laws::channels_keep_their_promises;
+use trace_loop::trace_book::trace_serving::laws::{Serves, traces_are_served_so};
+use trace_text::lines_are_spelled_as_read;
 
 /// The command `meet`, as what serves its traces.
 pub enum Meet {}

@@ -2,12 +2,12 @@
 ghost use Rattle.std.specs.Prelude.{◌≡◌, ◌∷◌, ◌++◌, ◌+◌, ◌<◌, ◌≤◌, OnErr, OnOk, codes, length};
 ghost use Rattle.rams_model.specs.Texts.{spaced, of_word, hex_word, book_line, note_line, send_line};
 ghost use Rattle.meet_loop.specs.world_text.{info_words, media_word, bytes_line, named_line, item_line, world_line, notes_lines};
-ghost use Rattle.world_laws.specs.declared.world.WorldItem.TheVariants as item;
+ghost use Rattle.meet_loop.specs.declared.world_laws.world.WorldItem.TheVariants as item;
 
+use crate::world_laws::{Note, SentBytes, WorldItem, WorldNote};
 use book_text::{Pen, Tail, append_no_channel, append_send, append_with_hex, begin};
 use ram_io::NoMemory;
 use rams_model::{InfoCame, MediaCame};
-use world_laws::{Note, SentBytes, WorldItem, WorldNote};
 
 /// The line of a note: `EVENT ID`, and its words, as `9 7 info 5 taken`; `EVENT no-datagram NUMBER`
 /// of a datagram that isn't there. A datagram that the server sends is made in `room`.

@@ -5,9 +5,9 @@ use Rattle.std.specs.Prelude.{slice_get}
 use Rattle.rams_model.specs.Service.{Settings}
 use Rattle.server_hub.specs.declared.event.HubEvent.TheVariants.{Live, Feedback}
 use Rattle.server_hub.specs.Served.{Served}
-use Rattle.trace_book.specs.Stages.{settings_of}
-use Rattle.journal_book.specs.{heard_from}
-use Rattle.journal_book.proofs.Heard.{ports_are_heard, other_ports_are_not}
+use Rattle.trace_loop.specs.trace_book.Stages.{settings_of}
+use Rattle.trace_loop.specs.journal_book.{heard_from}
+use Rattle.trace_loop.proofs.journal_book.Heard.{ports_are_heard, other_ports_are_not}
 use Rattle.trace_loop.specs.head_loop.{numbers}
 use Rattle.trace_loop.proofs.head_loop.Channels.{at_place}
 

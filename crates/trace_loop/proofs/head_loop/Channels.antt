@@ -5,7 +5,7 @@ use Rattle.rams_model.specs.Service.{Settings}
 use Rattle.server_hub.specs.{Serves, StandsFor, settings_of, id_of, Pairwise}
 use Rattle.server_hub.specs.Seen.{Seen}
 use Rattle.server_hub.specs.Served.{Served}
-use Rattle.trace_book.specs.Stages.{settings_of as settings_all}
+use Rattle.trace_loop.specs.trace_book.Stages.{settings_of as settings_all}
 use Rattle.trace_loop.specs.head_loop.{numbers}
 
 -- a hub has the settings of the channels that it stands for

@@ -7,9 +7,9 @@ use Rattle.trace_text.proofs.Spelling.{read_is_spelled}
 use Rattle.server_hub.specs.declared.event.HubEvent.{HubEvent}
 use Rattle.server_hub.specs.declared.event.HubEvent.TheVariants.{Live, Feedback, Tick}
 use Rattle.server_hub.specs.Served.{Served}
-use Rattle.trace_book.specs.trace_serving.{Stage, Outcome, Turn, ends, done, refused, too_long, turn, after_line, after_judging, counted, brought}
-use Rattle.trace_book.proofs.trace_serving.Judged.{judged_so}
-use Rattle.trace_book.specs.{run, most_events}
+use Rattle.trace_loop.specs.trace_book.trace_serving.{Stage, Outcome, Turn, ends, done, refused, too_long, turn, after_line, after_judging, counted, brought}
+use Rattle.trace_loop.proofs.trace_book.trace_serving.Judged.{judged_so}
+use Rattle.trace_loop.specs.trace_book.{run, most_events}
 
 same_end : (o p : Outcome) → ◌≡◌ {A = Turn (List Served)} (ends o) (ends p) → o ≡ p
 same_end o p e = cc

@@ -12,9 +12,9 @@ use Rattle.rams_model.specs.declared.status.Status.TheVariants.{Done, BadTrace}
 use Rattle.rams_model.specs.Texts.{TraceLine, Claim, Head, Reached, judged, lines_of, has_channel, may_come, end_line, tick_of}
 use Rattle.server_hub.specs.Seen.{Seen}
 use Rattle.server_hub.specs.Served.{Served}
-use Rattle.trace_book.specs.trace_serving.{Stage, Outcome, Turn, goes_on, ends, done, refused, turn, after_line, after_judging, after_turn, text_from, stage_after, stage_from, taken_with, taken_from, brought}
-use Rattle.trace_book.specs.{run}
-use Rattle.journal_book.specs.{Leads, line as leads_on, nothing, starting}
+use Rattle.trace_loop.specs.trace_book.trace_serving.{Stage, Outcome, Turn, goes_on, ends, done, refused, turn, after_line, after_judging, after_turn, text_from, stage_after, stage_from, taken_with, taken_from, brought}
+use Rattle.trace_loop.specs.trace_book.{run}
+use Rattle.trace_loop.specs.journal_book.{Leads, line as leads_on, nothing, starting}
 use Rattle.trace_loop.specs.declared.head_loop.head.HeadLine.{HeadLine}
 use Rattle.trace_loop.specs.declared.head_loop.head.HeadLine.TheVariants.{GoesOn, Ends, Refused}
 use Rattle.trace_loop.specs.head_loop.{claim_of, head_end, head_stage, head_text, with_feed, HubServes, HasOpened, HasOpenedBy, Took, Grows, StandsAfter, GoesOnAfter, EndsAt, IsFirstLine, IsHeadOf}

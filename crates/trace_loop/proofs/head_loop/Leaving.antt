@@ -10,8 +10,8 @@ use Rattle.rams_model.specs.declared.fault.LineFault.TheVariants.{Order}
 use Rattle.rams_model.specs.Texts.{Reached, lines_of}
 use Rattle.server_hub.specs.Seen.{Seen}
 use Rattle.server_hub.specs.Served.{Served}
-use Rattle.trace_book.specs.trace_serving.{Stage, Outcome, Turn, goes_on, ends, done, refused, turn, after_turn, text_from, taken_with, taken_from}
-use Rattle.trace_book.specs.{run}
+use Rattle.trace_loop.specs.trace_book.trace_serving.{Stage, Outcome, Turn, goes_on, ends, done, refused, turn, after_turn, text_from, taken_with, taken_from}
+use Rattle.trace_loop.specs.trace_book.{run}
 use Rattle.trace_loop.specs.{IfBothTold}
 use Rattle.trace_loop.specs.declared.head_loop.head.HeadLine.TheVariants.{Ends}
 use Rattle.trace_loop.specs.head_loop.{head_text, behind_head, with_feed, EndsAt, IsCutBefore}

@@ -14,10 +14,10 @@ use Rattle.server_hub.specs.{AllServe, new_hub, settings_of, has_id, shares_of, 
 use Rattle.server_hub.specs.Seen.{Seen}
 use Rattle.server_hub.specs.Served.{Served}
 use Rattle.server_hub.proofs.Pairing.{same_length}
-use Rattle.trace_book.specs.trace_serving.{Stage, eventless, done, ends}
-use Rattle.trace_book.specs.{run}
-use Rattle.trace_book.specs.Stages.{settings_of as settings_all}
-use Rattle.trace_book.proofs.trace_serving.Judged.{IsAccepted, IsJoined, judged_so, channel_so}
+use Rattle.trace_loop.specs.trace_book.trace_serving.{Stage, eventless, done, ends}
+use Rattle.trace_loop.specs.trace_book.{run}
+use Rattle.trace_loop.specs.trace_book.Stages.{settings_of as settings_all}
+use Rattle.trace_loop.proofs.trace_book.trace_serving.Judged.{IsAccepted, IsJoined, judged_so, channel_so}
 use Rattle.trace_text.specs.declared.line.Line.{Line}
 use Rattle.trace_text.specs.{shown, IsOther}
 use Rattle.trace_text.specs.declared.line.Line.TheVariants as line

@@ -9,10 +9,10 @@ use Rattle.line_io.specs.{IsCutOff}
 use Rattle.server_hub.specs.{StandsFor, ids_of, served, refused as refused_add}
 use Rattle.server_hub.specs.Seen.{Seen}
 use Rattle.server_hub.specs.Served.{Served}
-use Rattle.trace_book.specs.trace_serving.{Stage, Outcome, Turn, goes_on, ends, done, refused, turn, text_from, stage_from, taken_from}
-use Rattle.trace_book.specs.{run}
-use Rattle.trace_book.specs.Stages.{settings_of}
-use Rattle.journal_book.specs.{Opens, starting}
+use Rattle.trace_loop.specs.trace_book.trace_serving.{Stage, Outcome, Turn, goes_on, ends, done, refused, turn, text_from, stage_from, taken_from}
+use Rattle.trace_loop.specs.trace_book.{run}
+use Rattle.trace_loop.specs.trace_book.Stages.{settings_of}
+use Rattle.trace_loop.specs.journal_book.{Opens, starting}
 use Rattle.trace_loop.specs.declared.head_loop.head.Head.{Head}
 use Rattle.trace_loop.specs.declared.head_loop.head.Head.TheVariants.{Lawful, Unlawful}
 use Rattle.trace_loop.specs.declared.head_loop.head.HeadLine.{HeadLine}

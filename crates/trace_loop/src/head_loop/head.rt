@@ -3,14 +3,14 @@ ghost use Rattle.std.specs.Prelude.{◌≡◌, ◌+◌, ℕ, List, [], Some, Err
 ghost use Rattle.std.specs.Io.KnownBytes.{Keeps, prepend_known};
 ghost use Rattle.line_io.specs.{HasNoFeed};
 ghost use Rattle.rams_model.specs.Texts.{Reached, tick_of, may_come, end_line};
-ghost use Rattle.journal_book.specs.{starting};
+ghost use Rattle.trace_loop.specs.journal_book.{starting};
 ghost use Rattle.rams_model.specs.declared.mode.Mode.TheVariants.{Serve};
 ghost use Rattle.trace_text.specs.{shown, told, IsOther, IsSettled};
 ghost use Rattle.server_hub.specs.Served.{Served};
-ghost use Rattle.trace_book.specs.trace_serving.{Stage, turn, after_line, brought};
+ghost use Rattle.trace_loop.specs.trace_book.trace_serving.{Stage, turn, after_line, brought};
 ghost use Rattle.trace_loop.specs.declared.stop.Stop.TheVariants.{Read};
 ghost use Rattle.trace_loop.specs.{IfBothTold, IfTold, IsStoppedByRead, OnlyMemoryStops};
-ghost use Rattle.trace_book.specs.{run};
+ghost use Rattle.trace_loop.specs.trace_book.{run};
 ghost use Rattle.trace_loop.specs.head_loop.{CanOpen, Comes, Grows, HasOpened, HasOpenedBy, HasOpenedSome, HasRead, IsCutBefore, IsFirstLine, IsIdle, LeavesBehind, OpensIn, StandsAfter, Took};
 
 use crate::Stop;

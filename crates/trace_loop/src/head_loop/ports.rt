@@ -2,7 +2,7 @@
 ghost use Rattle.std.specs.Prelude.{◌≡◌, ◌≤◌, List, length, IfSome, option_map};
 ghost use Rattle.server_hub.specs.{event_of};
 ghost use Rattle.server_hub.specs.Served.{Served};
-ghost use Rattle.journal_book.specs.{heard_from};
+ghost use Rattle.trace_loop.specs.journal_book.{heard_from};
 ghost use Rattle.trace_loop.specs.head_loop.{AnswersFrom, numbers};
 
 use ram_io::Arrival;

@@ -1,7 +1,7 @@
 use Rattle.std.proofs.Common.{◌≡◌, sym, subst}
 use Rattle.std.proofs.lemmas.Result.{IfOk-weaker}
 use Rattle.rams_model.specs.Texts.{Reached, tick_of}
-use Rattle.trace_book.specs.trace_serving.{after_line, brought}
+use Rattle.trace_loop.specs.trace_book.trace_serving.{after_line, brought}
 use Rattle.trace_text.specs.declared.line.Judged.{Judged}
 use Rattle.trace_text.specs.{told, IsSettled}
 use Rattle.trace_loop.specs.declared.turn.Turn.{Turn}

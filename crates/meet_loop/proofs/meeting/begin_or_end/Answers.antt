@@ -1,5 +1,5 @@
 use Rattle.std.proofs.Common.{Some, sym, subst}
-use Rattle.trace_book.specs.trace_serving.{eventless}
+use Rattle.trace_loop.specs.trace_book.trace_serving.{eventless}
 use Rattle.trace_text.specs.declared.line.Line.{Line}
 use Rattle.trace_text.specs.{shown}
 use Rattle.trace_loop.specs.declared.turn.Turn.TheVariants.{GoesOn}

@@ -1,5 +1,5 @@
 use Rattle.std.proofs.Common.{Option, Bool, subst}
-use Rattle.world_net.specs.{Seen}
+use Rattle.meet_loop.specs.world_net.{Seen}
 use Rattle.meet_loop.specs.{Happens, Stands}
 use Rattle.meet_loop.proofs.Turning.{few_came, served_turn}
 use Rattle.meet_loop.proofs.meeting.serve.Goals as goal

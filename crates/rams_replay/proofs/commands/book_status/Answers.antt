@@ -1,5 +1,5 @@
 use Rattle.std.proofs.Common.{sym, subst}
-use Rattle.trace_book.specs.{run}
+use Rattle.trace_loop.specs.trace_book.{run}
 use Rattle.rams_replay.specs.{Writes}
 use Rattle.rams_replay.proofs.Ending.{writes}
 use Rattle.rams_replay.proofs.commands.book_status.Goals as goal

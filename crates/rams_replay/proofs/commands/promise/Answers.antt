@@ -1,6 +1,6 @@
 use Rattle.std.specs.Prelude.{All}
-use Rattle.trace_book.specs.printed_books.{PrintsItsBooks}
-use Rattle.trace_book.specs.{KeepsPromises, KeepsTheLink, served_by}
+use Rattle.trace_loop.specs.trace_book.printed_books.{PrintsItsBooks}
+use Rattle.trace_loop.specs.trace_book.{KeepsPromises, KeepsTheLink, served_by}
 use Rattle.trace_loop.proofs.Whole.{told_all}
 use Rattle.rams_replay.specs.{ComesPromised}
 use Rattle.meet_loop.specs.world_book.{ReceiversPresent, world_of}

@@ -3,8 +3,8 @@ use Rattle.std.proofs.lemmas.Result.{IfOk-weaker}
 use Rattle.server_hub.specs.declared.event.HubEvent.TheVariants as events
 use Rattle.server_hub.specs.Seen.{Seen}
 use Rattle.rams_model.specs.Texts.{head_line, live_line, feedback_line, tick_line}
-use Rattle.trace_book.specs.trace_serving.{after_line, counted, eventless, brought}
-use Rattle.trace_book.specs.{run}
+use Rattle.trace_loop.specs.trace_book.trace_serving.{after_line, counted, eventless, brought}
+use Rattle.trace_loop.specs.trace_book.{run}
 use Rattle.trace_text.specs.declared.line.Line.{Line}
 use Rattle.trace_text.specs.{shown}
 use Rattle.trace_loop.specs.declared.turn.Turn.TheVariants.{GoesOn}

@@ -6,7 +6,7 @@ use Rattle.ram_io.specs.{Outgoing}
 use Rattle.server_hub.specs.{answers_said, event_of, after_event, settings_of, told, Told}
 use Rattle.server_hub.specs.declared.event.At.{At}
 use Rattle.line_io.proofs.Passing.{Passes-then}
-use Rattle.journal_book.specs.{behind, datagrams_of, event_line}
+use Rattle.trace_loop.specs.journal_book.{behind, datagrams_of, event_line}
 use Rattle.trace_loop.specs.declared.stop.Stop.{Stop}
 use Rattle.trace_loop.proofs.Stopping.{err_so, only_err}
 use Rattle.serve_loop.proofs.Causes.{stopped_by_wire, write_stops}

@@ -1,6 +1,6 @@
 use Rattle.std.proofs.Common.{◌≡◌, ℕ, ◌+◌, List, [], ◌++◌, length, Result, IfErr, refl, sym, subst, ◌∙◌, arith, length-append}
 use Rattle.std.proofs.lemmas.Result.{err_from_is_err_and}
-use Rattle.journal_book.specs.{event_lines, events_of, sent_for}
+use Rattle.trace_loop.specs.journal_book.{event_lines, events_of, sent_for}
 use Rattle.ram_io.specs.{Outgoing}
 use Rattle.trace_loop.specs.declared.stop.Stop.{Stop}
 use Rattle.serve_loop.specs.{HasRoom, OnlyMemoryStops, Room, Stopping}

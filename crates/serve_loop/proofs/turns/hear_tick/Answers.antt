@@ -2,7 +2,7 @@ use Rattle.std.proofs.Common.{rules, ℕ, ◌+◌, List, [], ◌∷◌, ◌++◌
 use Rattle.std.proofs.lemmas.Result.{err_from_is_err_and}
 use Rattle.server_hub.specs.declared.event.HubEvent.{HubEvent}
 use Rattle.server_hub.specs.declared.event.HubEvent.TheVariants.{Tick}
-use Rattle.journal_book.specs.{behind, tick_at}
+use Rattle.trace_loop.specs.journal_book.{behind, tick_at}
 use Rattle.trace_loop.specs.declared.stop.Stop.{Stop}
 use Rattle.serve_loop.specs.{HasRoom, IsBetween, IsOutStop, OnlyMemoryStops}
 use Rattle.serve_loop.proofs.Between.{between_ready, between_after, tick_due, no_tick_due}

@@ -1,7 +1,7 @@
 use Rattle.std.proofs.Common.{rules, ◌≡◌, ℕ, ◌+◌, length, refl, arith, List, [], ◌∷◌, ◌++◌, Option, None, Some, sym, subst, ◌∙◌}
 use Rattle.ram_io.specs.{Outgoing}
 use Rattle.server_hub.specs.{event_of}
-use Rattle.journal_book.specs.{behind, datagrams_of, event_line}
+use Rattle.trace_loop.specs.journal_book.{behind, datagrams_of, event_line}
 use Rattle.trace_loop.specs.declared.stop.Stop.TheVariants.{Wire}
 use Rattle.serve_loop.specs.{Broken, HasRoom, next_events}
 use Rattle.serve_loop.proofs.Between.{told_next, nothing_next, datagram_next, err_weaker}

@@ -1,7 +1,7 @@
 use Rattle.std.proofs.Common.{rules, ◌≡◌, ℕ, ◌+◌, List, [], ◌++◌, Result, IfErr, sym, subst, ◌∙◌}
 use Rattle.std.proofs.lemmas.Result.{err_from_is_err_and}
 use Rattle.server_hub.specs.Served.{Served}
-use Rattle.journal_book.specs.{behind, event_lines, next_moment, sent_for, tick_at}
+use Rattle.trace_loop.specs.journal_book.{behind, event_lines, next_moment, sent_for, tick_at}
 use Rattle.trace_loop.specs.declared.stop.Stop.{Stop}
 use Rattle.serve_loop.specs.{Broken, HasRoom, IsOutStop, OnlyMemoryStops, next_events}
 use Rattle.serve_loop.proofs.Steps.{broken_more}

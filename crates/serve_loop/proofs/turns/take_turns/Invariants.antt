@@ -1,6 +1,6 @@
 use Rattle.std.proofs.Common.{◌≡◌, ℕ, ◌-◌, ◌*◌, ◌≤◌, List, [], drop, Some}
 use Rattle.ram_io.specs.declared.wire.Incoming.{Incoming}
-use Rattle.journal_book.specs.{events_of}
+use Rattle.trace_loop.specs.journal_book.{events_of}
 use Rattle.serve_loop.specs.{Begun, IsBetween, IsServer}
 use Rattle.serve_loop.proofs.TurnByTurn.{IsServing}
 use Rattle.serve_loop.proofs.turns.take_turns.Given as goal

@@ -1,6 +1,6 @@
 use Rattle.std.proofs.Common.{◌≡◌, Some, sym, subst, refl}
 use Rattle.rams_model.specs.Texts.{Reached, tick_of}
-use Rattle.trace_book.specs.trace_serving.{after_line, brought}
+use Rattle.trace_loop.specs.trace_book.trace_serving.{after_line, brought}
 use Rattle.trace_text.specs.declared.line.Judged.{Judged}
 use Rattle.trace_text.specs.{told, IsSettled}
 use Rattle.threads_loop.specs.declared.dealing.Does.TheVariants.{GoesOn}

@@ -1,7 +1,7 @@
 use Rattle.std.proofs.Common.{ℕ, List, ◌∙◌, sym, subst, refl}
 use Rattle.rams_model.specs.declared.event.Event.TheVariants as event
 use Rattle.std.proofs.lemmas.Result.{IfOk-weaker}
-use Rattle.trace_book.specs.trace_serving.{after_line, brought}
+use Rattle.trace_loop.specs.trace_book.trace_serving.{after_line, brought}
 use Rattle.trace_text.specs.declared.line.Line.{Line}
 use Rattle.trace_text.specs.{shown, HasDigits}
 use Rattle.threads_loop.specs.declared.dealing.Does.TheVariants.{GoesOn, Ends}

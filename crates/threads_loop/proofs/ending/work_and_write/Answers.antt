@@ -1,7 +1,7 @@
 -- What is written is what may come of the trace.
 use Rattle.std.proofs.Common.{◌∙◌, map, sym, ap}
 use Rattle.rams_model.specs.Service.{Settings}
-use Rattle.session_worker.specs.{answered_with}
+use Rattle.threads_loop.specs.session_worker.{answered_with}
 use Rattle.threads_loop.proofs.Written.{own_answers, own_lists, worked_text, worked_front, worked_room, lists_short}
 use Rattle.threads_loop.proofs.ending.work_and_write.Goals as goal
 

@@ -1,5 +1,5 @@
 use Rattle.std.proofs.Common.{subst}
-use Rattle.trace_book.specs.trace_serving.{refused, too_long}
+use Rattle.trace_loop.specs.trace_book.trace_serving.{refused, too_long}
 use Rattle.trace_loop.specs.{IfTold}
 use Rattle.threads_loop.specs.declared.reading.ReadTrace.{ReadTrace}
 use Rattle.threads_loop.specs.{HasRead}

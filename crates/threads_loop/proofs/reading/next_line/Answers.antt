@@ -2,7 +2,7 @@ use Rattle.std.proofs.Common.{ℕ, List, subst}
 use Rattle.std.specs.Io.KnownBytes.{prepend_known}
 use Rattle.line_io.specs.declared.reader.Next.{Next}
 use Rattle.line_io.specs.{TakesNext}
-use Rattle.trace_book.specs.trace_serving.{turn, event_at}
+use Rattle.trace_loop.specs.trace_book.trace_serving.{turn, event_at}
 use Rattle.threads_loop.specs.{threads, Grows, Took}
 use Rattle.threads_loop.proofs.LineByLine.{line_is_told, long_is_told, end_is_told, took_stands}
 use Rattle.threads_loop.proofs.reading.next_line.Goals as goal

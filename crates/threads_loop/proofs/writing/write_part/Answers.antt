@@ -9,7 +9,7 @@ use Rattle.threads_loop.proofs.Pieces.{part_more, part_past, drawn_at}
 use Rattle.std.specs.Global.{Vec}
 use Rattle.rams_model.specs.declared.octets.Octets.{Octets}
 use Rattle.channel_book.specs.declared.entry.Entry.{Entry}
-use Rattle.session_worker.specs.live_writer.{datagrams_of}
+use Rattle.threads_loop.specs.session_worker.live_writer.{datagrams_of}
 use Rattle.threads_loop.proofs.writing.write_part.Goals as goal
 
 pub write_piece-requires : goal.write_piece-requires

@@ -3,7 +3,7 @@ use Rattle.std.proofs.Common.{[], ◌++◌, length, codes, refl, sym, append-nil
 use Rattle.std.proofs.lemmas.Result.{err_from_is_err_and, on_ok_weaker, IfErr-weaker}
 use Rattle.trace_loop.specs.{StopsIn}
 use Rattle.trace_loop.proofs.Writing.{writing_begins, writing_has_room, writing_goes_on, writing_stops}
-use Rattle.trace_book.specs.trace_serving.{done}
+use Rattle.trace_loop.specs.trace_book.trace_serving.{done}
 use Rattle.threads_loop.specs.declared.writing.Part.TheVariants.{Trace, Book}
 use Rattle.threads_loop.specs.{part_text, written_text}
 use Rattle.trace_loop.proofs.Stopping.{err_so, only_err, together, writing_last}

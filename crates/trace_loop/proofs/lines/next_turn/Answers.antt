@@ -2,7 +2,7 @@ use Rattle.std.proofs.Common.{List, ℕ, subst}
 use Rattle.std.specs.Io.KnownBytes.{prepend_known}
 use Rattle.line_io.specs.declared.reader.Next.{Next}
 use Rattle.line_io.specs.{TakesNext}
-use Rattle.trace_book.specs.trace_serving.{turn}
+use Rattle.trace_loop.specs.trace_book.trace_serving.{turn}
 use Rattle.trace_loop.specs.{Took, ending, written}
 use Rattle.trace_loop.proofs.FirstTurn.{goes_somewhere, line_is_told, long_is_told, end_is_told}
 use Rattle.trace_loop.proofs.lines.next_turn.Goals as goal

@@ -6,8 +6,8 @@ use Rattle.rams_model.specs.Formats.{header, spelling, words_from, rams_request}
 use Rattle.rams_model.specs.Receiver.{reception}
 use Rattle.rams_model.specs.Service.{checked}
 use Rattle.rams_model.specs.Texts.{lines_of, words_of, head_in, kept_in, channel_in, tune_in, give_in, ask_in, accepted, judged}
-use Rattle.trace_book.specs.trace_serving.{turn, text_from, served_text, stage_from}
-use Rattle.world_laws.specs.{first_replaced, happens}
+use Rattle.trace_loop.specs.trace_book.trace_serving.{turn, text_from, served_text, stage_from}
+use Rattle.meet_loop.specs.world_laws.{first_replaced, happens}
 use Rattle.meet_loop.specs.world_text.{world_line, notes_lines}
 use Rattle.meet_loop.specs.world_book.Worked.{AReceiverAsks, RefusedInAWorld, OneEventTooMany}
 use Rattle.meet_loop.proofs.world_book.examples.texts_of_worlds.Goals as goal

@@ -7,7 +7,7 @@ use Rattle.rams_model.specs.Packets.{hi, numbered, awaited, live_note, stream_of
 use Rattle.rams_model.specs.Receiver.{with_piece, without_piece, first_info, last_number, after_told, after_media, after_shown, reception, shown, source_first}
 use Rattle.rams_model.specs.Service.{message_of, messages, heard_of, arrivals, as_tick_began, known, opened, sendings, newest_sender, ssrc, bursts, pending, quiet_ticks, channel_left, sent_now, verdict, number_answer, after_numbers, after_messages, run, send, all_served, all_repaired, all_forgotten, after_tick, order_of, newest_notes, newest_orders, datagram, after_hearing, history_of}
 use Rattle.rams_model.specs.Texts.{note_line, send_line}
-use Rattle.world_laws.specs.{first_replaced, as_it_came, presenting, pieces_in, notes_with_orders, happens, world_after}
+use Rattle.meet_loop.specs.world_laws.{first_replaced, as_it_came, presenting, pieces_in, notes_with_orders, happens, world_after}
 use Rattle.meet_loop.specs.world_text.{world_line, notes_lines, world_lines}
 use Rattle.meet_loop.specs.world_text.Worked.{LinesOfAWorld}
 use Rattle.meet_loop.proofs.world_text.rows.lines_of_events.Goals as goal

@@ -1,8 +1,8 @@
 use Rattle.std.proofs.Common.{Some, sym, subst}
 use Rattle.server_hub.specs.Seen.{Seen}
 use Rattle.rams_model.specs.Texts.{head_line}
-use Rattle.trace_book.specs.trace_serving.{after_line, eventless, brought}
-use Rattle.trace_book.specs.{run}
+use Rattle.trace_loop.specs.trace_book.trace_serving.{after_line, eventless, brought}
+use Rattle.trace_loop.specs.trace_book.{run}
 use Rattle.trace_text.specs.declared.line.Line.{Line}
 use Rattle.trace_text.specs.{shown}
 use Rattle.trace_loop.specs.declared.head_loop.head.HeadLine.TheVariants.{GoesOn, Ends}

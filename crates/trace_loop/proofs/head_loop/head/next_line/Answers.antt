@@ -2,8 +2,8 @@ use Rattle.std.proofs.Common.{ℕ, List, subst}
 use Rattle.std.specs.Io.KnownBytes.{prepend_known}
 use Rattle.line_io.specs.declared.reader.Next.{Next}
 use Rattle.line_io.specs.{TakesNext}
-use Rattle.trace_book.specs.trace_serving.{turn}
-use Rattle.trace_book.specs.{run}
+use Rattle.trace_loop.specs.trace_book.trace_serving.{turn}
+use Rattle.trace_loop.specs.trace_book.{run}
 use Rattle.trace_loop.specs.head_loop.{Grows, Took}
 use Rattle.trace_loop.proofs.head_loop.HeadLines.{line_is_told, long_is_told, end_is_told, took_stands}
 use Rattle.trace_loop.proofs.head_loop.head.next_line.Goals as goal

@@ -3,7 +3,7 @@ use Rattle.std.proofs.lemmas.Result.{err_from_is_err_and}
 use Rattle.std.specs.Io.KnownBytes.{prepend_known}
 use Rattle.rams_model.specs.declared.mode.Mode.TheVariants.{Serve}
 use Rattle.trace_loop.specs.declared.stop.Stop.TheVariants.{Read}
-use Rattle.journal_book.specs.{starting}
+use Rattle.trace_loop.specs.journal_book.{starting}
 use Rattle.trace_loop.specs.declared.head_loop.head.HeadLine.{HeadLine}
 use Rattle.trace_loop.specs.head_loop.{IsHeadOf, StandsAfter}
 use Rattle.trace_loop.proofs.head_loop.HeadLines.{IsWhole, TakesLine, head_is, reading_begins, reading_ends, reading_goes_on, reading_refuses, reading_told, told_gives}

@@ -1,6 +1,6 @@
 use Rattle.std.proofs.Common.{subst}
-use Rattle.trace_book.specs.trace_serving.{turn}
-use Rattle.trace_book.specs.{run}
+use Rattle.trace_loop.specs.trace_book.trace_serving.{turn}
+use Rattle.trace_loop.specs.trace_book.{run}
 use Rattle.trace_loop.specs.declared.head_loop.head.HeadLine.{HeadLine}
 use Rattle.trace_loop.specs.head_loop.{Took}
 use Rattle.trace_loop.proofs.head_loop.head.take_line.Goals as goal

@@ -1,8 +1,0 @@
-use Rattle.std.proofs.Common.{drop, ap, ◌∙◌}
-use Rattle.line_io.proofs.Windows.{slice_range-drop}
-use Rattle.capture_loop.proofs.intake.Intake.skip.Goals as goal
-
-pub returns : goal.returns
-returns c =
-    let r = c.self.inside in
-    slice_range-drop r.bytes.items r.from r.to c.args.count ∙ ap (drop c.args.count) c.self.view_is

@@ -1,8 +1,0 @@
-//! Laws of the definitions: each is the contract of a function that does nothing.
-ghost use Rattle.capture_loop.specs.pcap_trace.{TicksAreDue};
-
-/// Ticks come where they are due: the first is due one tick after the first moment, and each other
-/// one tick after the one before.
-pub fn ticks_are_due()
-    ensures { TicksAreDue }
-{}

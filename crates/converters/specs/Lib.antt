@@ -1,0 +1,2 @@
+pub mod capture_loop
+pub mod description_loop

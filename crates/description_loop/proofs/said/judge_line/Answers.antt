@@ -1,9 +1,0 @@
-use Rattle.std.proofs.Common.{Result, sym, subst}
-use Rattle.rams_model.specs.declared.fault.LineFault.{LineFault}
-use Rattle.rams_model.specs.Texts.{TraceLine, Reached}
-use Rattle.description_loop.specs.{SaysOf}
-use Rattle.description_loop.proofs.said.judge_line.Goals as goal
-
-pub returns-in-Ok : goal.returns-in-Ok
-returns-in-Ok c =
-    subst (λ (o : Result (TraceLine × Reached) LineFault). SaysOf o c.judge.new.self c.said_so.result) (sym c.in-Ok.ensures.ok) (c.said_so.ensures c.judge.new.self c.in-Ok.ensures.settled)

@@ -1,5 +1,0 @@
-use Rattle.description_loop.proofs.sdp_config.LongTexts.{long_texts}
-use Rattle.description_loop.proofs.sdp_config.laws.long_texts_are_refused.Goals as goal
-
-pub returns : goal.returns
-returns c = long_texts

@@ -1,5 +1,0 @@
-use Rattle.description_loop.proofs.sdp_config.InRange.{in_range}
-use Rattle.description_loop.proofs.sdp_config.laws.settings_are_in_range.Goals as goal
-
-pub returns : goal.returns
-returns c = in_range

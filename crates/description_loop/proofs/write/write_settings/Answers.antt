@@ -1,6 +1,0 @@
-use Rattle.description_loop.specs.{settings_outcome}
-use Rattle.description_loop.proofs.Outcomes.{unwritten}
-use Rattle.description_loop.proofs.write.write_settings.Goals as goal
-
-pub returns-in_err-reply-clause-front : goal.returns-in_err-reply-clause-front
-returns-in_err-reply-clause-front g c = unwritten settings_outcome (g.K.Sink.held c.args.sink.now) (g.S.Source.left c.args.source.now)

@@ -1,8 +1,0 @@
-use Rattle.journal_book.proofs.Heard.{ports_are_heard, other_ports_are_not}
-use Rattle.journal_book.proofs.laws.ports_are_heard.Goals as goal
-
-pub returns-clause-ports : goal.returns-clause-ports
-returns-clause-ports c = ports_are_heard
-
-pub returns-clause-others : goal.returns-clause-others
-returns-clause-others c = other_ports_are_not

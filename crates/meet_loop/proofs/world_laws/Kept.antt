@@ -1,0 +1,192 @@
+-- Each packet that came in time was read of a live event of the channel, and its bytes are those that came under its number.
+use Rattle.std.proofs.Common.{◌≡◌, ℕ, ◌%◌, ◌<◌, ◌≤◌, Bool, true, false, cond, not, ◌⊎◌, inl, inr, ⊎_elim, List, [], ◌∷◌, ◌++◌, length, Option, Some, refl, ap, sym, ◌∙◌, subst, arith, eqb, ltb}
+use Rattle.std.specs.Prelude.{Result, Ok, Err, All, Contains}
+use Rattle.std.specs.List.{AllByRecursion}
+use Rattle.std.proofs.lemmas.Bool.{cases_Bool, cond_both, not-false, eqb-true, eq-eqb}
+use Rattle.std.proofs.lemmas.List.Elements.{Contains-append_left, Contains-append_right, Contains-append_cases, Contains-push_cases}
+use Rattle.rams_model.specs.declared.channel.Channel.{Channel}
+use Rattle.rams_model.specs.declared.event.Event.{Event}
+use Rattle.rams_model.specs.declared.event.Event.TheVariants.{Live, Feedback, Tick}
+use Rattle.rams_model.specs.declared.fault.FrameFault.{FrameFault}
+use Rattle.rams_model.specs.declared.fault.RtpFault.{RtpFault}
+use Rattle.rams_model.specs.declared.held.Held.{Held}
+use Rattle.rams_model.specs.declared.note.LiveNote.{LiveNote}
+use Rattle.rams_model.specs.declared.note.LiveNote.TheVariants.{Took, Restart, TooBig, ForeignSsrc, ForeignType}
+use Rattle.rams_model.specs.Formats.{Packet, stripped, packet_at, Framed, framed}
+use Rattle.rams_model.specs.Packets.{Arrival, Stream, held_as, with_packet, live_note, stream_after, stream_of}
+use Rattle.rams_model.specs.Service.{Settings, Heard, live, dropped, feedback, unframed, tick, arrival, heard_packet, heard_live, heard_feedback, heard_of, began, History, arrivals, stream, history_of}
+use Rattle.rams_model.proofs.Induction.{arrivals_of_event}
+use Rattle.rams_model.proofs.PlainPackets.{below_at}
+use Rattle.rams_model.proofs.Rising.{end_of}
+use Rattle.rams_model.proofs.RtpPackets.{spelled_so}
+use Rattle.rams_model.specs.Laws.{Rises}
+use Rattle.meet_loop.specs.world_laws.{takes, hears_number, as_it_came, HasBytes}
+use Rattle.service_laws.proofs.byte_laws.Low.{IsLow, IsHigh, live_note_low}
+use Rattle.service_laws.proofs.book_laws.CameBefore.{all_of}
+use Rattle.service_laws.proofs.byte_laws.Rising.{all_rises, of_one, stands_once}
+
+-- the bytes that are looked up under a packet's number are those of which it was read
+pub record IsKept (c : Channel) (look : ℕ → Option (List ℕ)) (h : Held) : Type 0 where
+  pub bytes : List ℕ
+  pub came : look h.n ≡ Some bytes
+  pub small : All (λ b. b < 256) bytes
+  pub packet : Packet
+  pub is_read : packet_at bytes ≡ Ok packet
+  pub media : packet.ssrc ≡ c.ssrc
+  pub kind : packet.payload_type ≡ c.pt
+  pub low : h.n % 65536 ≡ packet.sequence
+  pub high : 65536 ≤ h.n
+  pub is_it : h.packet ≡ stripped packet
+
+-- ---- what is heard was read
+
+record WasRead (c : Channel) (bytes : List ℕ) (a : Arrival) : Type 0 where
+  packet : Packet
+  is_read : packet_at bytes ≡ Ok packet
+  media : packet.ssrc ≡ c.ssrc
+  kind : packet.payload_type ≡ c.pt
+  number : a.sequence ≡ packet.sequence
+  is_it : a.packet ≡ stripped packet
+
+abbrev ReadSo : Channel → List ℕ → Heard → Type 0
+ReadSo c bytes (live a) = WasRead c bytes a
+ReadSo c bytes _ = Unit {0}
+
+packet_read : (c : Channel) (bytes : List ℕ) (r : Result Packet RtpFault) → packet_at bytes ≡ r → ReadSo c bytes (heard_packet c r)
+packet_read c bytes (Err fault) e = tt
+packet_read c bytes (Ok p) e =
+    cond_both (not (eqb p.ssrc c.ssrc)) (dropped ForeignSsrc) (cond (not (eqb p.payload_type c.pt)) (dropped ForeignType) (live (arrival c p))) (ReadSo c bytes) (λ t. tt)
+    (λ f. cond_both (not (eqb p.payload_type c.pt)) (dropped ForeignType) (live (arrival c p)) (ReadSo c bytes) (λ t. tt)
+    (λ g. record {
+      packet = p;
+      is_read = e;
+      media = eqb-true p.ssrc c.ssrc (not-false (eqb p.ssrc c.ssrc) f);
+      kind = eqb-true p.payload_type c.pt (not-false (eqb p.payload_type c.pt) g);
+      number = refl;
+      is_it = refl;
+    }))
+
+live_read : (c : Channel) (bytes : List ℕ) → ReadSo c bytes (heard_live c bytes)
+live_read c bytes = cond_both (ltb 1470 (length bytes)) (dropped TooBig) (heard_packet c (packet_at bytes)) (ReadSo c bytes) (λ t. tt) (λ f. packet_read c bytes (packet_at bytes) refl)
+
+-- ---- one packet more
+
+of_with : (new : Held) (hs : List Held) (h : Held) → Contains (with_packet new hs) h → Contains hs h ⊎ (new ≡ h)
+of_with new [] h c = inr (of_one new h c)
+of_with new (k ∷ ks) h c =
+    cond_both (ltb new.n k.n) (new ∷ k ∷ ks) (k ∷ with_packet new ks) (λ l. Contains l h → Contains (k ∷ ks) h ⊎ (new ≡ h))
+    (λ t d. ⊎_elim (λ e. inr (of_one new h e)) (λ r. inl r) (Contains-append_cases (new ∷ []) (k ∷ ks) h d))
+    (λ f d. ⊎_elim (λ e. inl (Contains-append_left (k ∷ []) ks h e))
+    (λ r. ⊎_elim (λ e. inl (Contains-append_right (k ∷ []) ks h e)) (λ e. inr e) (of_with new ks h r)) (Contains-append_cases (k ∷ []) (with_packet new ks) h d)) c
+
+is_first : (h : Held) (hs : List Held) → Contains (h ∷ hs) h
+is_first h hs = (0, omega arith, refl)
+
+has_new : (new : Held) (hs : List Held) → Contains (with_packet new hs) new
+has_new new [] = is_first new []
+has_new new (k ∷ ks) =
+    cond_both (ltb new.n k.n) (new ∷ k ∷ ks) (k ∷ with_packet new ks) (λ l. Contains l new) (λ t. is_first new (k ∷ ks))
+    (λ f. Contains-append_right (k ∷ []) (with_packet new ks) new (has_new new ks))
+
+-- what is looked up once a packet is taken under a number
+abbrev with_taken : ℕ → List ℕ → (ℕ → Option (List ℕ)) → ℕ → Option (List ℕ)
+with_taken m bytes look k = cond (eqb m k) (Some bytes) (look k)
+
+taken_kept : (c : Channel) (look : ℕ → Option (List ℕ)) (bytes : List ℕ) (a : Arrival) (m : ℕ) (all : List Held) (h : Held) → WasRead c bytes a → All (λ b. b < 256) bytes
+    → m % 65536 ≡ a.sequence → 65536 ≤ m → Rises 0 all → Contains all (held_as m a) → Contains all h → IsKept c look h ⊎ (held_as m a ≡ h)
+    → IsKept c (with_taken m bytes look) h
+taken_kept c look bytes a m all h r small low high rises has c1 was = ⊎_elim now before (cases_Bool (eqb m h.n))
+  where
+    is_new : held_as m a ≡ h → IsKept c (with_taken m bytes look) h
+    is_new e = subst (IsKept c (with_taken m bytes look)) e (record {
+      bytes = bytes;
+      came = ap (λ (b : Bool). cond b (Some bytes) (look m)) (eq-eqb m m refl);
+      small = small;
+      packet = r.packet;
+      is_read = r.is_read;
+      media = r.media;
+      kind = r.kind;
+      low = low ∙ r.number;
+      high = high;
+      is_it = r.is_it;
+    })
+
+    now : eqb m h.n ≡ true → IsKept c (with_taken m bytes look) h
+    now t = is_new (stands_once 0 all (held_as m a) h rises has c1 (eqb-true m h.n t))
+
+    before : eqb m h.n ≡ false → IsKept c (with_taken m bytes look) h
+    before f = ⊎_elim (λ (k : IsKept c look h). record {
+      bytes = k.bytes;
+      came = ap (λ (b : Bool). cond b (Some bytes) (look h.n)) f ∙ k.came;
+      small = k.small;
+      packet = k.packet;
+      is_read = k.is_read;
+      media = k.media;
+      kind = k.kind;
+      low = k.low;
+      high = k.high;
+      is_it = k.is_it;
+    }) is_new was
+
+note_kept : (c : Channel) (look : ℕ → Option (List ℕ)) (bytes : List ℕ) (st : Stream) (a : Arrival) (n : LiveNote) (h : Held) → WasRead c bytes a → All (λ b. b < 256) bytes
+    → IsLow a.sequence n → Rises 0 (all_of (stream_after st a n)) → ((k : Held) → Contains (all_of st) k → IsKept c look k) → Contains (all_of (stream_after st a n)) h
+    → IsKept c (λ k. cond (takes k n) (Some bytes) (look k)) h
+note_kept c look bytes st a (Took m) h r small low rises old has =
+    let new = held_as m a in
+    taken_kept c look bytes a m (st.ended ++ with_packet new st.present) h r small low.0 low.1 rises
+    (Contains-append_right st.ended (with_packet new st.present) new (has_new new st.present)) has
+    (⊎_elim (λ e. inl (old h (Contains-append_left st.ended st.present h e)))
+    (λ p. ⊎_elim (λ o. inl (old h (Contains-append_right st.ended st.present h o))) (λ e. inr e) (of_with new st.present h p))
+    (Contains-append_cases st.ended (with_packet new st.present) h has))
+note_kept c look bytes st a (Restart m) h r small low rises old has =
+    let new = held_as m a in
+    taken_kept c look bytes a m (all_of st ++ new ∷ []) h r small low.0 low.1 rises (Contains-append_right (all_of st) (new ∷ []) new (is_first new [])) has
+    (⊎_elim (λ o. inl (old h o)) (λ e. inr e) (Contains-push_cases (all_of st) new h has))
+note_kept c look bytes st a n h r small low rises old has = old h has
+
+-- ---- all packets
+
+high_present : (ended present : List Held) → ((k : Held) → Contains (ended ++ present) k → 65536 ≤ k.n) → IsHigh present
+high_present ended [] f = tt
+high_present ended (h ∷ hs) f = f h (Contains-append_right ended (h ∷ hs) h (is_first h hs))
+
+-- what is looked up after an event of which this is heard
+abbrev look_after : Settings → List Event → List ℕ → Heard → ℕ → Option (List ℕ)
+look_after s events bytes heard n = cond (hears_number s (stream s (history_of s events)) n heard) (Some bytes) (as_it_came s events n)
+
+heard_kept : (s : Settings) (events : List Event) (bytes : List ℕ) (heard : Heard) (h : Held) → ReadSo s.channel bytes heard → All (λ b. b < 256) bytes
+    → ((k : Held) → Contains (all_of (stream s (history_of s events))) k → IsKept s.channel (as_it_came s events) k)
+    → Contains (all_of (stream_of s.channel.window (arrivals (began heard ∷ history_of s events)))) h → IsKept s.channel (look_after s events bytes heard) h
+unfolding arrivals stream_of
+heard_kept s events bytes (live a) h r small old has =
+    let came = arrivals (history_of s events) in
+    let st = stream_of s.channel.window came in
+    let few : a.sequence < 65536 = subst (λ (q : ℕ). q < 65536) (sym r.number) (spelled_so bytes r.packet (below_at bytes small) r.is_read).0.sequence in
+    let low = live_note_low s.channel.window st a.sequence few (end_of 0 st.ended st.present (all_rises s.channel.window came)) (high_present st.ended st.present (λ k d. (old k d).high)) in
+    note_kept s.channel (as_it_came s events) bytes st a (live_note s.channel.window st a.sequence) h r small low (all_rises s.channel.window (a ∷ came)) old has
+heard_kept s events bytes (dropped n) h r small old has = old h has
+heard_kept s events bytes (feedback client messages) h r small old has = old h has
+heard_kept s events bytes (unframed client fault) h r small old has = old h has
+heard_kept s events bytes tick h r small old has = old h has
+
+not_live : (client : ℕ) (r : Result (List Framed) FrameFault) (history : History) → arrivals (began (heard_feedback client r) ∷ history) ≡ arrivals history
+unfolding arrivals
+not_live client (Err fault) history = refl
+not_live client (Ok packets) history = refl
+
+event_kept : (s : Settings) (event : Event) (events : List Event) (h : Held) → HasBytes event
+    → ((k : Held) → Contains (all_of (stream s (history_of s events))) k → IsKept s.channel (as_it_came s events) k)
+    → Contains (all_of (stream_of s.channel.window (arrivals (began (heard_of s.channel event) ∷ history_of s events)))) h → IsKept s.channel (as_it_came s (event ∷ events)) h
+unfolding heard_of as_it_came arrivals
+event_kept s (Live bytes) events h small old has = heard_kept s events bytes (heard_live s.channel bytes) h (live_read s.channel bytes) small old has
+event_kept s (Feedback client bytes) events h small old has =
+    old h (subst (λ (came : List Arrival). Contains (all_of (stream_of s.channel.window came)) h) (not_live client (framed bytes) (history_of s events)) has)
+event_kept s Tick events h small old has = old h has
+
+pub each_kept : (s : Settings) (events : List Event) → AllByRecursion HasBytes events → (h : Held) → Contains (all_of (stream s (history_of s events))) h
+    → IsKept s.channel (as_it_came s events) h
+unfolding history_of stream_of arrivals
+each_kept s [] small h has = absurd (omega arith)
+each_kept s (event ∷ events) small h has =
+    event_kept s event events h small.0 (each_kept s events small.1)
+    (subst (λ (came : List Arrival). Contains (all_of (stream_of s.channel.window came)) h) (arrivals_of_event s (heard_of s.channel event) (history_of s events)) has)

@@ -1,0 +1,192 @@
+//! The datagrams of a world.
+ghost use Rattle.std.specs.Prelude.{◌≡◌, ◌<◌, IfOk, IfSome, OnOk};
+ghost use Rattle.rams_model.specs.Formats.{packet_at};
+ghost use Rattle.rams_model.specs.Service.{sent_again};
+ghost use Rattle.meet_loop.specs.world_laws.{posts};
+ghost use Rattle.meet_loop.specs.declared.world_laws.world.WorldItem.TheVariants as item;
+ghost use Rattle.meet_loop.specs.world_net.{as_way, sent_of};
+
+use crate::world_laws::{Repeat, SentBytes, WorldItem};
+use book_text::order_datagrams::{Config, render_order};
+use bytes::Bytes;
+use ram_io::NoMemory;
+use rams_model::Order;
+use std::alloc::Global;
+use std::marker::Model;
+
+/// Why a datagram was sent.
+#[derive(Clone, Copy)]
+pub(crate) enum Way {
+    /// A receiver posted it to the feedback target (RFC 4585).
+    Posts,
+    /// The server tells of a burst, in a RAMS-I (RFC 6285, 7.3).
+    Tells,
+    /// The server sends the source's packet of this number again (RFC 4588).
+    Repeats(u64),
+}
+
+/// Room for so many datagrams is asked for with the first that is posted. The system gives a block of this
+/// size page by page, as it is written, and lets it grow without a copy.
+const ROOM: usize = 1 << 16;
+
+/// Makes that room. Where there is none, it grows as it is needed.
+pub(crate) fn make_room(parcels: &mut Vec<Parcel>)
+    ensures { parcels.new.items ≡ parcels.old.items }
+{
+    if parcels.capacity() == 0 {
+        let _ = parcels.try_reserve(ROOM);
+    }
+}
+
+/// What a datagram's bytes are.
+#[derive(Clone, Copy)]
+enum Kind {
+    Posted,
+    Told,
+    /// The bytes are the packet that is repeated.
+    Repeated,
+}
+
+/// A datagram that was sent. Its bytes are shared with what is said of it. A world keeps very many, so
+/// that its parts are few bytes.
+#[derive(Drop)]
+pub(crate) struct Parcel {
+    client: u64,
+    /// The number of the packet that is repeated; 0 where none is.
+    n: u64,
+    bytes: Bytes,
+    id: u16,
+    /// What a retransmission has in place of its packet's own (RFC 4588, 4); 0 of all else.
+    sequence: u16,
+    payload_type: u8,
+    kind: Kind,
+}
+
+impl Model for Parcel {
+    ghost use Rattle.std.specs.Prelude.{◌<◌};
+    ghost use Rattle.meet_loop.specs.world_laws.World.{Datagram};
+    ghost use Rattle.meet_loop.specs.world_net.Ways.{way_by, bytes_by};
+
+    ghost Value = { Datagram };
+
+    ghost view = { λ p. record { id = p.id; client = p.client; way = way_by p.kind p.n; bytes = bytes_by p.kind p.payload_type p.sequence p.bytes } };
+
+    ghost invariant = { λ p. p.payload_type < 128 };
+}
+
+impl Parcel {
+    /// A datagram of this client's receiver.
+    pub(crate) fn posted(id: u16, client: u64, bytes: Bytes) -> Parcel
+        ensures { result ≡ record { id = id; client = client; way = posts; bytes = bytes } }
+    {
+        Parcel {
+            client,
+            n: 0,
+            bytes,
+            id,
+            sequence: 0,
+            payload_type: 0,
+            kind: Kind::Posted,
+        }
+    }
+
+    /// The datagram of an order of a channel with these settings.
+    #[tactic(auto, unfolding(rams_model::specs::Service::Orders::datagram))]
+    pub(crate) fn ordered(alloc: Global, config: &Config, order: Order) -> Result<Parcel, NoMemory>
+        ensures { IfOk result (λ parcel. parcel ≡ sent_of config.now order) }
+    {
+        match order {
+            Order::Rtx {
+                client,
+                n,
+                seq,
+                packet,
+            } => Ok(Parcel {
+                client,
+                n,
+                bytes: packet,
+                id: config.channel().id,
+                sequence: seq,
+                payload_type: config.channel().rtx,
+                kind: Kind::Repeated,
+            }),
+            Order::Info { client, .. } => Ok(Parcel {
+                client,
+                n: 0,
+                bytes: Bytes::from_vec(render_order(alloc, config, &order)?)?,
+                id: config.channel().id,
+                sequence: 0,
+                payload_type: 0,
+                kind: Kind::Told,
+            }),
+        }
+    }
+
+    /// The number of its channel.
+    pub(crate) fn id(&self) -> u16
+        ensures { result ≡ self.now.id }
+    {
+        self.id
+    }
+
+    /// The client that posted it, or to which it was sent.
+    pub(crate) fn client(&self) -> u64
+        ensures { result ≡ self.now.client }
+    {
+        self.client
+    }
+
+    pub(crate) fn way(&self) -> Way
+        ensures { as_way result ≡ self.now.way }
+    {
+        match self.kind {
+            Kind::Posted => Way::Posts,
+            Kind::Told => Way::Tells,
+            Kind::Repeated => Way::Repeats(self.n),
+        }
+    }
+
+    /// The packet that its bytes repeat, where they are a retransmission.
+    pub(crate) fn repeat(&self) -> Option<Repeat<'_>>
+        ensures bytes { IfSome result (λ r. self.now.bytes ≡ sent_again r.payload_type r.sequence (packet_at r.packet.now)) }
+        ensures kind { IfSome result (λ r. r.payload_type < 128) }
+    {
+        match self.kind {
+            Kind::Repeated => Some(Repeat {
+                packet: &self.bytes,
+                payload_type: self.payload_type,
+                sequence: self.sequence,
+            }),
+            Kind::Posted | Kind::Told => None,
+        }
+    }
+
+    // Its bytes, which are shared.
+    fn share(&self) -> Result<SentBytes, NoMemory>
+        ensures { IfOk result (λ bytes. bytes ≡ self.now.bytes) }
+    {
+        let bytes = self.bytes.clone()?;
+        Ok(match self.kind {
+            Kind::Repeated => SentBytes::again(bytes, self.payload_type, self.sequence),
+            Kind::Posted | Kind::Told => SentBytes::whole(bytes),
+        })
+    }
+
+    /// Its bytes stand in `room` then; what stood there goes.
+    pub(crate) fn spell(&self, room: &mut Vec<u8>) -> Result<(), NoMemory>
+        ensures { OnOk result (room.new.items ≡ self.now.bytes) }
+    {
+        room.clear();
+        self.share()?.append_to(room)
+    }
+
+    /// What is said of it where the server sent it.
+    pub(crate) fn as_sent(&self) -> Result<WorldItem, NoMemory>
+        ensures { IfOk result (λ said. said ≡ item.Send self.now.client self.now.bytes) }
+    {
+        Ok(WorldItem::Send {
+            client: self.client,
+            bytes: self.share()?,
+        })
+    }
+}

@@ -1,0 +1,78 @@
+//! What comes to the server of a world.
+ghost use Rattle.std.specs.Prelude.{◌≡◌, ◌+◌, ◌-◌, ◌^◌, ℕ, OnOk};
+ghost use Rattle.server_hub.specs.{answers_said, event_of, told};
+ghost use Rattle.meet_loop.specs.world_laws.{serving};
+ghost use Rattle.meet_loop.specs.world_laws.World.{World};
+ghost use Rattle.meet_loop.specs.world_net.{Stands, Goes, AreFew, taken_number, Keeps, KeepsHeard};
+
+use crate::world_laws::WorldNote;
+use crate::world_net::packets::Packets;
+use crate::world_net::parts::Parts;
+use crate::world_net::telling::tell;
+use ram_io::NoMemory;
+use rams_model::{LiveNote, Note};
+use server_hub::{At, Heard, HubAnswer};
+use std::alloc::Global;
+use std::slice;
+
+impl Parts {
+    /// Something comes to the server.
+    pub(crate) fn serve(
+        &mut self,
+        alloc: Global,
+        heard: Heard<'_>,
+        notes: &mut Vec<WorldNote>,
+    ) -> Result<(), NoMemory>
+        requires { AreFew (2 ^ 40 - 1) self.old }
+        ensures goes { (w : World) → Stands self.old w → OnOk result (Goes (serving (event_of heard.entry) w) notes.old.items notes.new.items self.new) }
+        ensures few { (n : ℕ) → AreFew n self.old → AreFew (n + 1) self.new }
+    {
+        let answer = self.hub.hear(alloc, heard)?;
+        keep_live(&mut self.packets, heard, &answer)?;
+        tell(alloc, &self.hub, answer, notes, &mut self.parcels)
+    }
+}
+
+// Keeps what is heard, where it is a live packet that its channel took.
+fn keep_live(packets: &mut Packets, heard: Heard<'_>, answer: &HubAnswer) -> Result<(), NoMemory>
+    ensures { OnOk result (KeepsHeard (event_of heard.entry) (told answer.now) packets.old packets.new) }
+{
+    match heard {
+        Heard::Live { id, bytes } => keep(packets, id, bytes, answer),
+        _ => Ok(()),
+    }
+}
+
+// Keeps a live packet, where the channel took it.
+fn keep(packets: &mut Packets, id: u16, bytes: &[u8], answer: &HubAnswer) -> Result<(), NoMemory>
+    ensures { OnOk result (Keeps id bytes.now (taken_number (told answer.now)) packets.old packets.new) }
+{
+    if let Some(n) = number_taken(answer) {
+        packets.add(id, n, bytes)?;
+    }
+    Ok(())
+}
+
+// The number under which a live packet was taken, where it was.
+fn number_taken(answer: &HubAnswer) -> Option<u64>
+    ensures { result ≡ taken_number (told answer.now) }
+{
+    let [at] = answers_of(answer) else {
+        return None;
+    };
+    match at.answer.notes.as_slice() {
+        [Note::Live(LiveNote::Took(n) | LiveNote::Restart(n)), ..] => Some(*n),
+        _ => None,
+    }
+}
+
+// The answers of the channels that answer.
+fn answers_of(answer: &HubAnswer) -> &[At]
+    ensures { result.now ≡ answers_said (told answer.now) }
+{
+    match answer {
+        HubAnswer::NoChannel(_) => &[],
+        HubAnswer::Answer(at) => slice::from_ref(at),
+        HubAnswer::Answers(all) => all,
+    }
+}

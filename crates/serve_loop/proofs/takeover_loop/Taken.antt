@@ -1,0 +1,122 @@
+-- What is taken over of a journal, and why nothing is.
+use Rattle.std.proofs.Common.{◌≡◌, ℕ, ◌+◌, ◌-◌, ◌<◌, ◌≤◌, ltb, Bool, true, false, List, length, Option, None, Some, refl, sym, ap, subst, ◌∙◌, arith}
+use Rattle.std.specs.Prelude.{if◌then◌else◌}
+use Rattle.std.proofs.lemmas.Bool.{lt-ltb}
+use Rattle.std.proofs.lemmas.List.{length-map}
+use Rattle.rams_model.specs.declared.fault.LineFault.TheVariants.{Order}
+use Rattle.rams_model.specs.declared.status.Status.TheVariants.{Done}
+use Rattle.rams_model.specs.Texts.{Head, has_channel, whole_lines}
+use Rattle.server_hub.specs.{IsHub}
+use Rattle.server_hub.specs.Seen as hubs
+use Rattle.server_hub.specs.Served.{Served}
+use Rattle.trace_loop.proofs.head_loop.Channels.{settings_stand}
+use Rattle.trace_loop.specs.trace_book.trace_serving.{Outcome, done, refused}
+use Rattle.trace_loop.specs.trace_book.Stages.{settings_of as settings_all}
+use Rattle.serve_loop.specs.{numbers}
+use Rattle.serve_loop.specs.declared.standby.fault.FeedFault.{FeedFault}
+use Rattle.serve_loop.specs.declared.standby.fault.FeedFault.TheVariants.{Line, TooLong, NoMemory}
+use Rattle.serve_loop.specs.standby.{HasRead, Halted, HubServes, IsTakenOver, Refuses, Seen, count_of, end_of, lines_followed, stage_of}
+use Rattle.serve_loop.proofs.standby.Ending.{all_followed}
+use Rattle.serve_loop.specs.takeover_loop.{IsTaken, end_or, has_lines, opened_by, outcome_of, reading_end}
+use Rattle.serve_loop.proofs.takeover_loop.Ends.{ended_has_channel}
+
+-- a fault ends the reading
+pub fault_ends : (v : Seen) (fault : FeedFault) (bytes : List ℕ) → HasRead v bytes → v.fault ≡ Some fault → reading_end bytes ≡ outcome_of fault
+fault_ends v fault bytes r is = by fault (subst (λ (f : Option FeedFault). Halted v.ended f (end_of bytes)) is r.halted)
+  where
+    rest : Outcome
+    rest = opened_by (has_channel (stage_of bytes).reached) (length (lines_followed bytes) + 1)
+
+    by : (f : FeedFault) → Halted v.ended (Some f) (end_of bytes) → reading_end bytes ≡ outcome_of f
+    by (Line number fault) h = ap (λ (o : Option Outcome). end_or o rest) h
+    by TooLong h = ap (λ (o : Option Outcome). end_or o rest) h
+    by NoMemory h = absurd h
+
+-- without a fault the reading ends with `end`, or where the bytes do
+data IsOpen (bytes : List ℕ) : Type 0 where
+  ended : (events : ℕ) → end_of bytes ≡ Some (done events) → IsOpen bytes
+  unended : end_of bytes ≡ None → IsOpen bytes
+
+no_fault : (v : Seen) (bytes : List ℕ) → HasRead v bytes → v.fault ≡ None → IsOpen bytes
+no_fault v bytes r is = by v.ended (subst (λ (f : Option FeedFault). Halted v.ended f (end_of bytes)) is r.halted)
+  where
+    by : (t : Bool) → Halted t None (end_of bytes) → IsOpen bytes
+    by true h = ended h.0 h.1
+    by false h = unended h
+
+channel_there : (v : Seen) (bytes : List ℕ) → HasRead v bytes → v.fault ≡ None → (Refuses v → ⊥) → has_channel (stage_of bytes).reached ≡ true
+channel_there v bytes r is goes = ap has_channel (sym r.stands.lines) ∙ by (has_channel v.reached) refl
+  where
+    by : (t : Bool) → has_channel v.reached ≡ t → t ≡ true
+    by true e = refl
+    by false e = absurd (goes (λ q. e))
+
+well_ends : (bytes : List ℕ) → IsOpen bytes → has_channel (stage_of bytes).reached ≡ true → (reading_end bytes).status ≡ Done
+well_ends bytes (ended events end) has =
+    ap (λ (o : Option Outcome). (end_or o (opened_by (has_channel (stage_of bytes).reached) (length (lines_followed bytes) + 1))).status) end
+well_ends bytes (unended none) has =
+    ap (λ (o : Option Outcome). (end_or o (opened_by (has_channel (stage_of bytes).reached) (length (lines_followed bytes) + 1))).status) none
+    ∙ ap (λ (t : Bool). (opened_by t (length (lines_followed bytes) + 1)).status) has
+
+-- the hub that is taken over
+pub is_taken : (v : Seen) (hub : hubs.Seen) (ids : List ℕ) (left : ℕ) (bytes : List ℕ) → HasRead v bytes → v.fault ≡ None → (Refuses v → ⊥) → IsTakenOver hub bytes → ids ≡ v.ids → left ≡ 1000000 - v.events → IsTaken bytes hub ids left
+is_taken v hub ids left bytes r none goes t are is =
+    let has = channel_there v bytes r none goes in
+    record {
+      ends = well_ends bytes (no_fault v bytes r none) has;
+      channel = has;
+      stands = t.stands;
+      tick = t.tick;
+      ids_are = are ∙ r.stands.ids_are;
+      left_is = is ∙ ap (λ n. 1000000 - n) r.stands.counted;
+    }
+
+-- has no more channels than there may be
+pub few_ids : (v : Seen) (hub : hubs.Seen) (ids : List ℕ) (bytes : List ℕ) → HasRead v bytes → IsTakenOver hub bytes → IsHub hub → ids ≡ v.ids → length ids ≤ 64
+few_ids v hub ids bytes r t lawful are =
+    let few = lawful.channels.few in
+    let settings = ap length (settings_stand hub (stage_of bytes).state t.stands) in
+    let size : length ids ≡ length (settings_all (stage_of bytes).state) = ap length (are ∙ r.stands.ids_are) ∙ length-map (settings_all (stage_of bytes).state) (λ s. s.channel.id) in
+    omega (arith, few, settings, size)
+
+-- and may have so many more events
+pub calls_left : (v : Seen) (hub : hubs.Seen) (left : ℕ) (bytes : List ℕ) → HasRead v bytes → IsTakenOver hub bytes → left ≡ 1000000 - v.events → hub.calls + left ≤ 1000000
+calls_left v hub left bytes r t is = let calls = t.calls in let few = t.few in let counted = r.stands.counted in omega (arith, calls, few, counted, is)
+
+-- The number of the line that is missing, where no channel stands.
+head_counts : (hub : Option hubs.Seen) (head : Option Head) (channels : List Served) (ids : List ℕ) (events lines : ℕ) → HubServes hub head channels events → ids ≡ numbers channels → count_of hub ids events ≡ lines
+    → (if ltb 0 lines then 1 else 0) + length ids + events ≡ lines
+head_counts None None channels ids events lines serves are count =
+    let no_ids : length ids ≡ 0 = ap length (are ∙ ap numbers serves.0) in
+    let no_lines : lines ≡ 0 = sym count ∙ (let none = serves.1 in let zero : count_of None ids events ≡ 0 = omega (arith, no_ids, none) in zero) in
+    subst (λ n. (if ltb 0 n then 1 else 0) + length ids + events ≡ n) (sym no_lines) (let none = serves.1 in let zero : 0 + length ids + events ≡ 0 = omega (arith, no_ids, none) in zero)
+head_counts None (Some head) channels ids events lines serves are count = absurd serves
+head_counts (Some hub) None channels ids events lines serves are count = absurd serves
+head_counts (Some hub) (Some head) channels ids events lines serves are count =
+    let some : 0 < lines = omega (arith, count) in
+    rw (lt-ltb 0 lines some) count
+
+pub missing_ends : (v : Seen) (begun : Bool) (line : ℕ) (bytes : List ℕ) → HasRead v bytes → v.fault ≡ None → Refuses v → (end_of bytes ≡ None → begun ≡ has_lines bytes) → line ≡ (if begun then 1 else 0) + length v.ids + v.events + 1
+    → reading_end bytes ≡ refused line Order
+missing_ends v begun line bytes r none refuses counts is = by (no_fault v bytes r none)
+  where
+    has : has_channel (stage_of bytes).reached ≡ false
+    has = ap has_channel (sym r.stands.lines) ∙ refuses none
+
+    there : (events : ℕ) → end_of bytes ≡ Some (done events) → ⊥
+    there events end = let clash : true ≡ false = sym (ended_has_channel bytes (done events) end refl) ∙ has in cc
+
+    lines : end_of bytes ≡ None → length (lines_followed bytes) + 1 ≡ line
+    lines still =
+        let count = (r.going still).count in
+        let followed = ap length (all_followed bytes still) in
+        let serves = subst (λ n. HubServes v.hub (stage_of bytes).reached.head (stage_of bytes).state n) (sym r.stands.counted) r.stands.serves in
+        let heads = head_counts v.hub (stage_of bytes).reached.head (stage_of bytes).state v.ids v.events (length (whole_lines bytes)) serves r.stands.ids_are count in
+        let number : line ≡ (if has_lines bytes then 1 else 0) + length v.ids + v.events + 1 = is ∙ ap (λ (t : Bool). (if t then 1 else 0) + length v.ids + v.events + 1) (counts still) in
+        ap (λ n. n + 1) (followed ∙ sym heads) ∙ sym number
+
+    by : IsOpen bytes → reading_end bytes ≡ refused line Order
+    by (ended events end) = absurd (there events end)
+    by (unended still) =
+        ap (λ (o : Option Outcome). end_or o (opened_by (has_channel (stage_of bytes).reached) (length (lines_followed bytes) + 1))) still
+        ∙ ap (λ (t : Bool). opened_by t (length (lines_followed bytes) + 1)) has ∙ ap (λ n. refused n Order) (lines still)

@@ -1,6 +1,0 @@
-use Rattle.standby.specs.{whole_text}
-use Rattle.standby.proofs.Followed.{is_followed}
-use Rattle.standby.proofs.laws.whole_lines_are_followed.Goals as goal
-
-pub returns : goal.returns
-returns c = λ bytes. is_followed bytes (c.traces_are_served_by_their_lines.ensures (whole_text bytes))

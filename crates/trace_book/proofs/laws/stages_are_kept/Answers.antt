@@ -1,8 +1,0 @@
-use Rattle.trace_book.proofs.Served.{stages_kept}
-use Rattle.trace_book.proofs.laws.stages_are_kept.Goals as goal
-
-pub returns-clause-opening : goal.returns-clause-opening
-returns-clause-opening c = c.stages_are_kept.ensures.opening
-
-pub returns-clause-kept : goal.returns-clause-kept
-returns-clause-kept c = stages_kept c.stages_are_kept.ensures.kept

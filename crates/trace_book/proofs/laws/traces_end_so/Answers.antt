@@ -1,5 +1,0 @@
-use Rattle.trace_book.proofs.Served.{ends_so}
-use Rattle.trace_book.proofs.laws.traces_end_so.Goals as goal
-
-pub returns : goal.returns
-returns c trace = ends_so trace (c.traces_are_served_so.ensures trace)

@@ -1,5 +1,0 @@
-use Rattle.trace_book.proofs.printed_books.Printing.{alone_is}
-use Rattle.trace_book.proofs.printed_books.laws.a_book_alone_is_printed.Goals as goal
-
-pub returns : goal.returns
-returns c = alone_is

@@ -1,5 +1,0 @@
-use Rattle.trace_book.proofs.trace_serving.Runs.{is_served_so}
-use Rattle.trace_book.proofs.trace_serving.laws.traces_are_served_so.Goals as goal
-
-pub returns : goal.returns
-returns g c = is_served_so g.S.Serves.serving

@@ -1,6 +1,0 @@
-use Rattle.std.proofs.Common.{◌≡◌, ◌++◌, map, drop}
-use Rattle.world_net.specs.{sent_note, note_with_sent}
-use Rattle.world_net.proofs.telling.say_note.Given as goal
-
-abbrev pub invariant-loop-parcel : goal.invariant-loop-parcel
-invariant-loop-parcel l = l.notes.items ++ map sent_note (drop l.parcel-index l.sent) ≡ l.fn.notes.items ++ note_with_sent l.fn.id l.fn.note l.sent

@@ -1,6 +1,0 @@
-use Rattle.std.proofs.Common.{◌≡◌, ◌++◌, drop}
-use Rattle.world_net.specs.{notes_with_sent}
-use Rattle.world_net.proofs.telling.say_notes.Given as goal
-
-abbrev pub invariant-loop-note : goal.invariant-loop-note
-invariant-loop-note l = l.notes.items ++ notes_with_sent l.id (drop l.note-index l.all) l.left ≡ l.fn.notes.items ++ notes_with_sent l.id l.all l.sent
