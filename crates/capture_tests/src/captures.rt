@@ -1,10 +1,9 @@
 //! Captures, written as traces.
-use crate::fixtures::same;
+use crate::fixtures::{let_go, same};
 use converters::capture_loop::{Status, Stop, write_capture};
 use ram_io::{MemSink, MemSource, Open};
 use std::alloc::Global;
 use std::process::Abort;
-use std::str;
 use std::test::Fail;
 use test_fixtures::test_words::{Words, bytes_of, joined};
 
@@ -179,12 +178,20 @@ const ROWS: &[Row] = &[
     },
 ];
 
+// Appends the bytes of a file, but for those that are missing.
+fn add_file(alloc: Global, row: &Row, bytes: &mut Vec<u8>) -> Result<(), Fail> {
+    let file = bytes_of(alloc, row.file)?;
+    let left = file.len().saturating_sub(row.cut);
+    let added = bytes.extend_from_slice(&file[..left]);
+    let_go(file);
+    added?;
+    Ok(())
+}
+
 // The bytes of a head and a file.
 fn source_of(alloc: Global, row: &Row) -> Result<Vec<u8>, Fail> {
     let mut bytes = joined(alloc, row.head, "\n")?;
-    let file = bytes_of(alloc, row.file)?;
-    let left = file.len().saturating_sub(row.cut);
-    bytes.extend_from_slice(&file[..left])?;
+    add_file(alloc, row, &mut bytes)?;
     Ok(bytes)
 }
 
@@ -197,27 +204,45 @@ fn written(
     sink_fails: &[u64],
 ) -> Result<(Result<Status, Stop>, Vec<u8>), Fail> {
     let mut source = MemSource::new(bytes, piece.max(1), source_fails.to_vec(alloc)?);
-    let sink = MemSink::new(alloc, 6_000_000, 1_000, sink_fails.to_vec(alloc)?);
-    let mut sink = sink.ok().ok_or("memory")?;
-    let ended = ended(alloc, &mut source, &mut sink);
-    Ok((ended, sink.held().to_vec(alloc)?))
+    let written = written_from(alloc, &mut source, sink_fails);
+    let_go(source);
+    written
+}
+
+// What is written of a source, where these calls of the sink fail.
+fn written_from(
+    alloc: Global,
+    source: &mut MemSource,
+    fails: &[u64],
+) -> Result<(Result<Status, Stop>, Vec<u8>), Fail> {
+    let Ok(mut sink) = MemSink::new(alloc, 6_000_000, 1_000, fails.to_vec(alloc)?) else {
+        return Err(Fail::new("no memory"));
+    };
+    let ended = ended(alloc, source, &mut sink);
+    let text = sink.held().to_vec(alloc);
+    let_go(sink);
+    Ok((ended, text?))
 }
 
 fn ended(alloc: Global, source: &mut MemSource, sink: &mut MemSink) -> Result<Status, Stop> {
     write_capture(alloc, 5000, source, sink, &Open)
 }
 
+// The text has these lines.
+fn is_text(alloc: Global, lines: &[&str], text: &[u8]) -> Result<bool, Fail> {
+    let want = joined(alloc, lines, "\n")?;
+    let is_so = text == want.as_slice();
+    let_go(want);
+    Ok(is_so)
+}
+
 // What is written in pieces of this size ends so.
 fn expect_pieces(rt: &impl Abort, alloc: Global, row: &Row, piece: usize) -> Result<(), Fail> {
     let (ended, text) = written(alloc, source_of(alloc, row)?, piece, &[], &[])?;
-    let want = joined(alloc, row.text, "\n")?;
+    let is_so = is_text(alloc, row.text, &text);
+    let_go(text);
     same(rt, &ended, &Ok(row.status), row.name);
-    same(
-        rt,
-        &str::from_utf8(&text)?,
-        &str::from_utf8(&want)?,
-        row.name,
-    );
+    same(rt, &is_so?, &true, row.name);
     Ok(())
 }
 
@@ -245,12 +270,13 @@ const FAULTS: &[Fault] = &[
 
 fn expect_fault(rt: &impl Abort, alloc: Global, fault: &Fault) -> Result<(), Fail> {
     let (name, source_fails, sink_fails, stop, lines) = *fault;
+    let front = PLAIN.text.get(..lines).ok_or("lines")?;
     let bytes = source_of(alloc, &PLAIN)?;
     let (ended, text) = written(alloc, bytes, 100, source_fails, sink_fails)?;
-    let front = PLAIN.text.get(..lines).ok_or("lines")?;
-    let want = joined(alloc, front, "\n")?;
+    let is_so = is_text(alloc, front, &text);
+    let_go(text);
     same(rt, &ended, &Err(stop), name);
-    same(rt, &str::from_utf8(&text)?, &str::from_utf8(&want)?, name);
+    same(rt, &is_so?, &true, name);
     Ok(())
 }
 
@@ -278,10 +304,14 @@ const LENGTHS: &[(u32, usize, Status)] = &[
 // A head, and two records with so many seconds between them.
 fn two_records(alloc: Global, seconds: u32) -> Result<Vec<u8>, Fail> {
     let mut bytes = joined(alloc, &[HEAD, SEVEN, "end"], "\n")?;
-    bytes.extend_from_slice(&bytes_of(alloc, &[FILE])?)?;
-    empty_at(0, &mut bytes)?;
-    empty_at(seconds, &mut bytes)?;
+    add_two_records(alloc, seconds, &mut bytes)?;
     Ok(bytes)
+}
+
+fn add_two_records(alloc: Global, seconds: u32, bytes: &mut Vec<u8>) -> Result<(), Fail> {
+    bytes.extend_from_slice(&bytes_of(alloc, &[FILE])?)?;
+    empty_at(0, bytes)?;
+    empty_at(seconds, bytes)
 }
 
 #[test]
@@ -292,6 +322,7 @@ fn a_trace_has_room_for_a_million_events(rt: HostRuntime) -> Result<(), Fail> {
         same(&rt, &ended, &Ok(*status), "a million events");
         let count = text.iter().filter(|b| **b == b'\n').count();
         same(&rt, &count, lines, "a million events");
+        let_go(text);
     }
     Ok(())
 }

@@ -1,4 +1,5 @@
 //! What is told of a capture that is refused.
+use crate::fixtures::let_go;
 use converters::capture_loop::{CaptureFault, CaptureWatch, FileKind, write_capture};
 use ram_io::{MemSink, MemSource};
 use std::alloc::Global;
@@ -133,10 +134,19 @@ fn what_is_told(alloc: Global, head: Words, file: Words) -> Result<Told, Fail> {
     let mut bytes = joined(alloc, head, "\n")?;
     bytes.extend_from_slice(&bytes_of(alloc, file)?)?;
     let mut source = MemSource::new(bytes, 7, Vec::new(alloc));
-    let sink = MemSink::new(alloc, 1_000_000, 1_000, Vec::new(alloc));
-    let mut sink = sink.ok().ok_or("memory")?;
+    let said = said_of(alloc, &mut source);
+    let_go(source);
+    said
+}
+
+// What is told of a source.
+fn said_of(alloc: Global, source: &mut MemSource) -> Result<Told, Fail> {
+    let Ok(mut sink) = MemSink::new(alloc, 1_000_000, 1_000, Vec::new(alloc)) else {
+        return Err(Fail::new("no memory"));
+    };
     let notes = Notes(Cell::new(Told::Nothing));
-    let _ = write_capture(alloc, 5000, &mut source, &mut sink, &notes);
+    let _ = write_capture(alloc, 5000, source, &mut sink, &notes);
+    let_go(sink);
     Ok(notes.0.get())
 }
 

@@ -1,5 +1,5 @@
 //! Tables whose clients and entries are told by hand.
-use crate::fixtures::same;
+use crate::fixtures::{let_go, same};
 use client_table::{AdmitFault, Burst, Entry, Info, Table};
 use std::alloc::Global;
 use std::process::Abort;
@@ -109,6 +109,7 @@ fn expect_full(rt: &impl Abort, alloc: Global, rows: &[Full]) -> Result<(), Fail
         );
         expect_known(rt, &table, known);
         expect_leave(rt, alloc, &mut table, known);
+        let_go(table);
     }
     Ok(())
 }
@@ -127,6 +128,7 @@ fn expect_next(rt: &impl Abort, alloc: Global, rows: &[Next]) -> Result<(), Fail
     for (place, (clients, from, next)) in rows.iter().enumerate() {
         let table = table_of(rt, alloc, 4, clients)?;
         same(rt, &next_after(&table, *from), next, &place);
+        let_go(table);
     }
     Ok(())
 }
@@ -168,6 +170,7 @@ fn written_entries(rt: HostRuntime) -> Result<(), Fail> {
     for written in CLIENTS {
         let table = written_table(&rt, rt.alloc(), written)?;
         expect_written(&rt, &table, written);
+        let_go(table);
     }
     Ok(())
 }
@@ -234,6 +237,7 @@ fn open_bursts(rt: HostRuntime) -> Result<(), Fail> {
         let table = opened_table(&rt, rt.alloc(), opened, ended, *left)?;
         same(&rt, &count_open(&table), &open_then.len(), &place);
         expect_open(&rt, &table, open_then, place);
+        let_go(table);
     }
     Ok(())
 }
@@ -266,6 +270,7 @@ fn changed_entries(rt: HostRuntime) -> Result<(), Fail> {
         same(&rt, &entry, &Some(later_entry(client, idle)), &client);
     }
     same(&rt, &table.count(), &3, &"count");
+    let_go(table);
     Ok(())
 }
 
@@ -307,17 +312,23 @@ fn due_clients(rt: HostRuntime) -> Result<(), Fail> {
             table.remove(9);
         }
     }
+    let_go(table);
     Ok(())
+}
+
+fn expect_all_due(rt: &impl Abort, table: &Table) {
+    let mut due = table.due_next(LIMIT + 1);
+    for client in CLIENTS {
+        same(rt, &due.next(), &Some(u64::from(client)), &client);
+    }
+    same(rt, &due.next(), &None, &"all");
 }
 
 // A table that looks out for another limit gives all its clients.
 #[test]
 fn all_clients_due(rt: HostRuntime) -> Result<(), Fail> {
     let table = table_of(&rt, rt.alloc(), 3, &CLIENTS)?;
-    let mut due = table.due_next(LIMIT + 1);
-    for client in CLIENTS {
-        same(&rt, &due.next(), &Some(u64::from(client)), &client);
-    }
-    same(&rt, &due.next(), &None, &"all");
+    expect_all_due(&rt, &table);
+    let_go(table);
     Ok(())
 }

@@ -1,7 +1,8 @@
 //! Asks and settlements whose answers are counted out by hand.
-use crate::fixtures::same;
+use crate::fixtures::{let_go, same};
 use repair_queue::{Asked, Queue, Wanted};
 use std::alloc::{AllocError, Global};
+use std::fmt::Display;
 use std::process::Abort;
 use std::test::Fail;
 
@@ -117,6 +118,7 @@ fn full_queues(rt: HostRuntime) -> Result<(), Fail> {
     ask(&rt, &mut queue, 1, 65801, Asked::Already);
     ask(&rt, &mut queue, 16, 65802, Asked::ClientFull);
     same(&rt, &count(&queue), &4096, &"pending");
+    let_go(queue);
     Ok(())
 }
 
@@ -127,6 +129,19 @@ fn full_queues_have_room_behind_a_client(rt: HostRuntime) -> Result<(), Fail> {
     same(&rt, &count(&queue), &3840, &"pending");
     ask(&rt, &mut queue, 17, 65546, Asked::Queued);
     ask(&rt, &mut queue, 3, 65546, Asked::Queued);
+    let_go(queue);
+    Ok(())
+}
+
+// Pending are these.
+fn expect_pending<C: Display>(
+    rt: &impl Abort,
+    alloc: Global,
+    queue: &Queue,
+    pairs: &[(u64, u64)],
+    of: &C,
+) -> Result<(), Fail> {
+    same(rt, &pending(alloc, queue)?.as_slice(), &pairs, of);
     Ok(())
 }
 
@@ -153,8 +168,10 @@ fn expect_settled(rt: &impl Abort, alloc: Global, rows: &[Settled]) -> Result<()
     for (place, (done, left)) in rows.iter().enumerate() {
         let mut queue = queue_of(rt, alloc)?;
         settle(rt, &mut queue, done);
-        same(rt, &pending(alloc, &queue)?.as_slice(), left, &place);
+        let settled = expect_pending(rt, alloc, &queue, left, &place);
         ask_again(rt, &mut queue, done);
+        let_go(queue);
+        settled?;
     }
     Ok(())
 }
@@ -179,18 +196,38 @@ fn settle_places(
     Ok(())
 }
 
+// The first two that are pending, and the last.
+fn ends(pairs: &[(u64, u64)]) -> [Option<(u64, u64)>; 3] {
+    [
+        pairs.get(0).copied(),
+        pairs.get(1).copied(),
+        pairs.last().copied(),
+    ]
+}
+
+// The repairs at these places go, one settlement after the other. What is pending then, with one more
+// behind it: the first two, and the last.
+fn ends_after(
+    rt: &impl Abort,
+    alloc: Global,
+    queue: &mut Queue,
+    gone: &[(usize, usize)],
+) -> Result<[Option<(u64, u64)>; 3], Fail> {
+    for places in gone {
+        settle_places(rt, alloc, queue, *places)?;
+    }
+    ask(rt, queue, 17, 65546, Asked::Queued);
+    Ok(ends(&pending(alloc, queue)?))
+}
+
 // What goes from a full queue leaves the others in their order, and room for as many behind them.
 fn expect_gone(rt: &impl Abort, alloc: Global, rows: &[Gone]) -> Result<(), Fail> {
     for (place, (gone, first)) in rows.iter().enumerate() {
         let mut queue = full_queue(rt, alloc)?;
-        for places in *gone {
-            settle_places(rt, alloc, &mut queue, *places)?;
-        }
-        ask(rt, &mut queue, 17, 65546, Asked::Queued);
-        let pairs = pending(alloc, &queue)?;
-        same(rt, &pairs.get(0), &Some(&first[0]), &place);
-        same(rt, &pairs.get(1), &Some(&first[1]), &place);
-        same(rt, &pairs.last(), &Some(&(17, 65546)), &place);
+        let ends = ends_after(rt, alloc, &mut queue, gone);
+        let_go(queue);
+        let want = [Some(first[0]), Some(first[1]), Some((17, 65546))];
+        same(rt, &ends?, &want, &place);
     }
     Ok(())
 }
@@ -206,8 +243,10 @@ fn expect_forgotten(rt: &impl Abort, alloc: Global, rows: &[Forgotten]) -> Resul
         let known = queue.has(*client);
         queue.forget(*client);
         let has = (known, queue.has(*client));
+        let others = expect_pending(rt, alloc, &queue, left, client);
+        let_go(queue);
         same(rt, &has, &(*client != 8, false), client);
-        same(rt, &pending(alloc, &queue)?.as_slice(), left, client);
+        others?;
     }
     Ok(())
 }

@@ -1,4 +1,4 @@
-//! What is compared.
+//! What is compared, and how what is dear to drop is let go.
 use std::fmt::Display;
 use std::process::Abort;
 
@@ -6,3 +6,6 @@ use std::process::Abort;
 pub fn same<T: PartialEq, C: Display>(rt: &impl Abort, got: &T, want: &T, of: &C) {
     assert!(rt; *got == *want, "{of}");
 }
+
+/// The value is dropped, by a call of its own: so a caller's proof doesn't go through its fields.
+pub fn let_go<T: Drop>(_value: T) {}

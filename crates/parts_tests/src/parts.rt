@@ -1,5 +1,5 @@
 //! New parts, by what their own calls say of them.
-use crate::fixtures::same;
+use crate::fixtures::{let_go, same};
 use channel_config::{Channel, Config};
 use channel_parts::{AdmitFault, Parts};
 use std::alloc::Global;
@@ -63,6 +63,7 @@ fn new_parts_are_empty(rt: HostRuntime) -> Result<(), Fail> {
     let parts = parts(rt.alloc())?;
     same(&rt, parts.config.channel(), &SETTINGS, &"settings");
     same(&rt, &amounts_of(&parts), &EMPTY, &"new parts");
+    let_go(parts);
     Ok(())
 }
 
@@ -78,7 +79,9 @@ fn budget(parts: &mut Parts) -> ([bool; 2], [u64; 2]) {
 // Bursts have the share but for the reserve, and a tick that sends nothing keeps the swell.
 #[test]
 fn new_parts_have_the_amounts_of_the_settings(rt: HostRuntime) -> Result<(), Fail> {
-    let got = budget(&mut parts(rt.alloc())?);
+    let mut parts = parts(rt.alloc())?;
+    let got = budget(&mut parts);
+    let_go(parts);
     same(&rt, &got, &([false, true], [10000, 10060]), &"budget");
     Ok(())
 }
@@ -97,10 +100,18 @@ fn second_client(
     Ok(parts.table.admit(alloc, 5, 5, 500).err())
 }
 
+/// The first client alone comes in.
+fn expect_one_client(rt: &impl Abort, alloc: Global, parts: &mut Parts) -> Result<(), Fail> {
+    let second = second_client(rt, alloc, parts)?;
+    same(rt, &second, &Some(AdmitFault::Full), &"the second client");
+    Ok(())
+}
+
 // As many clients are known as the settings allow.
 #[test]
 fn one_client_is_known(rt: HostRuntime) -> Result<(), Fail> {
-    let second = second_client(&rt, rt.alloc(), &mut parts(rt.alloc())?)?;
-    same(&rt, &second, &Some(AdmitFault::Full), &"the second client");
-    Ok(())
+    let mut parts = parts(rt.alloc())?;
+    let done = expect_one_client(&rt, rt.alloc(), &mut parts);
+    let_go(parts);
+    done
 }

@@ -3,7 +3,7 @@ ghost use Rattle.std.specs.Prelude.{◌≡◌, ◌^◌, ◌<◌, ◌≤◌, All,
 ghost use Rattle.pool.specs.link_pool.{claimed};
 ghost use Rattle.pool.specs.pool_run.{IsFresh};
 
-use crate::fixtures::sends_two;
+use crate::fixtures::{let_go, sends_two};
 use crate::gates::Meeting;
 use pool::ledger_text::append_ledger;
 use pool::pool_run::{Lane, Ledger, Pooled, run_pool};
@@ -52,19 +52,34 @@ fn ledger_of_one(
     let Ok(pooled) = run_pool(rt, alloc, one_lane(rt, alloc)?, 2, rate, &Open) else {
         return Err(Fail::new("no memory"));
     };
-    text_of(alloc, &pooled.ledger)
+    let text = text_of(alloc, &pooled.ledger);
+    let_go(pooled);
+    text
+}
+
+/// The ledger of one channel at this rate is this text.
+fn expect_ledger(
+    rt: &(impl Threads + Sync + Abort),
+    alloc: Global,
+    rate: u64,
+    want: &str,
+    of: &str,
+) -> Result<(), Fail>
+    requires { rate ≤ 1000000000 }
+{
+    let text = ledger_of_one(rt, alloc, rate)?;
+    assert!(rt; text.as_slice() == want.as_bytes(), "{of}");
+    let_go(text);
+    Ok(())
 }
 
 /// One channel: at 1,500 bytes in a tick both claims are paid, at 1,499 the second is late.
 #[test]
 fn late_by_one_byte(rt: HostRuntime) -> Result<(), Fail> {
-    let text = ledger_of_one(&rt, rt.alloc(), 1500)?;
-    let want = b"claim 7 0 1500 paid\nclaim 7 1500 1500 paid\npool 3000 3000\n";
-    assert!(&rt; text.as_slice() == &want[..], "both paid");
-    let text = ledger_of_one(&rt, rt.alloc(), 1499)?;
-    let want = b"claim 7 0 1500 paid\nclaim 7 1500 1500 late\npool 3000 2998\n";
-    assert!(&rt; text.as_slice() == &want[..], "the second late");
-    Ok(())
+    let want = "claim 7 0 1500 paid\nclaim 7 1500 1500 paid\npool 3000 3000\n";
+    expect_ledger(&rt, rt.alloc(), 1500, want, "both paid")?;
+    let want = "claim 7 0 1500 paid\nclaim 7 1500 1500 late\npool 3000 2998\n";
+    expect_ledger(&rt, rt.alloc(), 1499, want, "the second late")
 }
 
 /// Two channels with two claims each, of which the first two are paid.
@@ -75,6 +90,7 @@ fn expect_two(rt: &impl Abort, alloc: Global, pooled: &Pooled) -> Result<(), Fai
     let want =
         b"claim 7 0 1500 paid\nclaim 7 1500 1500 paid\nclaim 7 3000 1500 late\nclaim 7 4500 1500 late\npool 6000 3000\n";
     assert!(rt; text.as_slice() == &want[..], "whoever draws first");
+    let_go(text);
     expect_shares(rt, pooled);
     Ok(())
 }
@@ -98,7 +114,9 @@ fn two_claim<G: Gate + Sync>(
     let Ok(pooled) = run_pool(rt, alloc, two_lanes(rt, alloc)?, 2, 1500, gate) else {
         return Err(Fail::new("no memory"));
     };
-    expect_two(rt, alloc, &pooled)
+    let expected = expect_two(rt, alloc, &pooled);
+    let_go(pooled);
+    expected
 }
 
 #[test]

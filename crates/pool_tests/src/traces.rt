@@ -1,4 +1,5 @@
 //! Traces of channels that share a link: their books, and the ledgers behind.
+use crate::fixtures::let_go;
 use pool::pool_loop::{Open, Status, Stop, write_pool};
 use ram_io::{MemSink, MemSource};
 use std::alloc::{AllocError, Global};
@@ -57,7 +58,11 @@ fn spelled(alloc: Global, text: &str, id: &str, tick: &str) -> Result<String, Al
     }
     let named = text.replace(alloc, "<ID>", id)?;
     let timed = named.replace(alloc, "<TICK>", tick)?;
-    timed.replace(alloc, "<1458>", &zeros)
+    let_go(named);
+    let text = timed.replace(alloc, "<1458>", &zeros);
+    let_go(timed);
+    let_go(zeros);
+    text
 }
 
 /// Appends such a text.
@@ -68,7 +73,10 @@ fn add(
     id: &str,
     tick: &str,
 ) -> Result<(), AllocError> {
-    text.push_str(&spelled(alloc, more, id, tick)?)
+    let spelled = spelled(alloc, more, id, tick)?;
+    let pushed = text.push_str(&spelled);
+    let_go(spelled);
+    pushed
 }
 
 /// The call of a pool. It stands alone, as its contract is long.
@@ -82,6 +90,37 @@ fn ends(
     write_pool(rt, alloc, rate.clamp(1, 1_000_000_000), source, sink, &Open)
 }
 
+/// A source of this trace whose calls of these numbers fail.
+fn source_of(alloc: Global, trace: &str, fails: &[u64]) -> Result<MemSource, AllocError> {
+    let fails = fails.to_vec(alloc)?;
+    Ok(MemSource::new(trace.as_bytes().to_vec(alloc)?, 1_000_000, fails))
+}
+
+fn sink_of(alloc: Global) -> Result<MemSink, Fail> {
+    let Ok(sink) = MemSink::new(alloc, 1_000_000, 1_000_000, Vec::new(alloc)) else {
+        return Err(Fail::new("no memory"));
+    };
+    Ok(sink)
+}
+
+fn text_of(alloc: Global, held: &[u8]) -> Result<String, Fail> {
+    Ok(String::from_str(alloc, str::from_utf8(held)?)?)
+}
+
+/// How a pool of this rate ends over this source, and what it writes.
+fn pooled_from(
+    rt: &(impl Threads + Sync),
+    alloc: Global,
+    rate: u64,
+    source: &mut MemSource,
+) -> Result<(Result<Status, Stop>, String), Fail> {
+    let mut sink = sink_of(alloc)?;
+    let ended = ends(rt, alloc, rate, source, &mut sink);
+    let text = text_of(alloc, sink.held());
+    let_go(sink);
+    Ok((ended, text?))
+}
+
 /// How a pool of this rate ends over a source of this trace whose calls of these numbers fail, and what
 /// it writes.
 fn pooled(
@@ -91,15 +130,10 @@ fn pooled(
     trace: &str,
     fails: &[u64],
 ) -> Result<(Result<Status, Stop>, String), Fail> {
-    let trace = trace.as_bytes().to_vec(alloc)?;
-    let mut source = MemSource::new(trace, 1_000_000, fails.to_vec(alloc)?);
-    let sink = MemSink::new(alloc, 1_000_000, 1_000_000, Vec::new(alloc));
-    let mut sink = sink.ok().ok_or("memory")?;
-    let ended = ends(rt, alloc, rate, &mut source, &mut sink);
-    Ok((
-        ended,
-        String::from_str(alloc, str::from_utf8(sink.held())?)?,
-    ))
+    let mut source = source_of(alloc, trace, fails)?;
+    let pooled = pooled_from(rt, alloc, rate, &mut source);
+    let_go(source);
+    pooled
 }
 
 /// The value is the one that is wanted.
@@ -107,22 +141,31 @@ fn same<T: PartialEq>(rt: &impl Abort, got: &T, want: &T, of: &str) {
     assert!(rt; *got == *want, "{of}");
 }
 
-/// The trace of one channel that asks for a burst.
+/// Appends the trace of one channel that asks for a burst, behind its head.
+fn add_one_burst(trace: &mut String, alloc: Global) -> Result<(), AllocError> {
+    add(trace, alloc, CHANNEL, "7", "")?;
+    add(trace, alloc, ASKS, "7", "")?;
+    trace.push_str(TICKS)
+}
+
 fn one_burst(alloc: Global) -> Result<String, AllocError> {
     let mut trace = String::from_str(alloc, HEAD)?;
-    add(&mut trace, alloc, CHANNEL, "7", "")?;
-    add(&mut trace, alloc, ASKS, "7", "")?;
-    trace.push_str(TICKS)?;
+    add_one_burst(&mut trace, alloc)?;
     Ok(trace)
 }
 
-/// Its book.
-fn book_of_one(alloc: Global) -> Result<String, AllocError> {
-    let mut book = String::from_str(alloc, "rams-book 1\n")?;
+/// Appends its book, and a ledger.
+fn add_book_of_one(book: &mut String, alloc: Global, ledger: &str) -> Result<(), AllocError> {
     book.push_str(ACCEPTS)?;
-    add(&mut book, alloc, SENDS[0], "7", "5")?;
-    add(&mut book, alloc, SENDS[1], "7", "6")?;
+    add(book, alloc, SENDS[0], "7", "5")?;
+    add(book, alloc, SENDS[1], "7", "6")?;
     book.push_str("done 6\n")?;
+    book.push_str(ledger)
+}
+
+fn book_of_one(alloc: Global, ledger: &str) -> Result<String, AllocError> {
+    let mut book = String::from_str(alloc, "rams-book 1\n")?;
+    add_book_of_one(&mut book, alloc, ledger)?;
     Ok(book)
 }
 
@@ -137,6 +180,7 @@ fn expect(
     let (ended, text) = pooled(rt, alloc, rate, trace, &[])?;
     same(rt, &ended, &Ok(want.0), "how it ends");
     same(rt, &text.as_str(), &want.1, "what it writes");
+    let_go(text);
     Ok(())
 }
 
@@ -153,61 +197,104 @@ const LEDGERS: &[(u64, &str)] = &[
     ),
 ];
 
-#[test]
-fn a_burst_is_paid_or_late(rt: HostRuntime) -> Result<(), Fail> {
-    let trace = one_burst(rt.alloc())?;
+/// At each rate a pool writes the book of one channel and the ledger.
+fn expect_ledgers(
+    rt: &(impl Threads + Sync + Abort),
+    alloc: Global,
+    trace: &str,
+) -> Result<(), Fail> {
     for (rate, ledger) in LEDGERS {
-        let mut text = book_of_one(rt.alloc())?;
-        text.push_str(ledger)?;
-        expect(&rt, rt.alloc(), *rate, &trace, (Status::Done, &text))?;
+        let text = book_of_one(alloc, ledger)?;
+        let expected = expect(rt, alloc, *rate, trace, (Status::Done, &text));
+        let_go(text);
+        expected?;
     }
     Ok(())
 }
 
-/// The trace of two channels that each ask for a burst.
+#[test]
+fn a_burst_is_paid_or_late(rt: HostRuntime) -> Result<(), Fail> {
+    let trace = one_burst(rt.alloc())?;
+    let expected = expect_ledgers(&rt, rt.alloc(), &trace);
+    let_go(trace);
+    expected
+}
+
+/// Appends the trace of two channels that each ask for a burst, behind its head.
+fn add_two_bursts(trace: &mut String, alloc: Global) -> Result<(), AllocError> {
+    add(trace, alloc, CHANNEL, "7", "")?;
+    add(trace, alloc, CHANNEL, "8", "")?;
+    add(trace, alloc, ASKS, "7", "")?;
+    add(trace, alloc, ASKS, "8", "")?;
+    trace.push_str(TICKS)
+}
+
 fn two_bursts(alloc: Global) -> Result<String, AllocError> {
     let mut trace = String::from_str(alloc, HEAD)?;
-    add(&mut trace, alloc, CHANNEL, "7", "")?;
-    add(&mut trace, alloc, CHANNEL, "8", "")?;
-    add(&mut trace, alloc, ASKS, "7", "")?;
-    add(&mut trace, alloc, ASKS, "8", "")?;
-    trace.push_str(TICKS)?;
+    add_two_bursts(&mut trace, alloc)?;
     Ok(trace)
 }
 
-/// Their book: in each tick both send, in the order of their lines.
-fn book_of_two(alloc: Global) -> Result<String, AllocError> {
-    let mut book = String::from_str(alloc, "rams-book 1\n")?;
+/// Appends their book: in each tick both send, in the order of their lines.
+fn add_book_of_two(book: &mut String, alloc: Global) -> Result<(), AllocError> {
     book.push_str(ACCEPTS)?;
     book.push_str(ACCEPTS_OF_8)?;
     for (sends, tick) in [(SENDS[0], "9"), (SENDS[1], "10")] {
-        add(&mut book, alloc, sends, "7", tick)?;
-        add(&mut book, alloc, sends, "8", tick)?;
+        add(book, alloc, sends, "7", tick)?;
+        add(book, alloc, sends, "8", tick)?;
     }
-    book.push_str("done 10\n")?;
+    book.push_str("done 10\n")
+}
+
+fn book_of_two(alloc: Global) -> Result<String, AllocError> {
+    let mut book = String::from_str(alloc, "rams-book 1\n")?;
+    add_book_of_two(&mut book, alloc)?;
     Ok(book)
 }
 
-/// The ledger behind the book of two channels.
-fn ledger_of_two(rt: &(impl Threads + Sync + Abort), alloc: Global) -> Result<String, Fail> {
-    let (ended, text) = pooled(rt, alloc, 1500, &two_bursts(alloc)?, &[])?;
+/// A pool of 1,500 bytes in a tick writes this.
+fn done(rt: &(impl Threads + Sync + Abort), alloc: Global, trace: &str) -> Result<String, Fail> {
+    let (ended, text) = pooled(rt, alloc, 1500, trace, &[])?;
     same(rt, &ended, &Ok(Status::Done), "the end");
+    Ok(text)
+}
+
+/// What a pool writes of two channels.
+fn text_of_two(rt: &(impl Threads + Sync + Abort), alloc: Global) -> Result<String, Fail> {
+    let trace = two_bursts(alloc)?;
+    let text = done(rt, alloc, &trace);
+    let_go(trace);
+    text
+}
+
+/// The ledger behind the book of two channels.
+fn ledger_in<'a>(alloc: Global, text: &'a str) -> Result<&'a str, Fail> {
     let book = book_of_two(alloc)?;
-    let ledger = text.strip_prefix(book.as_str()).ok_or("the book")?;
-    Ok(String::from_str(alloc, ledger)?)
+    let ledger = text.strip_prefix(book.as_str());
+    let_go(book);
+    Ok(ledger.ok_or("the book")?)
+}
+
+/// Of four claims the first two are paid; two are of each channel.
+fn expect_claims(rt: &impl Abort, alloc: Global, text: &str) -> Result<(), Fail> {
+    let ledger = ledger_in(alloc, text)?;
+    let of_8 = ledger.replace(alloc, "claim 8 ", "claim 7 ")?;
+    let want =
+        "claim 7 0 1500 paid\nclaim 7 1500 1500 paid\nclaim 7 3000 1500 late\nclaim 7 4500 1500 late\npool 6000 3000\n";
+    same(rt, &of_8.as_str(), &want, "four claims");
+    let_go(of_8);
+    let claims_of_8 = ledger.lines().filter(|line| line.starts_with("claim 8 "));
+    same(rt, &claims_of_8.count(), &2, "two of each");
+    Ok(())
 }
 
 /// Two channels claim two packets each: whichever draws first, the first two claims are paid.
 #[test]
 fn two_bursts_share_a_link(rt: HostRuntime) -> Result<(), Fail> {
-    let ledger = ledger_of_two(&rt, rt.alloc())?;
-    let of_8 = ledger.replace(rt.alloc(), "claim 8 ", "claim 7 ")?;
-    let want =
-        "claim 7 0 1500 paid\nclaim 7 1500 1500 paid\nclaim 7 3000 1500 late\nclaim 7 4500 1500 late\npool 6000 3000\n";
-    same(&rt, &of_8.as_str(), &want, "four claims");
-    let claims_of_8 = ledger.lines().filter(|line| line.starts_with("claim 8 "));
-    same(&rt, &claims_of_8.count(), &2, "two of each");
-    Ok(())
+    let text = text_of_two(&rt, rt.alloc())?;
+    let expected = expect_claims(&rt, rt.alloc(), &text);
+    let_go(text);
+    expected
 }
 
 /// The head of one channel, and these lines.
@@ -241,10 +328,20 @@ const HEADS: &[(&str, &str)] = &[("", "refused 1 order\n"), (HEAD, "refused 2 or
 fn lines_are_counted_or_refused(rt: HostRuntime) -> Result<(), Fail> {
     for (lines, status, text) in LINES {
         let trace = one_channel(rt.alloc(), lines)?;
-        expect(&rt, rt.alloc(), 1500, &trace, (*status, text))?;
+        let expected = expect(&rt, rt.alloc(), 1500, &trace, (*status, text));
+        let_go(trace);
+        expected?;
     }
     for (trace, text) in HEADS {
         expect(&rt, rt.alloc(), 1500, trace, (Status::BadTrace, text))?;
+    }
+    Ok(())
+}
+
+/// Appends 200,001 events.
+fn add_events(trace: &mut String) -> Result<(), AllocError> {
+    for _ in 0..200_001 {
+        trace.push_str("live 9 -\n")?;
     }
     Ok(())
 }
@@ -253,24 +350,22 @@ fn lines_are_counted_or_refused(rt: HostRuntime) -> Result<(), Fail> {
 #[test]
 fn an_event_is_one_too_many(rt: HostRuntime) -> Result<(), Fail> {
     let mut trace = one_channel(rt.alloc(), "")?;
-    for _ in 0..200_001 {
-        trace.push_str("live 9 -\n")?;
-    }
-    expect(
-        &rt,
-        rt.alloc(),
-        1500,
-        &trace,
-        (Status::TooLong, "too-long\n"),
-    )
+    add_events(&mut trace)?;
+    let want = (Status::TooLong, "too-long\n");
+    let expected = expect(&rt, rt.alloc(), 1500, &trace, want);
+    let_go(trace);
+    expected
 }
 
 /// A source that fails leaves the sink as it was.
 #[test]
 fn nothing_is_written_of_half_a_trace(rt: HostRuntime) -> Result<(), Fail> {
     let trace = one_burst(rt.alloc())?;
-    let (ended, text) = pooled(&rt, rt.alloc(), 1500, &trace, &[0])?;
+    let pooled = pooled(&rt, rt.alloc(), 1500, &trace, &[0]);
+    let_go(trace);
+    let (ended, text) = pooled?;
     same(&rt, &ended, &Err(Stop::Read), "the first take");
     same(&rt, &text.len(), &0, "nothing");
+    let_go(text);
     Ok(())
 }

@@ -32,60 +32,63 @@ pub const ROWS: &[Row] = &[Row {
     ],
 }];
 
-/// The lines of 1,025 clients, each of which asks for packet 10, and the book's lines of them.
-fn asking_clients(alloc: Global) -> Result<(String, String), AllocError> {
-    let mut lines = String::new(alloc);
-    let mut book = String::new(alloc);
+/// Appends the lines of 1,025 clients, each of which asks for packet 10, and the book's lines of them.
+fn add_asking_clients(lines: &mut String, book: &mut String) -> Result<(), AllocError> {
     for client in 1..1_025 {
         writeln!(lines, "fb 7 {client} 81cd00030000c00111223344000a0000")?;
         writeln!(book, "{} 7 queued {client} 65546", client + 1)?;
     }
     lines.push_str("fb 7 1025 81cd00030000c00111223344000a0000\n")?;
-    book.push_str("1026 7 table-full 1025 65546\n")?;
-    Ok((lines, book))
+    book.push_str("1026 7 table-full 1025 65546\n")
+}
+
+/// Appends the trace behind its opening, and the book behind its first line.
+fn add_most_clients(trace: &mut String, book: &mut String) -> Result<(), AllocError> {
+    writeln!(trace, "{ACCESS_POINT}")?;
+    book.push_str("1 7 took 65546\n")?;
+    add_asking_clients(trace, book)?;
+    trace.push_str(
+        "fb 7 1025 86cd00030000c0011122334401000000
+fb 7 1024 86cd00030000c0011122334401000000
+end
+",
+    )?;
+    book.push_str(
+        "1027 7 refuse 1025 503
+1028 7 accept 1024 first 65546 rate 4000 join 1
+done 1028
+",
+    )
 }
 
 /// A channel knows 1,024 clients. One more isn't taken by a request either; one of them is.
 pub fn most_clients(alloc: Global) -> Result<(String, String), AllocError> {
-    let opening = opening_with(alloc, &[("clients 4", "clients 1024")])?;
-    let (asking, told) = asking_clients(alloc)?;
-    let trace = format!(in alloc;
-        "{opening}{ACCESS_POINT}
-{asking}fb 7 1025 86cd00030000c0011122334401000000
-fb 7 1024 86cd00030000c0011122334401000000
-end
-"
-    )?;
-    let book = format!(in alloc;
-        "{BOOK}1 7 took 65546
-{told}1027 7 refuse 1025 503
-1028 7 accept 1024 first 65546 rate 4000 join 1
-done 1028
-"
-    )?;
+    let mut trace = opening_with(alloc, &[("clients 4", "clients 1024")])?;
+    let mut book = String::from_str(alloc, BOOK)?;
+    add_most_clients(&mut trace, &mut book)?;
     Ok((trace, book))
 }
 
-/// The lines of packets 0 to 32,768, and the book's lines of them.
-fn packets(alloc: Global) -> Result<(String, String), AllocError> {
-    let mut lines = String::new(alloc);
-    let mut book = String::new(alloc);
+/// Appends the lines of packets 0 to 32,768, and the book's lines of them.
+fn add_packets(lines: &mut String, book: &mut String) -> Result<(), AllocError> {
     for number in 0u32..32_769 {
         writeln!(lines, "live 7 8021{number:04x}000000001122334400000000")?;
         writeln!(book, "{} 7 took {}", number + 1, 65_536 + number)?;
     }
-    Ok((lines, book))
+    Ok(())
+}
+
+/// The same, and what follows them.
+fn add_most_packets(trace: &mut String, book: &mut String) -> Result<(), AllocError> {
+    add_packets(trace, book)?;
+    trace.push_str("fb 7 5 81cd00030000c0011122334400000001\nend\n")?;
+    book.push_str("32770 7 unheld 5 0\n32770 7 queued 5 65537\ndone 32770\n")
 }
 
 /// A ring holds 32,768 packets. Of one more than that, the first isn't held any longer.
 pub fn most_packets(alloc: Global) -> Result<(String, String), AllocError> {
-    let opening = opening_with(alloc, &[("ring 64", "ring 32768")])?;
-    let (lines, told) = packets(alloc)?;
-    let trace = format!(in alloc;
-        "{opening}{lines}fb 7 5 81cd00030000c0011122334400000001\nend\n"
-    )?;
-    let book = format!(in alloc;
-        "{BOOK}{told}32770 7 unheld 5 0\n32770 7 queued 5 65537\ndone 32770\n"
-    )?;
+    let mut trace = opening_with(alloc, &[("ring 64", "ring 32768")])?;
+    let mut book = String::from_str(alloc, BOOK)?;
+    add_most_packets(&mut trace, &mut book)?;
     Ok((trace, book))
 }

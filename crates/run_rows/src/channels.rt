@@ -1,5 +1,6 @@
 //! Traces of several channels.
 use std::alloc::{AllocError, Global};
+use std::fmt::Write;
 use trace_rows::{BOOK, REQUEST, Row, opening_with};
 
 pub const ROWS: &[Row] = &[
@@ -59,15 +60,13 @@ pub const ROWS: &[Row] = &[
 ];
 
 /// The lines of so many channels from 8 on.
-fn channels(alloc: Global, count: u16) -> Result<String, AllocError> {
+fn add_channels(lines: &mut String, count: u16) -> Result<(), AllocError> {
     let settings =
         "pt 33 rtx 99 server aabbccdd seq0 0 ring 64 window 0 access ts share 10000 reserve 1500 burst 4000 declared 100 minwire 42 limit 100 idle 100 clients 4";
-    let mut lines = String::new(alloc);
     for id in (8..).take(usize::from(count)) {
-        let line = format!(in alloc; "channel {id} ssrc 11223344 {settings}\n")?;
-        lines.push_str(&line)?;
+        writeln!(lines, "channel {id} ssrc 11223344 {settings}")?;
     }
-    Ok(lines)
+    Ok(())
 }
 
 /// A trace of so many channels behind the first, and its book. A trace has at most 64 channels.
@@ -76,8 +75,9 @@ pub fn most_channels(
     count: u16,
     line: &str,
 ) -> Result<(String, String), AllocError> {
-    let opening = opening_with(alloc, &[("link 100000", "link 1000000000")])?;
-    let lines = channels(alloc, count)?;
-    let trace = format!(in alloc; "{opening}{lines}end\n")?;
-    Ok((trace, format!(in alloc; "{BOOK}{line}\n")?))
+    let book = format!(in alloc; "{BOOK}{line}\n")?;
+    let mut trace = opening_with(alloc, &[("link 100000", "link 1000000000")])?;
+    add_channels(&mut trace, count)?;
+    trace.push_str("end\n")?;
+    Ok((trace, book))
 }

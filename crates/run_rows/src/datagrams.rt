@@ -1,9 +1,9 @@
 //! Compound datagrams that are cut.
 use crate::row::check;
-use std::alloc::Global;
+use std::alloc::{AllocError, Global};
 use std::process::Abort;
 use std::test::Fail;
-use trace_rows::{ACCESS_POINT, BOOK, OPENING, REQUEST, RUN};
+use trace_rows::{ACCESS_POINT, BOOK, OPENING, REQUEST, RUN, let_go};
 
 /// A receiver report (8 bytes), a description (16 bytes) and a request (16 bytes).
 const COMPOUND: &str =
@@ -19,6 +19,29 @@ fn fault_of(length: usize) -> Option<&'static str> {
     }
 }
 
+/// The trace in which these bytes come.
+fn trace_with(alloc: Global, cut: &str) -> Result<String, AllocError> {
+    format!(in alloc; "{OPENING}{ACCESS_POINT}\nfb 7 5 {cut}\n{REQUEST}\ntick\nend\n")
+}
+
+/// The book's line of a fault, where there is one.
+fn answer_of(alloc: Global, fault: Option<&str>) -> Result<String, AllocError> {
+    match fault {
+        Some(fault) => format!(in alloc; "2 7 bad-feedback 5 {fault}\n"),
+        None => Ok(String::new(alloc)),
+    }
+}
+
+/// The book of a trace in which such a datagram comes.
+fn book_with(alloc: Global, fault: Option<&str>) -> Result<String, AllocError> {
+    let answer = answer_of(alloc, fault)?;
+    let book = format!(in alloc;
+        "{BOOK}1 7 took 65546\n{answer}3 7 accept 5 first 65546 rate 4000 join 1\n4 7 burst 5 65546 500\ndone 4\n"
+    );
+    let_go(answer);
+    book
+}
+
 /// The first bytes of a compound datagram are refused whole, or have no request, and change
 /// nothing.
 fn expect_cut_datagram(rt: &impl Abort, alloc: Global, length: usize) -> Result<(), Fail> {
@@ -26,15 +49,12 @@ fn expect_cut_datagram(rt: &impl Abort, alloc: Global, length: usize) -> Result<
         Some("") | None => "-",
         Some(digits) => digits,
     };
-    let trace = format!(in alloc; "{OPENING}{ACCESS_POINT}\nfb 7 5 {cut}\n{REQUEST}\ntick\nend\n")?;
-    let answer = match fault_of(length) {
-        Some(fault) => format!(in alloc; "2 7 bad-feedback 5 {fault}\n")?,
-        None => String::new(alloc),
-    };
-    let book = format!(in alloc;
-        "{BOOK}1 7 took 65546\n{answer}3 7 accept 5 first 65546 rate 4000 join 1\n4 7 burst 5 65546 500\ndone 4\n"
-    )?;
-    check(rt, alloc, RUN, cut, &trace, &book)
+    let trace = trace_with(alloc, cut)?;
+    let book = book_with(alloc, fault_of(length))?;
+    let checked = check(rt, alloc, RUN, cut, &trace, &book);
+    let_go(trace);
+    let_go(book);
+    checked
 }
 
 #[test]

@@ -1,7 +1,7 @@
 //! A burst at a steady load: in each tick 10,864 bytes come, and up to 20,000 go to the client.
 use std::alloc::{AllocError, Global};
 use std::fmt::Write;
-use trace_rows::{BOOK, opening_with, zeros};
+use trace_rows::{BOOK, let_go, opening_with, zeros};
 
 const CHANGES: &[(&str, &str)] = &[
     ("share 10000", "share 100000"),
@@ -89,13 +89,20 @@ fn burst_ticks(alloc: Global) -> Result<String, AllocError> {
     Ok(lines)
 }
 
-/// The access point has age 490 ms, and 543,200 bytes are behind it: at 7,637 a tick they are
-/// caught up after 72 ticks of 10 ms.
-pub fn steady_load(alloc: Global) -> Result<(String, String), AllocError> {
+/// The trace of 1,000 packets, with the request behind the first 400.
+fn trace(alloc: Global) -> Result<String, AllocError> {
     let opening = opening_with(alloc, CHANGES)?;
     let front = packets(alloc, 0, 400)?;
     let back = packets(alloc, 400, 1_000)?;
-    let trace = format!(in alloc; "{opening}{front}{REQUEST}\n{back}end\n")?;
+    let trace = format!(in alloc; "{opening}{front}{REQUEST}\n{back}end\n");
+    let_go(opening);
+    let_go(front);
+    let_go(back);
+    trace
+}
+
+/// Its book.
+fn book(alloc: Global) -> Result<String, AllocError> {
     let quiet = quiet_ticks(alloc)?;
     let bursts = burst_ticks(alloc)?;
     let book = format!(in alloc;
@@ -103,6 +110,15 @@ pub fn steady_load(alloc: Global) -> Result<(String, String), AllocError> {
 451 7 send 5 86cd000caabbccdd11223344020000c82000000201f4000021000004000002d022000004000003e8230000080000000000f42400
 {bursts}done 1126
 "
-    )?;
-    Ok((trace, book))
+    );
+    let_go(quiet);
+    let_go(bursts);
+    book
+}
+
+/// The access point has age 490 ms, and 543,200 bytes are behind it: at 7,637 a tick they are
+/// caught up after 72 ticks of 10 ms.
+pub fn steady_load(alloc: Global) -> Result<(String, String), AllocError> {
+    let trace = trace(alloc)?;
+    Ok((trace, book(alloc)?))
 }

@@ -1,7 +1,7 @@
 //! Pending repairs: a client has at most 256, a channel at most 4,096.
 use std::alloc::{AllocError, Global};
 use std::fmt::Write;
-use trace_rows::{BOOK, opening_with};
+use trace_rows::{BOOK, let_go, opening_with};
 
 /// A NACK of packets 10 to 265: fifteen words of 17 packets each, and one of one packet.
 const ASKS_256: &str =
@@ -37,14 +37,18 @@ fn trace(alloc: Global) -> Result<String, AllocError> {
     )?;
     let packets = packets(alloc)?;
     let requests = requests(alloc)?;
-    format!(in alloc;
+    let trace = format!(in alloc;
         "{opening}{packets}{requests}fb 7 17 {ASKS_10}
 live 7 80214e2a000000001122334400000000
 live 7 80214e2b000000001122334400000000
 tick
 end
 "
-    )
+    );
+    let_go(opening);
+    let_go(packets);
+    let_go(requests);
+    trace
 }
 
 /// The book's lines of the packets.
@@ -85,7 +89,7 @@ fn gone(alloc: Global) -> Result<String, AllocError> {
     Ok(lines)
 }
 
-pub fn full_queues(alloc: Global) -> Result<(String, String), AllocError> {
+fn book(alloc: Global) -> Result<String, AllocError> {
     let took = took(alloc)?;
     let queued = queued(alloc)?;
     let gone = gone(alloc)?;
@@ -95,6 +99,14 @@ pub fn full_queues(alloc: Global) -> Result<(String, String), AllocError> {
 335 7 restart 85547
 {gone}done 336
 "
-    )?;
-    Ok((trace(alloc)?, book))
+    );
+    let_go(took);
+    let_go(queued);
+    let_go(gone);
+    book
+}
+
+pub fn full_queues(alloc: Global) -> Result<(String, String), AllocError> {
+    let trace = trace(alloc)?;
+    Ok((trace, book(alloc)?))
 }

@@ -3,7 +3,7 @@ use crate::row::check;
 use std::alloc::Global;
 use std::process::Abort;
 use std::test::Fail;
-use trace_rows::{BOOK, OPENING, RUN, Row, opening_with};
+use trace_rows::{BOOK, OPENING, RUN, Row, let_go, opening_with};
 
 pub const ROWS: &[Row] = &[
     Row {
@@ -121,7 +121,30 @@ fn refuses(
     word: &str,
 ) -> Result<(), Fail> {
     let book = format!(in alloc; "{BOOK}refused {number} {word}\n")?;
-    check(rt, alloc, RUN, trace, trace, &book)
+    let checked = check(rt, alloc, RUN, trace, trace, &book);
+    let_go(book);
+    checked
+}
+
+/// The opening with another setting is refused at its second line.
+fn refuses_setting(
+    rt: &impl Abort,
+    alloc: Global,
+    change: (&str, &str),
+    word: &str,
+) -> Result<(), Fail> {
+    let trace = opening_with(alloc, &[change])?;
+    let refused = refuses(rt, alloc, &trace, 2, word);
+    let_go(trace);
+    refused
+}
+
+/// A line behind the opening is refused.
+fn refuses_line(rt: &impl Abort, alloc: Global, line: &str, word: &str) -> Result<(), Fail> {
+    let trace = format!(in alloc; "{OPENING}{line}\n")?;
+    let refused = refuses(rt, alloc, &trace, 3, word);
+    let_go(trace);
+    refused
 }
 
 #[test]
@@ -131,12 +154,10 @@ fn refused_traces(rt: HostRuntime) -> Result<(), Fail> {
         refuses(&rt, alloc, trace, 1, word)?;
     }
     for (from, to, word) in SETTINGS {
-        let trace = opening_with(alloc, &[(*from, *to)])?;
-        refuses(&rt, alloc, &trace, 2, word)?;
+        refuses_setting(&rt, alloc, (from, to), word)?;
     }
     for (line, word) in LINES {
-        let trace = format!(in alloc; "{OPENING}{line}\n")?;
-        refuses(&rt, alloc, &trace, 3, word)?;
+        refuses_line(&rt, alloc, line, word)?;
     }
     Ok(())
 }

@@ -7,7 +7,7 @@ use crate::{
 use std::alloc::{AllocError, Global};
 use std::process::Abort;
 use std::test::Fail;
-use trace_rows::{Command, MEET, RUN, Row};
+use trace_rows::{Command, MEET, RUN, Row, let_go};
 
 /// Each row's trace has its book.
 fn check_rows(rt: &impl Abort, alloc: Global, command: Command, rows: &[Row]) -> Result<(), Fail> {
@@ -120,7 +120,10 @@ fn texts_of(alloc: Global, long: Long) -> Result<(String, String), AllocError> {
 fn each_long_trace_has_its_book(rt: HostRuntime) -> Result<(), Fail> {
     for (command, name, long) in LONG {
         let (trace, book) = texts_of(rt.alloc(), *long)?;
-        check(&rt, rt.alloc(), *command, name, &trace, &book)?;
+        let checked = check(&rt, rt.alloc(), *command, name, &trace, &book);
+        let_go(trace);
+        let_go(book);
+        checked?;
     }
     Ok(())
 }

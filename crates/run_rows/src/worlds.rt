@@ -5,7 +5,7 @@ use std::alloc::{AllocError, Global};
 use std::fmt::Write;
 use std::process::Abort;
 use std::test::Fail;
-use trace_rows::{ACCESS_POINT, Calls, MEET, OPENING, Row, WHOLE, ran};
+use trace_rows::{ACCESS_POINT, MEET, OPENING, Row, WHOLE, let_go, ran};
 
 /// Packets 10 to 15 of the source; client 5 is tuned, and its request comes to the server. The request
 /// is datagram 0, the RAMS-I datagram 1.
@@ -195,11 +195,22 @@ pub const REFUSED: &[Row] = &[
     },
 ];
 
-/// A packet of number next + 16,384 is beyond what a set-top keeps; the one below it isn't.
-pub fn far_ahead(alloc: Global) -> Result<(String, String), AllocError> {
-    let mut trace = format!(in alloc; "{OPENING}{ACCESS_POINT}\n")?;
-    trace.push_str("tune 7 5 0000c001\ngive 0\ngive 1\ntick\ngive 2\n")?;
-    let mut book = String::from_str(alloc, MEET.first)?;
+/// Appends the packets, and their lines of the book.
+fn add_packets(trace: &mut String, book: &mut String) -> Result<(), AllocError> {
+    for place in 1..16_386_u32 {
+        let sequence = place + 10;
+        let (event, number) = (place + 6, place + 65_546);
+        writeln!(trace, "live 7 8021{sequence:04x}000000001122334400000000")?;
+        writeln!(book, "{event} 7 took {number}")?;
+    }
+    Ok(())
+}
+
+/// Appends the trace behind its opening, and the book.
+fn add_far_ahead(trace: &mut String, book: &mut String) -> Result<(), AllocError> {
+    trace.push_str(ACCESS_POINT)?;
+    trace.push_str("\ntune 7 5 0000c001\ngive 0\ngive 1\ntick\ngive 2\n")?;
+    book.push_str(MEET.first)?;
     book.push_str(
         "1 7 took 65546\n2 7 post 5 80c900010000c00181ca00030000c001010373746200000086cd00040000c001112233440100000001000000\n",
     )?;
@@ -207,25 +218,31 @@ pub fn far_ahead(alloc: Global) -> Result<(String, String), AllocError> {
         "3 7 accept 5 first 65546 rate 4000 join 1\n4 7 info 5 taken\n5 7 burst 5 65546 500\n",
     )?;
     book.push_str("6 7 came 5 took\n6 7 show 5 65546 80a1000a000000001122334400000000\n")?;
-    for place in 1..16_386_u32 {
-        let sequence = place + 10;
-        let (event, number) = (place + 6, place + 65_546);
-        writeln!(trace, "live 7 8021{sequence:04x}000000001122334400000000")?;
-        writeln!(book, "{event} 7 took {number}")?;
-    }
+    add_packets(trace, book)?;
     trace.push_str("mcast 7 5 81931\nmcast 7 5 81930\nend\n")?;
     book.push_str("16392 7 came 5 beyond\n16393 7 came 5 took\n")?;
     book.push_str(
         "16393 7 post 5 80c900010000c00181ca00030000c001010373746200000086cd00050000c00111223344030000003d0000040001400a\n",
     )?;
-    book.push_str("done 16393\n")?;
+    book.push_str("done 16393\n")
+}
+
+/// A packet of number next + 16,384 is beyond what a set-top keeps; the one below it isn't.
+pub fn far_ahead(alloc: Global) -> Result<(String, String), AllocError> {
+    let mut trace = String::from_str(alloc, OPENING)?;
+    let mut book = String::new(alloc);
+    add_far_ahead(&mut trace, &mut book)?;
     Ok((trace, book))
 }
 
-/// A trace of so many events, of a channel that isn't there.
-fn events(alloc: Global, count: u32, end: &str) -> Result<(String, String), AllocError> {
-    let mut trace = String::from_str(alloc, OPENING)?;
-    let mut book = String::from_str(alloc, MEET.first)?;
+/// Appends so many events, of a channel that isn't there, and the book of them, which ends so.
+fn add_events(
+    trace: &mut String,
+    book: &mut String,
+    count: u32,
+    end: &str,
+) -> Result<(), AllocError> {
+    book.push_str(MEET.first)?;
     for event in 1..count.saturating_add(1) {
         trace.push_str("ask 8 5\n")?;
         if event <= 100_000 {
@@ -233,8 +250,31 @@ fn events(alloc: Global, count: u32, end: &str) -> Result<(String, String), Allo
         }
     }
     trace.push_str("end\n")?;
-    book.push_str(end)?;
+    book.push_str(end)
+}
+
+/// A trace of so many events, and its book.
+fn events(alloc: Global, count: u32, end: &str) -> Result<(String, String), AllocError> {
+    let mut trace = String::from_str(alloc, OPENING)?;
+    let mut book = String::new(alloc);
+    add_events(&mut trace, &mut book, count, end)?;
     Ok((trace, book))
+}
+
+/// A command over such a trace ends so, and writes this book.
+fn expect_book(
+    rt: &impl Abort,
+    alloc: Global,
+    count: u32,
+    status: Status,
+    trace: &[u8],
+    book: &[u8],
+) -> Result<(), Fail> {
+    let (got, text) = ran(alloc, MEET, trace, WHOLE, WHOLE)?;
+    same(rt, &got, &status, &count);
+    same(rt, &(text.as_slice() == book), &true, &count);
+    let_go(text);
+    Ok(())
 }
 
 /// So many events, how the book ends, and how the command does. 100,000 are served, and none after them.
@@ -247,9 +287,11 @@ const LENGTHS: &[(u32, &str, Status)] = &[
 fn most_events_of_a_world(rt: HostRuntime) -> Result<(), Fail> {
     for (count, end, status) in LENGTHS {
         let (trace, book) = events(rt.alloc(), *count, end)?;
-        let (got, text) = ran(rt.alloc(), MEET, trace.as_bytes(), WHOLE, WHOLE)?;
-        same(&rt, &got, status, count);
-        same(&rt, &(text.as_slice() == book.as_bytes()), &true, count);
+        let (bytes, want) = (trace.as_bytes(), book.as_bytes());
+        let expected = expect_book(&rt, rt.alloc(), *count, *status, bytes, want);
+        let_go(trace);
+        let_go(book);
+        expected?;
     }
     Ok(())
 }

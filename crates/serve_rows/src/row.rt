@@ -2,12 +2,11 @@
 ghost use Rattle.std.specs.Prelude.{◌^◌, ◌<◌, All, IfOk};
 ghost use Rattle.ram_io.specs.{IsFromClient};
 
-use ram_io::{Incoming, MemClock, MemSink, MemSource, MemWire, Octets, Open};
+use ram_io::{Incoming, MemClock, MemSink, MemSource, MemWire, Octets, Open, Sent};
 use rams_model::Status;
 use serve_loop::{Stop, Watch, serve};
 use std::alloc::{AllocError, Global};
 use std::process::Abort;
-use std::str;
 use std::test::Fail;
 
 /// What comes in three turns of a server, and what it writes and sends.
@@ -30,6 +29,9 @@ pub struct Row {
     /// To whom a datagram goes, from which port, and its bytes.
     pub sent: &'static [(u64, u16, &'static [u8])],
 }
+
+/// The value is dropped, by a call of its own: so a caller's proof doesn't go through its fields.
+pub fn let_go<T: Drop>(_value: T) {}
 
 fn octets(alloc: Global, bytes: &[u8]) -> Result<Octets, AllocError> {
     let mut all = Vec::new(alloc);
@@ -72,6 +74,29 @@ fn moments_of(alloc: Global, row: &Row) -> Result<Vec<u64>, AllocError>
     Ok(moments)
 }
 
+/// A sink of which these calls fail.
+pub fn sink_of(alloc: Global, fails: &[u64]) -> Result<MemSink, Fail> {
+    let Ok(sink) = MemSink::new(alloc, 10_000, 1_000, fails.to_vec(alloc)?) else {
+        return Err(Fail::new("no memory"));
+    };
+    Ok(sink)
+}
+
+/// A wire to which comes what the row says, and of which these calls fail.
+pub fn wire_of(alloc: Global, row: &Row, fails: &[u64]) -> Result<MemWire, Fail> {
+    let fails = fails.to_vec(alloc)?;
+    let Ok(wire) = MemWire::new(alloc, arrivals_of(alloc, row)?, 10_000, 10, fails) else {
+        return Err(Fail::new("no memory"));
+    };
+    Ok(wire)
+}
+
+/// The source of the row.
+fn source_of(alloc: Global, row: &Row) -> Result<MemSource, AllocError> {
+    let fails = row.source_fails.to_vec(alloc)?;
+    Ok(MemSource::new(joined(alloc, row.source)?, 1_000, fails))
+}
+
 /// Three turns at the ports from 5000 on, while this looks on.
 pub fn serve_row<T: Watch>(
     alloc: Global,
@@ -80,44 +105,65 @@ pub fn serve_row<T: Watch>(
     wire: &mut MemWire,
     watch: &T,
 ) -> Result<Result<Status, Stop>, AllocError> {
-    let trace = joined(alloc, row.source)?;
-    let mut source = MemSource::new(trace, 1_000, row.source_fails.to_vec(alloc)?);
-    let mut clock = MemClock::new(moments_of(alloc, row)?);
-    Ok(serve(alloc, &mut source, sink, wire, &mut clock, 5000, 3, watch))
+    let moments = moments_of(alloc, row)?;
+    let mut source = source_of(alloc, row)?;
+    let mut clock = MemClock::new(moments);
+    let ended = serve(alloc, &mut source, sink, wire, &mut clock, 5000, 3, watch);
+    let_go(source);
+    let_go(clock);
+    Ok(ended)
 }
 
 /// The sink got the lines of the row.
 fn check_text(rt: &impl Abort, alloc: Global, row: &Row, held: &[u8]) -> Result<(), Fail> {
     let text = joined(alloc, row.text)?;
-    assert!(rt;
-        str::from_utf8(held)? == str::from_utf8(&text)?,
-        "{}",
-        row.name
-    );
+    assert!(rt; held == text.as_slice(), "{}", row.name);
+    let_go(text);
     Ok(())
 }
 
+/// The wire sent this: to whom, from which port, and the bytes.
+fn is_sent(wire: &MemWire, sent: &Sent, want: &(u64, u16, &[u8])) -> bool {
+    let (to, port, bytes) = *want;
+    let end = sent.start.saturating_add(sent.len);
+    sent.to == to && sent.port == port && wire.sent_bytes().get(sent.start..end) == Some(bytes)
+}
+
 /// The wire sent the datagrams of the row, in order.
-fn check_sent(rt: &impl Abort, row: &Row, wire: &MemWire) -> Result<(), Fail> {
+fn check_sent(rt: &impl Abort, row: &Row, wire: &MemWire) {
     assert!(rt; wire.sent().len() == row.sent.len(), "{}", row.name);
-    for (sent, (to, port, bytes)) in wire.sent().iter().zip(row.sent.iter()) {
-        assert!(rt; (sent.to, sent.port) == (*to, *port), "{}", row.name);
-        let end = sent.start.checked_add(sent.len).ok_or("a datagram")?;
-        let got = wire.sent_bytes().get(sent.start..end);
-        assert!(rt; got.ok_or("a datagram")? == *bytes, "{}", row.name);
+    for (sent, want) in wire.sent().iter().zip(row.sent.iter()) {
+        assert!(rt; is_sent(wire, sent, want), "{}", row.name);
     }
+}
+
+/// Three turns with this sink and this wire end, write and send what the row says.
+fn check_ends(
+    rt: &impl Abort,
+    alloc: Global,
+    row: &Row,
+    sink: &mut MemSink,
+    wire: &mut MemWire,
+) -> Result<(), Fail> {
+    let ended = serve_row(alloc, row, sink, wire, &Open)?;
+    assert!(rt; ended == row.ended, "{}", row.name);
+    check_text(rt, alloc, row, sink.held())?;
+    check_sent(rt, row, wire);
     Ok(())
+}
+
+/// Three turns with this sink do.
+fn check_sink(rt: &impl Abort, alloc: Global, row: &Row, sink: &mut MemSink) -> Result<(), Fail> {
+    let mut wire = wire_of(alloc, row, row.wire_fails)?;
+    let checked = check_ends(rt, alloc, row, sink, &mut wire);
+    let_go(wire);
+    checked
 }
 
 /// Three turns at the ports from 5000 on end, write and send what the row says.
 pub fn check_row(rt: &impl Abort, alloc: Global, row: &Row) -> Result<(), Fail> {
-    let sink = MemSink::new(alloc, 10_000, 1_000, row.sink_fails.to_vec(alloc)?);
-    let mut sink = sink.ok().ok_or("memory")?;
-    let arrivals = arrivals_of(alloc, row)?;
-    let wire = MemWire::new(alloc, arrivals, 10_000, 10, row.wire_fails.to_vec(alloc)?);
-    let mut wire = wire.ok().ok_or("memory")?;
-    let ended = serve_row(alloc, row, &mut sink, &mut wire, &Open)?;
-    assert!(rt; ended == row.ended, "{}", row.name);
-    check_text(rt, alloc, row, sink.held())?;
-    check_sent(rt, row, &wire)
+    let mut sink = sink_of(alloc, row.sink_fails)?;
+    let checked = check_sink(rt, alloc, row, &mut sink);
+    let_go(sink);
+    checked
 }

@@ -1,7 +1,7 @@
 //! What is told of a server while it serves.
-use crate::row::{Row, arrivals_of, serve_row};
+use crate::row::{Row, let_go, serve_row, sink_of, wire_of};
 use crate::turns::{ACCESS_POINT, EIGHT, HEAD, JOURNAL, LOSS, SEVEN, UNSERVED};
-use ram_io::{MemSink, MemWire};
+use ram_io::MemSink;
 use rams_model::LineFault;
 use serve_loop::Watch;
 use server_hub::{Heard, HubAnswer};
@@ -130,15 +130,21 @@ const WATCHED: &[(Row, Told)] = &[
     ),
 ];
 
-fn check_told(rt: &impl Abort, alloc: Global, row: &Row, wanted: Told) -> Result<(), Fail> {
-    let sink = MemSink::new(alloc, 10_000, 1_000, Vec::new(alloc));
-    let mut sink = sink.ok().ok_or("memory")?;
-    let arrivals = arrivals_of(alloc, row)?;
-    let wire = MemWire::new(alloc, arrivals, 10_000, 10, Vec::new(alloc));
-    let mut wire = wire.ok().ok_or("memory")?;
+/// What is told while a server with this sink serves; no call of its wire fails.
+fn tells(alloc: Global, row: &Row, sink: &mut MemSink) -> Result<Told, Fail> {
+    let mut wire = wire_of(alloc, row, &[])?;
     let notes = Notes(Cell::new(NOTHING));
-    let _ = serve_row(alloc, row, &mut sink, &mut wire, &notes)?;
-    assert!(rt; notes.0.get() == wanted, "{}", row.name);
+    let served = serve_row(alloc, row, sink, &mut wire, &notes);
+    let_go(wire);
+    let _ = served?;
+    Ok(notes.0.get())
+}
+
+fn check_told(rt: &impl Abort, alloc: Global, row: &Row, wanted: Told) -> Result<(), Fail> {
+    let mut sink = sink_of(alloc, &[])?;
+    let told = tells(alloc, row, &mut sink);
+    let_go(sink);
+    assert!(rt; told? == wanted, "{}", row.name);
     Ok(())
 }
 

@@ -1,7 +1,7 @@
 //! Two channels, worked out by hand.
 ghost use Rattle.std.specs.Prelude.{◌≡◌, ◌+◌, ◌<◌, OnOk, length};
 
-use crate::fixtures::{holds, same};
+use crate::fixtures::{holds, let_go, same};
 use crate::row::Given::{Asks, Start, Tick};
 use crate::row::{Given, event_of};
 use channel_config::Config;
@@ -123,10 +123,13 @@ fn expect_steps(rt: &impl Abort, alloc: Global, hub: &mut Hub, steps: &[Step]) -
     let mut place = 0usize;
     for (id, given, expected) in steps {
         let event = event_at(alloc, *id, *given)?;
-        let Ok(answer) = hub.step(alloc, &event) else {
+        let answer = hub.step(alloc, &event);
+        let_go(event);
+        let Ok(answer) = answer else {
             return Err(Fail::new("no memory"));
         };
         holds(rt, is_said(&answer, expected), &place);
+        let_go(answer);
         place = place.wrapping_add(1);
     }
     Ok(())
@@ -145,8 +148,11 @@ fn events_go_to_their_channels(rt: HostRuntime) -> Result<(), Fail> {
         &"tick and link",
     );
     expect_added(&rt, rt.alloc(), &mut hub, TWO_CHANNELS);
-    expect_steps(&rt, rt.alloc(), &mut hub, STEPS)?;
-    same(&rt, &(hub.hi(7), hub.hi(9)), &(Some(65547), None), &"hi");
+    let stepped = expect_steps(&rt, rt.alloc(), &mut hub, STEPS);
+    let hi = (hub.hi(7), hub.hi(9));
+    let_go(hub);
+    stepped?;
+    same(&rt, &hi, &(Some(65547), None), &"hi");
     Ok(())
 }
 
@@ -170,5 +176,6 @@ fn refused_channels(rt: HostRuntime) -> Result<(), Fail> {
     let last = hub.config(64).map(|config| config.channel().id);
     same(&rt, &last, &Some(64), &"the last channel");
     holds(&rt, hub.config(65).is_none(), &"channel 65");
+    let_go(hub);
     Ok(())
 }

@@ -3,7 +3,7 @@ ghost use Rattle.std.specs.Prelude.{◌+◌, ◌<◌, ◌^◌, List, [], IfOk, l
 ghost use Rattle.rams_model.specs.declared.event.Event.{Event};
 ghost use Rattle.server_hub.specs.session_core.{StandsFor};
 
-use crate::fixtures::REQUEST;
+use crate::fixtures::{REQUEST, let_go};
 use channel_config::{Channel, Config};
 use rams_model::{Answer, Event, Info, Note, Octets, Order};
 use server_hub::session_core::{Core, Stepped};
@@ -117,7 +117,9 @@ fn expect<S: Stepped>(
     let mut place = 0usize;
     for (given, notes, orders, info) in rows {
         let event = event_of(alloc, *given)?;
-        let Ok(answer) = stepped.step(alloc, &event) else {
+        let answer = stepped.step(alloc, &event);
+        let_go(event);
+        let Ok(answer) = answer else {
             return Err(Fail::new("no memory"));
         };
         let got = (answer.notes.as_slice(), answer.orders.len(), told(&answer));
@@ -125,6 +127,7 @@ fn expect<S: Stepped>(
             got == (*notes, *orders, *info),
             "row {place} of case {case}"
         );
+        let_go(answer);
         place = place.wrapping_add(1);
     }
     Ok(())
@@ -144,7 +147,9 @@ fn expect_case(
     requires { length rows.now < 1000 }
 {
     let mut core = new_core(alloc, channel)?;
-    expect(rt, alloc, &mut core, rows, case)
+    let expected = expect(rt, alloc, &mut core, rows, case);
+    let_go(core);
+    expected
 }
 
 /// Each case's events are answered as its rows say.

@@ -2,7 +2,7 @@
 ghost use Rattle.std.specs.Prelude.{◌≤◌};
 ghost use Rattle.serve_loop.specs.standby.{HasReadSome};
 
-use crate::fixtures::{HEAD, JOURNAL, follow, joined};
+use crate::fixtures::{HEAD, JOURNAL, follow, joined, let_go};
 use serve_loop::standby::{FeedFault, LineFault, Standby};
 use std::alloc::Global;
 use std::process::Abort;
@@ -46,6 +46,16 @@ fn outcome(alloc: Global, standby: &mut Standby, text: &[u8], size: usize) -> Ou
     Ok((standby.events(), standby.ended()))
 }
 
+/// What a standby comes to that reads the text.
+fn read(alloc: Global, text: &[u8], size: usize) -> Result<Outcome, Fail> {
+    let Ok(mut standby) = Standby::new(alloc) else {
+        return Err(Fail::new("no memory"));
+    };
+    let got = outcome(alloc, &mut standby, text, size.max(1));
+    let_go(standby);
+    Ok(got)
+}
+
 fn check(
     rt: &impl Abort,
     alloc: Global,
@@ -55,11 +65,9 @@ fn check(
 ) -> Result<(), Fail> {
     let (name, front, text) = row;
     let text = joined(alloc, front, text)?;
-    let Ok(mut standby) = Standby::new(alloc) else {
-        return Err(Fail::new("no memory"));
-    };
-    let got = outcome(alloc, &mut standby, &text, size.max(1));
-    assert!(rt; got == *want, "{name}, in pieces of {size}");
+    let got = read(alloc, &text, size);
+    let_go(text);
+    assert!(rt; got? == *want, "{name}, in pieces of {size}");
     Ok(())
 }
 
@@ -97,10 +105,9 @@ fn with_long_line(alloc: Global, count: usize) -> Result<Vec<u8>, Fail> {
 /// What reading such a line comes to, in pieces of at most so many bytes.
 fn long_line(alloc: Global, count: usize, size: usize) -> Result<Outcome, Fail> {
     let text = with_long_line(alloc, count)?;
-    let Ok(mut standby) = Standby::new(alloc) else {
-        return Err(Fail::new("no memory"));
-    };
-    Ok(outcome(alloc, &mut standby, &text, size.max(1)))
+    let got = read(alloc, &text, size);
+    let_go(text);
+    got
 }
 
 #[test]

@@ -1,7 +1,7 @@
 //! What is taken over from a journal.
 ghost use Rattle.std.specs.Prelude.{◌^◌, ◌<◌};
 
-use crate::fixtures::{HEAD, JOURNAL, follow, joined};
+use crate::fixtures::{HEAD, JOURNAL, follow, joined, let_go};
 use rams_model::Note;
 use serve_loop::standby::Standby;
 use server_hub::{At, Heard, Hub, HubAnswer};
@@ -84,28 +84,58 @@ fn are_noted(answers: &[At], want: &[Noted]) -> bool {
         })
 }
 
+/// This is what they all answer.
+fn are_answers(answer: &HubAnswer, want: &[Noted]) -> bool {
+    match answer {
+        HubAnswer::Answers(answers) => are_noted(answers, want),
+        _ => false,
+    }
+}
+
 /// This is what they answer to a tick.
 fn is_ticked(alloc: Global, hub: &mut Hub, want: &[Noted]) -> Result<bool, Fail>
     requires { hub.old.calls < 2 ^ 40 }
 {
     match hub.hear(alloc, Heard::Tick) {
-        Ok(HubAnswer::Answers(answers)) => Ok(are_noted(&answers, want)),
-        Ok(_) => Ok(false),
+        Ok(answer) => {
+            let is_so = are_answers(&answer, want);
+            let_go(answer);
+            Ok(is_so)
+        }
         Err(_) => Err(Fail::new("no memory")),
+    }
+}
+
+/// The hub answers so to a tick; none is wanted where nothing is to be taken over.
+fn is_wanted(alloc: Global, hub: &mut Hub, want: Option<&[Noted]>) -> Result<bool, Fail>
+    requires { hub.old.calls < 2 ^ 40 }
+{
+    match want {
+        Some(want) => is_ticked(alloc, hub, want),
+        None => Ok(false),
     }
 }
 
 /// This is taken over from a text that is read in pieces of at most so many bytes.
 fn is_taken(alloc: Global, row: &Row, size: usize) -> Result<bool, Fail> {
     let text = joined(alloc, row.front, row.text)?;
-    let Ok(mut standby) = Standby::new(alloc) else {
+    let standby = Standby::new(alloc);
+    let Ok(mut standby) = standby else {
+        let_go(text);
         return Err(Fail::new("no memory"));
     };
     let _ = follow(alloc, &mut standby, &text, size.max(1));
-    match (standby.take_over(), row.want) {
-        (Ok(mut hub), Some(want)) => is_ticked(alloc, &mut hub, want),
-        (Ok(_), None) => Ok(false),
-        (Err(_), want) => Ok(want.is_none()),
+    let_go(text);
+    match standby.take_over() {
+        Ok(mut hub) => {
+            let is_so = is_wanted(alloc, &mut hub, row.want);
+            let_go(hub);
+            is_so
+        }
+        Err(standby) => {
+            let_go(standby);
+            Ok(row.want.is_none())
+        }
     }
 }
 

@@ -2,12 +2,11 @@
 ghost use Rattle.std.specs.Prelude.{◌^◌, ◌<◌, All, IfOk};
 ghost use Rattle.ram_io.specs.{IsFromClient};
 
-use ram_io::{Incoming, MemClock, MemSink, MemSource, MemWire, Octets, Open};
+use ram_io::{Incoming, MemClock, MemSink, MemSource, MemWire, Octets, Open, Sent};
 use rams_model::Status;
 use serve_loop::takeover_loop::{Stop, take_over};
 use std::alloc::{AllocError, Global};
 use std::process::Abort;
-use std::str;
 use std::test::Fail;
 
 /// A journal that is taken over for some turns, what comes in them, and what is written and sent.
@@ -33,6 +32,9 @@ pub struct Row {
     /// To whom a datagram goes, from which port, and its bytes.
     pub sent: &'static [(u64, u16, &'static [u8])],
 }
+
+/// The value is dropped, by a call of its own: so a caller's proof doesn't go through its fields.
+pub fn let_go<T: Drop>(_value: T) {}
 
 fn octets(alloc: Global, bytes: &[u8]) -> Result<Octets, AllocError> {
     let mut all = Vec::new(alloc);
@@ -82,66 +84,142 @@ pub fn journal(alloc: Global, row: &Row) -> Result<Vec<u8>, AllocError> {
     Ok(text)
 }
 
-/// Takes over these bytes, of which a call gives so many, at the ports from 5000 on.
+/// A sink of which these calls fail.
+pub fn sink_of(alloc: Global, fails: &[u64]) -> Result<MemSink, Fail> {
+    let Ok(sink) = MemSink::new(alloc, 10_000, 1_000, fails.to_vec(alloc)?) else {
+        return Err(Fail::new("no memory"));
+    };
+    Ok(sink)
+}
+
+/// A wire to which comes what the row says, and of which these calls fail.
+pub fn wire_of(alloc: Global, row: &Row, fails: &[u64]) -> Result<MemWire, Fail> {
+    let fails = fails.to_vec(alloc)?;
+    let Ok(wire) = MemWire::new(alloc, arrivals_of(alloc, row)?, 10_000, 10, fails) else {
+        return Err(Fail::new("no memory"));
+    };
+    Ok(wire)
+}
+
+/// The source of these bytes, of which a call gives so many.
+fn source_of(alloc: Global, row: &Row, text: &[u8], most: usize) -> Result<MemSource, AllocError>
+    requires { 0 < most }
+{
+    let fails = row.source_fails.to_vec(alloc)?;
+    Ok(MemSource::new(text.to_vec(alloc)?, most, fails))
+}
+
+/// Takes over from a source, at the ports from 5000 on.
+fn take_from(
+    alloc: Global,
+    row: &Row,
+    source: &mut MemSource,
+    sink: &mut MemSink,
+    wire: &mut MemWire,
+) -> Result<Result<Status, Stop>, AllocError> {
+    let mut clock = MemClock::new(moments_of(alloc, row)?);
+    let turns = row.turns;
+    let ended = take_over(alloc, source, sink, wire, &mut clock, 5000, turns, &Open);
+    let_go(clock);
+    Ok(ended)
+}
+
+/// Takes over these bytes, of which a call gives so many.
 pub fn take(
     alloc: Global,
     row: &Row,
-    text: Vec<u8>,
+    text: &[u8],
     most: usize,
     sink: &mut MemSink,
     wire: &mut MemWire,
 ) -> Result<Result<Status, Stop>, AllocError>
     requires { 0 < most }
 {
-    let mut source = MemSource::new(text, most, row.source_fails.to_vec(alloc)?);
-    let mut clock = MemClock::new(moments_of(alloc, row)?);
-    let turns = row.turns;
-    Ok(take_over(
-        alloc,
-        &mut source,
-        sink,
-        wire,
-        &mut clock,
-        5000,
-        turns,
-        &Open,
-    ))
+    let mut source = source_of(alloc, row, text, most)?;
+    let ended = take_from(alloc, row, &mut source, sink, wire);
+    let_go(source);
+    ended
 }
 
 /// The sink got the lines of the row.
 fn check_text(rt: &impl Abort, alloc: Global, row: &Row, held: &[u8]) -> Result<(), Fail> {
     let text = joined(alloc, row.text)?;
-    assert!(rt;
-        str::from_utf8(held)? == str::from_utf8(&text)?,
-        "{}",
-        row.name
-    );
+    assert!(rt; held == text.as_slice(), "{}", row.name);
+    let_go(text);
     Ok(())
 }
 
+/// The wire sent this: to whom, from which port, and the bytes.
+fn is_sent(wire: &MemWire, sent: &Sent, want: &(u64, u16, &[u8])) -> bool {
+    let (to, port, bytes) = *want;
+    let end = sent.start.saturating_add(sent.len);
+    sent.to == to && sent.port == port && wire.sent_bytes().get(sent.start..end) == Some(bytes)
+}
+
 /// The wire sent the datagrams of the row, in order.
-fn check_sent(rt: &impl Abort, row: &Row, wire: &MemWire) -> Result<(), Fail> {
+fn check_sent(rt: &impl Abort, row: &Row, wire: &MemWire) {
     assert!(rt; wire.sent().len() == row.sent.len(), "{}", row.name);
-    for (sent, (to, port, bytes)) in wire.sent().iter().zip(row.sent.iter()) {
-        assert!(rt; (sent.to, sent.port) == (*to, *port), "{}", row.name);
-        let end = sent.start.checked_add(sent.len).ok_or("a datagram")?;
-        let got = wire.sent_bytes().get(sent.start..end);
-        assert!(rt; got.ok_or("a datagram")? == *bytes, "{}", row.name);
+    for (sent, want) in wire.sent().iter().zip(row.sent.iter()) {
+        assert!(rt; is_sent(wire, sent, want), "{}", row.name);
     }
+}
+
+/// How a takeover of the row's journal ends.
+fn take_journal(
+    alloc: Global,
+    row: &Row,
+    most: usize,
+    sink: &mut MemSink,
+    wire: &mut MemWire,
+) -> Result<Result<Status, Stop>, AllocError>
+    requires { 0 < most }
+{
+    let text = journal(alloc, row)?;
+    let ended = take(alloc, row, &text, most, sink, wire);
+    let_go(text);
+    ended
+}
+
+/// A takeover with this sink and this wire ends, writes and sends what the row says.
+fn check_ends(
+    rt: &impl Abort,
+    alloc: Global,
+    row: &Row,
+    most: usize,
+    sink: &mut MemSink,
+    wire: &mut MemWire,
+) -> Result<(), Fail>
+    requires { 0 < most }
+{
+    let ended = take_journal(alloc, row, most, sink, wire)?;
+    assert!(rt; ended == row.ended, "{}", row.name);
+    check_text(rt, alloc, row, sink.held())?;
+    check_sent(rt, row, wire);
     Ok(())
+}
+
+/// A takeover with this sink does.
+fn check_sink(
+    rt: &impl Abort,
+    alloc: Global,
+    row: &Row,
+    most: usize,
+    sink: &mut MemSink,
+) -> Result<(), Fail>
+    requires { 0 < most }
+{
+    let mut wire = wire_of(alloc, row, row.wire_fails)?;
+    let checked = check_ends(rt, alloc, row, most, sink, &mut wire);
+    let_go(wire);
+    checked
 }
 
 /// A takeover ends, writes and sends what the row says, where a call of the source gives so many bytes.
 pub fn check_row(rt: &impl Abort, alloc: Global, row: &Row, most: usize) -> Result<(), Fail>
     requires { 0 < most }
 {
-    let sink = MemSink::new(alloc, 10_000, 1_000, row.sink_fails.to_vec(alloc)?);
-    let mut sink = sink.ok().ok_or("memory")?;
-    let arrivals = arrivals_of(alloc, row)?;
-    let wire = MemWire::new(alloc, arrivals, 10_000, 10, row.wire_fails.to_vec(alloc)?);
-    let mut wire = wire.ok().ok_or("memory")?;
-    let ended = take(alloc, row, journal(alloc, row)?, most, &mut sink, &mut wire)?;
-    assert!(rt; ended == row.ended, "{}", row.name);
-    check_text(rt, alloc, row, sink.held())?;
-    check_sent(rt, row, &wire)
+    let mut sink = sink_of(alloc, row.sink_fails)?;
+    let checked = check_sink(rt, alloc, row, most, &mut sink);
+    let_go(sink);
+    checked
 }

@@ -1,7 +1,11 @@
 //! Rows of takeovers, of what stops them, and of journals that aren't taken over.
+ghost use Rattle.std.specs.Prelude.{◌<◌};
+
 use crate::row::{Row, check_row};
 use rams_model::Status;
 use serve_loop::takeover_loop::Stop;
+use std::alloc::Global;
+use std::process::Abort;
 use std::rt::HostRuntime;
 use std::test::Fail;
 
@@ -184,15 +188,21 @@ const REFUSED: &[Row] = &[
     },
 ];
 
+/// Each row, where a call of the source gives so many bytes.
+fn check_rows(rt: &impl Abort, alloc: Global, rows: &[Row], most: usize) -> Result<(), Fail>
+    requires { 0 < most }
+{
+    for row in rows {
+        check_row(rt, alloc, row, most)?;
+    }
+    Ok(())
+}
+
 /// Each row, whether the source gives byte by byte or all at once.
 #[test]
 fn takeovers_write_and_send(rt: HostRuntime) -> Result<(), Fail> {
-    for row in ROWS {
-        check_row(&rt, rt.alloc(), row, 10_000)?;
-    }
-    for row in REFUSED {
-        check_row(&rt, rt.alloc(), row, 10_000)?;
-        check_row(&rt, rt.alloc(), row, 1)?;
-    }
+    check_rows(&rt, rt.alloc(), ROWS, 10_000)?;
+    check_rows(&rt, rt.alloc(), REFUSED, 10_000)?;
+    check_rows(&rt, rt.alloc(), REFUSED, 1)?;
     check_row(&rt, rt.alloc(), &TAKEN, 1)
 }

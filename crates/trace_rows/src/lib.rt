@@ -133,6 +133,9 @@ pub const PIECES: Calls<'static> = Calls {
     fails: &[],
 };
 
+/// The value is dropped, by a call of its own: so a caller's proof doesn't go through its fields.
+pub fn let_go<T: Drop>(_value: T) {}
+
 /// The words of a command line.
 pub fn octets_of(alloc: Global, words: &[&str]) -> Result<Vec<Octets>, AllocError> {
     let mut octets = Vec::new(alloc);
@@ -152,6 +155,47 @@ fn status_of(
     plain(alloc, words, source, sink, &Open)
 }
 
+/// How these words end over this source and this sink.
+fn ended(
+    alloc: Global,
+    words: &[&str],
+    source: &mut MemSource,
+    sink: &mut MemSink,
+) -> Result<Status, AllocError> {
+    let words = octets_of(alloc, words)?;
+    let status = status_of(alloc, &words, source, sink);
+    let_go(words);
+    Ok(status)
+}
+
+/// The same, and what the sink then holds.
+fn ended_with(
+    alloc: Global,
+    words: &[&str],
+    source: &mut MemSource,
+    sink: &mut MemSink,
+) -> Result<(Status, Vec<u8>), Fail> {
+    let status = ended(alloc, words, source, sink)?;
+    Ok((status, sink.held().to_vec(alloc)?))
+}
+
+/// How these words end over this source, and what is written to a sink with so much room.
+fn written_from(
+    alloc: Global,
+    words: &[&str],
+    source: &mut MemSource,
+    puts: Calls<'_>,
+    room: usize,
+) -> Result<(Status, Vec<u8>), Fail> {
+    let fails = puts.fails.to_vec(alloc)?;
+    let Ok(mut sink) = MemSink::new(alloc, room, puts.most.max(1), fails) else {
+        return Err(Fail::new("no memory"));
+    };
+    let ended = ended_with(alloc, words, source, &mut sink);
+    let_go(sink);
+    ended
+}
+
 /// How these words end over a source of this input, and what is written to a sink with so much room.
 pub fn written(
     alloc: Global,
@@ -161,12 +205,10 @@ pub fn written(
     puts: Calls<'_>,
     room: usize,
 ) -> Result<(Status, Vec<u8>), Fail> {
-    let words = octets_of(alloc, words)?;
     let mut source = MemSource::new(input, takes.most.max(1), takes.fails.to_vec(alloc)?);
-    let sink = MemSink::new(alloc, room, puts.most.max(1), puts.fails.to_vec(alloc)?);
-    let mut sink = sink.ok().ok_or("memory")?;
-    let status = status_of(alloc, &words, &mut source, &mut sink);
-    Ok((status, sink.held().to_vec(alloc)?))
+    let ended = written_from(alloc, words, &mut source, puts, room);
+    let_go(source);
+    ended
 }
 
 /// How the command ends over a source of this trace, and what it writes.
