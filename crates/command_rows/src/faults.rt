@@ -5,9 +5,36 @@ use std::alloc::Global;
 use std::process::Abort;
 use std::test::Fail;
 use trace_rows::{
-    BOOK, Calls, ONE_PACKET_PER_TICK, OPENING, RUN, Row, STOP_ACROSS_THE_WRAP, WHOLE, book_of, ran,
-    trace_of,
+    BOOK, Calls, ONE_PACKET_PER_TICK, OPENING, RUN, Row, STOP_ACROSS_THE_WRAP, WHOLE, book_of,
+    let_go, ran, trace_of,
 };
+
+/// How the run of a row's trace ends over such a source and such a sink, and what is written.
+fn ran_over(
+    alloc: Global,
+    row: &Row,
+    takes: Calls<'_>,
+    puts: Calls<'_>,
+) -> Result<(Status, Vec<u8>), Fail> {
+    let trace = trace_of(alloc, row)?;
+    let ran = ran(alloc, RUN, trace.as_bytes(), takes, puts);
+    let_go(trace);
+    ran
+}
+
+/// The row's book begins so.
+fn is_front(alloc: Global, row: &Row, text: &[u8]) -> Result<bool, Fail> {
+    let book = book_of(alloc, RUN, row)?;
+    let is_so = book.as_bytes().starts_with(text);
+    let_go(book);
+    Ok(is_so)
+}
+
+/// How many bytes the row's trace has, and its book.
+fn lengths(alloc: Global, row: &Row) -> Result<(usize, usize), Fail> {
+    let trace = trace_of(alloc, row)?.len();
+    Ok((trace, book_of(alloc, RUN, row)?.len()))
+}
 
 /// How the run of a row's trace ends over such a source and such a sink, and how many bytes of the
 /// row's book the sink then holds. It holds no others.
@@ -18,18 +45,19 @@ fn front(
     takes: Calls<'_>,
     puts: Calls<'_>,
 ) -> Result<(Status, usize), Fail> {
-    let trace = trace_of(alloc, row)?;
-    let (status, text) = ran(alloc, RUN, trace.as_bytes(), takes, puts)?;
-    let book = book_of(alloc, RUN, row)?;
-    assert!(rt; book.as_bytes().starts_with(&text));
-    Ok((status, text.len()))
+    let (status, text) = ran_over(alloc, row, takes, puts)?;
+    let length = text.len();
+    let is_so = is_front(alloc, row, &text);
+    let_go(text);
+    assert!(rt; is_so?);
+    Ok((status, length))
 }
 
 /// A source gives a byte a call, and fails at each of its calls in turn. Until the opening is read
 /// the book has its first line at most.
 #[test]
 fn a_source_fails_at_each_byte(rt: HostRuntime) -> Result<(), Fail> {
-    let calls = trace_of(rt.alloc(), &STOP_ACROSS_THE_WRAP)?.len();
+    let (calls, _) = lengths(rt.alloc(), &STOP_ACROSS_THE_WRAP)?;
     for call in 0..calls {
         let fails = &[call as u64];
         let takes = Calls { most: 1, fails };
@@ -44,7 +72,7 @@ fn a_source_fails_at_each_byte(rt: HostRuntime) -> Result<(), Fail> {
 /// The first call of a source gives the whole trace. The second would fail, and isn't made.
 #[test]
 fn no_more_is_taken_than_needed(rt: HostRuntime) -> Result<(), Fail> {
-    let whole = book_of(rt.alloc(), RUN, &STOP_ACROSS_THE_WRAP)?.len();
+    let (_, whole) = lengths(rt.alloc(), &STOP_ACROSS_THE_WRAP)?;
     let takes = Calls {
         most: 4_096,
         fails: &[1],
@@ -57,7 +85,7 @@ fn no_more_is_taken_than_needed(rt: HostRuntime) -> Result<(), Fail> {
 /// A sink takes a byte a call, and fails at each of its calls in turn.
 #[test]
 fn a_sink_fails_at_each_byte(rt: HostRuntime) -> Result<(), Fail> {
-    let whole = book_of(rt.alloc(), RUN, &STOP_ACROSS_THE_WRAP)?.len();
+    let (_, whole) = lengths(rt.alloc(), &STOP_ACROSS_THE_WRAP)?;
     for call in 0..whole {
         let fails = &[call as u64];
         let puts = Calls { most: 1, fails };
@@ -89,7 +117,7 @@ fn a_sink_fails_at_each_call(rt: HostRuntime) -> Result<(), Fail> {
 /// The book doesn't depend on how many bytes a call of the source gives, or one of the sink takes.
 #[test]
 fn pieces_of_any_size(rt: HostRuntime) -> Result<(), Fail> {
-    let whole = book_of(rt.alloc(), RUN, &ONE_PACKET_PER_TICK)?.len();
+    let (_, whole) = lengths(rt.alloc(), &ONE_PACKET_PER_TICK)?;
     for most in [1, 2, 3, 7, 4_096] {
         let pieces = Calls { most, fails: &[] };
         let got = front(&rt, rt.alloc(), &ONE_PACKET_PER_TICK, pieces, pieces)?;
@@ -100,7 +128,8 @@ fn pieces_of_any_size(rt: HostRuntime) -> Result<(), Fail> {
 
 /// How the run of a front of a trace ends. It may lack its last line feed, and nothing else.
 fn expect_cut(rt: &impl Abort, alloc: Global, front: &[u8]) -> Result<(), Fail> {
-    let (status, _) = ran(alloc, RUN, front, WHOLE, WHOLE)?;
+    let (status, text) = ran(alloc, RUN, front, WHOLE, WHOLE)?;
+    let_go(text);
     let wanted = if front.ends_with(b"end") {
         Status::Done
     } else {
@@ -110,13 +139,18 @@ fn expect_cut(rt: &impl Abort, alloc: Global, front: &[u8]) -> Result<(), Fail> 
     Ok(())
 }
 
+fn expect_cuts(rt: &impl Abort, alloc: Global, trace: &[u8]) -> Result<(), Fail> {
+    for length in 0..trace.len() {
+        expect_cut(rt, alloc, &trace[..length])?;
+    }
+    Ok(())
+}
+
 /// A trace is cut behind each of its bytes.
 #[test]
 fn cut_traces(rt: HostRuntime) -> Result<(), Fail> {
     let trace = trace_of(rt.alloc(), &STOP_ACROSS_THE_WRAP)?;
-    let bytes = trace.as_bytes();
-    for length in 0..bytes.len() {
-        expect_cut(&rt, rt.alloc(), &bytes[..length])?;
-    }
-    Ok(())
+    let expected = expect_cuts(&rt, rt.alloc(), trace.as_bytes());
+    let_go(trace);
+    expected
 }

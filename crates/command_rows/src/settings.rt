@@ -2,9 +2,8 @@
 use crate::fixtures::same;
 use rams_replay::Status;
 use std::alloc::Global;
-use std::str;
 use std::test::Fail;
-use trace_rows::{OPENING, PIECES, written};
+use trace_rows::{OPENING, PIECES, let_go, written};
 
 const OFFER: &str = "end
 v=0
@@ -84,7 +83,8 @@ fn settings_and_descriptions_are_written(rt: HostRuntime) -> Result<(), Fail> {
     for (place, (words, lines, status, text)) in ROWS.iter().enumerate() {
         let (got, written) = ran(rt.alloc(), words, lines)?;
         same(&rt, &got, status, &place);
-        same(&rt, &str::from_utf8(&written)?, text, &place);
+        same(&rt, &written.as_slice(), &text.as_bytes(), &place);
+        let_go(written);
     }
     Ok(())
 }

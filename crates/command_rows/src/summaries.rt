@@ -2,7 +2,7 @@
 use crate::fixtures::same;
 use rams_replay::Status;
 use std::test::Fail;
-use trace_rows::{PIECES, written};
+use trace_rows::{PIECES, let_go, written};
 
 const ONE_BLOCK: &str =
     "rams-made 7 1\nevents 11\ntook 10\naccept 0\nagain 0\nrefuse 0\nburst 0\nrepair 0\nend 0\nbytes 0\ndone\n";
@@ -38,16 +38,11 @@ const ROWS: &[(&[&str], usize, Status, &str)] = &[
 #[test]
 fn summaries_are_those_of_the_generated_trace(rt: HostRuntime) -> Result<(), Fail> {
     for (place, (words, room, status, text)) in ROWS.iter().enumerate() {
-        let got = written(
-            rt.alloc(),
-            words,
-            Vec::new(rt.alloc()),
-            PIECES,
-            PIECES,
-            *room,
-        )?;
-        same(&rt, &got.0, status, &place);
-        same(&rt, &got.1.as_slice(), &text.as_bytes(), &place);
+        let input = Vec::new(rt.alloc());
+        let (got, written) = written(rt.alloc(), words, input, PIECES, PIECES, *room)?;
+        same(&rt, &got, status, &place);
+        same(&rt, &written.as_slice(), &text.as_bytes(), &place);
+        let_go(written);
     }
     Ok(())
 }

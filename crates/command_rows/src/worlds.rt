@@ -4,7 +4,7 @@ use rams_replay::Status;
 use std::alloc::Global;
 use std::process::Abort;
 use std::test::Fail;
-use trace_rows::{Calls, MEET, OPENING, WHOLE, ran};
+use trace_rows::{Calls, MEET, OPENING, WHOLE, let_go, ran};
 
 /// Two deliveries of nothing, and their book.
 const NOTHING: &str = "give 99\ngive 98\nend\n";
@@ -19,9 +19,13 @@ fn front(
     puts: Calls<'_>,
 ) -> Result<(Status, usize), Fail> {
     let trace = format!(in alloc; "{OPENING}{NOTHING}")?;
-    let (status, text) = ran(alloc, MEET, trace.as_bytes(), takes, puts)?;
+    let ran = ran(alloc, MEET, trace.as_bytes(), takes, puts);
+    let_go(trace);
+    let (status, text) = ran?;
     assert!(rt; NOTHING_BOOK.as_bytes().starts_with(&text));
-    Ok((status, text.len()))
+    let length = text.len();
+    let_go(text);
+    Ok((status, length))
 }
 
 /// A source that fails leaves a front of the book of the lines that were read.

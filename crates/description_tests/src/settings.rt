@@ -1,6 +1,6 @@
 //! Settings from descriptions, and descriptions of channels: from a head's bytes to what is written.
 use crate::descriptions::{MEDIA, REPAIRS, SESSION};
-use crate::fixtures::same;
+use crate::fixtures::{let_go, same};
 use converters::description_loop::{Status, Stop, write_description, write_settings};
 use ram_io::{MemSink, MemSource};
 use std::alloc::{AllocError, Global};
@@ -92,11 +92,26 @@ fn ran(
 ) -> Result<(Result<Status, Stop>, Vec<u8>), Fail> {
     let fails = takes.fails.to_vec(alloc)?;
     let mut source = MemSource::new(input.to_vec(alloc)?, takes.most.max(1), fails);
+    let ran = ran_from(alloc, command, &mut source, puts);
+    let_go(source);
+    ran
+}
+
+/// How the command ends over this source, and what it wrote.
+fn ran_from(
+    alloc: Global,
+    command: Command,
+    source: &mut MemSource,
+    puts: Calls<'_>,
+) -> Result<(Result<Status, Stop>, Vec<u8>), Fail> {
     let fails = puts.fails.to_vec(alloc)?;
-    let sink = MemSink::new(alloc, 10_000, puts.most.max(1), fails);
-    let mut sink = sink.ok().ok_or("memory")?;
-    let ended = status_of(alloc, command, &mut source, &mut sink);
-    Ok((ended, sink.held().to_vec(alloc)?))
+    let Ok(mut sink) = MemSink::new(alloc, 10_000, puts.most.max(1), fails) else {
+        return Err(Fail::new("no memory"));
+    };
+    let ended = status_of(alloc, command, source, &mut sink);
+    let written = sink.held().to_vec(alloc);
+    let_go(sink);
+    Ok((ended, written?))
 }
 
 /// The command ends so and writes this, in whatever pieces the source gives its bytes.
@@ -125,8 +140,9 @@ fn text_of(alloc: Global, pieces: &[&str]) -> Result<Vec<u8>, AllocError> {
 /// The lines of the description of `descriptions`, with these of its repairs, each with this end.
 fn described(alloc: Global, repairs: &[&str], end: &str) -> Result<Vec<u8>, AllocError> {
     let mut text = joined(alloc, SESSION, end)?;
-    text.extend_from_slice(&joined(alloc, MEDIA, end)?)?;
-    text.extend_from_slice(&joined(alloc, repairs, end)?)?;
+    for lines in [MEDIA, repairs] {
+        text.extend_from_slice(&joined(alloc, lines, end)?)?;
+    }
     Ok(text)
 }
 
@@ -140,6 +156,31 @@ fn input_of(alloc: Global, description: &[u8]) -> Result<Vec<u8>, AllocError> {
 /// A head, a channel, and the channel with the settings of the description.
 const SETTINGS: &[(&str, &str, &str)] = &[(HEAD, CHANNEL, SET), (HEAD_2, CHANNEL_2, SET_2)];
 
+/// The head of a channel, and the description whose lines have this end.
+fn input_with(alloc: Global, head: &str, channel: &str, end: &str) -> Result<Vec<u8>, AllocError> {
+    let mut input = text_of(alloc, &[head, channel, END])?;
+    input.extend_from_slice(&described(alloc, REPAIRS, end)?)?;
+    Ok(input)
+}
+
+/// The command is done, and writes this text.
+fn ends_with(
+    rt: &impl Abort,
+    alloc: Global,
+    command: Command,
+    input: &[u8],
+    text: &[u8],
+) -> Result<(), Fail> {
+    ends(
+        rt,
+        alloc,
+        command,
+        input,
+        Status::Done,
+        str::from_utf8(text)?,
+    )
+}
+
 /// The channel gets the settings of the description whose lines have this end.
 fn gets_settings(
     rt: &impl Abort,
@@ -149,17 +190,12 @@ fn gets_settings(
     set: &str,
     end: &str,
 ) -> Result<(), Fail> {
-    let mut input = text_of(alloc, &[head, channel, END])?;
-    input.extend_from_slice(&described(alloc, REPAIRS, end)?)?;
+    let input = input_with(alloc, head, channel, end)?;
     let text = text_of(alloc, &[head, set, END])?;
-    ends(
-        rt,
-        alloc,
-        Command::Sdp,
-        &input,
-        Status::Done,
-        str::from_utf8(&text)?,
-    )
+    let ended = ends_with(rt, alloc, Command::Sdp, &input, &text);
+    let_go(input);
+    let_go(text);
+    ended
 }
 
 #[test]
@@ -204,7 +240,9 @@ const REPAIRS_REFUSED: &[(&[&str], &str)] = &[
 /// The description is refused with this line.
 fn refuses(rt: &impl Abort, alloc: Global, description: &[u8], text: &str) -> Result<(), Fail> {
     let input = input_of(alloc, description)?;
-    ends(rt, alloc, Command::Sdp, &input, Status::BadSdp, text)
+    let ended = ends(rt, alloc, Command::Sdp, &input, Status::BadSdp, text);
+    let_go(input);
+    ended
 }
 
 #[test]
@@ -272,28 +310,19 @@ fn a_head_is_refused(rt: HostRuntime) -> Result<(), Fail> {
 /// The channel is described so, with these lines behind the head.
 fn is_described(rt: &impl Abort, alloc: Global, want: &[u8], behind: &str) -> Result<(), Fail> {
     let input = text_of(alloc, &[HEAD, CHANNEL, END, behind])?;
-    ends(
-        rt,
-        alloc,
-        DESCRIBE,
-        &input,
-        Status::Done,
-        str::from_utf8(want)?,
-    )
+    let ended = ends_with(rt, alloc, DESCRIBE, &input, want);
+    let_go(input);
+    ended
 }
 
 /// And `sdp` turns the description back.
 fn is_turned_back(rt: &impl Abort, alloc: Global, description: &[u8]) -> Result<(), Fail> {
     let input = input_of(alloc, description)?;
     let back = text_of(alloc, &[HEAD, CHANNEL, END])?;
-    ends(
-        rt,
-        alloc,
-        Command::Sdp,
-        &input,
-        Status::Done,
-        str::from_utf8(&back)?,
-    )
+    let ended = ends_with(rt, alloc, Command::Sdp, &input, &back);
+    let_go(input);
+    let_go(back);
+    ended
 }
 
 #[test]

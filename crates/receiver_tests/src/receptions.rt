@@ -1,8 +1,10 @@
 //! What receivers answer, present and send.
 use crate::row::Call::{Ask, Info, Multicast, Rtx};
 use crate::row::Said::{Asks, Came, Joined, Told};
-use crate::row::{Row, TUNED, Words, datagram, expect_all};
+use crate::row::{Row, TUNED, Words, datagram, expect_all, let_go};
 use receiver_core::{InfoCame, MediaCame, Receiver};
+use std::alloc::Global;
+use std::process::Abort;
 use std::test::Fail;
 
 /// A RAMS-I of a burst that begins with sequence number 500 (RFC 6285, 7.3).
@@ -241,6 +243,19 @@ fn unfit_media(rt: HostRuntime) -> Result<(), Fail> {
     expect_all(&rt, rt.alloc(), &UNFIT)
 }
 
+// The bytes are a receiver's datagram with this message.
+fn expect_datagram(
+    rt: &impl Abort,
+    alloc: Global,
+    bytes: &[u8],
+    message: &[&str],
+) -> Result<(), Fail> {
+    let want = datagram(alloc, message)?;
+    assert!(rt; bytes == want.as_slice());
+    let_go(want);
+    Ok(())
+}
+
 /// What a receiver sends as it is tuned and as it leaves, and its numbers.
 #[test]
 fn tune_and_leave(rt: HostRuntime) -> Result<(), Fail> {
@@ -248,11 +263,15 @@ fn tune_and_leave(rt: HostRuntime) -> Result<(), Fail> {
     let Ok((receiver, request)) = Receiver::tune(alloc, TUNED) else {
         return Err(Fail::new("no memory"));
     };
-    assert!(rt; request == datagram(alloc, REQUEST)?);
     assert!(rt; receiver.first().is_none() && receiver.next().is_none());
-    let Ok(bye) = receiver.leave(alloc) else {
+    let asked = expect_datagram(&rt, alloc, &request, REQUEST);
+    let_go(request);
+    let bye = receiver.leave(alloc);
+    asked?;
+    let Ok(bye) = bye else {
         return Err(Fail::new("no memory"));
     };
-    assert!(rt; bye == datagram(alloc, &["81cb0001", "0000c001"])?);
-    Ok(())
+    let left = expect_datagram(&rt, alloc, &bye, &["81cb0001", "0000c001"]);
+    let_go(bye);
+    left
 }

@@ -9,6 +9,7 @@ use std::process::Abort;
 use std::sync::Wait;
 use std::test::Fail;
 use std::thread::Threads;
+use trace_rows::let_go;
 
 /// The first calls of the lists of clients 4 and 5, with four workers, each wait for the other.
 const BOTH_ENTER: &[Stop] = &[
@@ -70,7 +71,8 @@ fn expect_held(
 ) -> Result<(), Fail> {
     let gate = Stops::new(stops);
     let words = &["threads", workers];
-    let (status, _) = ran(rt, alloc, words, rest, (&[], &[]), &gate)?;
+    let (status, text) = ran(rt, alloc, words, rest, (&[], &[]), &gate)?;
+    let_go(text);
     same(rt, &status, &Status::Done, &workers);
     assert!(rt; gate.were_held(), "both were there at once");
     Ok(())
@@ -81,7 +83,9 @@ fn expect_held(
 fn workers_run_beside_each_other(rt: HostRuntime) -> Result<(), Fail> {
     let request = "fb 7 4 86cd00030000c0011122334401000000\nend\n";
     let rest = EARLY_AND_ALREADY.replace(rt.alloc(), "end\n", request)?;
-    expect_held(&rt, rt.alloc(), "4", &rest, BOTH_ENTER)
+    let held = expect_held(&rt, rt.alloc(), "4", &rest, BOTH_ENTER);
+    let_go(rest);
+    held
 }
 
 /// A live packet is answered while the datagrams of a tick are rendered.

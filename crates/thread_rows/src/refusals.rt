@@ -5,6 +5,7 @@ use ram_io::Open;
 use rams_replay::Status;
 use std::alloc::{AllocError, Global};
 use std::test::Fail;
+use trace_rows::let_go;
 
 /// The line of another channel.
 const CHANNEL_8: &str =
@@ -54,6 +55,7 @@ fn refused_words_and_lines(rt: HostRuntime) -> Result<(), Fail> {
     for (place, (words, rest, status, text)) in ROWS.iter().enumerate() {
         let (got, written) = ran(&rt, rt.alloc(), words, rest, (&[], &[]), &Open)?;
         same(&rt, &(got, written.as_str()), &(*status, *text), &place);
+        let_go(written);
     }
     Ok(())
 }
@@ -69,8 +71,9 @@ const FAULTS: &[(&[u64], &[u64], Status)] = &[
 fn faults_are_told(rt: HostRuntime) -> Result<(), Fail> {
     for (place, (takes, puts, status)) in FAULTS.iter().enumerate() {
         let words = &["threads", "2"];
-        let got = ran(&rt, rt.alloc(), words, "tick\nend\n", (takes, puts), &Open)?;
-        same(&rt, &(got.0, got.1.len()), &(*status, 0), &place);
+        let (got, text) = ran(&rt, rt.alloc(), words, "tick\nend\n", (takes, puts), &Open)?;
+        same(&rt, &(got, text.len()), &(*status, 0), &place);
+        let_go(text);
     }
     Ok(())
 }
@@ -90,12 +93,15 @@ fn ticks(alloc: Global) -> Result<String, AllocError> {
 fn one_event_too_many(rt: HostRuntime) -> Result<(), Fail> {
     let rest = ticks(rt.alloc())?;
     let words = &["threads", "1"];
-    let (got, text) = ran(&rt, rt.alloc(), words, &rest, (&[], &[]), &Open)?;
+    let ran = ran(&rt, rt.alloc(), words, &rest, (&[], &[]), &Open);
+    let_go(rest);
+    let (got, text) = ran?;
     same(
         &rt,
         &(got, text.as_str()),
         &(Status::TooLong, "too-long\n"),
         &"too long",
     );
+    let_go(text);
     Ok(())
 }

@@ -8,7 +8,7 @@ use std::process::Abort;
 use std::sync::Wait;
 use std::test::Fail;
 use std::thread::Threads;
-use trace_rows::OPENING;
+use trace_rows::{OPENING, let_go};
 
 /// Packets 65,534, with the marker, and 65,535; the second is asked for twice; a request for a burst; the
 /// first is asked for; and a tick.
@@ -53,19 +53,55 @@ fn written(
     Ok(text)
 }
 
+/// Lines that begin so are the same in both texts.
+fn are_alike(alloc: Global, came: &str, rest: &str, begin: &str) -> Result<bool, Fail> {
+    let got = lines_of(alloc, came, begin)?;
+    let wanted = lines_of(alloc, rest, begin)?;
+    let is_so = got.as_str() == wanted.as_str();
+    let_go(got);
+    let_go(wanted);
+    Ok(is_so)
+}
+
 /// Lines that came are these, each kind in its order.
 fn expect_lines(rt: &impl Abort, alloc: Global, came: &str, rest: &str) -> Result<(), Fail> {
     for begin in ["live", "fb", "tick", "end"] {
-        let wanted = lines_of(alloc, rest, begin)?;
-        let got = lines_of(alloc, came, begin)?;
-        same(rt, &got.as_str(), &wanted.as_str(), &begin);
+        same(rt, &are_alike(alloc, came, rest, begin)?, &true, &begin);
     }
     same(rt, &came.len(), &rest.len(), &"no other line");
     Ok(())
 }
 
-/// What so many workers write of a trace: a trace with the same lines, each list's in their order, and the
-/// book that `run` writes of it.
+/// The book that `run` writes of a trace, whose lines behind the opening are these.
+fn expect_book(
+    rt: &(impl Threads + Wait + Abort + Sync),
+    alloc: Global,
+    came: &str,
+    book: &str,
+    workers: &str,
+) -> Result<(), Fail> {
+    let wanted = written(rt, alloc, &["run"], came)?;
+    same(rt, &book, &wanted.as_str(), &workers);
+    let_go(wanted);
+    Ok(())
+}
+
+/// A text is a trace with the same lines, each list's in their order, and the book that `run` writes of it.
+fn expect_trace_and_book(
+    rt: &(impl Threads + Wait + Abort + Sync),
+    alloc: Global,
+    text: &str,
+    rest: &str,
+    workers: &str,
+) -> Result<(), Fail> {
+    let (trace, _) = text.split_once("rams-book 1\n").ok_or("a book")?;
+    let came = trace.strip_prefix(OPENING).ok_or("the same opening")?;
+    expect_lines(rt, alloc, came, rest)?;
+    let book = text.strip_prefix(trace).ok_or("a book")?;
+    expect_book(rt, alloc, came, book, workers)
+}
+
+/// What so many workers write of a trace is so.
 fn expect_its_book(
     rt: &(impl Threads + Wait + Abort + Sync),
     alloc: Global,
@@ -73,13 +109,9 @@ fn expect_its_book(
     rest: &str,
 ) -> Result<(), Fail> {
     let text = written(rt, alloc, &["threads", workers], rest)?;
-    let (trace, _) = text.split_once("rams-book 1\n").ok_or("a book")?;
-    let came = trace.strip_prefix(OPENING).ok_or("the same opening")?;
-    expect_lines(rt, alloc, came, rest)?;
-    let book = written(rt, alloc, &["run"], came)?;
-    let both = format!(in alloc; "{trace}{book}")?;
-    same(rt, &text.as_str(), &both.as_str(), &workers);
-    Ok(())
+    let expected = expect_trace_and_book(rt, alloc, &text, rest, workers);
+    let_go(text);
+    expected
 }
 
 #[test]
@@ -95,9 +127,11 @@ fn threads_write_the_same_book(rt: HostRuntime) -> Result<(), Fail> {
 /// One list comes in its order.
 #[test]
 fn one_list_is_its_trace(rt: HostRuntime) -> Result<(), Fail> {
-    let text = written(&rt, rt.alloc(), &["threads", "2"], ONE_LIST)?;
     let book = "rams-book 1\n1 7 took 65546\n2 7 took 65547\ndone 2\n";
     let wanted = format!(in rt.alloc(); "{OPENING}{ONE_LIST}{book}")?;
+    let text = written(&rt, rt.alloc(), &["threads", "2"], ONE_LIST)?;
     same(&rt, &text.as_str(), &wanted.as_str(), &"one list");
+    let_go(text);
+    let_go(wanted);
     Ok(())
 }

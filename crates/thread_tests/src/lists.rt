@@ -1,7 +1,7 @@
 //! Lists of one channel on threads.
 ghost use Rattle.std.specs.Prelude.{◌≡◌, ◌^◌, ◌<◌, ◌≤◌, All, IfOk, length};
 
-use crate::fixtures::{new_core, packet, pair, request};
+use crate::fixtures::{let_go, new_core, packet, pair, request};
 use crate::gates::{Meeting, Point};
 use ram_io::{Gate, Open};
 use rams_model::{Event, Octets};
@@ -27,10 +27,26 @@ fn run<G: Gate + Sync>(
     requires short { All (λ l. length l.items ≤ 2 ^ 34) lists.items }
     requires workers { 0 < workers }
 {
-    let Ok(worked) = run_lists(rt, alloc, new_core(alloc)?, lists, workers, gate) else {
+    let core = match new_core(alloc) {
+        Ok(core) => core,
+        Err(fault) => {
+            let_go(lists);
+            return Err(fault);
+        }
+    };
+    let Ok(worked) = run_lists(rt, alloc, core, lists, workers, gate) else {
         return Err(Fail::new("no memory"));
     };
     Ok(worked)
+}
+
+/// Two packets.
+fn two_packets(alloc: Global) -> Result<Vec<Event>, AllocError>
+    ensures { IfOk result (λ list. length list.items ≡ 2) }
+{
+    let first = packet(alloc, 0)?;
+    let second = packet(alloc, 1)?;
+    pair(alloc, first, second)
 }
 
 /// The threads of two packets and of two ticks wait for each other at this point.
@@ -39,9 +55,7 @@ fn expect_meeting(
     alloc: Global,
     point: Point,
 ) -> Result<(), Fail> {
-    let first = packet(alloc, 0)?;
-    let second = packet(alloc, 1)?;
-    let packets = pair(alloc, first, second)?;
+    let packets = two_packets(alloc)?;
     let ticks = pair(alloc, Event::Tick, Event::Tick)?;
     let gate = Meeting::new(point);
     let lists = vec![in alloc; packets, ticks]?;
@@ -49,6 +63,7 @@ fn expect_meeting(
     assert!(rt; gate.was_held(), "both were there at once");
     assert!(rt; worked.book.entries().len() == 4, "each event once");
     assert!(rt; worked.drawn.len() == 4, "with its datagrams");
+    let_go(worked);
     Ok(())
 }
 
@@ -64,14 +79,19 @@ fn a_list_steps_while_another_draws(rt: HostRuntime) -> Result<(), Fail> {
     expect_meeting(&rt, rt.alloc(), Point::Drawing)
 }
 
-/// Packets, the first of them an access point, a RAMS-R, and the tick that sends the whole burst.
-fn burst(alloc: Global) -> Result<Vec<Event>, AllocError> {
-    let mut list = Vec::new(alloc);
+/// Appends packets, the first of them an access point, a RAMS-R, and the tick that sends the whole burst.
+fn add_burst(alloc: Global, list: &mut Vec<Event>) -> Result<(), AllocError> {
     for number in 0..PACKETS {
         list.push(packet(alloc, number)?)?;
     }
     list.push(request(alloc, 5)?)?;
     list.push(Event::Tick)?;
+    Ok(())
+}
+
+fn burst(alloc: Global) -> Result<Vec<Event>, AllocError> {
+    let mut list = Vec::new(alloc);
+    add_burst(alloc, &mut list)?;
     Ok(list)
 }
 
@@ -132,5 +152,7 @@ fn the_threads_of_rendering_change_nothing(rt: HostRuntime) -> Result<(), Fail> 
     let alone = worked(&rt, rt.alloc(), 1)?;
     let beside = worked(&rt, rt.alloc(), 4)?;
     expect_same(&rt, &alone, &beside);
+    let_go(alone);
+    let_go(beside);
     Ok(())
 }
