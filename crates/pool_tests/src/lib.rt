@@ -10,6 +10,9 @@ mod gates;
 // pool_run
 #[cfg(test)]
 mod lanes;
+// link_pool
+#[cfg(test)]
+mod links;
 // pool_loop
 #[cfg(test)]
 mod traces;

@@ -1,4 +1,4 @@
-//! Tests of the lists of one channel on threads, on public calls alone.
+//! Tests of the lock of one channel by hand, and of its lists on threads, on public calls alone.
 //!
 //! `fixtures` has a channel's settings and what comes to it, `gates` the gate at which threads meet.
 #![tactic(auto)]
@@ -10,3 +10,6 @@ mod gates;
 // session_worker, live_writer
 #[cfg(test)]
 mod lists;
+// channel_lock
+#[cfg(test)]
+mod locks;

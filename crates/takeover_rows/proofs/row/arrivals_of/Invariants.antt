@@ -1,7 +1,0 @@
-use Rattle.std.proofs.Common.{All}
-use Rattle.ram_io.specs.{IsFromClient}
-use Rattle.takeover_rows.proofs.row.arrivals_of.Given as goal
-
--- the arrivals so far
-abbrev pub invariant-loop-from : goal.invariant-loop-from
-invariant-loop-from l = All IsFromClient l.arrivals.items
