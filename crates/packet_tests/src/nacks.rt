@@ -1,9 +1,8 @@
 //! Feedback messages and generic NACKs, byte for byte (RFC 4585, 6.1 and 6.2.1).
-use crate::fixtures::{CLIENT, MEDIA, done, holds, is_twice};
+use crate::fixtures::{CLIENT, MEDIA, Row, Wanted, done, expect_rows, is_twice, let_go};
 use std::alloc::Global;
 use std::process::Abort;
 use std::test::Fail;
-use test_fixtures::test_words::{Words, bytes_of};
 use wire_packets::rtcp_feedback::{
     Feedback, NackFault, NackIter, append_nack, feedback, nack_numbers, write_nack,
 };
@@ -13,7 +12,7 @@ use wire_packets::rtcp_frame::Packet;
 type Numbers = Result<&'static [u16], NackFault>;
 
 /// Words of a sequence number and the bits of those behind it, and what they name.
-const WORDS: &[(&str, Words, Numbers)] = &[
+const WORDS: &[Row<Numbers>] = &[
     ("no bytes", &[], Err(NackFault::Empty)),
     ("three bytes", &["000c00"], Err(NackFault::Length)),
     ("no bit", &["000c0000"], Ok(&[12])),
@@ -43,35 +42,27 @@ const WORDS: &[(&str, Words, Numbers)] = &[
 
 /// The numbers are these.
 fn are_numbers(all: NackIter<'_>, want: &[u16]) -> bool {
-    let mut rest = want.iter();
-    for n in all {
-        if rest.next() != Some(&n) {
-            return false;
-        }
-    }
-    rest.next().is_none()
+    all.eq(want.iter().copied())
 }
 
 /// The feedback control information has these numbers, or this fault.
-fn is_read(fci: &[u8], want: Numbers) -> bool {
-    match (nack_numbers(fci), want) {
-        (Ok(all), Ok(want)) => are_numbers(all, want),
-        (Err(fault), Err(want)) => fault == want,
-        _ => false,
+impl Wanted for Numbers {
+    fn is_met(&self, _alloc: Global, fci: &[u8]) -> Result<bool, Fail> {
+        Ok(match (nack_numbers(fci), self) {
+            (Ok(all), Ok(want)) => are_numbers(all, want),
+            (Err(fault), Err(want)) => fault == *want,
+            _ => false,
+        })
     }
 }
 
 /// Each row's words have its numbers, or its fault.
 pub fn expect_numbers(rt: &impl Abort, alloc: Global) -> Result<(), Fail> {
-    for (name, words, want) in WORDS {
-        let fci = bytes_of(alloc, words)?;
-        holds(rt, is_read(&fci, *want), name);
-    }
-    Ok(())
+    expect_rows(rt, alloc, WORDS)
 }
 
 /// NACKs, and their numbers.
-const NACKS: &[(&str, Words, &[u16])] = &[
+const NACKS: &[Row<&[u16]>] = &[
     (
         "the first and the sixteenth behind the first number",
         &[
@@ -108,29 +99,30 @@ const NACKS: &[(&str, Words, &[u16])] = &[
 ];
 
 /// The packet is the NACK of these numbers, alone and behind others.
-fn is_nack(alloc: Global, packet: &[u8], numbers: &[u16]) -> Result<bool, Fail> {
-    if numbers.is_empty() || numbers.len() > 8_000 {
-        return Err(Fail::from("numbers"));
+impl Wanted for &'static [u16] {
+    fn is_met(&self, alloc: Global, packet: &[u8]) -> Result<bool, Fail> {
+        let numbers = *self;
+        if numbers.is_empty() || numbers.len() > 8_000 {
+            return Err(Fail::from("numbers"));
+        }
+        let mut text = done(write_nack(alloc, CLIENT, MEDIA, numbers))?;
+        let is_so = append_nack(&mut text, CLIENT, MEDIA, numbers).is_ok()
+            && is_twice(&text, packet);
+        let_go(text);
+        Ok(is_so)
     }
-    let mut text = done(write_nack(alloc, CLIENT, MEDIA, numbers))?;
-    done(append_nack(&mut text, CLIENT, MEDIA, numbers))?;
-    Ok(is_twice(&text, packet))
 }
 
 #[test]
 fn nacks_are_written(rt: HostRuntime) -> Result<(), Fail> {
-    for (name, words, numbers) in NACKS {
-        let packet = bytes_of(rt.alloc(), words)?;
-        holds(&rt, is_nack(rt.alloc(), &packet, numbers)?, name);
-    }
-    Ok(())
+    expect_rows(&rt, rt.alloc(), NACKS)
 }
 
 /// The sources, the format and the information of a packet.
 type Message<'a> = (u32, u32, u8, &'a [u8]);
 
 /// The packet type and the body of packets of format 6, and what is read of them.
-const MESSAGES: &[(&str, Words, Option<Message<'static>>)] = &[
+const MESSAGES: &[Row<Option<Message<'static>>>] = &[
     (
         "RTPFB",
         &[
@@ -155,25 +147,30 @@ fn parts<'a>(f: &Feedback<'a>) -> Message<'a> {
     (f.sender, f.media, f.fmt, f.fci)
 }
 
-/// What is read of a packet of format 6: its type, then its body.
-fn message(bytes: &[u8]) -> Result<Option<Message<'_>>, Fail> {
-    let (kind, body) = bytes.split_first().ok_or("no type")?;
+/// What is read of a packet of format 6.
+fn message(kind: u8, body: &[u8]) -> Option<Message<'_>> {
     let packet = Packet {
-        kind: *kind,
+        kind,
         count: 6,
         body,
     };
-    Ok(match feedback(&packet) {
+    match feedback(&packet) {
         None => None,
         Some(f) => Some(parts(&f)),
-    })
+    }
+}
+
+/// This is read of a packet of format 6: its type, then its body.
+impl Wanted for Option<Message<'static>> {
+    fn is_met(&self, _alloc: Global, bytes: &[u8]) -> Result<bool, Fail> {
+        Ok(match bytes.split_first() {
+            None => false,
+            Some((kind, body)) => message(*kind, body) == *self,
+        })
+    }
 }
 
 /// Of each row's packet is read what it says.
 pub fn expect_messages(rt: &impl Abort, alloc: Global) -> Result<(), Fail> {
-    for (name, words, want) in MESSAGES {
-        let bytes = bytes_of(alloc, words)?;
-        holds(rt, message(&bytes)? == *want, name);
-    }
-    Ok(())
+    expect_rows(rt, alloc, MESSAGES)
 }

@@ -1,9 +1,9 @@
 //! RAMS messages, byte for byte, and each fault at its edge (RFC 6285, 7).
-use crate::fixtures::{CLIENT, MEDIA, done, fci_of, holds, is_twice, same};
+use crate::fixtures::{
+    CLIENT, MEDIA, Row, Wanted, done, expect_rows, fci_of, holds, is_twice, let_go,
+};
 use std::alloc::Global;
-use std::process::Abort;
 use std::test::Fail;
-use test_fixtures::test_words::{Words, bytes_of};
 use wire_packets::rams_tlv::{
     Info, Request, Stop, TlvFault, append_info, append_request, append_stop, names, read_info,
     read_request, read_stop, write_info, write_request, write_stop,
@@ -21,7 +21,7 @@ const ANY: Request<'static> = Request {
 };
 
 /// Feedback control information of RAMS-R, reserved bits set, and what is read of it.
-const REQUESTS: &[Read] = &[
+const REQUESTS: &[Row<Read>] = &[
     ("none", &["01ffffff"], Ok(ANY)),
     (
         "type 3, then type 2, then type 3 again",
@@ -130,19 +130,17 @@ const REQUESTS: &[Read] = &[
 ];
 
 /// What is read of information.
-type Read = (&'static str, Words, Result<Request<'static>, TlvFault>);
+type Read = Result<Request<'static>, TlvFault>;
 
-fn expect_read(rt: &impl Abort, alloc: Global, rows: &[Read]) -> Result<(), Fail> {
-    for (name, words, want) in rows {
-        let fci = bytes_of(alloc, words)?;
-        same(rt, &read_request(&fci), want, name);
+impl Wanted for Read {
+    fn is_met(&self, _alloc: Global, fci: &[u8]) -> Result<bool, Fail> {
+        Ok(read_request(fci) == *self)
     }
-    Ok(())
 }
 
 #[test]
 fn requests_are_read(rt: HostRuntime) -> Result<(), Fail> {
-    expect_read(&rt, rt.alloc(), REQUESTS)
+    expect_rows(&rt, rt.alloc(), REQUESTS)
 }
 
 /// Requests, and whether they are of the source.
@@ -186,7 +184,7 @@ fn requests_name_sources(rt: HostRuntime) {
 }
 
 /// Requests of `CLIENT`, and what they wish for.
-const WRITTEN: &[(&str, Words, Request<'static>)] = &[
+const WRITTEN: &[Row<Request<'static>>] = &[
     (
         "no wish",
         &[
@@ -227,24 +225,24 @@ const WRITTEN: &[(&str, Words, Request<'static>)] = &[
 ];
 
 /// The packet is this request, alone and behind others, and is read as it.
-fn is_request(alloc: Global, packet: &[u8], request: &Request<'_>) -> Result<bool, Fail> {
-    if let Some(list) = request.ssrcs {
-        if list.len() > 256 || list.len() % 4 != 0 {
-            return Err(Fail::from("a list that isn't written"));
+impl Wanted for Request<'static> {
+    fn is_met(&self, alloc: Global, packet: &[u8]) -> Result<bool, Fail> {
+        if let Some(list) = self.ssrcs {
+            if list.len() > 256 || list.len() % 4 != 0 {
+                return Err(Fail::from("a list that isn't written"));
+            }
         }
+        let mut text = done(write_request(alloc, CLIENT, MEDIA, self))?;
+        let is_so = append_request(&mut text, CLIENT, MEDIA, self).is_ok()
+            && is_twice(&text, packet);
+        let_go(text);
+        Ok(is_so && read_request(fci_of(packet)) == Ok(*self))
     }
-    let mut text = done(write_request(alloc, CLIENT, MEDIA, request))?;
-    done(append_request(&mut text, CLIENT, MEDIA, request))?;
-    Ok(is_twice(&text, packet) && read_request(fci_of(packet)) == Ok(*request))
 }
 
 #[test]
 fn requests_are_written(rt: HostRuntime) -> Result<(), Fail> {
-    for (name, words, value) in WRITTEN {
-        let packet = bytes_of(rt.alloc(), words)?;
-        holds(&rt, is_request(rt.alloc(), &packet, value)?, name);
-    }
-    Ok(())
+    expect_rows(&rt, rt.alloc(), WRITTEN)
 }
 
 const NO_INFO: Info = Info {
@@ -257,7 +255,7 @@ const NO_INFO: Info = Info {
 };
 
 /// Packets of information of `SENDER`, and what they say.
-const INFOS: &[(&str, Words, Info)] = &[
+const INFOS: &[Row<Info>] = &[
     (
         "a code alone",
         &[
@@ -300,10 +298,13 @@ const INFOS: &[(&str, Words, Info)] = &[
 ];
 
 /// The packet is this information, alone and behind others, and is read as it.
-fn is_info(alloc: Global, packet: &[u8], info: &Info) -> Result<bool, Fail> {
-    let mut text = done(write_info(alloc, SENDER, MEDIA, info))?;
-    done(append_info(&mut text, SENDER, MEDIA, info))?;
-    Ok(is_twice(&text, packet) && read_info(fci_of(packet)) == Ok(*info))
+impl Wanted for Info {
+    fn is_met(&self, alloc: Global, packet: &[u8]) -> Result<bool, Fail> {
+        let mut text = done(write_info(alloc, SENDER, MEDIA, self))?;
+        let is_so = append_info(&mut text, SENDER, MEDIA, self).is_ok() && is_twice(&text, packet);
+        let_go(text);
+        Ok(is_so && read_info(fci_of(packet)) == Ok(*self))
+    }
 }
 
 /// Information whose join time has 8 bytes.
@@ -311,21 +312,16 @@ const LONG_JOIN: [u8; 16] = [2, 0, 0, 200, 0x21, 0, 0, 8, 0, 0, 0, 0, 0, 0, 0, 1
 
 #[test]
 fn information_goes_there_and_back(rt: HostRuntime) -> Result<(), Fail> {
-    for (name, words, value) in INFOS {
-        let packet = bytes_of(rt.alloc(), words)?;
-        holds(&rt, is_info(rt.alloc(), &packet, value)?, name);
-    }
-    same(
+    holds(
         &rt,
-        &read_info(&LONG_JOIN),
-        &Err(TlvFault::Length(0x21)),
+        read_info(&LONG_JOIN) == Err(TlvFault::Length(0x21)),
         "a join time of 8 bytes",
     );
-    Ok(())
+    expect_rows(&rt, rt.alloc(), INFOS)
 }
 
 /// Terminations of `CLIENT`, and what they say.
-const STOPS: &[(&str, Words, Stop)] = &[
+const STOPS: &[Row<Stop>] = &[
     (
         "no packet",
         &[
@@ -355,23 +351,21 @@ const STOPS: &[(&str, Words, Stop)] = &[
 ];
 
 /// The packet is this termination, alone and behind others, and is read as it.
-fn is_stop(alloc: Global, packet: &[u8], stop: &Stop) -> Result<bool, Fail> {
-    let mut text = done(write_stop(alloc, CLIENT, MEDIA, stop))?;
-    done(append_stop(&mut text, CLIENT, MEDIA, stop))?;
-    Ok(is_twice(&text, packet) && read_stop(fci_of(packet)) == Ok(*stop))
+impl Wanted for Stop {
+    fn is_met(&self, alloc: Global, packet: &[u8]) -> Result<bool, Fail> {
+        let mut text = done(write_stop(alloc, CLIENT, MEDIA, self))?;
+        let is_so = append_stop(&mut text, CLIENT, MEDIA, self).is_ok() && is_twice(&text, packet);
+        let_go(text);
+        Ok(is_so && read_stop(fci_of(packet)) == Ok(*self))
+    }
 }
 
 #[test]
 fn terminations_go_there_and_back(rt: HostRuntime) -> Result<(), Fail> {
-    for (name, words, value) in STOPS {
-        let packet = bytes_of(rt.alloc(), words)?;
-        holds(&rt, is_stop(rt.alloc(), &packet, value)?, name);
-    }
-    same(
+    holds(
         &rt,
-        &read_stop(&[4, 0, 0, 0]),
-        &Err(TlvFault::Form),
+        read_stop(&[4, 0, 0, 0]) == Err(TlvFault::Form),
         "format 4",
     );
-    Ok(())
+    expect_rows(&rt, rt.alloc(), STOPS)
 }

@@ -1,5 +1,5 @@
 //! Worked retransmissions, and what is restored of them (RFC 4588, 4).
-use crate::fixtures::{done, holds, is_twice, same};
+use crate::fixtures::{Row, Wanted, done, expect_rows, is_twice, let_go};
 use std::alloc::Global;
 use std::process::Abort;
 use std::test::Fail;
@@ -9,7 +9,7 @@ use wire_packets::rtx_payload::{
 };
 
 /// Packets, and their retransmissions under payload type 99 and sequence number 500.
-const ROWS: &[(&str, Words, Words)] = &[
+const ROWS: &[Row<Words>] = &[
     (
         "every part",
         &[
@@ -58,8 +58,17 @@ fn packet_of<'a>(bytes: &'a [u8]) -> Result<Rtp<'a>, Fail> {
 fn goes_again(alloc: Global, packet: &[u8], again: &[u8]) -> Result<bool, Fail> {
     let original = packet_of(packet)?;
     let mut text = done(write_rtx(alloc, &original, 99, 500))?;
-    done(append_rtx(&mut text, &original, 99, 500))?;
-    Ok(is_twice(&text, again))
+    let is_so = append_rtx(&mut text, &original, 99, 500).is_ok() && is_twice(&text, again);
+    let_go(text);
+    Ok(is_so)
+}
+
+/// The bytes are the packet without its padding.
+fn is_bare(alloc: Global, packet: &Rtp<'_>, bytes: &[u8]) -> Result<bool, Fail> {
+    let bare = done(packet.strip(alloc))?;
+    let is_so = bytes == bare.as_slice();
+    let_go(bare);
+    Ok(is_so)
 }
 
 /// The bytes bring the packet's number, and the packet without its padding.
@@ -67,35 +76,34 @@ fn comes_back(alloc: Global, packet: &[u8], again: &[u8]) -> Result<bool, Fail> 
     let original = packet_of(packet)?;
     let again = packet_of(again)?;
     let (number, restored) = done(restore(alloc, &again, 33))?;
-    Ok(number == original.sequence() && restored == done(original.strip(alloc))?)
+    let is_so = is_bare(alloc, &original, &restored);
+    let_go(restored);
+    Ok(is_so? && number == original.sequence())
 }
 
 /// The packet is sent again as these bytes, and they bring it back.
-fn expect_back(
-    rt: &impl Abort,
-    alloc: Global,
-    name: &str,
-    packet: &[u8],
-    again: &[u8],
-) -> Result<(), Fail> {
-    holds(rt, goes_again(alloc, packet, again)?, name);
-    holds(rt, comes_back(alloc, packet, again)?, name);
-    Ok(())
+fn goes_and_comes(alloc: Global, packet: &[u8], again: &[u8]) -> Result<bool, Fail> {
+    Ok(goes_again(alloc, packet, again)? && comes_back(alloc, packet, again)?)
+}
+
+/// The same of the bytes of these words.
+impl Wanted for Words {
+    fn is_met(&self, alloc: Global, packet: &[u8]) -> Result<bool, Fail> {
+        let again = bytes_of(alloc, self)?;
+        let is_so = goes_and_comes(alloc, packet, &again);
+        let_go(again);
+        is_so
+    }
 }
 
 #[test]
 fn packets_go_there_and_back(rt: HostRuntime) -> Result<(), Fail> {
     restoring_gives_the_original();
-    for (name, words, again) in ROWS {
-        let packet = bytes_of(rt.alloc(), words)?;
-        let again = bytes_of(rt.alloc(), again)?;
-        expect_back(&rt, rt.alloc(), name, &packet, &again)?;
-    }
-    Ok(())
+    expect_rows(&rt, rt.alloc(), ROWS)
 }
 
 /// Retransmissions, and why nothing is restored.
-const PAYLOADS: &[(&str, Words, Option<RtxFault>)] = &[
+const PAYLOADS: &[Row<Option<RtxFault>>] = &[
     (
         "one byte",
         &["806301f4", "00000000", "00000001", "07"],
@@ -123,17 +131,15 @@ const PAYLOADS: &[(&str, Words, Option<RtxFault>)] = &[
     ),
 ];
 
-/// Why nothing is restored of a retransmission.
-fn fault_of(alloc: Global, bytes: &[u8]) -> Result<Option<RtxFault>, Fail> {
-    let packet = packet_of(bytes)?;
-    Ok(restore(alloc, &packet, 33).err())
+/// Nothing is restored of a retransmission, for this reason.
+impl Wanted for Option<RtxFault> {
+    fn is_met(&self, alloc: Global, bytes: &[u8]) -> Result<bool, Fail> {
+        let packet = packet_of(bytes)?;
+        Ok(restore(alloc, &packet, 33).err() == *self)
+    }
 }
 
 /// Each row's retransmission has its fault, or none.
 pub fn expect_faults(rt: &impl Abort, alloc: Global) -> Result<(), Fail> {
-    for (name, words, want) in PAYLOADS {
-        let bytes = bytes_of(alloc, words)?;
-        same(rt, &fault_of(alloc, &bytes)?, want, name);
-    }
-    Ok(())
+    expect_rows(rt, alloc, PAYLOADS)
 }

@@ -1,10 +1,10 @@
 //! Datagrams of RTCP packets, byte for byte, and each fault at its edge (RFC 3550, 6).
-use crate::fixtures::{CLIENT, done, holds, same};
+use crate::fixtures::{CLIENT, Row, Wanted, done, expect_rows, let_go};
 use rams_model::FrameFault;
 use std::alloc::Global;
 use std::process::Abort;
 use std::test::Fail;
-use test_fixtures::test_words::{Words, bytes_of};
+use test_fixtures::test_words::Words;
 use wire_packets::rtcp_frame::{
     Packet, Packets, append_bye, append_rr, append_sdes, bye_names, packets, write_bye, write_rr,
     write_sdes,
@@ -26,7 +26,7 @@ const COMPOUND: Words = &[
 type Framed = Result<&'static [(u8, u8, usize)], FrameFault>;
 
 /// Datagrams, and their packets.
-const DATAGRAMS: &[(&str, Words, Framed)] = &[
+const DATAGRAMS: &[Row<Framed>] = &[
     ("nothing", &[], Err(FrameFault::Empty)),
     ("three bytes", &["80c900"], Err(FrameFault::Short)),
     (
@@ -165,70 +165,84 @@ fn shape(packet: &Packet<'_>) -> (u8, u8, usize) {
 
 /// The packets are of these shapes.
 fn are_framed(all: Packets<'_>, want: &[(u8, u8, usize)]) -> bool {
-    let mut rest = want.iter();
-    for packet in all {
-        if rest.next() != Some(&shape(&packet)) {
-            return false;
-        }
-    }
-    rest.next().is_none()
+    all.map(|packet| shape(&packet)).eq(want.iter().copied())
 }
 
 /// The datagram has these packets, or this fault.
-fn is_framed(datagram: &[u8], want: Framed) -> bool {
-    match (packets(datagram), want) {
-        (Ok(all), Ok(want)) => are_framed(all, want),
-        (Err(fault), Err(want)) => fault == want,
-        _ => false,
+impl Wanted for Framed {
+    fn is_met(&self, _alloc: Global, datagram: &[u8]) -> Result<bool, Fail> {
+        Ok(match (packets(datagram), self) {
+            (Ok(all), Ok(want)) => are_framed(all, want),
+            (Err(fault), Err(want)) => fault == *want,
+            _ => false,
+        })
     }
 }
 
 /// Each row's datagram has its packets, or its fault.
 pub fn expect_framed(rt: &impl Abort, alloc: Global) -> Result<(), Fail> {
-    for (name, words, want) in DATAGRAMS {
-        let datagram = bytes_of(alloc, words)?;
-        holds(rt, is_framed(&datagram, *want), name);
-    }
-    Ok(())
+    expect_rows(rt, alloc, DATAGRAMS)
 }
 
-/// A receiver's packets, each written alone or behind the others.
-fn written(alloc: Global) -> Result<Vec<u8>, Fail> {
-    let mut text = done(write_rr(alloc, CLIENT))?;
-    done(append_sdes(&mut text, CLIENT))?;
-    done(append_bye(&mut text, CLIENT))?;
-    Ok(text)
+/// A receiver's packets, the first written alone, the others behind it.
+struct Behind;
+
+impl Wanted for Behind {
+    fn is_met(&self, alloc: Global, bytes: &[u8]) -> Result<bool, Fail> {
+        let mut text = done(write_rr(alloc, CLIENT))?;
+        let is_so = append_sdes(&mut text, CLIENT).is_ok()
+            && append_bye(&mut text, CLIENT).is_ok()
+            && text.as_slice() == bytes;
+        let_go(text);
+        Ok(is_so)
+    }
+}
+
+/// Appends a packet that was written alone.
+fn add<E: Drop>(text: &mut Vec<u8>, packet: Result<Vec<u8>, E>) -> bool {
+    let Ok(packet) = packet else {
+        return false;
+    };
+    let is_added = text.extend_from_slice(&packet).is_ok();
+    let_go(packet);
+    is_added
+}
+
+/// Appends a receiver's packets, the first itself, the others as they are written alone.
+fn add_packets(alloc: Global, text: &mut Vec<u8>) -> bool {
+    append_rr(text, CLIENT).is_ok()
+        && add(text, write_sdes(alloc, CLIENT))
+        && add(text, write_bye(alloc, CLIENT))
 }
 
 /// The same, the other way round.
-fn appended(alloc: Global) -> Result<Vec<u8>, Fail> {
-    let mut text = Vec::new(alloc);
-    done(append_rr(&mut text, CLIENT))?;
-    text.extend_from_slice(&done(write_sdes(alloc, CLIENT))?)?;
-    text.extend_from_slice(&done(write_bye(alloc, CLIENT))?)?;
-    Ok(text)
+struct Alone;
+
+impl Wanted for Alone {
+    fn is_met(&self, alloc: Global, bytes: &[u8]) -> Result<bool, Fail> {
+        let mut text = Vec::new(alloc);
+        let is_so = add_packets(alloc, &mut text) && text.as_slice() == bytes;
+        let_go(text);
+        Ok(is_so)
+    }
 }
 
 #[test]
 fn receivers_packets_are_written(rt: HostRuntime) -> Result<(), Fail> {
-    let compound = bytes_of(rt.alloc(), COMPOUND)?;
-    same(
+    expect_rows(
         &rt,
-        &written(rt.alloc())?,
-        &compound,
-        "write, append, append",
-    );
-    same(
+        rt.alloc(),
+        &[("write, append, append", COMPOUND, Behind)],
+    )?;
+    expect_rows(
         &rt,
-        &appended(rt.alloc())?,
-        &compound,
-        "append, write, write",
-    );
-    Ok(())
+        rt.alloc(),
+        &[("append, write, write", COMPOUND, Alone)],
+    )
 }
 
 /// Packets whose second and third word are 0xc001 and 0xc002, and whether they are BYEs of each.
-const BYES: &[(&str, Words, (bool, bool))] = &[
+const BYES: &[Row<(bool, bool)>] = &[
     (
         "a BYE of one, and a reason",
         &[
@@ -267,18 +281,23 @@ const BYES: &[(&str, Words, (bool, bool))] = &[
     ),
 ];
 
-/// Whether the first packet says goodbye for 0xc001, and whether for 0xc002.
-fn named(datagram: &[u8]) -> Result<(bool, bool), Fail> {
-    let mut all = done(packets(datagram))?;
-    let packet = all.next().ok_or("a packet")?;
-    Ok((bye_names(&packet, 0xc001), bye_names(&packet, 0xc002)))
+/// Whether the packet says goodbye for 0xc001, and whether for 0xc002.
+fn named(packet: &Packet<'_>) -> (bool, bool) {
+    (bye_names(packet, 0xc001), bye_names(packet, 0xc002))
+}
+
+/// The first packet says goodbye so.
+impl Wanted for (bool, bool) {
+    fn is_met(&self, _alloc: Global, datagram: &[u8]) -> Result<bool, Fail> {
+        let mut all = done(packets(datagram))?;
+        Ok(match all.next() {
+            None => false,
+            Some(packet) => named(&packet) == *self,
+        })
+    }
 }
 
 /// Each row's packet says goodbye as it says.
 pub fn expect_byes(rt: &impl Abort, alloc: Global) -> Result<(), Fail> {
-    for (name, words, want) in BYES {
-        let datagram = bytes_of(alloc, words)?;
-        holds(rt, named(&datagram)? == *want, name);
-    }
-    Ok(())
+    expect_rows(rt, alloc, BYES)
 }

@@ -1,5 +1,5 @@
 //! A packet with every part, and each fault at its edge (RFC 3550, 5.1).
-use crate::fixtures::{done, holds, is_twice, same};
+use crate::fixtures::{Row, Wanted, done, expect_rows, holds, is_twice, let_go};
 use std::alloc::Global;
 use std::process::Abort;
 use std::test::Fail;
@@ -50,37 +50,67 @@ const EXTENSION: &[u8] = &[0xbe, 0xde, 0x00, 0x01, 0x10, 0xff, 0x00, 0x00];
 
 const PAYLOAD: &[u8] = &[0xaa, 0xbb];
 
+/// What is behind the header is that of `PADDED`.
+fn has_rest(packet: &Rtp<'_>) -> bool {
+    packet.csrc() == SOURCES
+        && packet.extension() == EXTENSION
+        && packet.payload() == PAYLOAD
+        && packet.stripped_len() == 30
+}
+
+/// What the calls of a packet with every part say.
+struct Parts;
+
+impl Wanted for Parts {
+    fn is_met(&self, _alloc: Global, bytes: &[u8]) -> Result<bool, Fail> {
+        let packet = done(Rtp::read(bytes))?;
+        Ok(header(&packet) == (true, 33, 10, 900, 287_454_020) && has_rest(&packet))
+    }
+}
+
 /// The calls of a packet with every part say what its bytes are.
 pub fn expect_parts(rt: &impl Abort, alloc: Global) -> Result<(), Fail> {
-    let bytes = bytes_of(alloc, PADDED)?;
-    let packet = done(Rtp::read(&bytes))?;
-    holds(
-        rt,
-        header(&packet) == (true, 33, 10, 900, 287_454_020),
-        "header",
-    );
-    holds(rt, packet.csrc() == SOURCES, "sources");
-    holds(rt, packet.extension() == EXTENSION, "extension");
-    holds(rt, packet.payload() == PAYLOAD, "payload");
-    holds(rt, packet.stripped_len() == 30, "length");
+    expect_rows(rt, alloc, &[("every part", PADDED, Parts)])
+}
+
+/// The packet without its padding is these bytes, twice.
+fn is_stripped(alloc: Global, packet: &Rtp<'_>, want: &[u8]) -> Result<bool, Fail> {
+    let mut text = done(packet.strip(alloc))?;
+    let is_so = packet.append_stripped(&mut text).is_ok() && is_twice(&text, want);
+    let_go(text);
+    Ok(is_so)
+}
+
+/// The packet's fields are written as these bytes.
+fn are_fields(alloc: Global, packet: &Rtp<'_>, want: &[u8]) -> Result<bool, Fail> {
+    let text = done(write_rtp(alloc, &packet.fields()))?;
+    let is_so = text.as_slice() == want;
+    let_go(text);
+    Ok(is_so)
+}
+
+/// The packet without its padding is these bytes.
+fn expect_stripped(rt: &impl Abort, alloc: Global, padded: &[u8], want: &[u8]) -> Result<(), Fail> {
+    let packet = done(Rtp::read(padded))?;
+    holds(rt, is_stripped(alloc, &packet, want)?, "strip");
+    holds(rt, are_fields(alloc, &packet, want)?, "fields");
     Ok(())
 }
 
-/// The packet without its padding: twice, and what its fields are written as.
-fn stripped(alloc: Global, padded: &[u8]) -> Result<(Vec<u8>, Vec<u8>), Fail> {
-    let packet = done(Rtp::read(padded))?;
-    let mut text = done(packet.strip(alloc))?;
-    done(packet.append_stripped(&mut text))?;
-    Ok((text, done(write_rtp(alloc, &packet.fields()))?))
+/// `PADDED` without its padding is these bytes.
+fn expect_without_padding(rt: &impl Abort, alloc: Global, want: &[u8]) -> Result<(), Fail> {
+    let padded = bytes_of(alloc, PADDED)?;
+    let expected = expect_stripped(rt, alloc, &padded, want);
+    let_go(padded);
+    expected
 }
 
 #[test]
 fn padding_is_left_out(rt: HostRuntime) -> Result<(), Fail> {
     let want = bytes_of(rt.alloc(), STRIPPED)?;
-    let (text, fields) = stripped(rt.alloc(), &bytes_of(rt.alloc(), PADDED)?)?;
-    holds(&rt, is_twice(&text, &want), "strip");
-    same(&rt, &fields, &want, "fields");
-    Ok(())
+    let expected = expect_without_padding(&rt, rt.alloc(), &want);
+    let_go(want);
+    expected
 }
 
 const PLAIN: RtpFields<'static> = RtpFields {
@@ -107,25 +137,38 @@ const SPELLED: Words = &[
     "07", // payload
 ];
 
-/// Two packets behind a front, of which the second has the first's payload.
-fn written_behind(alloc: Global) -> Result<Vec<u8>, Fail> {
-    let mut text = b"front".to_vec(alloc)?;
-    done(append_rtp(&mut text, &PLAIN))?;
-    done(append_rtp_behind(&mut text, &BARE, PLAIN.payload))?;
-    Ok(text)
+/// Appends two packets, of which the second has the first's payload.
+fn add_two(text: &mut Vec<u8>) -> bool {
+    append_rtp(text, &PLAIN).is_ok() && append_rtp_behind(text, &BARE, PLAIN.payload).is_ok()
+}
+
+/// Behind the front these bytes stand twice.
+fn is_behind(text: &[u8], want: &[u8]) -> bool {
+    match text.strip_prefix(b"front") {
+        None => false,
+        Some(written) => is_twice(written, want),
+    }
+}
+
+/// The two packets behind a front.
+struct Behind;
+
+impl Wanted for Behind {
+    fn is_met(&self, alloc: Global, bytes: &[u8]) -> Result<bool, Fail> {
+        let mut text = b"front".to_vec(alloc)?;
+        let is_so = add_two(&mut text) && is_behind(&text, bytes);
+        let_go(text);
+        Ok(is_so)
+    }
 }
 
 #[test]
 fn packets_are_written_behind_what_is_there(rt: HostRuntime) -> Result<(), Fail> {
-    let text = written_behind(rt.alloc())?;
-    let written = text.strip_prefix(b"front").ok_or("the front")?;
-    let want = bytes_of(rt.alloc(), SPELLED)?;
-    holds(&rt, is_twice(written, &want), "behind");
-    Ok(())
+    expect_rows(&rt, rt.alloc(), &[("behind", SPELLED, Behind)])
 }
 
 /// Packets whose header is of zeros but for its first byte, and the fault.
-const PACKETS: &[(&str, Words, Option<RtpFault>)] = &[
+const PACKETS: &[Row<Option<RtpFault>>] = &[
     ("no bytes", &[], Some(RtpFault::Short)),
     (
         "eleven bytes",
@@ -220,11 +263,14 @@ const PACKETS: &[(&str, Words, Option<RtpFault>)] = &[
     ),
 ];
 
+/// Bytes are no packet, for this reason.
+impl Wanted for Option<RtpFault> {
+    fn is_met(&self, _alloc: Global, bytes: &[u8]) -> Result<bool, Fail> {
+        Ok(Rtp::read(bytes).err() == *self)
+    }
+}
+
 /// Why bytes are no packet.
 pub fn expect_faults(rt: &impl Abort, alloc: Global) -> Result<(), Fail> {
-    for (name, words, want) in PACKETS {
-        let bytes = bytes_of(alloc, words)?;
-        same(rt, &Rtp::read(&bytes).err(), want, name);
-    }
-    Ok(())
+    expect_rows(rt, alloc, PACKETS)
 }
