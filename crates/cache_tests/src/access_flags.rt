@@ -1,5 +1,5 @@
 //! Payloads of TS packets, written by hand (ISO/IEC 13818-1, 2.4.3).
-use crate::fixtures::same;
+use crate::fixtures::{let_go, same};
 use channel_cache::ts_access::has_access;
 use std::alloc::{AllocError, Global};
 use std::process::Abort;
@@ -57,7 +57,9 @@ fn payload(alloc: Global, pieces: &[(&[u8], usize)]) -> Result<Vec<u8>, AllocErr
 fn expect(rt: &impl Abort, alloc: Global, rows: &[Row]) -> Result<(), Fail> {
     for (place, (pieces, want)) in rows.iter().enumerate() {
         let bytes = payload(alloc, pieces)?;
-        same(rt, &has_access(&bytes), want, &place);
+        let has = has_access(&bytes);
+        let_go(bytes);
+        same(rt, &has, want, &place);
     }
     Ok(())
 }

@@ -1,5 +1,5 @@
 //! Choices among packets that are worked out by hand.
-use crate::fixtures::same;
+use crate::fixtures::{let_go, same};
 use channel_cache::access_index::{Choice, Index};
 use std::alloc::Global;
 use std::process::Abort;
@@ -122,6 +122,7 @@ fn expect_starts(rt: &impl Abort, alloc: Global, rows: &[Start]) -> Result<(), F
         assert!(rt; declared <= 1000000000);
         let index = index_of(rt, alloc, packets)?;
         let choice = index.choose(room, declared, min_ms, max_ms);
+        let_go(index);
         same(rt, &choice, &choice_of(*want), &place);
     }
     Ok(())
@@ -137,6 +138,7 @@ fn expect_left(rt: &impl Abort, alloc: Global, rows: &[Left]) -> Result<(), Fail
         let mut index = index_of(rt, alloc, MARKS)?;
         index.drop_below(*lo);
         let choice = index.choose(10000, 0, *min_ms, None);
+        let_go(index);
         same(rt, &choice, &choice_of(*want), &place);
     }
     Ok(())

@@ -3,6 +3,9 @@ use std::alloc::{AllocError, Global};
 use std::fmt::Display;
 use std::process::Abort;
 
+/// The value is dropped, by a call of its own: so a caller's proof doesn't go through its fields.
+pub fn let_go<T: Drop>(_value: T) {}
+
 /// The value is the one that is wanted of this.
 pub fn same<T: PartialEq, C: Display>(rt: &impl Abort, got: &T, want: &T, of: &C) {
     assert!(rt; *got == *want, "{of}");
@@ -21,10 +24,15 @@ pub fn packet(
     marker: bool,
     payload: &[u8],
 ) -> Result<Vec<u8>, AllocError> {
-    let mut bytes = Vec::from_slice(alloc, &[0x80, if marker { 0xa1 } else { 0x21 }])?;
-    bytes.extend_from_slice(&sequence.to_be_bytes())?;
-    bytes.extend_from_slice(&timestamp.to_be_bytes())?;
-    bytes.extend_from_slice(&[0x11, 0x22, 0x33, 0x44])?;
+    let kind = if marker { 0xa1 } else { 0x21 };
+    let s = sequence.to_be_bytes();
+    let t = timestamp.to_be_bytes();
+    let mut bytes = Vec::from_slice(
+        alloc,
+        &[
+            0x80, kind, s[0], s[1], t[0], t[1], t[2], t[3], 0x11, 0x22, 0x33, 0x44,
+        ],
+    )?;
     bytes.extend_from_slice(payload)?;
     Ok(bytes)
 }

@@ -2,7 +2,7 @@
 ghost use Rattle.std.specs.Prelude.{ℕ, ◌+◌, ◌≤◌, IfOk, OnOk, length};
 ghost use Rattle.channel_cache.specs.{StandsForFewer};
 
-use crate::fixtures::{holds, packet, same};
+use crate::fixtures::{holds, let_go, packet, same};
 use channel_cache::LiveNote::{
     Bad, ForeignSsrc, ForeignType, Jump, Late, Restart, TooBig, Took, Twice,
 };
@@ -155,6 +155,23 @@ fn expect_note(
     Ok(())
 }
 
+// The same, of bytes that are dropped then.
+fn expect_packet(
+    rt: &impl Abort,
+    alloc: Global,
+    cache: &mut Cache,
+    bytes: Vec<u8>,
+    want: LiveNote,
+    of: u16,
+) -> Result<(), Fail>
+    requires { StandsForFewer cache.old 1000 }
+    ensures { (most : ℕ) → StandsForFewer cache.old most → OnOk result (StandsForFewer cache.new (most + 1)) }
+{
+    let noted = expect_note(rt, alloc, cache, &bytes, want, of);
+    let_go(bytes);
+    noted
+}
+
 // Takes packets with these sequence numbers, and compares the note of each and what is held then.
 fn expect_steps(
     rt: &impl Abort,
@@ -166,7 +183,7 @@ fn expect_steps(
 {
     for (sequence, note, lo, hi) in steps {
         let bytes = packet(alloc, *sequence, 0, false, &[0; 4])?;
-        expect_note(rt, alloc, cache, &bytes, *note, *sequence)?;
+        expect_packet(rt, alloc, cache, bytes, *note, *sequence)?;
         same(rt, &(cache.lo(), cache.hi()), &(*lo, *hi), sequence);
     }
     Ok(())
@@ -185,7 +202,9 @@ fn expect_rows(rt: &impl Abort, alloc: Global, rows: &[Row]) -> Result<(), Fail>
     for (window, ring, steps) in rows {
         assert!(rt; steps.len() < 1000);
         let mut cache = cache_of(rt, alloc, settings(*window, *ring))?;
-        expect_steps(rt, alloc, &mut cache, steps)?;
+        let expected = expect_steps(rt, alloc, &mut cache, steps);
+        let_go(cache);
+        expected?;
     }
     Ok(())
 }
@@ -204,7 +223,9 @@ fn changed_packet(
     change: (usize, u8),
 ) -> Result<Vec<u8>, Fail> {
     let zeros = vec![in alloc; 0u8; len]?;
-    let mut bytes = packet(alloc, sequence, 0, false, &zeros)?;
+    let bytes = packet(alloc, sequence, 0, false, &zeros);
+    let_go(zeros);
+    let mut bytes = bytes?;
     let (place, byte) = change;
     assert!(rt; place < bytes.len());
     bytes[place] = byte;
@@ -222,24 +243,28 @@ fn expect_noted(
 {
     for (sequence, len, change, want) in rows {
         let bytes = changed_packet(rt, alloc, *sequence, *len, *change)?;
-        expect_note(rt, alloc, cache, &bytes, *want, *sequence)?;
+        expect_packet(rt, alloc, cache, bytes, *want, *sequence)?;
     }
+    Ok(())
+}
+
+// Takes packets of no byte and of one, then those of the table.
+fn expect_notes(rt: &impl Abort, alloc: Global, cache: &mut Cache) -> Result<(), Fail>
+    requires { StandsForFewer cache.old 1 }
+{
+    expect_note(rt, alloc, cache, &[], Bad(Short), 0)?;
+    expect_note(rt, alloc, cache, &[0x40], Bad(Short), 1)?;
+    expect_noted(rt, alloc, cache, NOTED)?;
+    same(rt, &(cache.lo(), cache.hi()), &(65546, 65549), &"lo and hi");
     Ok(())
 }
 
 #[test]
 fn each_live_packet_has_its_note(rt: HostRuntime) -> Result<(), Fail> {
     let mut cache = cache_of(&rt, rt.alloc(), settings(2, 64))?;
-    expect_note(&rt, rt.alloc(), &mut cache, &[], Bad(Short), 0)?;
-    expect_note(&rt, rt.alloc(), &mut cache, &[0x40], Bad(Short), 1)?;
-    expect_noted(&rt, rt.alloc(), &mut cache, NOTED)?;
-    same(
-        &rt,
-        &(cache.lo(), cache.hi()),
-        &(65546, 65549),
-        &"lo and hi",
-    );
-    Ok(())
+    let expected = expect_notes(&rt, rt.alloc(), &mut cache);
+    let_go(cache);
+    expected
 }
 
 // What is held under a number: its number, its timestamp, its bytes on the wire, whether it is an access
@@ -255,17 +280,26 @@ fn is_none(cache: &Cache, n: u64) -> bool {
     cache.held(n).is_none()
 }
 
-#[test]
-fn padding_is_not_held(rt: HostRuntime) -> Result<(), Fail> {
-    let mut cache = cache_of(&rt, rt.alloc(), CHANNEL)?;
-    expect_note(&rt, rt.alloc(), &mut cache, &PADDED, Took(65546), 10)?;
-    expect_held(&rt, &cache, 65546, (65546, 0, 60, true), &BARE);
+// Takes the padded packet, and holds it bare.
+fn expect_bare(rt: &impl Abort, alloc: Global, cache: &mut Cache) -> Result<(), Fail>
+    requires { StandsForFewer cache.old 1 }
+{
+    expect_note(rt, alloc, cache, &PADDED, Took(65546), 10)?;
+    expect_held(rt, cache, 65546, (65546, 0, 60, true), &BARE);
     holds(
-        &rt,
-        is_none(&cache, 65545) && is_none(&cache, 65547),
+        rt,
+        is_none(cache, 65545) && is_none(cache, 65547),
         &"around",
     );
     Ok(())
+}
+
+#[test]
+fn padding_is_not_held(rt: HostRuntime) -> Result<(), Fail> {
+    let mut cache = cache_of(&rt, rt.alloc(), CHANNEL)?;
+    let expected = expect_bare(&rt, rt.alloc(), &mut cache);
+    let_go(cache);
+    expected
 }
 
 const START: Choice = Choice::Start {
@@ -292,14 +326,29 @@ fn flagged(alloc: Global, marker: bool, flags: u8) -> Result<Vec<u8>, AllocError
     packet(alloc, 10, 0, marker, &payload)
 }
 
+// Takes a packet with a TS packet that has these flags, and says where a burst begins then.
+fn chosen(
+    rt: &impl Abort,
+    alloc: Global,
+    cache: &mut Cache,
+    marker: bool,
+    flags: u8,
+) -> Result<Choice, Fail>
+    requires { StandsForFewer cache.old 1 }
+{
+    let bytes = flagged(alloc, marker, flags)?;
+    expect_packet(rt, alloc, cache, bytes, Took(65546), 10)?;
+    Ok(cache.choose(0, None))
+}
+
 fn expect_begun(rt: &impl Abort, alloc: Global, rows: &[Begun]) -> Result<(), Fail> {
     for (place, (access, marker, flags, ring, want)) in rows.iter().enumerate() {
         let mut channel = settings(0, *ring);
         channel.access = *access;
         let mut cache = cache_of(rt, alloc, channel)?;
-        let bytes = flagged(alloc, *marker, *flags)?;
-        expect_note(rt, alloc, &mut cache, &bytes, Took(65546), 10)?;
-        same(rt, &cache.choose(0, None), want, &place);
+        let chosen = chosen(rt, alloc, &mut cache, *marker, *flags);
+        let_go(cache);
+        same(rt, &chosen?, want, &place);
     }
     Ok(())
 }

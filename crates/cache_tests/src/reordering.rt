@@ -2,7 +2,7 @@
 ghost use Rattle.std.specs.Prelude.{◌≡◌, ◌<◌, ◌^◌, [], None, true, false, OnOk};
 ghost use Rattle.channel_cache.specs.reorder_window.{first_free};
 
-use crate::fixtures::same;
+use crate::fixtures::{holds, let_go, same};
 use channel_cache::reorder_window::{Came, Window};
 use std::alloc::{AllocError, Global};
 use std::process::Abort;
@@ -114,6 +114,57 @@ fn items(alloc: Global, numbers: &[u64]) -> Result<Vec<(u64, u64)>, AllocError> 
     Ok(items)
 }
 
+// These are the items of the numbers.
+fn are_items(alloc: Global, got: &[(u64, u64)], numbers: &[u64]) -> Result<bool, AllocError> {
+    let want = items(alloc, numbers)?;
+    let are_so = got == want.as_slice();
+    let_go(want);
+    Ok(are_so)
+}
+
+// Lets an item arrive, and compares what becomes of it and what goes out.
+fn expect_step(
+    rt: &impl Abort,
+    alloc: Global,
+    window: &mut Window<u64>,
+    n: u64,
+    want: Came,
+    released: &[u64],
+) -> Result<(), Fail>
+    requires going { window.old.ended ≡ false }
+    requires settled { first_free window.old ≡ None }
+    requires small { n < 2 ^ 40 }
+    ensures going { window.new.ended ≡ false }
+    ensures settled { OnOk result (first_free window.new ≡ None) }
+{
+    let mut out = Vec::new(alloc);
+    let came = pass(window, n, &mut out);
+    let are_so = are_items(alloc, &out, released);
+    let_go(out);
+    same(rt, &came?, &want, &n);
+    holds(rt, are_so?, &n);
+    Ok(())
+}
+
+// Releases all that can be, and compares it.
+fn expect_drained(
+    rt: &impl Abort,
+    alloc: Global,
+    window: &mut Window<u64>,
+    released: &[u64],
+) -> Result<(), Fail>
+    ensures ended { window.new.ended ≡ window.old.ended }
+    ensures empty { window.old.ended ≡ true → OnOk result (window.new.kept ≡ []) }
+{
+    let mut out = Vec::new(alloc);
+    let drained = drain(window, &mut out);
+    let are_so = are_items(alloc, &out, released);
+    let_go(out);
+    drained?;
+    holds(rt, are_so?, &"the end");
+    Ok(())
+}
+
 // Lets items arrive, and compares what becomes of each and what goes out.
 fn expect_steps(
     rt: &impl Abort,
@@ -126,9 +177,7 @@ fn expect_steps(
 {
     for (n, want, released) in steps {
         assert!(rt; *n < 200000);
-        let mut out = Vec::new(alloc);
-        let came = pass(window, *n, &mut out)?;
-        same(rt, &(came, out), &(*want, items(alloc, released)?), n);
+        expect_step(rt, alloc, window, *n, *want, released)?;
     }
     Ok(())
 }
@@ -139,7 +188,9 @@ fn expect(rt: &impl Abort, alloc: Global, rows: &[Row]) -> Result<(), Fail> {
             return Err(Fail::new("no memory"));
         };
         window.begin(65546);
-        expect_steps(rt, alloc, &mut window, steps)?;
+        let expected = expect_steps(rt, alloc, &mut window, steps);
+        let_go(window);
+        expected?;
     }
     Ok(())
 }
@@ -158,17 +209,25 @@ const BEFORE: &[Step] = &[
 
 const AFTER: &[Step] = &[(85547, Came::Kept, &[85547]), (65552, Came::Late, &[])];
 
+// A start ends, and the next begins.
+fn expect_starts(rt: &impl Abort, alloc: Global, window: &mut Window<u64>) -> Result<(), Fail>
+    requires going { window.old.ended ≡ false }
+    requires settled { first_free window.old ≡ None }
+{
+    expect_steps(rt, alloc, window, BEFORE)?;
+    window.end_start();
+    expect_drained(rt, alloc, window, &[65549, 65551])?;
+    window.begin(85547);
+    expect_steps(rt, alloc, window, AFTER)
+}
+
 #[test]
 fn the_end_of_a_start_lets_all_go(rt: HostRuntime) -> Result<(), Fail> {
     let Ok(mut window) = Window::new(rt.alloc(), 5) else {
         return Err(Fail::new("no memory"));
     };
     window.begin(65546);
-    expect_steps(&rt, rt.alloc(), &mut window, BEFORE)?;
-    window.end_start();
-    let mut out = Vec::new(rt.alloc());
-    drain(&mut window, &mut out)?;
-    same(&rt, &out, &items(rt.alloc(), &[65549, 65551])?, &"the end");
-    window.begin(85547);
-    expect_steps(&rt, rt.alloc(), &mut window, AFTER)
+    let expected = expect_starts(&rt, rt.alloc(), &mut window);
+    let_go(window);
+    expected
 }

@@ -1,5 +1,7 @@
 //! Packets under rising numbers, and those of them that are held.
-use crate::fixtures::{holds, same};
+ghost use Rattle.std.specs.Prelude.{◌≡◌, IfOk};
+
+use crate::fixtures::{holds, let_go, same};
 use bytes::Bytes;
 use channel_cache::packet_ring::{Held, Ring};
 use std::alloc::{AllocError, Global};
@@ -26,7 +28,9 @@ const ROWS: &[Row] = &[
 ];
 
 // The packet of a number; its bytes are the number's.
-fn packet(alloc: Global, n: u64) -> Result<Held, AllocError> {
+fn packet(alloc: Global, n: u64) -> Result<Held, AllocError>
+    ensures { IfOk result (λ held. held.n ≡ n) }
+{
     Ok(Held {
         n,
         ts: (n % 65536) as u32,
@@ -36,6 +40,13 @@ fn packet(alloc: Global, n: u64) -> Result<Held, AllocError> {
     })
 }
 
+// The packet of this number is put into a ring.
+fn put(rt: &impl Abort, alloc: Global, ring: &mut Ring, n: u64) -> Result<(), Fail> {
+    assert!(rt; ring.hi() <= n && n < 1 << 62);
+    ring.push(packet(alloc, n)?);
+    Ok(())
+}
+
 // A ring of so many packets at most, into which the packets of these numbers were put.
 fn ring_of(rt: &impl Abort, alloc: Global, capacity: u32, numbers: &[u64]) -> Result<Ring, Fail> {
     assert!(rt; capacity >= 1);
@@ -43,19 +54,24 @@ fn ring_of(rt: &impl Abort, alloc: Global, capacity: u32, numbers: &[u64]) -> Re
         return Err(Fail::new("no memory"));
     };
     for n in numbers {
-        let held = packet(alloc, *n)?;
-        assert!(rt; ring.hi() <= held.n && held.n < 1 << 62);
-        ring.push(held);
+        put(rt, alloc, &mut ring, *n)?;
     }
     Ok(ring)
+}
+
+// This number's own packet is held under it.
+fn is_held(ring: &Ring, n: u64) -> bool {
+    match ring.get(n) {
+        None => false,
+        Some(held) => held.packet.as_slice() == n.to_be_bytes().as_slice(),
+    }
 }
 
 // The numbers from `lo` up to `hi` are held, each with its own packet.
 fn expect_held(rt: &impl Abort, ring: &Ring, lo: u64, hi: u64) {
     same(rt, &(ring.lo(), ring.hi()), &(lo, hi), &"lo and hi");
     for n in lo..hi {
-        let held = ring.get(n).expect(rt, "a packet within");
-        same(rt, &held.packet.as_slice(), &n.to_be_bytes().as_slice(), &n);
+        holds(rt, is_held(ring, n), &n);
     }
 }
 
@@ -71,6 +87,7 @@ fn expect(rt: &impl Abort, alloc: Global, rows: &[Row]) -> Result<(), Fail> {
         let ring = ring_of(rt, alloc, *capacity, numbers)?;
         expect_held(rt, &ring, *lo, *hi);
         expect_none(rt, &ring, *lo, *hi);
+        let_go(ring);
     }
     Ok(())
 }
