@@ -9,12 +9,12 @@ use std::alloc::Global;
 use std::marker::Model;
 
 // From so many bytes on, what waits goes to the sink.
-const FULL: usize = 262144;
+const FULL: usize = 65536;
 
 // Room for what is appended before that is seen: a line with a datagram has less than 4,200 bytes.
 const ROOM: usize = FULL + 8192;
 
-/// Texts that wait to be put to a sink together, in pieces of about 256 KiB.
+/// Texts that wait to be put to a sink together, in pieces of about 64 KiB.
 #[derive(Drop)]
 pub struct Gather {
     waiting: Vec<u8>,
@@ -50,13 +50,13 @@ impl Gather {
         &mut self.waiting
     }
 
-    /// Puts all that waits to the sink where that is 262,144 bytes or more, and else nothing.
+    /// Puts all that waits to the sink where that is 65,536 bytes or more, and else nothing.
     ///
     /// Where the sink fails, what waits stays as it was, though a front of it may have gone: the
     /// sink's text is right only if the caller then puts no more.
     pub fn settle<K: Sink>(&mut self, sink: &mut K) -> Result<(), Failed>
         ensures all { OnOk result (Passes (K.held sink.old) (K.held sink.new) self.old self.new) }
-        ensures few { OnOk result (length self.new < 262144) }
+        ensures few { OnOk result (length self.new < 65536) }
         ensures prefix { (rest : List ℕ) × Passes (K.held sink.old) (K.held sink.new) self.old rest }
         ensures same { OnErr result (self.new ≡ self.old) }
         ensures cause { HasCause (K.faults sink.old) (K.faults sink.new) result }
@@ -69,7 +69,7 @@ impl Gather {
         self.flush(sink)
     }
 
-    /// Lets a piece wait behind the others, where they have no more than 262,144 bytes together. Else
+    /// Lets a piece wait behind the others, where they have no more than 65,536 bytes together. Else
     /// what waits goes to the sink, and a piece of more than so many goes there at once.
     ///
     /// Where the sink fails, what waits stays as it was, though a front of it may have gone: the

@@ -1,7 +1,7 @@
 //! Lines out of a source, and text into a sink, in large pieces.
 //!
 //! A `LineReader` takes pieces of its source into a buffer that never grows, and hands out lines as
-//! slices of it. A `Gather` gathers small texts and puts them to its sink in pieces of about 256 KiB.
+//! slices of it. A `Gather` gathers small texts and puts them to its sink in pieces of about 64 KiB.
 #![tactic(auto)]
 
 mod gather;

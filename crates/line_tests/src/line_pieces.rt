@@ -259,13 +259,13 @@ fn passed(
 
 #[test]
 fn texts_pass(rt: HostRuntime) -> Result<(), Fail> {
-    let short = run(rt.alloc(), b'p', 100000, b"")?;
-    let long = run(rt.alloc(), b'l', 270000, b"")?;
-    let mut whole = run(rt.alloc(), b'p', 300000, &long)?;
+    let short = run(rt.alloc(), b'p', 25000, b"")?;
+    let long = run(rt.alloc(), b'l', 67500, b"")?;
+    let mut whole = run(rt.alloc(), b'p', 75000, &long)?;
     whole.extend_from_slice(b"end")?;
-    for most in [7, 1000, 300000] {
+    for most in [7, 1000, 75000] {
         let (held, bytes) = passed(rt.alloc(), most, &short, &long)?;
-        same(&rt, &held, &[0, 200000, 570000], &most);
+        same(&rt, &held, &[0, 50000, 142500], &most);
         holds(&rt, bytes == whole, &most);
     }
     Ok(())
@@ -299,7 +299,7 @@ fn whole_of(alloc: Global, more: &[u8]) -> Result<Vec<u8>, Fail> {
 }
 
 /// How many bytes are appended, and how many of them and of "ab" pass when they settle.
-const SETTLED: &[(usize, usize)] = &[(0, 0), (262141, 0), (262142, 262144), (300000, 300002)];
+const SETTLED: &[(usize, usize)] = &[(0, 0), (65533, 0), (65534, 65536), (70000, 70002)];
 
 #[test]
 fn long_text_settles(rt: HostRuntime) -> Result<(), Fail> {
@@ -326,9 +326,9 @@ fn expect_waits(
 
 #[test]
 fn text_that_fails_to_settle_waits(rt: HostRuntime) -> Result<(), Fail> {
-    let mut sink = sink_for(rt.alloc(), 300000, 1);
+    let mut sink = sink_for(rt.alloc(), 70000, 1);
     let mut gather = done(Gather::new(rt.alloc()))?;
-    let text = run(rt.alloc(), b't', 262144, b"")?;
+    let text = run(rt.alloc(), b't', 65536, b"")?;
     gather.text().extend_from_slice(&text)?;
     done(expect_waits(&rt, &mut gather, &mut sink, &text))?;
     holds(&rt, sink.bytes == text, &"passes");

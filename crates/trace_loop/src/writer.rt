@@ -45,11 +45,11 @@ pub fn put<K: Sink>(gather: &mut Gather, sink: &mut K, text: &[u8]) -> Result<()
     }
 }
 
-/// Puts all that waits to the sink where that is 262,144 bytes or more, and else nothing. It is called
+/// Puts all that waits to the sink where that is 65,536 bytes or more, and else nothing. It is called
 /// behind what is appended to `gather.text()`.
 pub fn settle<K: Sink>(gather: &mut Gather, sink: &mut K) -> Result<(), Stop>
     ensures all { OnOk result (Passes (K.held sink.old) (K.held sink.new) gather.old gather.new) }
-    ensures few { OnOk result (length gather.new < 262144) }
+    ensures few { OnOk result (length gather.new < 65536) }
     ensures front { IfErr result (StopsIn (K.held sink.old) (K.held sink.new) gather.old gather.new) }
     ensures cause { IsStoppedByWrite (K.faults sink.old) (K.faults sink.new) result }
     ensures steady { (room : ℕ) → K.is_steady sink.old (length gather.old + room)

@@ -5,8 +5,8 @@ ghost use Rattle.rams_model.specs.Packets.{age_ms, ahead};
 /// Sequence numbers have 16 bits (RFC 3550, 5.1).
 pub const SEQUENCE_NUMBERS: u64 = 65536;
 
-// Timestamps of video count 90 to the ms (RFC 2250, 2).
-const TICKS_PER_MS: u32 = 90;
+/// Timestamps of video count 90 to the ms (RFC 2250, 2).
+pub const TICKS_PER_MS: u32 = 90;
 
 /// How far `low` is ahead of a number, modulo 65,536.
 pub fn ahead(low: u16, n: u64) -> u64
