@@ -85,7 +85,9 @@ fn old_count(lows: &VecDeque<Point>, ask: &Ask) -> usize
     ensures old { IsLastOld ask.now.last ask.now.min_ms result lows.now.items }
     ensures same { start_of ask.now (take result lows.now.items) ≡ start_of ask.now lows.now.items }
 {
-    let wanted = ask.last.saturating_sub(ask.min_ms.saturating_mul(TICKS_PER_MS));
+    let wanted = ask
+        .last
+        .saturating_sub(ask.min_ms.saturating_mul(TICKS_PER_MS));
     let mut guesses = GUESSES;
     let mut low = 0;
     let mut high = lows.len();
