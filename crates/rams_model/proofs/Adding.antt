@@ -13,7 +13,7 @@ pub record Adds (old new : History) : Type 0 where
   pub splits : new ≡ later ++ old
   pub none : NoneIs is_event later
 
-none_of_both : (later more : History) → NoneIs is_event later → NoneIs is_event more → NoneIs is_event (later ++ more)
+pub none_of_both : (later more : History) → NoneIs is_event later → NoneIs is_event more → NoneIs is_event (later ++ more)
 none_of_both [] more n m = m
 none_of_both (i ∷ later) more n m = (n.0, none_of_both later more n.1 m)
 
@@ -24,7 +24,7 @@ both a b c x y = record {
   none = none_of_both y.later x.later y.none x.none;
 }
 
-no_event : (kind : Note → Bool) (items : History) → AreOfKind kind items → NoneIs is_event items
+pub no_event : (kind : Note → Bool) (items : History) → AreOfKind kind items → NoneIs is_event items
 no_event kind [] n = tt
 no_event kind (noted note packet ∷ items) n = (refl, no_event kind items n.1)
 no_event kind (began heard ∷ items) n = absurd n

@@ -1,12 +1,13 @@
 -- What is held are packets whose numbers follow one another.
 use Rattle.std.proofs.Common.{◌≡◌, ℕ, zero, suc, ◌+◌, ◌-◌, ◌≤◌, true, false, List, [], ◌∷◌, ◌++◌, length, drop, refl, ap, sym, ◌∙◌, subst, arith, eqb, leb}
-use Rattle.std.proofs.lemmas.Bool.{both_ways, cond_both, cond-true, and_parts, eqb-true, le-leb, leb-true, leb-false}
+use Rattle.std.proofs.lemmas.Bool.{both_ways, cond_both, and_parts, eqb-true, leb-true, leb-false}
 use Rattle.std.proofs.lemmas.List.{length-drop}
 use Rattle.rams_model.specs.declared.held.Held.{Held}
 use Rattle.rams_model.specs.Packets.{lo, hi, from_number, is_consecutive, consecutive_end, source, Follows}
 use Rattle.rams_model.specs.Packets.Source as sources
 use Rattle.rams_model.specs.Service.{Settings, History, stream, hold}
 use Rattle.rams_model.specs.Laws.{Rises, IsLongestEnd}
+use Rattle.rams_model.proofs.Rising.{from_all}
 
 pub follows_from : (hs : List Held) → is_consecutive hs ≡ true → Follows (lo hs) hs
 follows_from [] e = tt
@@ -43,12 +44,14 @@ few_held s history =
     let all = consecutive_end (source s.channel.window (stream s history)) in
     omega (arith, length-drop (length all - s.channel.ring) all)
 
+-- what follows rises
+pub rises_from : (n : ℕ) (hs : List Held) → Follows n hs → Rises n hs
+rises_from n [] f = tt
+rises_from n (h ∷ hs) f = (omega (arith, f.0), subst (λ (m : ℕ). Rises (m + 1) hs) (sym f.0) (rises_from (n + 1) hs f.1))
+
 -- all packets stand from a number on that is at most the first's
 pub all_from : (n m : ℕ) (hs : List Held) → Follows m hs → n ≤ m → from_number n hs ≡ hs
-all_from n m [] f le = refl
-all_from n m (h ∷ hs) f le =
-    cond-true (leb n h.n) (h ∷ from_number n hs) (from_number n hs) (le-leb n h.n (omega (arith, le, f.0)))
-    ∙ ap (λ (l : List Held). h ∷ l) (all_from n (m + 1) hs f.1 (omega (arith, le)))
+all_from n m hs f le = from_all n m hs le (rises_from m hs f)
 
 abbrev StandFrom : ℕ → ℕ → List Held → List Held → Type 0
 StandFrom n m hs from = Follows n from × (n + length from ≡ m + length hs)
@@ -87,11 +90,6 @@ held_from n (h ∷ hs) f le within =
     let end = hi_is h.n h hs f in
     let r = stand_from n h.n (h ∷ hs) f le (omega (arith, within, end)) in
     (r.0, r.1 ∙ sym end)
-
--- what follows rises
-pub rises_from : (n : ℕ) (hs : List Held) → Follows n hs → Rises n hs
-rises_from n [] f = tt
-rises_from n (h ∷ hs) f = (omega (arith, f.0), subst (λ (m : ℕ). Rises (m + 1) hs) (sym f.0) (rises_from (n + 1) hs f.1))
 
 -- an end is no longer than the whole
 end_fits : (before other : List Held) → length other ≤ length (before ++ other)

@@ -1,5 +1,5 @@
 -- Facts of tests and lists that speak of nothing that a channel has.
-use Rattle.std.proofs.Common.{◌≡◌, ℕ, ◌≤◌, Bool, true, false, ◌||◌, ⊎_elim, List, [], ◌∷◌, length, refl, sym, ◌∙◌, arith, eqb}
+use Rattle.std.proofs.Common.{◌≡◌, ℕ, ◌≤◌, Bool, true, false, cond, ◌||◌, ⊎_elim, List, [], ◌∷◌, length, map, Result, Ok, Err, OnErr, refl, sym, ◌∙◌, arith, eqb}
 use Rattle.std.specs.Prelude.{filter}
 use Rattle.std.specs.List.{AllByRecursion as Each}
 use Rattle.std.proofs.lemmas.Bool.{cond_both, cases_Bool, eqb-true, eqb-false, eq-eqb, ne_eqb}
@@ -24,3 +24,12 @@ few_passed test (x ∷ xs) =
 pub each_weaker : {A : Type 0} (P Q : A → Type 0) → ((x : A) → P x → Q x) → (xs : List A) → Each P xs → Each Q xs
 each_weaker P Q f [] a = tt
 each_weaker P Q f (x ∷ xs) a = (f x a.0, each_weaker P Q f xs a.1)
+
+pub map_cond : (f : ℕ → ℕ) (b : Bool) (x : ℕ) (xs : List ℕ) → map f (cond b (x ∷ xs) xs) ≡ cond b (f x ∷ map f xs) (map f xs)
+map_cond f true x xs = refl
+map_cond f false x xs = refl
+
+-- what holds holds where a call fails
+pub on_failure : {T E : Type 0} (r : Result T E) (P : Type 0) → P → OnErr r P
+on_failure (Ok value) P p = tt
+on_failure (Err e) P p = p

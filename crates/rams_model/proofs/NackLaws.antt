@@ -1,5 +1,5 @@
 -- The words of a NACK name the numbers that were packed into them.
-use Rattle.std.proofs.Common.{◌≡◌, ℕ, zero, suc, ◌+◌, ◌-◌, ◌*◌, ◌/◌, ◌%◌, ◌^◌, ◌≤◌, ◌<◌, Bool, true, false, cond, List, [], ◌∷◌, ◌++◌, length, map, refl, sym, ◌∙◌, ap, arith, append_assoc, pow-add, eq-eqb, ltb, leb, add-one, ⊎_elim}
+use Rattle.std.proofs.Common.{◌≡◌, ℕ, zero, suc, ◌+◌, ◌-◌, ◌*◌, ◌/◌, ◌%◌, ◌^◌, ◌≤◌, ◌<◌, Bool, true, false, List, [], ◌∷◌, ◌++◌, length, map, refl, sym, ◌∙◌, ap, arith, append_assoc, pow-add, eq-eqb, ltb, leb, add-one, ⊎_elim}
 use Rattle.std.specs.Prelude.{if◌then◌else◌, ◌&&◌, ◌==◌, nat_lt, nat_le, filter, Ok}
 use Rattle.std.specs.List.{AllByRecursion}
 use Rattle.std.specs.Int.{w16, to_be_bytes, from_be_bytes, bit_at}
@@ -7,14 +7,11 @@ use Rattle.std.proofs.Math.Nat.{pow-suc, pow-le-pow_right}
 use Rattle.std.proofs.lemmas.Nat.{shr_high, mod_below, div-add-mod', from_be_bytes-to_be_bytes_2}
 use Rattle.std.proofs.lemmas.Bool.{ne_eqb, and_parts, ltb-true, leb-true, cases_lt}
 use Rattle.rams_model.specs.Formats.{counted_from, word_numbers, numbers_of, distance, words_from, nack_words, nack_numbers}
+use Rattle.rams_model.proofs.ListFacts.{map_cond}
 
 -- the numbers that n bits of a word name, from bit i on
 marked : ℕ → ℕ → ℕ → ℕ → List ℕ
 marked pid blp i n = map (λ i. (pid + i) % 65536) (filter (λ i. bit_at blp (i - 1) == 1) (counted_from i n))
-
-map_cond : (f : ℕ → ℕ) (b : Bool) (x : ℕ) (xs : List ℕ) → map f (cond b (x ∷ xs) xs) ≡ cond b (f x ∷ map f xs) (map f xs)
-map_cond f true x xs = refl
-map_cond f false x xs = refl
 
 marked_step : (pid blp i n : ℕ) → marked pid blp i (suc n) ≡ (if bit_at blp (i - 1) == 1 then (pid + i) % 65536 ∷ marked pid blp (i + 1) n else marked pid blp (i + 1) n)
 unfolding marked

@@ -1,5 +1,5 @@
 -- How many pieces wait, with one more and with one less.
-use Rattle.std.proofs.Common.{◌≡◌, ℕ, ◌+◌, Bool, true, false, cond, List, [], ◌∷◌, length, Option, Some, None, arith, refl, eqb, ltb}
+use Rattle.std.proofs.Common.{◌≡◌, ℕ, ◌+◌, Bool, true, false, cond, List, [], ◌∷◌, length, Option, Some, arith, refl, eqb, ltb}
 use Rattle.std.proofs.lemmas.Bool.{cond_both}
 use Rattle.rams_model.specs.Receiver.{Piece, piece_at, with_piece, without_piece}
 

@@ -1,9 +1,9 @@
 -- Packets whose numbers rise.
-use Rattle.std.proofs.Common.{◌≡◌, ℕ, ◌+◌, ◌<◌, ◌≤◌, ◌≢◌, Bool, false, cond, List, [], ◌∷◌, ◌++◌, refl, le_refl, ap, sym, ◌∙◌, arith, eqb, ltb, ⊎_elim, subst}
+use Rattle.std.proofs.Common.{◌≡◌, ℕ, ◌+◌, ◌<◌, ◌≤◌, ◌≢◌, Bool, false, cond, List, [], ◌∷◌, ◌++◌, refl, le_refl, ap, sym, ◌∙◌, arith, eqb, ltb, leb, ⊎_elim, subst}
 use Rattle.std.specs.Prelude.{filter}
-use Rattle.std.proofs.lemmas.Bool.{cond_both, cond-true, cond-false, ltb-true, ltb-false, eqb-false, lt-ltb, le-ltb, ne_eqb, or_parts, or_from}
+use Rattle.std.proofs.lemmas.Bool.{cond_both, cond-true, cond-false, ltb-true, ltb-false, eqb-false, lt-ltb, le-ltb, lt-leb, le-leb, ne_eqb, or_parts, or_from}
 use Rattle.rams_model.specs.declared.held.Held.{Held}
-use Rattle.rams_model.specs.Packets.{hi, has_number, with_packet}
+use Rattle.rams_model.specs.Packets.{hi, has_number, from_number, with_packet}
 use Rattle.rams_model.specs.Laws.{Rises, IsAmong}
 
 -- what rises from one number on rises from a lower one on
@@ -80,6 +80,16 @@ pub at_least : (n : ℕ) (h : Held) (hs : List Held) → Rises n hs → IsAmong 
 at_least n h [] r a = absurd a
 at_least n h (k ∷ ks) r a =
     ⊎_elim (λ (same : k ≡ h). subst (λ (x : Held). n ≤ x.n) same r.0) (λ later. let le = at_least (k.n + 1) h ks r.1 later in omega (arith, le, r.0)) a
+
+-- the packets from a number on are all where they rise from there, and others than those below it
+pub from_all : (n m : ℕ) (hs : List Held) → n ≤ m → Rises m hs → from_number n hs ≡ hs
+from_all n m [] le r = refl
+from_all n m (h ∷ hs) le r =
+    cond-true (leb n h.n) (h ∷ from_number n hs) (from_number n hs) (le-leb n h.n (omega (arith, le, r.0)))
+    ∙ ap (λ (l : List Held). h ∷ l) (from_all n (h.n + 1) hs (omega (arith, le, r.0)) r.1)
+
+pub not_from : (n : ℕ) (h : Held) (hs : List Held) → h.n < n → from_number n (h ∷ hs) ≡ from_number n hs
+not_from n h hs below = cond-false (leb n h.n) (h ∷ from_number n hs) (from_number n hs) (lt-leb n h.n below)
 
 -- a packet above all others is put at their end
 pub one_at_end : (n : ℕ) (hs : List Held) (new : Held) → n ≤ new.n → hi hs ≤ new.n → Rises n hs → Rises n (hs ++ new ∷ [])

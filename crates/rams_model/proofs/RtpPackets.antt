@@ -261,7 +261,7 @@ begins p = record {
   long = omega arith;
 }
 
-flag_below : (xs : List ℕ) → flag xs < 2
+pub flag_below : (xs : List ℕ) → flag xs < 2
 flag_below [] = omega arith
 flag_below (x ∷ xs) = omega arith
 

@@ -1,3 +1,4 @@
+pub mod Members
 pub mod Moments
 pub mod Answering
 pub mod SinceAccept

@@ -1,5 +1,5 @@
 -- The datagrams that a receiver sends.
-use Rattle.std.specs.Prelude.{ℕ, ◌+◌, ◌-◌, ◌%◌, ◌^◌, Bool, false, not, if◌then◌else◌, List, [], ◌∷◌, ◌++◌, map, take, filter, Option, Some, None}
+use Rattle.std.specs.Prelude.{ℕ, ◌-◌, ◌%◌, ◌^◌, Bool, false, not, if◌then◌else◌, List, [], ◌∷◌, ◌++◌, map, take, filter, Option, Some, None}
 use Rattle.std.specs.List.{range_with_len}
 use Rattle.rams_model.specs.declared.reception.Tuned.{Tuned}
 use Rattle.rams_model.specs.Formats.{rr_packet, sdes_packet, bye_packet, nack_packet, rams_request, rams_stop}

@@ -1,9 +1,9 @@
 -- The packets of the source came in live events, and the orders for packets are their retransmissions.
-use Rattle.std.proofs.Common.{◌≡◌, ℕ, ◌<◌, Bool, true, not, ◌⊎◌, inl, inr, ⊎_elim, List, [], ◌∷◌, ◌++◌, length, Option, Some, None, refl, ap, sym, ◌∙◌, subst, arith, eqb, ltb}
+use Rattle.std.proofs.Common.{◌≡◌, ℕ, ◌<◌, ◌≤◌, true, cond, not, ◌⊎◌, inl, inr, ⊎_elim, List, [], ◌∷◌, ◌++◌, length, Option, Some, None, refl, ap, sym, ◌∙◌, subst, arith, eqb, ltb}
 use Rattle.std.specs.Prelude.{filter_map, Result, Ok, Err, filter, option_map, option_to_list, All, Contains}
 use Rattle.std.specs.List.{cons_option}
-use Rattle.std.proofs.lemmas.Bool.{cond_both, true≢false}
-use Rattle.std.proofs.lemmas.List.Elements.{All-nil, All-cons, All-filter, All-contains, All-contains_itself, Contains-append_left, Contains-append_right, Contains-append_cases, Contains-push_cases}
+use Rattle.std.proofs.lemmas.Bool.{cond_both, not-false, eqb-true, ltb-false, true≢false}
+use Rattle.std.proofs.lemmas.List.Elements.{All-nil, All-cons, Contains-append_left, Contains-append_right, Contains-append_cases, Contains-push_cases}
 use Rattle.rams_model.specs.declared.answer.Order.{Order}
 use Rattle.rams_model.specs.declared.channel.Channel.{Channel}
 use Rattle.rams_model.specs.declared.event.Event.{Event}
@@ -16,9 +16,9 @@ use Rattle.rams_model.specs.declared.note.LiveNote.{LiveNote}
 use Rattle.rams_model.specs.declared.note.Note.{Note}
 use Rattle.rams_model.specs.declared.answer.Order.TheVariants as order
 use Rattle.rams_model.specs.declared.event.Event.TheVariants.{Live, Feedback, Tick}
-use Rattle.rams_model.specs.declared.note.LiveNote.TheVariants.{Took, Restart, TooBig}
+use Rattle.rams_model.specs.declared.note.LiveNote.TheVariants.{Took, Restart, TooBig, ForeignSsrc, ForeignType}
 use Rattle.rams_model.specs.declared.note.Note.TheVariants as note
-use Rattle.rams_model.specs.Service.{Settings, Heard, live, dropped, feedback, unframed, tick, heard_packet, heard_live, heard_feedback, heard_of, began, told, noted, History, arrivals, stream, hold, Burst, open_burst, end_info, info_order, packet_order, again_order, update_order, end_order, order_of, newest_notes, newest_orders, newest_answer, sent_again, datagram, after_hearing, history_of, answer, Entry, Book, IsLawful, events_of}
+use Rattle.rams_model.specs.Service.{Settings, Heard, live, dropped, feedback, unframed, tick, arrival, heard_packet, heard_live, heard_feedback, heard_of, began, told, noted, History, arrivals, stream, hold, Burst, open_burst, end_info, info_order, packet_order, again_order, update_order, end_order, order_of, newest_notes, newest_orders, newest_answer, sent_again, datagram, after_hearing, history_of, answer, Entry, Book, IsLawful, events_of}
 use Rattle.rams_model.specs.Formats.{Packet, stripped, retransmission, packet_at, IsPacket, Framed, framed}
 use Rattle.rams_model.specs.Packets.{Arrival, Stream, held_as, with_packet, awaited, live_note, stream_after, stream_of}
 use Rattle.rams_model.specs.Packets.Source as sources
@@ -30,6 +30,7 @@ use Rattle.rams_model.proofs.Legal.{in_tick, is_tick, Allows, IsLegal}
 use Rattle.rams_model.proofs.Legality.{legal_history, in_tick_from_runs}
 use Rattle.rams_model.proofs.Induction.{arrivals_of_event}
 use Rattle.rams_model.proofs.Adding.{adds_hearing}
+use Rattle.service_laws.proofs.book_laws.Members.{of_filter, of_with}
 use Rattle.service_laws.proofs.book_laws.SentSources.{held_of_source}
 
 -- ---- where packets come from
@@ -38,9 +39,6 @@ use Rattle.service_laws.proofs.book_laws.SentSources.{held_of_source}
 abbrev pub all_of : Stream → List Held
 all_of st = st.ended ++ st.present
 
-pub of_filter : (test : Held → Bool) (hs : List Held) (h : Held) → Contains (filter test hs) h → Contains hs h
-of_filter test hs h c = All-contains (Contains hs) (filter test hs) h (All-filter test (Contains hs) hs (All-contains_itself hs)) c
-
 pub came_in_time : (s : Settings) (history : History) (h : Held) → Contains (source s history) h → Contains (all_of (stream s history)) h
 unfolding sources.source
 came_in_time s history h c =
@@ -48,17 +46,6 @@ came_in_time s history h c =
     let part = filter (λ (x : Held). ltb x.n (awaited s.channel.window st.present)) st.present in
     ⊎_elim (λ e. Contains-append_left st.ended st.present h e)
     (λ p. Contains-append_right st.ended st.present h (of_filter (λ x. ltb x.n (awaited s.channel.window st.present)) st.present h p)) (Contains-append_cases st.ended part h c)
-
-of_one : (new h : Held) → Contains (new ∷ []) h → new ≡ h
-of_one new h c = ⊎_elim (λ (none : Contains [] h). absurd (omega arith)) (λ e. e) (Contains-push_cases [] new h c)
-
-of_with : (new : Held) (hs : List Held) (h : Held) → Contains (with_packet new hs) h → Contains hs h ⊎ (new ≡ h)
-of_with new [] h c = inr (of_one new h c)
-of_with new (k ∷ ks) h c =
-    cond_both (ltb new.n k.n) (new ∷ k ∷ ks) (k ∷ with_packet new ks) (λ l. Contains l h → Contains (k ∷ ks) h ⊎ (new ≡ h))
-    (λ t d. ⊎_elim (λ e. inr (of_one new h e)) (λ r. inl r) (Contains-append_cases (new ∷ []) (k ∷ ks) h d))
-    (λ f d. ⊎_elim (λ e. inl (Contains-append_left (k ∷ []) ks h e))
-    (λ r. ⊎_elim (λ e. inl (Contains-append_right (k ∷ []) ks h e)) (λ e. inr e) (of_with new ks h r)) (Contains-append_cases (k ∷ []) (with_packet new ks) h d)) c
 
 -- the packet that an arrival with this note adds
 abbrev pub IsNew : Arrival → LiveNote → Held → Type 0
@@ -109,31 +96,44 @@ same_arrivals (began heard ∷ later) history none = absurd (true≢false none.0
 same_arrivals (told client message ∷ later) history none = same_arrivals later history none.1
 same_arrivals (noted n p ∷ later) history none = same_arrivals later history none.1
 
--- a packet of a live event that passes the tests was read
-record WasRead (c : Channel) (bytes : List ℕ) (a : Arrival) : Type 0 where
-  packet : Packet
-  is_read : packet_at bytes ≡ Ok packet
-  is_it : a.packet ≡ stripped packet
+-- a live event's bytes are a packet that passes the tests, of which this is the arrival
+pub record WasRead (c : Channel) (bytes : List ℕ) (a : Arrival) : Type 0 where
+  pub short : length bytes ≤ 1470
+  pub packet : Packet
+  pub is_read : packet_at bytes ≡ Ok packet
+  pub media : packet.ssrc ≡ c.ssrc
+  pub kind : packet.payload_type ≡ c.pt
+  pub is_it : a ≡ arrival c packet
 
 -- what is heard, where it is a packet that passes
-abbrev ReadSo : Channel → List ℕ → Heard → Type 0
+abbrev pub ReadSo : Channel → List ℕ → Heard → Type 0
 ReadSo c bytes (live a) = WasRead c bytes a
 ReadSo c bytes _ = Unit {0}
 
-packet_read : (c : Channel) (bytes : List ℕ) (r : Result Packet RtpFault) → packet_at bytes ≡ r → ReadSo c bytes (heard_packet c r)
-packet_read c bytes (Err fault) e = tt
-packet_read c bytes (Ok p) e =
-    cond_both (not (eqb p.ssrc c.ssrc)) _ _ (ReadSo c bytes) (λ t. tt)
-    (λ f. cond_both (not (eqb p.payload_type c.pt)) _ _ (ReadSo c bytes) (λ t. tt) (λ g. record { packet = p; is_read = e; is_it = refl }))
+packet_read : (c : Channel) (bytes : List ℕ) (r : Result Packet RtpFault) → length bytes ≤ 1470 → packet_at bytes ≡ r → ReadSo c bytes (heard_packet c r)
+packet_read c bytes (Err fault) short e = tt
+packet_read c bytes (Ok p) short e =
+    cond_both (not (eqb p.ssrc c.ssrc)) (dropped ForeignSsrc) (cond (not (eqb p.payload_type c.pt)) (dropped ForeignType) (live (arrival c p))) (ReadSo c bytes) (λ t. tt)
+    (λ f. cond_both (not (eqb p.payload_type c.pt)) (dropped ForeignType) (live (arrival c p)) (ReadSo c bytes) (λ t. tt)
+    (λ g. record {
+      short = short;
+      packet = p;
+      is_read = e;
+      media = eqb-true p.ssrc c.ssrc (not-false (eqb p.ssrc c.ssrc) f);
+      kind = eqb-true p.payload_type c.pt (not-false (eqb p.payload_type c.pt) g);
+      is_it = refl;
+    }))
 
-live_read : (c : Channel) (bytes : List ℕ) → ReadSo c bytes (heard_live c bytes)
-live_read c bytes = cond_both (ltb 1470 (length bytes)) (dropped TooBig) (heard_packet c (packet_at bytes)) (ReadSo c bytes) (λ t. tt) (λ f. packet_read c bytes (packet_at bytes) refl)
+pub live_read : (c : Channel) (bytes : List ℕ) → ReadSo c bytes (heard_live c bytes)
+live_read c bytes =
+    cond_both (ltb 1470 (length bytes)) (dropped TooBig) (heard_packet c (packet_at bytes)) (ReadSo c bytes) (λ t. tt)
+    (λ f. packet_read c bytes (packet_at bytes) (ltb-false 1470 (length bytes) f) refl)
 
 -- no packet is heard of a datagram
-pub not_live : (s : Settings) (client : ℕ) (r : Result (List Framed) FrameFault) (history : History) → arrivals (began (heard_feedback client r) ∷ history) ≡ arrivals history
+pub not_live : (client : ℕ) (r : Result (List Framed) FrameFault) (history : History) → arrivals (began (heard_feedback client r) ∷ history) ≡ arrivals history
 unfolding arrivals
-not_live s client (Err fault) history = refl
-not_live s client (Ok packets) history = refl
+not_live client (Err fault) history = refl
+not_live client (Ok packets) history = refl
 
 is_taken : (n : LiveNote) (m : ℕ) (notes : List Note) → notes ≡ note.Live n ∷ [] → (n ≡ Took m) ⊎ (n ≡ Restart m) → IsTakenAs m notes
 is_taken n m notes e w =
@@ -170,7 +170,7 @@ came_live s e book bytes (live a) h is r notes c =
       packet = r.packet;
       is_read = r.is_read;
       took = is_taken n h.n e.answer.notes (notes ∙ one_note s a history) number.0;
-      is_it = number.1 ∙ r.is_it;
+      is_it = number.1 ∙ ap (λ (x : Arrival). x.packet) r.is_it;
     })) (old_or_new st a n h c)
 came_live s e book bytes (dropped n) h is r notes c = inl c
 came_live s e book bytes (feedback client messages) h is r notes c = inl c
@@ -184,7 +184,7 @@ unfolding heard_of arrivals history_of
 came_by s e book (Live bytes) h is right c = came_live s e book bytes (heard_live s.channel bytes) h is (live_read s.channel bytes) (ap (λ x. x.notes) right) c
 came_by s e book (Feedback client bytes) h is right c =
     let history = history_of s (events_of book) in
-    inl (subst (λ (came : List Arrival). Contains (all_of (stream_of s.channel.window came)) h) (not_live s client (framed bytes) history) c)
+    inl (subst (λ (came : List Arrival). Contains (all_of (stream_of s.channel.window came)) h) (not_live client (framed bytes) history) c)
 came_by s e book Tick h is right c = inl c
 
 came_in : (s : Settings) (book : Book) (h : Held) → IsLawful s book → Contains (all_of (stream s (history_of s (events_of book)))) h → CameIn s book h

@@ -91,7 +91,7 @@ before_stop : (stop : Option ℕ) (n : ℕ) → is_before stop n ≡ true → If
 before_stop None n e = tt
 before_stop (Some m) n e = ltb-true n m e
 
-is_before_stop : (stop : Option ℕ) (n : ℕ) → IfSome stop (λ m. n < m) → is_before stop n ≡ true
+pub is_before_stop : (stop : Option ℕ) (n : ℕ) → IfSome stop (λ m. n < m) → is_before stop n ≡ true
 is_before_stop None n lt = refl
 is_before_stop (Some m) n lt = lt-ltb n m lt
 

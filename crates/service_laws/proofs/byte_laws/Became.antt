@@ -128,7 +128,7 @@ told_event s (Live bytes) events numbers jumped same kept =
     (sym (live_answer s bytes events)) (told_packet s bytes (heard_live s.channel bytes) events numbers jumped (live_heard s bytes) same kept)
 told_event s (Feedback client bytes) events numbers jumped same kept =
     subst (λ (came : List Arrival). SameNumbers numbers (stream_of s.channel.window came).present × ((stream_of s.channel.window came).kept ≡ option_map following jumped))
-    (sym (not_live s client (framed bytes) (history_of s events))) (same, kept)
+    (sym (not_live client (framed bytes) (history_of s events))) (same, kept)
 told_event s Tick events numbers jumped same kept = (same, kept)
 
 told_by_book : (s : Settings) (book : Book) → IsLawful s book → IsTold book (stream_at s (events_of book))

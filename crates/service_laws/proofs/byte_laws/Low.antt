@@ -1,6 +1,8 @@
 -- A number that a packet is taken under has the 16 bits of its sequence number, and is at least 65,536.
-use Rattle.std.proofs.Common.{◌≡◌, ℕ, ◌+◌, ◌-◌, ◌<◌, ◌≤◌, ◌%◌, cond, List, [], ◌∷◌, Option, refl, arith, ltb}
+use Rattle.std.proofs.Common.{◌≡◌, ℕ, ◌+◌, ◌-◌, ◌<◌, ◌≤◌, ◌%◌, cond, List, [], ◌∷◌, ◌++◌, Option, refl, arith, ltb}
+use Rattle.std.specs.Prelude.{Contains}
 use Rattle.std.proofs.lemmas.Bool.{cond_both, ltb-true, ltb-false}
+use Rattle.std.proofs.lemmas.List.Elements.{Contains-append_right}
 use Rattle.rams_model.specs.declared.held.Held.{Held}
 use Rattle.rams_model.specs.declared.note.LiveNote.{LiveNote}
 use Rattle.rams_model.specs.declared.note.LiveNote.TheVariants.{Took, Restart, Late, Twice}
@@ -8,6 +10,7 @@ use Rattle.rams_model.specs.Packets.{hi, ahead, is_kept, Numbered, forward, back
 use Rattle.rams_model.specs.Laws.{Rises}
 use Rattle.rams_model.proofs.Rising.{below_hi}
 use Rattle.rams_model.proofs.Waiting.{from_first}
+use Rattle.service_laws.proofs.book_laws.Members.{is_first}
 
 -- so it is, where the packet is taken
 abbrev pub IsLow : ℕ → LiveNote → Type 0
@@ -35,6 +38,10 @@ after_low window present kept q g u small high is waits =
 abbrev pub IsHigh : List Held → Type 0
 IsHigh [] = Unit {0}
 IsHigh (h ∷ hs) = 65536 ≤ h.n
+
+pub high_present : (ended present : List Held) → ((k : Held) → Contains (ended ++ present) k → 65536 ≤ k.n) → IsHigh present
+high_present ended [] f = tt
+high_present ended (h ∷ hs) f = f h (Contains-append_right ended (h ∷ hs) h (is_first h hs))
 
 note_low : (window : ℕ) (present : List Held) (kept : Option ℕ) (q : ℕ) → q < 65536 → Rises 0 present → IsHigh present
     → IsLow q (live_note window (record { ended = []; present = present; kept = kept }) q)

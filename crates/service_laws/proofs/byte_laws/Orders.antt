@@ -2,7 +2,7 @@
 use Rattle.std.proofs.Common.{◌≡◌, ℕ, ◌+◌, ◌-◌, ◌*◌, ◌/◌, not, ⊎_elim, List, [], ◌∷◌, ◌++◌, take, drop, Option, Some, None, option_map, refl, ap, sym, ◌∙◌, subst, arith, append_assoc}
 use Rattle.std.specs.Prelude.{Result, Ok, Err, Contains, option_to_list}
 use Rattle.std.proofs.lemmas.Bool.{cond_both}
-use Rattle.std.proofs.lemmas.List.Elements.{Contains-append_cases, Contains-push_cases}
+use Rattle.std.proofs.lemmas.List.Elements.{Contains-append_cases}
 use Rattle.rams_model.specs.declared.answer.Order.{Order}
 use Rattle.rams_model.specs.declared.fault.TlvFault.{TlvFault}
 use Rattle.rams_model.specs.declared.held.Held.{Held}
@@ -16,6 +16,7 @@ use Rattle.rams_model.specs.Service.{Settings, bare_info, next_msn, update_info,
 use Rattle.rams_model.proofs.Legal.{Allows, Ends}
 use Rattle.rams_model.proofs.OpenBurst.{holds_of}
 use Rattle.service_laws.specs.book_laws.{IsMoment, orders_in, orders_of}
+use Rattle.service_laws.proofs.book_laws.Members.{of_one}
 use Rattle.service_laws.proofs.book_laws.OneLawful.{tells}
 use Rattle.service_laws.specs.byte_laws.{after, of_burst, bare, in_ms, last_told, ticks_of, Gets, TellsSo, WasOrdered}
 use Rattle.service_laws.proofs.byte_laws.LastTold.{info_bytes, IsTold, was_told, update_bytes}
@@ -107,7 +108,7 @@ split later i history = sym (append_assoc later (i ∷ []) history)
 
 of_option : (o : Option Order) (x : Order) → Contains (option_to_list o) x → o ≡ Some x
 of_option None x c = absurd (omega arith)
-of_option (Some y) x c = ⊎_elim (λ (none : Contains [] x). absurd (omega arith)) (λ e. ap (λ (z : Order). Some z) e) (Contains-push_cases [] y x c)
+of_option (Some y) x c = ap (λ (z : Order). Some z) (of_one y x c)
 
 ordered : (s : Settings) (whole later history : History) (o : Order) → whole ≡ later ++ history → ((h : History) → (rest : History) → whole ≡ rest ++ h → IsMoment s h)
     → Contains (orders_of s history) o → WasOrdered s o

@@ -1,9 +1,9 @@
 -- Each packet that came in time was read of a live event, and what is kept of it is read off its bytes.
-use Rattle.std.proofs.Common.{◌≡◌, ℕ, ◌+◌, ◌/◌, ◌%◌, ◌<◌, ◌≤◌, Bool, cond, not, ⊎_elim, List, [], ◌∷◌, ◌++◌, length, drop, get_or, refl, ap, sym, ◌∙◌, subst, arith, eqb, ltb}
-use Rattle.std.specs.Prelude.{Result, Ok, Err, All, Contains, IsTrue, ◌↔◌, slice_index}
+use Rattle.std.proofs.Common.{◌≡◌, ℕ, ◌+◌, ◌/◌, ◌%◌, ◌<◌, ◌≤◌, Bool, ⊎_elim, List, [], ◌∷◌, ◌++◌, length, drop, get_or, ap, sym, ◌∙◌, subst, arith, eqb}
+use Rattle.std.specs.Prelude.{Ok, All, Contains, IsTrue, ◌↔◌, slice_index}
 use Rattle.std.specs.Int.{w16, w32, to_be_bytes, from_be_bytes}
 use Rattle.std.specs.List.{AllByRecursion}
-use Rattle.std.proofs.lemmas.Bool.{cond_both, not-false, eqb-true, eq-eqb, ltb-false}
+use Rattle.std.proofs.lemmas.Bool.{eqb-true, eq-eqb}
 use Rattle.std.proofs.lemmas.List.{get_or-drop, length-append}
 use Rattle.std.proofs.lemmas.List.Elements.{Contains-append_right}
 use Rattle.rams_model.specs.declared.answer.Order.TheVariants as order
@@ -12,59 +12,25 @@ use Rattle.rams_model.specs.declared.channel.Channel.{Channel}
 use Rattle.rams_model.specs.declared.channel.Access.TheVariants.{Marker, Ts}
 use Rattle.rams_model.specs.declared.event.Event.{Event}
 use Rattle.rams_model.specs.declared.event.Event.TheVariants.{Live, Feedback, Tick}
-use Rattle.rams_model.specs.declared.fault.RtpFault.{RtpFault}
 use Rattle.rams_model.specs.declared.held.Held.{Held}
 use Rattle.rams_model.specs.declared.note.LiveNote.{LiveNote}
-use Rattle.rams_model.specs.declared.note.LiveNote.TheVariants.{Took, Restart, TooBig, ForeignSsrc, ForeignType}
+use Rattle.rams_model.specs.declared.note.LiveNote.TheVariants.{Took, Restart}
 use Rattle.rams_model.specs.Formats.{Packet, fields_of, header, spelling, stripped, retransmission, packet_at, framed}
 use Rattle.rams_model.specs.Packets.{Arrival, held_as, is_access_point, live_note, stream_of}
-use Rattle.rams_model.specs.Service.{Settings, Heard, live, dropped, feedback, unframed, tick, arrival, heard_packet, heard_live, heard_of, began, History, arrivals, stream, hold, datagram, history_of}
+use Rattle.rams_model.specs.Service.{Settings, Heard, live, dropped, feedback, unframed, tick, arrival, heard_live, heard_of, began, History, arrivals, stream, hold, datagram, history_of}
 use Rattle.rams_model.specs.Laws.{source}
 use Rattle.rams_model.proofs.Induction.{arrivals_of_event}
 use Rattle.rams_model.proofs.PlainPackets.{below_at}
 use Rattle.rams_model.proofs.Rising.{end_of}
 use Rattle.rams_model.proofs.RtpPackets.{spelled_so, read_has_no_fault}
 use Rattle.service_laws.specs.book_laws.{IsMoment}
-use Rattle.service_laws.proofs.book_laws.CameBefore.{all_of, came_in_time, IsNew, old_or_new, not_live, again}
+use Rattle.service_laws.proofs.book_laws.CameBefore.{all_of, came_in_time, IsNew, old_or_new, WasRead, ReadSo, live_read, not_live, again}
+use Rattle.service_laws.proofs.book_laws.Members.{is_first}
 use Rattle.service_laws.proofs.book_laws.SentSources.{held_of_source, source_after}
 use Rattle.service_laws.specs.byte_laws.{number16, number32, MayStart, CameAs, HasBytes}
 use Rattle.service_laws.proofs.byte_laws.Flags.{flags_where}
-use Rattle.service_laws.proofs.byte_laws.Low.{IsLow, IsHigh, live_note_low}
+use Rattle.service_laws.proofs.byte_laws.Low.{IsLow, IsHigh, high_present, live_note_low}
 use Rattle.service_laws.proofs.byte_laws.Rising.{all_rises}
-
--- ---- what was read
-
--- a live event's bytes are a packet that passes the tests, of which this is the arrival
-record WasRead (c : Channel) (bytes : List ℕ) (a : Arrival) : Type 0 where
-  short : length bytes ≤ 1470
-  packet : Packet
-  is_read : packet_at bytes ≡ Ok packet
-  media : packet.ssrc ≡ c.ssrc
-  kind : packet.payload_type ≡ c.pt
-  is_it : a ≡ arrival c packet
-
-abbrev ReadSo : Channel → List ℕ → Heard → Type 0
-ReadSo c bytes (live a) = WasRead c bytes a
-ReadSo c bytes _ = Unit {0}
-
-packet_read : (c : Channel) (bytes : List ℕ) (r : Result Packet RtpFault) → length bytes ≤ 1470 → packet_at bytes ≡ r → ReadSo c bytes (heard_packet c r)
-packet_read c bytes (Err fault) short e = tt
-packet_read c bytes (Ok p) short e =
-    cond_both (not (eqb p.ssrc c.ssrc)) (dropped ForeignSsrc) (cond (not (eqb p.payload_type c.pt)) (dropped ForeignType) (live (arrival c p))) (ReadSo c bytes) (λ t. tt)
-    (λ f. cond_both (not (eqb p.payload_type c.pt)) (dropped ForeignType) (live (arrival c p)) (ReadSo c bytes) (λ t. tt)
-    (λ g. record {
-      short = short;
-      packet = p;
-      is_read = e;
-      media = eqb-true p.ssrc c.ssrc (not-false (eqb p.ssrc c.ssrc) f);
-      kind = eqb-true p.payload_type c.pt (not-false (eqb p.payload_type c.pt) g);
-      is_it = refl;
-    }))
-
-live_read : (c : Channel) (bytes : List ℕ) → ReadSo c bytes (heard_live c bytes)
-live_read c bytes =
-    cond_both (ltb 1470 (length bytes)) (dropped TooBig) (heard_packet c (packet_at bytes)) (ReadSo c bytes) (λ t. tt)
-    (λ f. packet_read c bytes (packet_at bytes) (ltb-false 1470 (length bytes) f) refl)
 
 -- ---- each packet in time
 
@@ -96,13 +62,6 @@ earlier c event events h t = record {
   high = t.high;
   is_it = t.is_it;
 }
-
-is_first : {A : Type 0} (x : A) (xs : List A) → Contains (x ∷ xs) x
-is_first x xs = (0, omega arith, refl)
-
-high_present : (ended present : List Held) → ((k : Held) → Contains (ended ++ present) k → 65536 ≤ k.n) → IsHigh present
-high_present ended [] f = tt
-high_present ended (h ∷ hs) f = f h (Contains-append_right ended (h ∷ hs) h (is_first h hs))
 
 -- what a note takes has the number that the note names
 taken_under : (c : Channel) (events : List Event) (bytes : List ℕ) (a : Arrival) (m : ℕ) (h : Held) → WasRead c bytes a → All (λ b. b < 256) bytes → m % 65536 ≡ a.sequence
@@ -150,7 +109,7 @@ unfolding heard_of arrivals
 event_taken s (Live bytes) events h small old has = heard_taken s events bytes (heard_live s.channel bytes) h (live_read s.channel bytes) small old has
 event_taken s (Feedback client bytes) events h small old has =
     earlier s.channel (Feedback client bytes) events h
-    (old h (subst (λ (came : List Arrival). Contains (all_of (stream_of s.channel.window came)) h) (not_live s client (framed bytes) (history_of s events)) has))
+    (old h (subst (λ (came : List Arrival). Contains (all_of (stream_of s.channel.window came)) h) (not_live client (framed bytes) (history_of s events)) has))
 event_taken s Tick events h small old has = earlier s.channel Tick events h (old h has)
 
 each_taken : (s : Settings) (events : List Event) → AllByRecursion HasBytes events → (h : Held) → Contains (all_of (stream s (history_of s events))) h

@@ -1,8 +1,7 @@
 -- The numbers of the packets that came in time rise over all starts.
-use Rattle.std.proofs.Common.{◌≡◌, ℕ, ◌+◌, ◌-◌, ◌%◌, ◌≤◌, ◌⊎◌, inl, inr, ⊎_elim, Bool, true, false, cond, List, [], ◌∷◌, ◌++◌, Option, Some, refl, ap, sym, ◌∙◌, subst, arith, ltb}
+use Rattle.std.proofs.Common.{◌≡◌, ℕ, ◌+◌, ◌-◌, ◌%◌, ⊎_elim, Bool, true, false, cond, List, [], ◌∷◌, ◌++◌, Option, Some, refl, ap, sym, ◌∙◌, subst, arith, ltb}
 use Rattle.std.specs.Prelude.{filter, Contains}
 use Rattle.std.proofs.lemmas.Bool.{cases_Bool, eq-eqb}
-use Rattle.std.proofs.lemmas.List.Elements.{Contains-append_cases, Contains-push_cases}
 use Rattle.rams_model.specs.declared.held.Held.{Held}
 use Rattle.rams_model.specs.declared.note.LiveNote.{LiveNote}
 use Rattle.rams_model.specs.declared.note.LiveNote.TheVariants.{Restart, Jump}
@@ -10,6 +9,7 @@ use Rattle.rams_model.specs.Packets.{hi, ahead, following, is_kept, restart, jum
 use Rattle.rams_model.specs.Laws.{Rises}
 use Rattle.rams_model.proofs.Growing.{source_rises}
 use Rattle.service_laws.proofs.book_laws.CameBefore.{all_of}
+use Rattle.service_laws.proofs.book_laws.Members.{above, first_or_later}
 
 front_rises : (n : ℕ) (hs ks : List Held) → Rises n (hs ++ ks) → Rises n hs
 front_rises n [] ks r = tt
@@ -87,17 +87,6 @@ all_rises window arrivals = by_present (stream_of window arrivals).present refl
     by_present (h ∷ hs) e = rises_where window arrivals h hs e
 
 -- ---- which packets have a number
-
-pub of_one : (new h : Held) → Contains (new ∷ []) h → new ≡ h
-of_one new h c = ⊎_elim (λ (none : Contains [] h). absurd (omega arith)) (λ e. e) (Contains-push_cases [] new h c)
-
-first_or_later : (x : Held) (xs : List Held) (h : Held) → Contains (x ∷ xs) h → (x ≡ h) ⊎ Contains xs h
-first_or_later x xs h c = ⊎_elim (λ f. inl (of_one x h f)) (λ l. inr l) (Contains-append_cases (x ∷ []) xs h c)
-
-above : (n : ℕ) (hs : List Held) (h : Held) → Rises n hs → Contains hs h → n ≤ h.n
-above n [] h r c = absurd (omega arith)
-above n (x ∷ xs) h r c =
-    ⊎_elim (λ (e : x ≡ h). subst (λ (y : Held). n ≤ y.n) e r.0) (λ l. let le = above (x.n + 1) xs h r.1 l in omega (arith, r.0, le)) (first_or_later x xs h c)
 
 -- a number stands once where numbers rise
 pub stands_once : (n : ℕ) (hs : List Held) (h k : Held) → Rises n hs → Contains hs h → Contains hs k → h.n ≡ k.n → h ≡ k

@@ -88,10 +88,6 @@ pub join_plays : (source : List Held) (f : ℕ) (p : Playing) (pieces : List Pie
 join_plays source f p pieces None h = h
 join_plays source f p pieces (Some n) h = record { bits = h.bits; high = h.high; next = h.next; shown = h.shown; waits = h.waits }
 
-pub same_next : (p : Playing) (o : Option ℕ) → (join_kept o p).next ≡ p.next
-same_next p None = refl
-same_next p (Some n) = refl
-
 -- so it is with a packet of the multicast
 pub arrives_by_multicast : (source : List Held) (f : ℕ) (p : Playing) (pieces : List Piece) (x low : ℕ) (packet : List ℕ) → Plays source f p pieces
     → low ≡ x % 65536 → IsOf source x packet → IsNear (f + length pieces) x → Plays source f (arrived_by_multicast low packet p) pieces

@@ -1,11 +1,11 @@
 -- Packets of a source that follow one another from f on are the first of it from f on.
-use Rattle.std.proofs.Common.{◌≡◌, ℕ, zero, suc, ◌+◌, ◌<◌, ◌≤◌, List, [], ◌∷◌, ◌++◌, length, map, get_or, Option, Some, None, refl, ap, sym, ◌∙◌, subst, arith, inl, inr, ⊎_elim, leb}
+use Rattle.std.proofs.Common.{◌≡◌, ℕ, zero, suc, ◌+◌, ◌<◌, List, [], ◌∷◌, ◌++◌, length, map, get_or, Option, Some, None, refl, ap, sym, ◌∙◌, arith, inl, inr, ⊎_elim}
 use Rattle.std.specs.List.{range_with_len}
-use Rattle.std.proofs.lemmas.Bool.{cond-true, cond-false, le-leb, lt-leb}
 use Rattle.rams_model.specs.declared.held.Held.{Held}
 use Rattle.rams_model.specs.Laws.{Rises, IsAmong}
 use Rattle.rams_model.specs.Packets.{from_number, Follows}
 use Rattle.rams_model.specs.Receiver.{Piece, Playing}
+use Rattle.rams_model.proofs.Rising.{at_least, from_all, not_from}
 use Rattle.service_laws.specs.receiver_laws.Presenting.{Presents}
 use Rattle.service_laws.proofs.receiver_laws.Arriving.{AreShown}
 use Rattle.service_laws.proofs.receiver_laws.Standing.{Stands}
@@ -15,33 +15,18 @@ among [] h k lt e = absurd (omega arith)
 among (g ∷ gs) h zero lt e = inl e
 among (g ∷ gs) h (suc k) lt e = inr (among gs h k (omega arith) e)
 
--- all from a number on are these packets, where they begin there
-all_from : (n m : ℕ) (hs : List Held) → n ≤ m → Rises m hs → from_number n hs ≡ hs
-all_from n m [] le r = refl
-all_from n m (h ∷ hs) le r =
-    cond-true (leb n h.n) (h ∷ from_number n hs) (from_number n hs) (le-leb n h.n (omega (arith, le, r.0)))
-    ∙ ap (λ (ks : List Held). h ∷ ks) (all_from n (h.n + 1) hs (omega (arith, le, r.0)) r.1)
-
-at_least : (n : ℕ) (h : Held) (hs : List Held) → Rises n hs → IsAmong h hs → n ≤ h.n
-at_least n h [] r a = absurd a
-at_least n h (k ∷ ks) r a =
-    ⊎_elim (λ (same : k ≡ h). subst (λ (x : Held). n ≤ x.n) same r.0) (λ later. let le = at_least (k.n + 1) h ks r.1 later in omega (arith, le, r.0)) a
-
-leaves : (n : ℕ) (k : Held) (ks : List Held) → k.n < n → from_number n (k ∷ ks) ≡ from_number n ks
-leaves n k ks lt = cond-false (leb n k.n) (k ∷ from_number n ks) (from_number n ks) (lt-leb n k.n lt)
-
 -- the packets from f on begin with the one of number f
 front : (f m : ℕ) (h : Held) (hs : List Held) → Rises m hs → IsAmong h hs → h.n ≡ f → from_number f hs ≡ h ∷ from_number (f + 1) hs
 front f m h [] r a e = absurd a
 front f m h (k ∷ ks) r a e =
     ⊎_elim
     (λ (same : k ≡ h). let at : k.n ≡ f = ap (λ (x : Held). x.n) same ∙ e in
-    all_from f f (k ∷ ks) (omega arith) (omega (arith, at), r.1)
+    from_all f f (k ∷ ks) (omega arith) (omega (arith, at), r.1)
     ∙ ap (λ (x : Held). x ∷ ks) same
-    ∙ ap (λ (rest : List Held). h ∷ rest) (sym (leaves (f + 1) k ks (omega (arith, at)) ∙ all_from (f + 1) (k.n + 1) ks (omega (arith, at)) r.1)))
+    ∙ ap (λ (rest : List Held). h ∷ rest) (sym (not_from (f + 1) k ks (omega (arith, at)) ∙ from_all (f + 1) (k.n + 1) ks (omega (arith, at)) r.1)))
     (λ later. let lt = at_least (k.n + 1) h ks r.1 later in
-    leaves f k ks (omega (arith, lt, e)) ∙ front f (k.n + 1) h ks r.1 later e
-    ∙ ap (λ (rest : List Held). h ∷ rest) (sym (leaves (f + 1) k ks (omega (arith, lt, e))))) a
+    not_from f k ks (omega (arith, lt, e)) ∙ front f (k.n + 1) h ks r.1 later e
+    ∙ ap (λ (rest : List Held). h ∷ rest) (sym (not_from (f + 1) k ks (omega (arith, lt, e))))) a
 
 -- The first packets of the source from f on, which were presented under the numbers from n on.
 record AreFirst (source : List Held) (f n : ℕ) (pieces : List Piece) : Type 0 where

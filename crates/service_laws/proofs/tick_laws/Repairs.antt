@@ -2,7 +2,7 @@
 use Rattle.std.proofs.Common.{◌≡◌, ℕ, ◌<◌, Bool, true, false, cond, not, ◌&&◌, ◌⊎◌, inl, inr, ⊎_elim, List, [], ◌∷◌, ◌++◌, Option, Some, None, refl, ap, sym, ◌∙◌, subst, arith, eqb, leb, append_assoc}
 use Rattle.std.specs.Prelude.{Contains, filter, find}
 use Rattle.std.proofs.lemmas.Bool.{cases_Bool, and_from, eqb-true, eq-eqb, leb-false, not-true, true≢false}
-use Rattle.std.proofs.lemmas.List.Elements.{Contains-append_right, Contains-append_cases, Contains-push_cases}
+use Rattle.std.proofs.lemmas.List.Elements.{Contains-append_right}
 use Rattle.rams_model.specs.declared.event.Event.{Event}
 use Rattle.rams_model.specs.declared.held.Held.{Held}
 use Rattle.rams_model.specs.declared.note.Note.{Note}
@@ -10,11 +10,13 @@ use Rattle.rams_model.specs.declared.event.Event.TheVariants.{Tick}
 use Rattle.rams_model.specs.declared.note.Note.TheVariants as note
 use Rattle.rams_model.specs.Service.{Settings, tick, began, noted, History, hold, known, opened, sequence, Wanted, wanted, is_wanted, pending, channel_left, run_left, kept_from_repairs, may_take, open_burst, repaired, all_repaired, idle_forgotten, history_of}
 use Rattle.rams_model.specs.Laws.{NoneIs, is_event}
+use Rattle.rams_model.proofs.Adding.{no_event, none_of_both}
 use Rattle.rams_model.proofs.Induction.{through}
 use Rattle.rams_model.proofs.Items.{Puts, is_repair, is_forgotten, repaired_puts, all_repaired_put, all_served_put, all_forgotten_put}
 use Rattle.rams_model.proofs.Legal.{is_of_runs, IsGone}
 use Rattle.service_laws.specs.tick_laws.{HadItsTurn}
-use Rattle.service_laws.proofs.tick_laws.Takes.{no_event, no_events, may_keep, too_large_for_client, too_large_for_channel}
+use Rattle.service_laws.proofs.book_laws.Members.{first_or_later}
+use Rattle.service_laws.proofs.tick_laws.Takes.{may_keep, too_large_for_client, too_large_for_channel}
 use Rattle.service_laws.proofs.tick_laws.Ticks.{start, ran, repaired_all, tick_is, held_ran, of_filtered, passed}
 
 -- ---- runs and forgetting leave what waits as it is
@@ -59,7 +61,7 @@ turn_later s held first from to w p t =
       now = t.now ++ p.items;
       since = t.since;
       splits = t.splits ∙ ap (λ (h : History). t.since ++ h) same;
-      here = no_events t.now p.items t.here (no_event is_repair p.items p.notes);
+      here = none_of_both t.now p.items t.here (no_event is_repair p.items p.notes);
       large = subst (λ (h : History). (may_take s held w.client h < t.packet.wire) ⊎ (channel_left s h < t.packet.wire)) same t.large;
     }
 
@@ -141,12 +143,9 @@ all_turns s held (v ∷ vs) w history c =
     let here = one_turn s held v w o history (all_repaired s held vs mid) rest.items refl rest.splits later.before in
     record {
       before = here.before;
-      turn = λ d. ⊎_elim (λ (first : Contains (v ∷ []) w). here.turn (of_one v w first))
-          (λ more. turn_later s held history mid (all_repaired s held vs mid) w (repaired_puts s held v o history) (later.turn more)) (Contains-append_cases (v ∷ []) vs w d);
+      turn = λ d. ⊎_elim (λ (first : v ≡ w). here.turn first)
+          (λ more. turn_later s held history mid (all_repaired s held vs mid) w (repaired_puts s held v o history) (later.turn more)) (first_or_later v vs w d);
     }
-  where
-    of_one : (v w : Wanted) → Contains (v ∷ []) w → v ≡ w
-    of_one v w c = ⊎_elim (λ (none : Contains [] w). absurd (omega arith)) (λ e. e) (Contains-push_cases [] v w c)
 
 -- said of the whole tick
 of_tick : (s : Settings) (held : List Held) (before runs after final a b : History) (w : Wanted) → held ≡ hold s before → runs ≡ a ++ (began tick ∷ before) → NoneIs is_event a
@@ -155,7 +154,7 @@ of_tick s held before runs after final a b w same_held ran none forgot t =
     let begin : History = began tick ∷ before in
     let same : t.now ++ runs ≡ (t.now ++ a) ++ begin = ap (λ (h : History). t.now ++ h) ran ∙ sym (append_assoc t.now a begin) in
     let whole : History = (t.now ++ a) ++ (began tick ∷ before) in
-    let here = no_events t.now a t.here none in
+    let here = none_of_both t.now a t.here none in
     record {
       packet = t.packet;
       held = subst (λ (hs : List Held). Contains hs t.packet) same_held t.held_is;
@@ -195,9 +194,7 @@ none_held n (x ∷ xs) e h c at = by_case (eqb x.n n) refl (λ g later. none_hel
     by_case : (b : Bool) → eqb x.n n ≡ b → (find (λ y. eqb y.n n) xs ≡ None → Contains xs h → ⊥) → cond b (Some x) (find (λ y. eqb y.n n) xs) ≡ None → ⊥
     by_case true t more f = cc
     by_case false f more g =
-        ⊎_elim (λ (first : Contains (x ∷ []) h). ⊎_elim (λ (none : Contains [] h). absurd (omega arith))
-        (λ (is : x ≡ h). true≢false (sym (eq-eqb x.n n (ap (λ (y : Held). y.n) is ∙ at)) ∙ f)) (Contains-push_cases [] x h first))
-        (λ later. more g later) (Contains-append_cases (x ∷ []) xs h c)
+        ⊎_elim (λ (is : x ≡ h). true≢false (sym (eq-eqb x.n n (ap (λ (y : Held). y.n) is ∙ at)) ∙ f)) (λ later. more g later) (first_or_later x xs h c)
 
 pub gone_is_not_held : (s : Settings) (client n : ℕ) (history : History) → IsGone s history client n
     → Contains (pending history) (wanted client n) × ((h : Held) → Contains (hold s history) h → h.n ≡ n → ⊥)

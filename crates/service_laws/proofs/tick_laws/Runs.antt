@@ -1,8 +1,8 @@
 -- After a tick each open burst is at its end.
 use Rattle.std.proofs.Common.{is_some, ◌≡◌, ℕ, ◌+◌, ◌-◌, ◌<◌, ◌≤◌, true, false, cond, ◌&&◌, ◌⊎◌, inl, inr, ⊎_elim, List, [], ◌∷◌, Option, Some, None, refl, ap, sym, ◌∙◌, subst, arith, eqb, leb}
-use Rattle.std.specs.Prelude.{Contains, IfSome}
-use Rattle.std.proofs.lemmas.Bool.{cases_Bool, cond_both, and_parts, and_from, or_cases, eqb-true, eq-eqb, leb-true, leb-false, le-leb, lt-ltb, true≢false}
-use Rattle.std.proofs.lemmas.List.Elements.{Contains-append_right, Contains-append_cases, Contains-push_cases}
+use Rattle.std.specs.Prelude.{Contains}
+use Rattle.std.proofs.lemmas.Bool.{cases_Bool, cond_both, and_parts, and_from, or_cases, eqb-true, eq-eqb, leb-true, leb-false, le-leb, true≢false}
+use Rattle.std.proofs.lemmas.List.Elements.{Contains-append_right}
 use Rattle.rams_model.specs.declared.event.Event.{Event}
 use Rattle.rams_model.specs.declared.held.Held.{Held}
 use Rattle.rams_model.specs.declared.note.Cause.{Cause}
@@ -21,6 +21,8 @@ use Rattle.rams_model.proofs.OpenBurst.{open_sent, end_closes, Holds, holds_of, 
 use Rattle.rams_model.proofs.Rising.{some_of}
 use Rattle.rams_model.proofs.Since.{opened_stands}
 use Rattle.service_laws.specs.tick_laws.{IsAtItsEnd}
+use Rattle.service_laws.proofs.book_laws.Members.{above, first_or_later}
+use Rattle.service_laws.proofs.book_laws.NackTable.{is_before_stop}
 use Rattle.service_laws.proofs.tick_laws.Ticks.{start, ran, repaired_all, tick_is, held_at_start}
 
 -- ---- which packets stand from a number on
@@ -30,10 +32,6 @@ from_rises n m [] r = tt
 from_rises n m (h ∷ hs) r =
     cond_both (leb n h.n) (h ∷ from_number n hs) (from_number n hs) (Rises n) (λ t. (leb-true n h.n t, some_of (λ x. leb n x.n) (h.n + 1) hs r.1)) (λ f. from_rises n (h.n + 1) hs r.1)
 
-first_or_later : (x : Held) (xs : List Held) (h : Held) → Contains (x ∷ xs) h → (x ≡ h) ⊎ Contains xs h
-first_or_later x xs h c =
-    ⊎_elim (λ f. ⊎_elim (λ (none : Contains [] h). absurd (omega arith)) (λ e. inl e) (Contains-push_cases [] x h f)) (λ l. inr l) (Contains-append_cases (x ∷ []) xs h c)
-
 from_has : (n : ℕ) (hs : List Held) (h : Held) → Contains hs h → n ≤ h.n → Contains (from_number n hs) h
 from_has n [] h c le = absurd (omega arith)
 from_has n (x ∷ xs) h c le =
@@ -42,16 +40,7 @@ from_has n (x ∷ xs) h c le =
     (λ l. Contains-append_right (x ∷ []) (from_number n xs) h (from_has n xs h l le)) (first_or_later x xs h c))
     (λ f. ⊎_elim (λ (e : x ≡ h). absurd (true≢false (sym (le-leb n x.n (subst (λ (y : Held). n ≤ y.n) (sym e) le)) ∙ f))) (λ l. from_has n xs h l le) (first_or_later x xs h c))
 
-above : (n : ℕ) (hs : List Held) (h : Held) → Rises n hs → Contains hs h → n ≤ h.n
-above n [] h r c = absurd (omega arith)
-above n (x ∷ xs) h r c =
-    ⊎_elim (λ (e : x ≡ h). subst (λ (y : Held). n ≤ y.n) e r.0) (λ l. let le = above (x.n + 1) xs h r.1 l in omega (arith, r.0, le)) (first_or_later x xs h c)
-
 -- ---- a run goes on to its end
-
-before_stop : (stop : Option ℕ) (n : ℕ) → IfSome stop (λ m. n < m) → is_before stop n ≡ true
-before_stop None n lt = refl
-before_stop (Some m) n lt = lt-ltb n m lt
 
 -- where the next packet isn't sent the burst is at its end
 stops_here : (held ps : List Held) (p : Held) (b : Burst) → Rises (next b) (p ∷ ps) → ((h : Held) → Contains held h → next b ≤ h.n → Contains (p ∷ ps) h)
@@ -59,7 +48,7 @@ stops_here : (held ps : List Held) (p : Held) (b : Burst) → Rises (next b) (p 
 stops_here held ps p b r has f h c at before =
     ⊎_elim
     (λ (e : p ≡ h). ⊎_elim
-    (λ (t : leb p.wire b.left ≡ true). absurd (true≢false (sym (and_from _ _ (and_from _ _ (eq-eqb p.n (next b) (ap (λ (x : Held). x.n) e ∙ at)) (before_stop b.stop (next b) before)) t) ∙ f)))
+    (λ (t : leb p.wire b.left ≡ true). absurd (true≢false (sym (and_from _ _ (and_from _ _ (eq-eqb p.n (next b) (ap (λ (x : Held). x.n) e ∙ at)) (is_before_stop b.stop (next b) before)) t) ∙ f)))
     (λ u. subst (λ (x : Held). b.left < x.wire) e (leb-false p.wire b.left u)) (cases_Bool (leb p.wire b.left)))
     (λ l. let le = above (p.n + 1) ps h r.1 l in absurd (omega (arith, le, at, r.0)))
     (first_or_later p ps h (has h c (omega (arith, at))))

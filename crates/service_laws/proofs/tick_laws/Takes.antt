@@ -9,22 +9,9 @@ use Rattle.rams_model.specs.Packets.{hi}
 use Rattle.rams_model.specs.Service.{Settings, tick, began, told, noted, History, as_tick_began, Burst, next, size_of, in_tick, bursts, open_burst, is_burst_of, is_repair_of, sent_now, budget_of, cap, run_left, kept_from_repairs, may_take, channel_left}
 use Rattle.rams_model.specs.Laws.{NoneIs, is_event, is_sending, is_sending_to, sizes_sent}
 use Rattle.rams_model.proofs.Budgets.{channel_has_left}
-use Rattle.rams_model.proofs.Items.{AreOfKind}
 use Rattle.rams_model.proofs.OpenBurst.{changed_open}
 use Rattle.service_laws.specs.book_laws.{may_be_sent}
 use Rattle.service_laws.specs.tick_laws.{MayKeep}
-
--- ---- notes of a tick begin no event
-
-pub no_event : (kind : Note → Bool) (items : History) → AreOfKind kind items → NoneIs is_event items
-no_event kind [] a = tt
-no_event kind (noted n packet ∷ items) a = (refl, no_event kind items a.1)
-no_event kind (began heard ∷ items) a = absurd a
-no_event kind (told client message ∷ items) a = absurd a
-
-pub no_events : (items more : History) → NoneIs is_event items → NoneIs is_event more → NoneIs is_event (items ++ more)
-no_events [] more n m = m
-no_events (i ∷ items) more n m = (n.0, no_events items more n.1 m)
 
 -- ---- what was sent in the tick
 

@@ -2,13 +2,13 @@
 use Rattle.std.proofs.Common.{◌≡◌, ℕ, zero, suc, ◌+◌, ◌-◌, ◌*◌, ◌<◌, ◌≤◌, Bool, true, false, cond, inr, ⊎_elim, List, [], ◌∷◌, ◌++◌, length, take, drop, refl, ap, sym, ◌∙◌, subst, arith, suc-mul, eqb, leb}
 use Rattle.std.proofs.lemmas.List.{take-append-drop, length-drop, length-append}
 use Rattle.std.proofs.Math.Nat.{lt_of_mul-lt-mul_right}
-use Rattle.std.proofs.lemmas.Bool.{cond_both, cond-true, cond-false, leb-true, leb-false, le-leb, eq-eqb, and_from}
+use Rattle.std.proofs.lemmas.Bool.{cond_both, cond-false, leb-true, leb-false, eq-eqb, and_from}
 use Rattle.rams_model.specs.declared.held.Held.{Held}
 use Rattle.rams_model.specs.Service.{Settings, History, arrivals, hold}
 use Rattle.rams_model.specs.Packets.{hi, wires, from_number, Follows, is_consecutive, consecutive_end}
 use Rattle.rams_model.specs.Packets.Source as sources
 use Rattle.rams_model.specs.Laws.{source, AreAtLeast, Rises, IsAmong}
-use Rattle.rams_model.proofs.Rising.{hi_of_end, at_least}
+use Rattle.rams_model.proofs.Rising.{hi_of_end, at_least, from_all}
 use Rattle.rams_model.proofs.Growing.{source_rises}
 use Rattle.rams_model.proofs.Holding.{rises_from, longest_end}
 use Rattle.rams_model.proofs.Holding as holding
@@ -37,13 +37,6 @@ hi_is n (h ∷ hs) f lt = holding.hi_is n h hs f
 pub hi_end : (front end : List Held) → 0 < length end → hi (front ++ end) ≡ hi end
 hi_end front [] lt = absurd (omega arith)
 hi_end front (h ∷ hs) lt = hi_of_end front h hs
-
--- all stand from a number on that is at most the first's
-from_all : (n m : ℕ) (hs : List Held) → n ≤ m → Rises m hs → from_number n hs ≡ hs
-from_all n m [] le r = refl
-from_all n m (h ∷ hs) le r =
-    cond-true (leb n h.n) (h ∷ from_number n hs) (from_number n hs) (le-leb n h.n (omega (arith, le, r.0)))
-    ∙ ap (λ (l : List Held). h ∷ l) (from_all n (h.n + 1) hs (omega (arith, le, r.0)) r.1)
 
 from_follows : (n u : ℕ) (hs : List Held) → Follows n hs → from_number (n + u) hs ≡ drop u hs
 from_follows n zero hs f = from_all (n + 0) n hs (omega arith) (rises_from n hs f)
