@@ -3,6 +3,7 @@ use Rattle.std.proofs.Common.{◌≡◌, ℕ, ◌+◌, ◌<◌, ◌≤◌, List,
 use Rattle.std.proofs.lemmas.List.{take-append-le}
 use Rattle.std.specs.Io.KnownBytes.{Keeps, Consumes, IsAtEnd, prepend_known}
 use Rattle.rams_model.specs.Texts.{lines_of}
+pub use Rattle.rams_model.proofs.ListFacts.{on_failure}
 use Rattle.line_io.specs.declared.reader.Next.TheVariants.{Line, Long, End}
 use Rattle.line_io.specs.{HasNoFeed, IsCutAt, IsCutOff, TakesNext}
 use Rattle.line_io.proofs.LineFeeds.{lines_of-cut, lines_of-all, lines_of-begins}
@@ -80,8 +81,3 @@ pub Keeps-kept : (kept now : List ℕ) (a b : Option (List ℕ)) → now ≡ kep
 Keeps-kept kept now None b is same = tt
 Keeps-kept kept now (Some xs) None is same = absurd same
 Keeps-kept kept now (Some xs) (Some ys) is same = rw (is, same) refl
-
--- what holds anyway holds where a call fails
-pub on_failure : {T E : Type 0} (r : Result T E) (P : Type 0) → P → OnErr r P
-on_failure (Ok value) P p = tt
-on_failure (Err e) P p = p

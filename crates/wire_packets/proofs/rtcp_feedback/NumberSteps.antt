@@ -4,11 +4,8 @@ use Rattle.std.specs.Prelude.{◌==◌, if◌then◌else◌, filter}
 use Rattle.std.specs.Int.{w16, from_be_bytes, bit_at}
 use Rattle.std.proofs.lemmas.Bool.{ne_eqb}
 use Rattle.rams_model.specs.Formats.{counted_from, numbers_of, word_numbers, nack_numbers}
+use Rattle.rams_model.proofs.ListFacts.{map_cond}
 use Rattle.wire_packets.specs.rtcp_feedback.{marked_from, numbers_from}
-
-map_cond : (f : ℕ → ℕ) (b : Bool) (x : ℕ) (xs : List ℕ) → map f (cond b (x ∷ xs) xs) ≡ cond b (f x ∷ map f xs) (map f xs)
-map_cond f true x xs = refl
-map_cond f false x xs = refl
 
 marked_step : (pid blp i n : ℕ) → marked_from pid blp i (suc n) ≡ (if bit_at blp (i - 1) == 1 then (pid + i) % 65536 ∷ marked_from pid blp (i + 1) n else marked_from pid blp (i + 1) n)
 unfolding marked_from

@@ -112,7 +112,3 @@ room_for_word text old all ns pid blp last whole =
 -- what stood before a word is still there behind it
 pub kept_behind : (old some text word more : List ℕ) → text ≡ old ++ some → more ≡ text ++ word → more ≡ old ++ (some ++ word)
 kept_behind old some text word more is written = written ∙ ap (λ (l : List ℕ). l ++ word) is ∙ append_assoc old some word
-
-pub on_err : {T E : Type 0} (r : Result T E) (P : Type 0) → P → OnErr r P
-on_err (Ok x) P p = tt
-on_err (Err e) P p = p

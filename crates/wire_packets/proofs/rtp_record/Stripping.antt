@@ -4,6 +4,7 @@ use Rattle.std.specs.Prelude.{if◌then◌else◌, OnErr}
 use Rattle.std.specs.Int.{w16, w32, to_be_bytes}
 use Rattle.std.proofs.lemmas.List.{append-nil, length-append, length-drop, length-set, length-take, take_at, set-append_right}
 use Rattle.rams_model.specs.Formats.{Packet, flag, header, spelling, stripped, AreCsrc, behind_extension, padding_size, fields_of}
+use Rattle.rams_model.proofs.RtpPackets.{flag_below}
 use Rattle.wire_packets.specs.rtp_record.{ArePlaces, without_padding_bit}
 use Rattle.wire_packets.proofs.rtp_record.Reading.{behind_extension_at}
 
@@ -21,10 +22,6 @@ spelling_is p = refl
 stripped_is : (p : Packet) → stripped p ≡ (128 + 16 * flag p.extension + length p.csrc / 4) ∷ tail p
 unfolding spelling header
 stripped_is p = ap (λ (rest : List ℕ). (128 + 16 * flag p.extension + length p.csrc / 4) ∷ rest) (append-nil (tail p))
-
-flag_below : (xs : List ℕ) → flag xs < 2
-flag_below [] = omega arith
-flag_below (x ∷ xs) = omega arith
 
 cleared : (p : Packet) → AreCsrc p.csrc → without_padding_bit (first p) ≡ 128 + 16 * flag p.extension + length p.csrc / 4
 cleared p h =
@@ -69,7 +66,3 @@ stripped_length bytes extension payload padding h =
 pub written_behind : (old piece : List ℕ) (n b : ℕ) → n ≡ length old → set (old ++ piece) n b ≡ old ++ set piece 0 b
 written_behind old piece n b is =
     set-append_right old piece n n b (sym is) (omega arith) ∙ ap (λ (i : ℕ). old ++ set piece i b) (omega arith)
-
-pub on_err : {T E : Type 0} (r : Result T E) (P : Type 0) → P → OnErr r P
-on_err (Ok x) P p = tt
-on_err (Err e) P p = p

@@ -1,7 +1,8 @@
 use Rattle.std.proofs.Common.{◌∙◌, ◌++◌, drop, get_or, refl, sym, arith}
 use Rattle.rams_model.specs.Formats.{distance, nack_words}
 use Rattle.std.proofs.lemmas.Grind.{common_steps}
-use Rattle.wire_packets.proofs.rtcp_feedback.Packing.{joins_word, begins_word, ends_words, bits_below, bits_few, room_for_word, kept_behind, on_err}
+use Rattle.rams_model.proofs.ListFacts.{on_failure}
+use Rattle.wire_packets.proofs.rtcp_feedback.Packing.{joins_word, begins_word, ends_words, bits_below, bits_few, room_for_word, kept_behind}
 use Rattle.std.specs.Int.{w16, to_be_bytes}
 use Rattle.wire_packets.proofs.rtcp_feedback.nack_writing.append_words.Goals as goal
 
@@ -40,13 +41,13 @@ pub returns-in_err-append_word-clause-full : goal.returns-in_err-append_word-cla
 returns-in_err-append_word-clause-full c =
     let l = c.loop-number in
     let room = room_for_word l.text.items c.args.text.now.items (nack_words c.args.numbers.now) (drop l.number-index c.in-Some.rest.now) l.pid l.blp l.last l.invariant.whole in
-    on_err c.from_residual.result _ (omega (arith, room, l.invariant.capacity, c.in_err-append_word.ensures.full))
+    on_failure c.from_residual.result _ (omega (arith, room, l.invariant.capacity, c.in_err-append_word.ensures.full))
 
 pub returns-in_err-append_word-2-clause-full : goal.returns-in_err-append_word-2-clause-full
 returns-in_err-append_word-2-clause-full c =
     let l = c.loop-number in
     let room = room_for_word l.text.items c.args.text.now.items (nack_words c.args.numbers.now) (drop l.number-index c.in-Some.rest.now) l.pid l.blp l.last l.invariant.whole in
-    on_err c.from_residual-in_err-append_word-2.result _ (omega (arith, room, l.invariant.capacity, c.in_err-append_word-2.ensures.full))
+    on_failure c.from_residual-in_err-append_word-2.result _ (omega (arith, room, l.invariant.capacity, c.in_err-append_word-2.ensures.full))
 
 pub returns-clause-text : goal.returns-clause-text
 returns-clause-text c =

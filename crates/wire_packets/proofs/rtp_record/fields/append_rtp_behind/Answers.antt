@@ -1,7 +1,7 @@
 use Rattle.std.proofs.Common.{List, ℕ, ◌++◌, refl, ap, ◌∙◌, arith}
 use Rattle.std.proofs.lemmas.List.{length-append}
+use Rattle.rams_model.proofs.ListFacts.{on_failure}
 use Rattle.wire_packets.specs.rtp_record.{packet_of, behind}
-use Rattle.wire_packets.proofs.rtp_record.Stripping.{on_err}
 use Rattle.wire_packets.proofs.rtp_record.Writing.{spelled_length, put_together, header_behind}
 use Rattle.wire_packets.proofs.rtp_record.fields.append_rtp_behind.Goals as goal
 
@@ -9,7 +9,7 @@ pub returns-in_err-reserve-clause-full : goal.returns-in_err-reserve-clause-full
 returns-in_err-reserve-clause-full c =
     let f = c.args.f.now in
     let long = spelled_length (behind c.args.front.now (packet_of f)) refl in
-    on_err c.from_residual.result _ (omega (arith, c.in_err-reserve.ensures.full, long, length-append c.args.front.now f.payload.now))
+    on_failure c.from_residual.result _ (omega (arith, c.in_err-reserve.ensures.full, long, length-append c.args.front.now f.payload.now))
 
 pub returns-clause-text : goal.returns-clause-text
 returns-clause-text c =

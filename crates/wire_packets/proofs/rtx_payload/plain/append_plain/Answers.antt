@@ -1,5 +1,5 @@
 use Rattle.std.proofs.Common.{ℕ, ◌<◌, List, ◌++◌, get_or, take, drop, ap, ◌∙◌, arith, append_assoc}
-use Rattle.wire_packets.proofs.rtp_record.Stripping.{on_err}
+use Rattle.rams_model.proofs.ListFacts.{on_failure}
 use Rattle.wire_packets.specs.rtx_payload.{plain_head}
 use Rattle.wire_packets.proofs.rtx_payload.PlainBytes.{plain_again, plain_long}
 use Rattle.wire_packets.proofs.rtx_payload.plain.append_plain.Goals as goal
@@ -7,7 +7,7 @@ use Rattle.wire_packets.proofs.rtx_payload.plain.append_plain.Goals as goal
 pub returns-in_err-reserve-clause-full : goal.returns-in_err-reserve-clause-full
 returns-in_err-reserve-clause-full c =
     let fits : (i : ℕ) → get_or c.args.packet.now i 0 < 256 = λ i. let f = c.type_inv.packet i in omega arith in
-    on_err c.from_residual.result _ (omega (arith, c.in_err-reserve.ensures.full, plain_long c.args.packet.now c.args.rtx c.args.seq fits c.requires.plain))
+    on_failure c.from_residual.result _ (omega (arith, c.in_err-reserve.ensures.full, plain_long c.args.packet.now c.args.rtx c.args.seq fits c.requires.plain))
 
 pub returns-clause-text : goal.returns-clause-text
 returns-clause-text c =
