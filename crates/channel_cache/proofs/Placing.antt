@@ -4,19 +4,14 @@ use Rattle.std.proofs.lemmas.Bool.Decides.{nat_tests}
 use Rattle.rams_model.specs.declared.held.Held.{Held}
 use Rattle.rams_model.specs.Packets.{hi}
 use Rattle.channel_cache.specs.packet_ring.Seen as rings
-use Rattle.channel_cache.specs.declared.reorder_window.window.Came.TheVariants.{Kept, Late, Twice}
+use Rattle.channel_cache.specs.declared.reorder_window.window.Came.TheVariants.{Kept}
 use Rattle.channel_cache.specs.reorder_window.{Start, has_number, with_item, released, keeping, came_of, RisesIn}
 use Rattle.channel_cache.specs.reorder_window.Seen as windows
+use Rattle.channel_cache.proofs.reorder_window.Passing.{kept_step}
 use Rattle.channel_cache.proofs.reorder_window.Rising.{rises-wider, rises-with_item, length-with_item}
 use Rattle.channel_cache.proofs.reorder_window.Searches.{next-from, next-end}
 use Rattle.channel_cache.specs.declared.intake.Intake.{Intake}
 use Rattle.channel_cache.specs.{IsWhole, packets_of, IsItem, AreItems, IsIntake}
-
--- what a kept packet tells
-kept_step : (late known : Bool) → (if late then Late else if known then Twice else Kept) ≡ Kept → (late ≡ false) × (known ≡ false)
-kept_step true known is = absurd cc
-kept_step false true is = absurd cc
-kept_step false false is = (refl, refl)
 
 -- one more item
 with_step : (n : ℕ) (h : Held) (e : ℕ × Held) (es : List (ℕ × Held)) (b : Bool) → IsItem (n, h) → AreItems (e ∷ es) → AreItems (with_item n h es) → AreItems (if b then (n, h) ∷ e ∷ es else e ∷ with_item n h es)

@@ -5,7 +5,7 @@ use Rattle.std.proofs.lemmas.Bool.Decides.{nat_tests}
 use Rattle.std.proofs.lemmas.List.Sums.{sum_by_push}
 use Rattle.rams_model.specs.declared.held.Held.{Held}
 use Rattle.rams_model.specs.Packets.{wires, from_number, behind, last_timestamp, Follows}
-use Rattle.rams_model.proofs.Holding.{all_from}
+use Rattle.rams_model.proofs.Holding.{all_from, one_behind}
 use Rattle.channel_cache.specs.access_index.{AccessPoint, more_behind, point_of, points_of}
 
 -- an access point in front of others
@@ -39,10 +39,6 @@ pub points_same : (k : ℕ) (hs : List Held) → Follows k hs → points_of hs �
 points_same k hs follows = points_same_in k hs hs follows (λ n above. refl)
 
 -- ---- one more packet
-pub follows-append : (k : ℕ) (hs : List Held) (h : Held) → Follows k hs → h.n ≡ k + length hs → Follows k (hs ++ h ∷ [])
-follows-append k [] h follows next = (omega (arith, next), tt)
-follows-append k (j ∷ hs) h follows next = (follows.0, follows-append (k + 1) hs h follows.1 (omega (arith, next)))
-
 pub last-append : (hs : List Held) (h : Held) → last_timestamp (hs ++ h ∷ []) ≡ h.ts
 last-append [] h = refl
 last-append (j ∷ []) h = refl
@@ -73,7 +69,7 @@ points_from-append (j ∷ hs) h =
 -- the access points are those of before, with more bytes behind them, and the packet itself if it is one
 pub points-append : (k : ℕ) (hs : List Held) (h : Held) → Follows k hs → h.n ≡ k + length hs → points_of (hs ++ h ∷ []) ≡ map (more_behind h.wire) (points_of hs) ++ own_point h
 points-append k hs h follows next =
-    points_same k (hs ++ h ∷ []) (follows-append k hs h follows next)
+    points_same k (hs ++ h ∷ []) (one_behind k hs h follows next)
     ∙ (points_from-append hs h ∙ ap (λ ps. map (more_behind h.wire) ps ++ own_point h) (sym (points_same k hs follows)))
 
 -- ---- the first packets go

@@ -9,7 +9,8 @@ use Rattle.channel_cache.specs.declared.access_index.choice.Choice.TheVariants.{
 use Rattle.channel_cache.specs.access_index.{AccessPoint, more_behind, pushed, left_from, leaves_room, newest, start_at, choice_among, choice, point_of, points_of, StandsFor, choice_of}
 use Rattle.channel_cache.specs.access_index.Seen.{Seen}
 use Rattle.channel_cache.proofs.access_index.Choosing.{of_age}
-use Rattle.channel_cache.proofs.access_index.Packets.{points_same, follows-append, last-append, own_point, points-append, points_from-from, follows-from, length-from, last-from}
+use Rattle.rams_model.proofs.Holding.{one_behind}
+use Rattle.channel_cache.proofs.access_index.Packets.{points_same, last-append, own_point, points-append, points_from-from, follows-from, length-from, last-from}
 
 -- ---- one more packet
 -- its number is the next of the interval, which begins with it where it is empty
@@ -28,7 +29,7 @@ pushed_stands v n ts wire b marks h next is_n is_ts is_wire is_access stood =
     let lo = if v.lo == v.hi then n else v.lo in
     let place : h.n ≡ lo + length marks = is_n ∙ at.1 in
     record {
-      numbers = follows-append lo marks h at.0 place;
+      numbers = one_behind lo marks h at.0 place;
       hi = omega (arith, at.1, length-append marks (h ∷ []));
       last = λ some. sym (last-append marks h ∙ is_ts);
       points = ap (λ ps. map (more_behind wire) ps ++ (if b then record { n = n; ts = ts; behind = wire } ∷ [] else [])) stood.points

@@ -2,12 +2,12 @@
 use Rattle.std.proofs.Common.{◌≡◌, ℕ, zero, suc, ◌+◌, ◌-◌, ◌^◌, ◌<◌, ◌≤◌, ◌↔◌, List, [], ◌∷◌, ◌++◌, length, slice_get, Option, Some, None, IsSome, IfSome, is_some, refl, ap, sym, ◌∙◌, subst, arith, eqb, leb}
 use Rattle.std.specs.Option.{option_copied, MatchOption}
 use Rattle.std.specs.Borrow.{Bor}
-use Rattle.std.proofs.lemmas.Bool.{cond_both, eqb-true, eqb-false, le-leb, lt-leb, eq-eqb, ne_eqb, cond-true, cond-false}
+use Rattle.std.proofs.lemmas.Bool.{cond_both, eqb-true, eqb-false, le-leb, eq-eqb, ne_eqb, cond-true, cond-false}
 use Rattle.std.proofs.lemmas.List.{length-drop}
 use Rattle.rams_model.specs.declared.held.Held.{Held}
 use Rattle.rams_model.specs.Packets.{lo, hi, last_of, from_number, Follows}
 use Rattle.rams_model.proofs.Holding.{later_ones, all_from, one_behind, ends_at}
-use Rattle.rams_model.proofs.Rising.{hi_of_end}
+use Rattle.rams_model.proofs.Rising.{hi_of_end, not_from}
 use Rattle.rams_model.proofs.HeldEnds.{hi-last_of}
 use Rattle.channel_cache.specs.packet_ring.{pushed, empty_ring, packet_of, IsRing}
 use Rattle.channel_cache.specs.packet_ring.Seen.{Seen}
@@ -68,9 +68,6 @@ has_its_number n [] = tt
 has_its_number n (h ∷ hs) = cond_both (eqb h.n n) (Some h) (packet_of n hs) (λ found. IfSome found (λ k. k.n ≡ n)) (λ t. eqb-true h.n n t) (λ f. has_its_number n hs)
 
 -- ---- the packets from a number on
-not_from : (n : ℕ) (h : Held) (hs : List Held) → h.n < n → from_number n (h ∷ hs) ≡ from_number n hs
-not_from n h hs below = cond-false (leb n h.n) (h ∷ from_number n hs) (from_number n hs) (lt-leb n h.n below)
-
 one_by_one : (n m : ℕ) (hs : List Held) → Follows m hs → m ≤ n → MatchOption (packet_of n hs) (from_number n hs ≡ []) (λ h. from_number n hs ≡ h ∷ from_number (n + 1) hs)
 one_by_one n m [] f from = refl
 one_by_one n m (h ∷ hs) f from =

@@ -9,10 +9,11 @@ use Rattle.channel_cache.specs.reorder_window.Seen.{Seen}
 use Rattle.channel_cache.proofs.reorder_window.Keeping.{IsWindow-keeping}
 use Rattle.channel_cache.proofs.reorder_window.Standing.{came_same, arrived_stands, release_stands, nothing_free}
 
-above_step : (late known : Bool) → (if late then Late else if known then Twice else Kept) ≡ Kept → (late ≡ false) × (known ≡ false)
-above_step true known is = absurd cc
-above_step false true is = absurd cc
-above_step false false is = (refl, refl)
+-- what a kept packet tells
+pub kept_step : (late known : Bool) → (if late then Late else if known then Twice else Kept) ≡ Kept → (late ≡ false) × (known ≡ false)
+kept_step true known is = absurd cc
+kept_step false true is = absurd cc
+kept_step false false is = (refl, refl)
 
 -- whichever items came in time before it
 pub went_by : {T : Type 0} (v w : Seen T) (n : ℕ) (item : T) (s : Start T) (out : List (ℕ × T)) → IsWindow v → IsWindow w → n < 2 ^ 62 → v.ended ≡ false → v.kept ≡ [] → GoesBy v w n item → StandsFor v s out → WentBy v w n item s out
@@ -20,7 +21,7 @@ went_by {T} v w n item s out was is small going empty goes stood =
     let settled : first_free v ≡ None = ap (free_of v) empty in
     let s' = start_after s n item Kept in
     let kept : StandsFor (keeping v n item) s' out = subst (λ (c : Came). StandsFor (arrived v n item c) (start_after s n item c) out) goes.came (arrived_stands v s out n item was going settled stood) in
-    let tests = above_step (nat_lt n v.awaited) (has_number n v.kept) goes.came in
+    let tests = kept_step (nat_lt n v.awaited) (has_number n v.kept) goes.came in
     let gone = release_stands (keeping v n item) s' out (IsWindow-keeping v n item was going settled small (let t = tests.0 in grind (arith, nat_tests)) tests.1) kept in
     let stands : StandsFor (after_release (keeping v n item)) s' (out ++ (n, item) ∷ []) =
     subst (λ (o : Option (ℕ × T)). MatchOption o (out ≡ released v.width v.ended s') (λ e. StandsFor (after_release (keeping v n item)) s' (out ++ e ∷ []))) goes.first gone in

@@ -1,9 +1,10 @@
 -- The TS packets of a payload, by their places.
 use Rattle.std.proofs.Common.{◌≡◌, ℕ, zero, suc, ◌+◌, ◌*◌, ◌/◌, ◌<◌, ◌≤◌, Bool, true, false, List, length, take, drop, Option, Some, None, refl, sym, ◌∙◌, ap, subst, arith}
-use Rattle.std.specs.Prelude.{◌||◌, IfSome, IsSomeAnd, MatchBool}
+use Rattle.std.specs.Prelude.{IfSome, IsSomeAnd, MatchBool}
 use Rattle.std.specs.List.{list_any, IsSubsliceAt}
 use Rattle.std.specs.Option.{option_map}
 use denote.Ref.{Bor}
+use Rattle.std.proofs.lemmas.Bool.{or_from, or_left, or_right}
 use Rattle.std.proofs.lemmas.List.{drop-drop}
 use Rattle.rams_model.specs.Packets.{ts_packets}
 
@@ -11,28 +12,16 @@ use Rattle.rams_model.specs.Packets.{ts_packets}
 pub drop_step : (k : ℕ) (xs : List ℕ) → drop (suc k * 188) xs ≡ drop (k * 188) (drop 188 xs)
 drop_step k xs = let further : suc k * 188 ≡ 188 + k * 188 = omega arith in ap (λ n. drop n xs) further ∙ sym (drop-drop (k * 188) 188 xs)
 
-pub or_true_left : (a b : Bool) → a ≡ true → (a || b) ≡ true
-or_true_left true b is = refl
-or_true_left false b is = cc
-
-pub or_true_right : (a b : Bool) → b ≡ true → (a || b) ≡ true
-or_true_right true b is = refl
-or_true_right false b is = is
-
-pub or_false : (a b : Bool) → a ≡ false → b ≡ false → (a || b) ≡ false
-or_false true b first second = cc
-or_false false b first second = second
-
 -- one of the TS packets passes the test where that at a place does
 pub any_at : (test : List ℕ → Bool) (count k : ℕ) (xs : List ℕ) → k < count → test (take 188 (drop (k * 188) xs)) ≡ true → list_any test (ts_packets count xs) ≡ true
 any_at test zero k xs within pass = absurd (omega arith)
-any_at test (suc count) zero xs within pass = or_true_left (test (take 188 xs)) _ pass
-any_at test (suc count) (suc k) xs within pass = or_true_right (test (take 188 xs)) _ (any_at test count k (drop 188 xs) (omega arith) (ap (λ ys. test (take 188 ys)) (sym (drop_step k xs)) ∙ pass))
+any_at test (suc count) zero xs within pass = or_left (test (take 188 xs)) _ pass
+any_at test (suc count) (suc k) xs within pass = or_right (test (take 188 xs)) _ (any_at test count k (drop 188 xs) (omega arith) (ap (λ ys. test (take 188 ys)) (sym (drop_step k xs)) ∙ pass))
 
 -- none passes where none at any place does
 pub none_at : (test : List ℕ → Bool) (count : ℕ) (xs : List ℕ) → ((k : ℕ) → k < count → test (take 188 (drop (k * 188) xs)) ≡ false) → list_any test (ts_packets count xs) ≡ false
 none_at test zero xs fail = refl
-none_at test (suc count) xs fail = or_false (test (take 188 xs)) _ (fail 0 (omega arith))
+none_at test (suc count) xs fail = or_from (test (take 188 xs)) _ (fail 0 (omega arith))
     (none_at test count (drop 188 xs) (λ k within. ap (λ ys. test (take 188 ys)) (sym (drop_step k xs)) ∙ fail (suc k) (omega arith)))
 
 -- the item at place k is the TS packet there
