@@ -1,5 +1,5 @@
--- The word of bytes has two digits for each, and what holds whatever a call returns.
-use Rattle.std.proofs.Common.{◌≡◌, ℕ, ◌*◌, ◌≤◌, List, [], ◌∷◌, length, Result, Ok, Err, OnErr, arith}
+-- The word of bytes has two digits for each.
+use Rattle.std.proofs.Common.{◌≡◌, ℕ, ◌*◌, ◌≤◌, List, [], ◌∷◌, length, arith}
 use Rattle.hex.specs.Hex.{encode_lower, lower_digits}
 use Rattle.hex.proofs.HexLemmas.{length-encode_with}
 use Rattle.rams_model.specs.Texts.{hex_word}
@@ -10,7 +10,3 @@ digits_fit (b ∷ bytes) = let long = length-encode_with lower_digits (b ∷ byt
 
 pub two_digits : (bytes : List ℕ) → length (encode_lower bytes) ≡ 2 * length bytes
 two_digits bytes = length-encode_with lower_digits bytes
-
-pub on_err : {T E : Type 0} (r : Result T E) (P : Type 0) → P → OnErr r P
-on_err (Ok x) P p = tt
-on_err (Err e) P p = p

@@ -6,7 +6,7 @@ use Rattle.std.proofs.lemmas.Bool.{le-ltb}
 use Rattle.std.proofs.lemmas.Bool.Decides.{nat_tests}
 use Rattle.std.proofs.lemmas.List.{append-nil, drop_at, length-append, length-drop, length-take}
 use Rattle.rams_model.specs.Formats.{Packet, flag, header, spelling, stripped, has_padding, has_extension, csrc_size, behind_header, behind_csrc, fields_of, packet_at}
-use Rattle.rams_model.proofs.RtpPackets.{HasNoFault, read_has_no_fault, read_without_fault}
+use Rattle.rams_model.proofs.RtpPackets.{flag_below, HasNoFault, read_has_no_fault, read_without_fault}
 
 -- the bytes, with an extension where x says so, end inside it
 abbrev lacks : Bool → List ℕ → Bool
@@ -31,10 +31,6 @@ whole short rest four within = absurd (omega arith)
 still_whole : (x : Bool) (bytes rest : List ℕ) → lacks x bytes ≡ false → lacks (eqb (flag (extension_of x bytes)) 1) (extension_of x bytes ++ rest) ≡ false
 still_whole true bytes rest h = whole bytes rest (grind (arith, nat_tests)) (grind (arith, nat_tests))
 still_whole false bytes rest h = refl
-
-flag_below : (xs : List ℕ) → flag xs < 2
-flag_below [] = omega arith
-flag_below (x ∷ xs) = omega arith
 
 -- how the spelling of a packet without padding begins, and what stands behind its fixed header
 record Begins (bytes : List ℕ) (p : Packet) : Type 0 where
