@@ -3,25 +3,13 @@ ghost use Rattle.std.specs.Prelude.{◌≡◌, ◌+◌, ◌^◌, ◌<◌, ◌≤
 ghost use Rattle.rams_model.specs.Packets.{ahead};
 ghost use Rattle.rams_model.specs.Receiver.{nearest, distance_from, first_number};
 
-use reckoning::ext_seq::least_from;
+use reckoning::ext_seq::{SEQUENCE_NUMBERS, ahead};
 
 /// How many numbers, from the next on, a receiver has room for.
 pub(crate) const ROOM: u64 = 16384;
 
-/// There are so many sequence numbers (RFC 3550, 5.1).
-pub(crate) const SEQUENCE_NUMBERS: u64 = 65536;
-
 // Up to so many ahead is ahead; the others are behind.
 const HALF: u64 = 32768;
-
-// How far 16 bits are ahead of a number.
-fn ahead(low: u16, n: u64) -> u64
-    requires { n < 2 ^ 62 }
-    ensures value { result ≡ ahead low n }
-    ensures small { result < 65536 }
-{
-    least_from(n, low) - n
-}
 
 /// The number nearest to another with these low 16 bits.
 pub(crate) fn nearest(n: u64, low: u16) -> u64

@@ -4,11 +4,12 @@ ghost use Rattle.std.specs.List.{insert};
 ghost use Rattle.rams_model.specs.Receiver.{Playing, playing_from, nearest, came, has_piece, with_arrival, joining, join_kept, presented, after_presenting, last_number, missing, most_named};
 ghost use Rattle.receiver_core.specs.{as_shown, pieces_of, Rise, AreBelow, IsPlace, IsGap};
 
-use crate::numbers::{ROOM, SEQUENCE_NUMBERS, nearest};
+use crate::numbers::{ROOM, nearest};
 use crate::shown::Shown;
 use bytes::Bytes;
 use ram_io::NoMemory;
 use rams_model::MediaCame;
+use reckoning::ext_seq::SEQUENCE_NUMBERS;
 use std::alloc::Global;
 use std::collections::VecDeque;
 use std::marker::Model;

@@ -7,6 +7,6 @@ mod distance;
 mod low_bits;
 mod numbering;
 
-pub use distance::{TICKS_PER_MS, age_ms};
+pub use distance::{SEQUENCE_NUMBERS, TICKS_PER_MS, age_ms, ahead};
 pub use low_bits::{least_from, resolve_in};
 pub use numbering::{Noted, Numbering};

@@ -2,7 +2,7 @@
 ghost use Rattle.std.specs.Prelude.{◌≡◌, ◌<◌, ◌^◌};
 ghost use Rattle.rams_model.specs.Service.{stop_of};
 
-use crate::ext_seq::least_from;
+use crate::ext_seq::{SEQUENCE_NUMBERS, least_from};
 
 /// The number of the packet before which a burst stops, by its client's RAMS-T (RFC 6285, 7.4).
 ///
@@ -14,7 +14,7 @@ pub fn stop_of(first: u64, next: u64, named: Option<u32>) -> u64
     ensures { result ≡ stop_of first next named }
 {
     match named {
-        Some(named) => next.max(least_from(first, (named % 65536) as u16)),
+        Some(named) => next.max(least_from(first, (named % SEQUENCE_NUMBERS as u32) as u16)),
         None => next,
     }
 }
