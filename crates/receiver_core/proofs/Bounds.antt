@@ -1,19 +1,11 @@
 -- The numbers of a receiver go no further than by one for each packet that comes.
-use Rattle.std.proofs.Common.{◌≡◌, ℕ, ◌+◌, ◌≤◌, ◌^◌, List, Option, Some, None, IfSome, option_map, refl, arith}
+use Rattle.std.proofs.Common.{◌≡◌, ℕ, ◌+◌, ◌≤◌, List, Option, Some, None, IfSome, option_map, refl, arith}
 use Rattle.rams_model.specs.declared.reception.MediaCame.{MediaCame}
 use Rattle.rams_model.specs.declared.reception.MediaCame.TheVariants.{Took, Behind, Beyond, Twice, BeforeFirst, Foreign, Bad}
 use Rattle.rams_model.specs.Packets.{ahead}
 use Rattle.rams_model.specs.Receiver.{Piece, Playing, piece, nearest, came, kept, joining, join_kept, presented, past, after_presenting, playing_from, or_begun, first_number, arrived, arrived_by_multicast}
 use Rattle.rams_model.proofs.PieceCounts.{one_more, one_less}
-use Rattle.receiver_core.specs.{played, IsBounded, IsSafe}
-
--- bounded numbers are safe
-safe : (p : Playing) → IsBounded (2 ^ 40) p → IsSafe p
-safe p b = record { low = omega (arith, b.low, b.above); high = omega (arith, b.high, b.reach) }
-
-pub all_safe : (play : Option Playing) → IfSome play (IsBounded (2 ^ 40)) → IfSome play IsSafe
-all_safe None b = tt
-all_safe (Some p) b = safe p b
+use Rattle.receiver_core.specs.{played, IsBounded}
 
 -- they are bounded by how far they go, which is as far as the bound
 pub reached : (most : ℕ) (play : Option Playing) → IfSome play (IsBounded most) → IfSome play (IsBounded (played play))

@@ -6,7 +6,7 @@ use Rattle.std.specs.Ordering.{nat_cmp, ordering_index}
 use Rattle.std.proofs.lemmas.Cmp.{ranked}
 use Rattle.std.proofs.lemmas.List.{get_or_default}
 use Rattle.std.proofs.lemmas.List.Sorted.{IsNonDecreasingBy-from_default}
-use Rattle.std.proofs.lemmas.Bool.{cond-true, cond-false, eq-eqb, eqb-true, ne_eqb, lt-ltb, le-ltb}
+use Rattle.std.proofs.lemmas.Bool.{cond-true, cond-false, eq-eqb, eqb-true, ne_eqb, lt-ltb, le-ltb, or_from}
 use Rattle.std.proofs.lemmas.Bool.Decides.{nat_tests}
 use Rattle.receiver_core.specs.declared.shown.Shown.{Shown}
 use Rattle.rams_model.specs.Receiver.{Piece, piece, has_piece, with_piece, piece_at, without_piece, last_number}
@@ -95,14 +95,10 @@ gap_first n s l gap = record {
   above = λ j le lt. gap.above (suc j) (omega arith) (omega arith);
 }
 
-has_neither : (same rest : Bool) → same ≡ false → rest ≡ false → (same || rest) ≡ false
-has_neither true rest e none = absurd cc
-has_neither false rest e none = none
-
 pub has_gap : (n : ℕ) (l : List Shown) (i : ℕ) → IsGap n l i → has_piece n (pieces_of l) ≡ false
 has_gap n [] i gap = refl
-has_gap n (s ∷ l) zero gap = has_neither (eqb s.n n) (has_piece n (pieces_of l)) (other n s l 0 gap) (has_gap n l 0 (gap_first n s l gap))
-has_gap n (s ∷ l) (suc i) gap = has_neither (eqb s.n n) (has_piece n (pieces_of l)) (other n s l (suc i) gap) (has_gap n l i (gap_later n s l i gap))
+has_gap n (s ∷ l) zero gap = or_from (eqb s.n n) (has_piece n (pieces_of l)) (other n s l 0 gap) (has_gap n l 0 (gap_first n s l gap))
+has_gap n (s ∷ l) (suc i) gap = or_from (eqb s.n n) (has_piece n (pieces_of l)) (other n s l (suc i) gap) (has_gap n l i (gap_later n s l i gap))
 
 pub with_gap : (n : ℕ) (packet : List ℕ) (l : List Shown) (i : ℕ) → IsGap n l i → with_piece (piece n packet) (pieces_of l) ≡ pieces_of (insert l i (record { n = n; packet = packet }))
 unfolding with_piece
