@@ -53,4 +53,4 @@ pub use reception::{InfoCame, MediaCame, Tuned};
 pub use receptions::receptions_of_datagrams;
 pub use rtcp::{BYE, FMT_NACK, FMT_RAMS, PSFB, RR, RTPFB, SDES};
 pub use status::Status;
-pub use wire::{IP_UDP_HEADERS, MOST_ON_WIRE, MOST_PACKET, RTX_OVERHEAD};
+pub use wire::{MOST_ON_WIRE, MOST_PACKET, RTX_OVERHEAD};
