@@ -19,6 +19,7 @@ mod octets;
 mod rams;
 mod reception;
 mod receptions;
+pub mod response;
 mod rtcp;
 mod status;
 mod wire;

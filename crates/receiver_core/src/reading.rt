@@ -9,6 +9,7 @@ ghost use Rattle.receiver_core.specs.{as_again, as_multicast, as_told};
 
 use bytes::Bytes;
 use ram_io::NoMemory;
+use rams_model::response::{ACCEPTED, UPDATED};
 use rams_model::{FMT_RAMS, Info, InfoCame, MediaCame, SFMT_RAMS_I, Tuned};
 use std::alloc::Global;
 use wire_packets::rams_tlv::read_info;
@@ -16,12 +17,6 @@ use wire_packets::rtcp_feedback::{Feedback, feedback};
 use wire_packets::rtcp_frame::{Packet, Packets, packets};
 use wire_packets::rtp_record::Rtp;
 use wire_packets::rtx_payload::{append_rtx, restore};
-
-// The response code of a burst that begins.
-pub(crate) const BURST_BEGINS: u16 = 200;
-
-// The response code of a new rate.
-const BURST_UPDATED: u16 = 100;
 
 /// Whether a packet is of the receiver's media source, and has this payload type.
 fn is_of(tuned: &Tuned, payload_type: u8, packet: &Rtp<'_>) -> bool
@@ -142,7 +137,7 @@ fn info_about(tuned: &Tuned, source: u32, info: Info) -> Result<Info, InfoCame>
 pub(crate) fn tells_of_burst(info: &Info) -> bool
     ensures { result ≡ tells_of_burst info.now }
 {
-    info.code == BURST_BEGINS || info.code == BURST_UPDATED
+    info.code == ACCEPTED || info.code == UPDATED
 }
 
 // The first RAMS-I of some packets.

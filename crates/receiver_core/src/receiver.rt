@@ -4,22 +4,16 @@ use crate::datagrams::{bye_datagram, request_datagram};
 use crate::numbers::distance_from;
 use crate::playing::{arrive_again, arrive_by_multicast, present};
 use crate::reading::{
-    BURST_BEGINS, number_brought, original_of, read_again, read_multicast, read_told, spell_again,
-    tells_of_burst,
+    number_brought, original_of, read_again, read_multicast, read_told, spell_again, tells_of_burst,
 };
 use crate::shown::Shown;
 use crate::window::Window;
 use bytes::Bytes;
 use ram_io::NoMemory;
+use rams_model::response::{ACCEPTED, BURST_LOST, COMPLETED};
 use rams_model::{Info, InfoCame, MediaCame, Octets, Tuned};
 use std::alloc::Global;
 use std::marker::Model;
-
-// The response code of a burst that was sent to its end.
-const BURST_ENDED: u16 = 201;
-
-// The response code of a burst whose next packet was lost to the server.
-const BURST_LOST: u16 = 502;
 
 /// A receiver of one channel.
 #[derive(Drop)]
@@ -258,11 +252,11 @@ fn info_came(named: Option<u16>, info: &Info) -> InfoCame
     if tells_of_burst(info) {
         return match named {
             None => InfoCame::Taken,
-            Some(_) if info.code == BURST_BEGINS => InfoCame::Repeated,
+            Some(_) if info.code == ACCEPTED => InfoCame::Repeated,
             Some(_) => InfoCame::Updated,
         };
     }
-    if named.is_some() && (info.code == BURST_ENDED || info.code == BURST_LOST) {
+    if named.is_some() && (info.code == COMPLETED || info.code == BURST_LOST) {
         return InfoCame::Ended(info.code);
     }
     InfoCame::Refused(info.code)
