@@ -2,7 +2,7 @@
 use Rattle.std.proofs.Common.{◌≡◌, ◌≢◌, ℕ, ◌+◌, ◌-◌, ◌<◌, ◌≤◌, Bool, true, false, not, cond, List, [], ◌∷◌, ◌++◌, Option, Some, None, length, refl, sym, ◌∙◌, ap, subst, arith, eqb, ltb, leb}
 use Rattle.std.specs.Prelude.{All, AllPairs, ◌||◌, IfSome, Result, Err}
 use Rattle.std.specs.List.{list_any}
-use Rattle.std.proofs.lemmas.Bool.{eqb-false, lt-ltb, le-leb, lt-leb}
+use Rattle.std.proofs.lemmas.Bool.{or_parts, eqb-false, lt-ltb, le-leb, lt-leb}
 use Rattle.std.proofs.lemmas.List.Elements.{All-append, All-cons}
 use Rattle.std.proofs.lemmas.List.{length-append, length-map, map-append}
 use Rattle.std.proofs.lemmas.List.Quantifiers.{all_pairs_push}
@@ -22,14 +22,10 @@ pub has_is : (id : ℕ) (all : List Settings) → list_any (λ k. eqb k id) (ids
 has_is id [] = refl
 has_is id (s ∷ all) = ap (λ b. eqb s.channel.id id || b) (has_is id all)
 
-either_false : (a b : Bool) → (a || b) ≡ false → (a ≡ false) × (b ≡ false)
-either_false true b e = absurd cc
-either_false false b e = (refl, e)
-
 none_is_it : (id : ℕ) (ks : List ℕ) → list_any (λ k. eqb k id) ks ≡ false → All (λ k. k ≢ id) ks
 none_is_it id [] none = λ k d less. absurd (omega (arith, less))
 none_is_it id (k ∷ ks) none =
-    let both = either_false (eqb k id) (list_any (λ x. eqb x id) ks) none in
+    let both = or_parts (eqb k id) (list_any (λ x. eqb x id) ks) none in
     All-cons (λ x. x ≢ id) k ks (eqb-false k id both.0) (none_is_it id ks both.1)
 
 -- the first of the three faults
