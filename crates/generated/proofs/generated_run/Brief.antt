@@ -1,22 +1,16 @@
 -- Generated events have few bytes.
-use Rattle.std.proofs.Common.{◌≡◌, ℕ, ◌+◌, ◌-◌, ◌*◌, ◌%◌, ◌<◌, zero, suc, All, List, [], ◌∷◌, ◌++◌, map, length, replicate, refl, sym, subst, arith, length-append}
+use Rattle.std.proofs.Common.{◌≡◌, ℕ, ◌+◌, ◌-◌, ◌*◌, ◌%◌, ◌<◌, zero, suc, All, List, [], ◌∷◌, ◌++◌, map, replicate, refl, sym, subst, arith, length-append}
 use Rattle.std.specs.List.{flat_map, range_with_len}
 use Rattle.std.proofs.lemmas.List.{length-replicate}
 use Rattle.std.proofs.lemmas.List.Concat.{flat_map-cons}
 use Rattle.std.proofs.lemmas.List.Elements.{All-nil, All-cons, All-head, All-append, All-drop}
 use Rattle.rams_model.specs.declared.event.Event.{Event}
 use Rattle.rams_model.specs.declared.event.Event.TheVariants.{Tick}
-use Rattle.rams_model.specs.Formats.{header, spelling, rams_request, rams_stop, words_from}
-use Rattle.generated.specs.trace_gen.{Place, packet, request, nack, stop, feedback, block, left, size, numbered}
+use Rattle.rams_model.specs.Formats.{rams_request, rams_stop, words_from}
+use Rattle.generated.specs.trace_gen.{Place, packet, request, nack, stop, feedback, block, left, size}
+use Rattle.generated.proofs.trace_gen.Texts.{packet_length}
 use Rattle.generated.proofs.trace_gen.Coming.{by_turn, turn_is}
 use Rattle.generated.specs.generated_run.{IsBrief}
-
-abbrev pub payload : ℕ → List ℕ
-payload n = replicate n 0 ++ []
-
-pub packet_length : (i n : ℕ) → length (spelling (numbered i n)) ≡ 12 + length (payload n)
-unfolding header spelling
-packet_length i n = omega arith
 
 packet_is_brief : (seed b j : ℕ) → IsBrief (packet seed b j)
 unfolding packet

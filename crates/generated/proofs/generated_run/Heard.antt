@@ -10,7 +10,7 @@ use Rattle.rams_model.proofs.RtpPackets.{read_so}
 use Rattle.channel_cache.specs.{IsBare}
 use Rattle.generated.specs.declared.trace_gen.page.Packet.{Packet}
 use Rattle.generated.specs.trace_gen.{config, numbered, IsRead}
-use Rattle.generated.proofs.generated_run.Brief.{packet_length}
+use Rattle.generated.proofs.trace_gen.Texts.{packet_length}
 
 is_packet : (i n : ℕ) → IsPacket (numbered i n)
 is_packet i n = record { payload_type = omega arith; sequence = omega arith; timestamp = omega arith; ssrc = omega arith; csrc = (0, omega arith, refl); extension = inl refl; padding = inl refl }

@@ -1,5 +1,5 @@
 -- The tally of one answer more.
-use Rattle.std.proofs.Common.{◌≡◌, ℕ, ◌+◌, ◌<◌, ◌≤◌, Bool, true, false, List, [], ◌∷◌, length, suc, refl, ap, ◌∙◌, arith}
+use Rattle.std.proofs.Common.{◌≡◌, ℕ, ◌+◌, List, [], ◌∷◌, length, suc, refl, ap, ◌∙◌, arith}
 use Rattle.std.specs.List.{flat_map, count_by}
 use Rattle.std.proofs.lemmas.List.Concat.{flat_map-cons}
 use Rattle.std.proofs.lemmas.List.Sums.{sum_by-append}
@@ -11,7 +11,7 @@ use Rattle.rams_model.specs.declared.note.Note.TheVariants.{Live}
 use Rattle.rams_model.specs.Service.{Answered, answered, Settings, answer, book}
 use Rattle.generated.specs.declared.summary.counts.Counts.{Counts}
 use Rattle.generated.specs.summary.Counts.{Tallied, took, accept, again, refuse, burst, repair, end, counts_of, size_of, bytes_of, tally_of}
-use Rattle.generated.specs.summary.Steps.{flag, with_note, sum_of, IsTally}
+use Rattle.generated.specs.summary.Steps.{flag, with_note, sum_of}
 use Rattle.generated.specs.summary.Text.{answers_in}
 use Rattle.generated.proofs.summary.Counting.{counts_append}
 
@@ -55,26 +55,6 @@ tally_live note answers =
     tally_more (answered (Live note ∷ []) []) answers
     ∙ ap (λ (c : Counts). record { answers = t.answers + 1; notes = c; bytes = t.bytes + 0 }) (one_note t.notes (Live note))
     ∙ ap (λ (n : ℕ). record { answers = t.answers + 1; notes = with_note t.notes (Live note); bytes = n }) none
-
--- each count is small enough for one more
-pub at_most_one_more : (t : Tallied) (note : LiveNote) → IsTally t → t.answers < 1000000 → IsTally (record { answers = t.answers + 1; notes = with_note t.notes (Live note); bytes = t.bytes })
-at_most_one_more t note is few = record {
-  answers = omega (arith, few);
-  notes = record {
-    took = omega (arith, is.notes.took, flag_small (took (Live note)));
-    accept = omega (arith, is.notes.accept);
-    again = omega (arith, is.notes.again);
-    refuse = omega (arith, is.notes.refuse);
-    burst = omega (arith, is.notes.burst);
-    repair = omega (arith, is.notes.repair);
-    end = omega (arith, is.notes.end);
-  };
-  bytes = omega (arith, is.bytes);
-}
-  where
-    flag_small : (b : Bool) → flag b ≤ 1
-    flag_small true = omega arith
-    flag_small false = omega arith
 
 pub length_book : (s : Settings) (events : List Event) → length (book s events) ≡ length events
 unfolding book

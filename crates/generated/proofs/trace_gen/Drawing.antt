@@ -1,15 +1,11 @@
 -- The draws of a place, and of the places behind it.
-use Rattle.std.proofs.Common.{◌≡◌, ℕ, ◌+◌, ◌*◌, ◌/◌, ◌%◌, ◌<◌, ◌≤◌, ◌==◌, ◌≢◌, zero, suc, Bool, true, ◌||◌, if◌then◌else◌, refl, ap, sym, ◌∙◌, arith, add-one}
+use Rattle.std.proofs.Common.{◌≡◌, ℕ, ◌+◌, ◌*◌, ◌/◌, ◌%◌, ◌<◌, ◌≤◌, ◌==◌, Bool, true, ◌||◌, if◌then◌else◌, ap, sym, ◌∙◌, arith, add-one}
 use Rattle.std.proofs.lemmas.Bool.Decides.{nat_tests}
 use Rattle.generated.specs.trace_gen.{stepped, state, drawn, draws_before, client, place, draws_at}
 
 pub state_more : (seed n : ℕ) → state seed (n + 1) ≡ stepped (state seed n)
 unfolding state
 state_more seed n = ap (state seed) (add-one n)
-
-pub state_first : (seed : ℕ) → state seed 0 ≡ seed
-unfolding state
-state_first seed = refl
 
 -- one of the packets, or what stands behind the last
 pub draws_in : (seed b e : ℕ) → e ≤ 10 → draws_at (place seed b e) ≡ draws_before b + e
@@ -35,29 +31,8 @@ pub draws_behind_stop : (seed b : ℕ) → b % 4 ≡ 3 → draws_at (place seed 
 draws_behind_stop seed b is =
     ap (λ (t : ℕ). draws_before b + 10 + (if t == 1 || t == 2 then 1 else 0)) is ∙ omega arith
 
--- of the next block
-pub draws_next : (seed b : ℕ) → b % 4 ≡ 0 → draws_at (place seed b 10) ≡ draws_at (place seed (b + 1) 0)
-draws_next seed b is = draws_in seed b 10 (omega arith) ∙ omega arith ∙ sym (draws_in seed (b + 1) 0 (omega arith))
-
-of_turn : (seed b turn : ℕ) → b % 4 ≡ turn → turn ≢ 0 → turn < 4 → draws_at (place seed b 11) ≡ draws_before (b + 1)
-of_turn seed b zero is some small = absurd (some refl)
-of_turn seed b (suc zero) is some small = draws_behind seed b 1 is refl ∙ omega (arith, is)
-of_turn seed b (suc (suc zero)) is some small = draws_behind seed b 2 is refl ∙ omega (arith, is)
-of_turn seed b (suc (suc (suc zero))) is some small = draws_behind_stop seed b is ∙ omega (arith, is)
-of_turn seed b (suc (suc (suc (suc turn)))) is some small = absurd (omega (arith, small))
-
-pub draws_next_of : (seed b : ℕ) → b % 4 ≢ 0 → draws_at (place seed b 11) ≡ draws_at (place seed (b + 1) 0)
-draws_next_of seed b some =
-    of_turn seed b (b % 4) refl some (omega arith) ∙ omega arith ∙ sym (draws_in seed (b + 1) 0 (omega arith))
-
 -- the client of a block whose number is 1 modulo 4 is drawn in it
 pub client_drawn : (seed b : ℕ) → b % 4 ≡ 1 → client seed b ≡ 1 + drawn seed (draws_before b + 10) % 64
 client_drawn seed b is =
     let own : b / 4 * 4 + 1 ≡ b = omega (arith, is) in
     ap (λ (n : ℕ). 1 + drawn seed (draws_before n + 10) % 64) own
-
--- the blocks up to the next such have the same
-pub client_kept : (seed b : ℕ) → b % 4 ≢ 3 → client seed (b + 1) ≡ client seed b
-client_kept seed b more =
-    let own : (b + 1) / 4 ≡ b / 4 = omega arith in
-    ap (λ (n : ℕ). 1 + drawn seed (draws_before (n * 4 + 1) + 10) % 64) own

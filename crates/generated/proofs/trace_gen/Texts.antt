@@ -12,16 +12,16 @@ use Rattle.generated.proofs.trace_gen.Drawing.{state_more}
 abbrev payload : ℕ → List ℕ
 payload n = replicate n 0 ++ []
 
-spelled_length : (i n : ℕ) → length (spelling (numbered i n)) ≡ 12 + length (payload n)
+pub packet_length : (i n : ℕ) → length (spelling (numbered i n)) ≡ 12 + length (payload n)
 unfolding header spelling
-spelled_length i n = omega arith
+packet_length i n = omega arith
 
 text_length : (seed b j : ℕ) → length (text seed b j) ≡ 12 + size seed b j
 text_length seed b j =
     let n = size seed b j in
     let zeros = length-replicate {A = ℕ} n 0 in
     let behind = length-append {A = ℕ} (replicate n 0) [] in
-    omega (arith, zeros, behind, spelled_length (10 * b + j) n)
+    omega (arith, zeros, behind, packet_length (10 * b + j) n)
 
 spelled : (i n : ℕ) (zeros : List ℕ) → zeros ≡ replicate n 0 → header (numbered i n) ++ zeros ≡ spelling (numbered i n)
 unfolding header spelling
@@ -40,10 +40,6 @@ first_text : (seed b j : ℕ) → j < 10 → texts_from seed b j (10 - j) ≡ te
 first_text seed b j more =
     let e : 10 - j ≡ suc (10 - (j + 1)) = omega (arith, more) in
     ap (λ (n : ℕ). texts_from seed b j n) e ∙ flat_map-cons (text seed b) j (range_with_len (j + 1) (10 - (j + 1)))
-
--- behind the last are none
-pub no_texts : (seed b j : ℕ) → 10 ≤ j → texts_from seed b j (10 - j) ≡ []
-no_texts seed b j over = let none : 10 - j ≡ 0 = omega (arith, over) in ap (λ (n : ℕ). texts_from seed b j n) none
 
 -- a packet by its draw
 module _ (seed b j i n before after : ℕ) (i_is : i ≡ 10 * b + j) (drawn_to : before ≡ state seed (draws_before b + j)) (steps : after ≡ stepped before) (n_is : n ≡ 100 + after / 2 ^ 33 % 1300) where
