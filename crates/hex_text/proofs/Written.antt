@@ -1,6 +1,6 @@
 -- What bytes are written as reads back, and a text of lower-case digits is what its bytes are written as.
-use Rattle.std.proofs.Common.{◌≡◌, ℕ, ◌/◌, ◌%◌, ◌<◌, Bool, true, ◌&&◌, ◌==◌, List, [], ◌∷◌, length, refl, arith, suc}
-use Rattle.std.proofs.lemmas.Bool.{and_parts, eqb-true}
+use Rattle.std.proofs.Common.{◌≡◌, ℕ, ◌/◌, ◌%◌, ◌<◌, true, ◌==◌, List, [], ◌∷◌, length, refl, arith, suc}
+use Rattle.std.proofs.lemmas.Bool.{and_from, and_parts, eqb-true}
 use Rattle.std.specs.List.{list_all}
 use Rattle.hex.specs.Hex.{encode_lower, encode_with, lower_digits, IsBytes}
 use Rattle.hex.proofs.HexLemmas.{decode_of-encode_lower, decode_of-ok, length-encode_with}
@@ -8,15 +8,12 @@ use Rattle.hex_text.specs.{is_lower_digit, WrittenDecodes, WrittenIsLower, Lower
 use Rattle.hex_text.proofs.Digits.{lower_digits-value_of, is_lower-lower_digits}
 use Rattle.hex_text.proofs.Reading.{decode_of-lower}
 
-both : (a b : Bool) → a ≡ true → b ≡ true → (a && b) ≡ true
-both a b ea eb = rw (ea, eb) refl
-
 digits_lower : (bytes : List ℕ) → IsBytes bytes → list_all is_lower_digit (encode_lower bytes) ≡ true
 unfolding encode_with
 digits_lower [] h = refl
 digits_lower (b ∷ bytes) h =
     let byte : b < 256 = h 0 in
-    both _ _ (is_lower-lower_digits (b / 16) (omega arith)) (both _ _ (is_lower-lower_digits (b % 16) (omega arith)) (digits_lower bytes (λ i. h (suc i))))
+    and_from _ _ (is_lower-lower_digits (b / 16) (omega arith)) (and_from _ _ (is_lower-lower_digits (b % 16) (omega arith)) (digits_lower bytes (λ i. h (suc i))))
 
 pub written_decodes : WrittenDecodes
 written_decodes = decode_of-encode_lower
@@ -25,7 +22,7 @@ pub written_is_lower : WrittenIsLower
 written_is_lower bytes h =
     let long = length-encode_with lower_digits bytes in
     let even : length (encode_lower bytes) % 2 ≡ 0 = omega arith in
-    both _ _ (rw even refl) (digits_lower bytes h)
+    and_from _ _ (rw even refl) (digits_lower bytes h)
 
 encode_lower-pair_bytes : (text : List ℕ) → length text % 2 ≡ 0 → list_all is_lower_digit text ≡ true → encode_lower (pair_bytes text) ≡ text
 unfolding encode_with pair_bytes
