@@ -23,7 +23,8 @@ use Rattle.rams_model.specs.Laws.{Rises}
 use Rattle.meet_loop.specs.world_laws.{takes, hears_number, as_it_came, HasBytes}
 use Rattle.service_laws.proofs.byte_laws.Low.{IsLow, IsHigh, live_note_low}
 use Rattle.service_laws.proofs.book_laws.CameBefore.{all_of}
-use Rattle.service_laws.proofs.byte_laws.Rising.{all_rises, of_one, stands_once}
+use Rattle.service_laws.proofs.book_laws.Members.{of_one}
+use Rattle.service_laws.proofs.byte_laws.Rising.{all_rises, stands_once}
 
 -- the bytes that are looked up under a packet's number are those of which it was read
 pub record IsKept (c : Channel) (look : ℕ → Option (List ℕ)) (h : Held) : Type 0 where
