@@ -82,7 +82,3 @@ pair_back client n k m ws false was is then same new indexed put taken = taken �
 -- one more of the client
 pub count_more : (client n k : ℕ) (ws : List Wanted) → count_of k ws + cond (nat_eq client k) 1 0 ≡ count_of k (ws ++ wanted client n ∷ [])
 count_more client n k ws = sym (filter_push (is_of k) ws (wanted client n))
-
-pub pair_taken : (b old : Bool) → cond b false old ≡ (not b && old)
-pair_taken true old = refl
-pair_taken false old = refl
