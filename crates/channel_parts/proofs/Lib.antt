@@ -11,5 +11,4 @@ pub mod Small
 pub mod Facts
 pub mod Tables
 pub mod Given
-pub mod Turning
 pub mod Staying

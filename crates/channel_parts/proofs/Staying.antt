@@ -1,5 +1,5 @@
 -- Parts that stand for some events stand for one more, where each is what that event makes of it.
-use Rattle.std.proofs.Common.{◌≡◌, ℕ, ◌+◌, ◌≤◌, not, List, ◌∷◌, length, None, refl, ap, sym, ◌∙◌, subst, arith, eqb, ltb, ◌^◌, []}
+use Rattle.std.proofs.Common.{◌≡◌, ℕ, ◌+◌, ◌≤◌, not, List, ◌∷◌, length, None, refl, ap, sym, ◌∙◌, subst, arith, eqb, ltb, []}
 use Rattle.std.specs.Prelude.{Result, Ok, Err}
 use Rattle.std.specs.List.{AllByRecursion as Each}
 use Rattle.std.proofs.lemmas.Bool.{cond_both}
@@ -14,9 +14,8 @@ use Rattle.rams_model.specs.declared.note.LiveNote.TheVariants.{TooBig}
 use Rattle.rams_model.specs.declared.note.Note.TheVariants.{Live as LiveNoted}
 use Rattle.rams_model.specs.Service.{Settings, messages, Heard, live, dropped, feedback, unframed, tick, heard_packet, heard_live, heard_feedback, heard_of, began, noted, History, arrivals, known, opened, sendings, ssrc, bursts, Wanted, pending, quiet_ticks, reserved, channel_left, after, after_hearing, history_of}
 use Rattle.rams_model.specs.Formats.{Packet, packet_at, Framed, framed}
-use Rattle.rams_model.specs.Packets.{Arrival}
 use Rattle.channel_config.specs.{IsLawful}
-use Rattle.channel_cache.specs.{arrivals_heard, arrivals_after}
+use Rattle.channel_cache.specs.{arrivals_after}
 use Rattle.channel_cache.specs.Seen as caches
 use Rattle.channel_cache.proofs.Booked.{noted_so}
 use Rattle.reckoning.specs.link_budget.{amounts}

@@ -1,19 +1,8 @@
 -- What changes of all entries, one after another, make of the slots and of what the table shows.
-use Rattle.std.proofs.Common.{◌≡◌, ◌≢◌, ℕ, zero, suc, drop, List, [], ◌∷◌, Option, Some, None, IsSome, IsSomeAnd, refl, sym, ◌∙◌, subst}
+use Rattle.std.proofs.Common.{◌≡◌, ◌≢◌, ℕ, zero, suc, drop, List, [], ◌∷◌, Option, Some, IsSome, IsSomeAnd, refl, sym, ◌∙◌, subst}
 use Rattle.client_table.specs.declared.entry.Entry.{Entry}
 use Rattle.client_table.specs.{IsFree, AreReady, IsSlotChanged, AreSlotsChanged}
 use Rattle.client_table.proofs.Changed.{SameElsewhere}
-
--- the first client's key has an entry that is as asked
-pub ready_first : (P : ℕ → Entry → Type 0) (at : ℕ → Option Entry) (client key : ℕ) (e : Entry) (es left : List (ℕ × ℕ)) → AreReady P at es → es ≡ (client, key) ∷ left → at key ≡ Some e → P client e
-ready_first P at client key e es left ready split is = subst (λ o. IsSomeAnd o (P client)) is (subst (AreReady P at) split ready).0
-
-no_entry : {T : Type 0} (P : T → Type 0) (o : Option T) → o ≡ None → IsSomeAnd o P → ⊥
-no_entry P None none some = some
-no_entry P (Some x) none some = cc
-
-pub ready_none : (P : ℕ → Entry → Type 0) (at : ℕ → Option Entry) (client key : ℕ) (es left : List (ℕ × ℕ)) → AreReady P at es → es ≡ (client, key) ∷ left → at key ≡ None → ⊥
-ready_none P at client key es left ready split none = no_entry (P client) (at key) none (subst (AreReady P at) split ready).0
 
 -- the others keep theirs
 ready_same : (P : ℕ → Entry → Type 0) (at now : ℕ → Option Entry) (key : ℕ) → SameElsewhere at now key → (es : List (ℕ × ℕ)) → IsFree key es → AreReady P at es → AreReady P now es

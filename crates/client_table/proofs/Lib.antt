@@ -1,6 +1,5 @@
 pub mod Found
 pub mod Changed
-pub mod Least
 pub mod Shown
 pub mod Walking
 pub mod Changing

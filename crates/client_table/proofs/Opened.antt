@@ -16,8 +16,9 @@ use Rattle.client_table.specs.declared.entry.Entry.{Entry}
 use Rattle.client_table.specs.{before, joined, IsFree, AreJoined, AreReady, IsSlotChanged, AreSlotsChanged, has_burst, is_open_at, Rise, opened_at, closed_at, marked, IsBurstChangedBy, IsBurstChanged}
 use Rattle.client_table.proofs.Changed.{SameElsewhere, other_key}
 use Rattle.client_table.proofs.ChangedAll.{same_client, found_above}
+use Rattle.client_table.proofs.Placing.{passes_open}
 
-below : (a b : ℕ) → nat_cmp a b ≡ Less → a < b
+pub below : (a b : ℕ) → nat_cmp a b ≡ Less → a < b
 below a b h = grind (arith, nat_tests)
 
 -- ---- some of a list
@@ -73,17 +74,12 @@ opened_here client key e es same =
 closed_here : (client : ℕ) (e : ℕ × ℕ) (es : List (ℕ × ℕ)) → client ≡ e.0 → closed_at client (e ∷ es) ≡ es
 closed_here client e es same = cond-true (eqb client e.0) es (e ∷ closed_at client es) (eq-eqb client e.0 same)
 
-opened_behind : (client key : ℕ) (e : ℕ × ℕ) (es : List (ℕ × ℕ)) → e.0 < client → opened_at client key (e ∷ es) ≡ e ∷ opened_at client key es
-opened_behind client key e es lt =
-    cond-false (ltb client e.0) ((client, key) ∷ e ∷ es) (cond (eqb client e.0) (e ∷ es) (e ∷ opened_at client key es)) (le-ltb client e.0 (omega (arith, lt)))
-    ∙ cond-false (eqb client e.0) (e ∷ es) (e ∷ opened_at client key es) (ne_eqb client e.0 (λ same. omega (arith, lt, same)))
-
 closed_behind : (client : ℕ) (e : ℕ × ℕ) (es : List (ℕ × ℕ)) → e.0 < client → closed_at client (e ∷ es) ≡ e ∷ closed_at client es
 closed_behind client e es lt = cond-false (eqb client e.0) es (e ∷ closed_at client es) (ne_eqb client e.0 (λ same. omega (arith, lt, same)))
 
 -- where the first is passed over
 opened_pass : (b : Bool) (client key : ℕ) (e : ℕ × ℕ) (g : List (ℕ × ℕ)) → e.0 < client → cond b (e ∷ opened_at client key g) (opened_at client key g) ≡ opened_at client key (cond b (e ∷ g) g)
-opened_pass true client key e g lt = sym (opened_behind client key e g lt)
+opened_pass true client key e g lt = sym (passes_open client key e g lt)
 opened_pass false client key e g lt = refl
 
 closed_pass : (b : Bool) (client : ℕ) (e : ℕ × ℕ) (g : List (ℕ × ℕ)) → e.0 < client → cond b (e ∷ closed_at client g) (closed_at client g) ≡ closed_at client (cond b (e ∷ g) g)

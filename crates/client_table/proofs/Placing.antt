@@ -48,7 +48,7 @@ gap_later k e l i gap = record {
   above = λ j le lt. gap.above (suc j) (omega arith) (omega arith);
 }
 
-passes_open : (k key : ℕ) (e : ℕ × ℕ) (l : List (ℕ × ℕ)) → e.0 < k → opened_at k key (e ∷ l) ≡ e ∷ opened_at k key l
+pub passes_open : (k key : ℕ) (e : ℕ × ℕ) (l : List (ℕ × ℕ)) → e.0 < k → opened_at k key (e ∷ l) ≡ e ∷ opened_at k key l
 passes_open k key e l lt =
     cond-false (ltb k e.0) ((k, key) ∷ e ∷ l) (cond (eqb k e.0) (e ∷ l) (e ∷ opened_at k key l)) (le-ltb k e.0 (omega (arith, lt)))
     ∙ cond-false (eqb k e.0) (e ∷ l) (e ∷ opened_at k key l) (ne_eqb k e.0 (λ same. omega (arith, lt, same)))

@@ -3,9 +3,8 @@ use Rattle.std.proofs.Common.{◌≡◌, ℕ, Bool, List, Option, Some, None, Ma
 use Rattle.std.specs.Result.{IsErrAnd}
 use Rattle.client_table.specs.declared.entry.AdmitFault.{AdmitFault}
 use Rattle.client_table.specs.declared.entry.Entry.{Entry}
-use Rattle.client_table.specs.{clients_of, AreRising, entry_of, with_client, with_entry, without, is_above, next_of, IsLeastAbove, joined, seen, AreJoined}
+use Rattle.client_table.specs.{clients_of, AreRising, entry_of, with_client, with_entry, without, changed, changed_by, joined, seen, AreJoined}
 use Rattle.client_table.specs.declared.entry.AdmitFault.TheVariants.{Full, NoMemory}
-use Rattle.std.specs.List.{find}
 use Rattle.std.specs.Option.{option_and_then}
 use Rattle.std.specs.Map.{keys_of, lookup, remove_entry}
 use Rattle.std.specs.BTreeMap.{insert_entry, is_at}
@@ -14,7 +13,6 @@ use Rattle.std.specs.List.Sorted.{IsStrictlySortedBy}
 use Rattle.client_table.specs.Clients.{Clients}
 use Rattle.client_table.proofs.Found.{keys-joined, length-joined, lookup-joined}
 use Rattle.client_table.proofs.Changed.{SameElsewhere, free_key, joined_set, joined_insert, joined_remove, remove_none, set_none, none_and_some, found_some}
-use Rattle.client_table.proofs.Least.{least_found}
 
 module _ (most : ℕ) (at : ℕ → Option Entry) (es : List (ℕ × ℕ)) (t : Clients) (shows : seen most at es ≡ t) (joins : AreJoined at es) where
   pub shown_entry : (client : ℕ) → option_and_then at (lookup (is_at (nat_cmp client)) es) ≡ entry_of t client
@@ -31,12 +29,6 @@ module _ (most : ℕ) (at : ℕ → Option Entry) (es : List (ℕ × ℕ)) (t : 
 
   pub shown_rising : IsStrictlySortedBy nat_cmp (keys_of es) → AreRising t
   shown_rising rising = subst (λ (ks : List ℕ). IsStrictlySortedBy nat_cmp ks) shown_clients rising
-
-  pub shown_next : (bound : Option ℕ) → find (is_above bound) (keys_of es) ≡ next_of t bound
-  shown_next bound = ap (find (is_above bound)) shown_clients
-
-  pub shown_least : (bound : Option ℕ) → IsStrictlySortedBy nat_cmp (keys_of es) → IsLeastAbove bound (clients_of t) (next_of t bound)
-  shown_least bound rising = least_found bound (clients_of t) (shown_rising rising)
 
   -- a client that isn't known goes
   pub shown_absent : (client : ℕ) (left : List (ℕ × ℕ)) → None ≡ lookup (is_at (nat_cmp client)) es → left ≡ es → seen most at left ≡ without t client
@@ -85,9 +77,6 @@ module _ (most : ℕ) (at : ℕ → Option Entry) (es : List (ℕ × ℕ)) (t : 
         ap (λ (known : List (ℕ × Entry)). record { most = most; known = known }) (joined_set at now key elsewhere (is_at (nat_cmp client)) entry is_now es joins (sym found))
         ∙ ap (λ (u : Clients). with_entry u client entry) shows
 
-pub unknown_joined : (most : ℕ) (at : ℕ → Option Entry) (es : List (ℕ × ℕ)) (t : Clients) → seen most at es ≡ t → (client : ℕ) → entry_of t client ≡ None → lookup (is_at (nat_cmp client)) (joined at es) ≡ None
-unknown_joined most at es t shows client unknown = subst (λ (u : Clients). entry_of u client ≡ None) (sym shows) unknown
-
 not_both : (fault : AdmitFault) → fault ≡ NoMemory → fault ≡ Full → ⊥
 not_both Full is same = cc
 not_both NoMemory is same = cc
@@ -115,3 +104,13 @@ pub set_by : (Q : Entry → Entry → Type 0) (o : Option Entry) (t u : Clients)
     → MatchOption o (u ≡ t) (λ e. (d : Entry) × Q e d × (u ≡ with_entry t client d)) → u ≡ with_entry t client entry
 set_by Q None t u client entry makes is change = change ∙ ap (λ (known : List (ℕ × Entry)). record { most = t.most; known = known }) (sym (set_none (is_at (nat_cmp client)) t.known entry is))
 set_by Q (Some e) t u client entry makes is change = change.2 ∙ ap (with_entry t client) (makes e change.0 change.1)
+
+-- one client's entry
+changed_one : (f : Entry → Entry) (Q : Entry → Entry → Type 0) (t u : Clients) (k : ℕ) (o : Option Entry) → ((e d : Entry) → Q e d → d ≡ f e)
+    → MatchOption o (u ≡ t) (λ e. (d : Entry) × Q e d × (u ≡ with_entry t k d)) → u ≡ changed_by f t k o
+changed_one f Q t u k None makes change = change
+changed_one f Q t u k (Some e) makes change = change.2 ∙ ap (with_entry t k) (makes e change.0 change.1)
+
+pub changed_so : (f : Entry → Entry) (Q : Entry → Entry → Type 0) (t u : Clients) (k : ℕ) → ((e d : Entry) → Q e d → d ≡ f e)
+    → MatchOption (entry_of t k) (u ≡ t) (λ e. (d : Entry) × Q e d × (u ≡ with_entry t k d)) → u ≡ changed f t k
+changed_so f Q t u k makes change = changed_one f Q t u k (entry_of t k) makes change

@@ -4,7 +4,7 @@ use Rattle.std.specs.BTreeMap.{is_at}
 use Rattle.std.specs.BTreeSet.{BTreeSet, insert_key}
 use Rattle.std.specs.Ordering.{ordering_then, match_ordering}
 use Rattle.std.specs.declared.cmp.Ordering.{Ordering}
-use Rattle.std.proofs.lemmas.Bool.{cond-false, and_parts, eqb-true, eq-eqb, lt-leb}
+use Rattle.std.proofs.lemmas.Bool.{cond-false, and_parts, eqb-true, lt-leb}
 use Rattle.std.proofs.lemmas.Bool.Decides.{nat_tests}
 use Rattle.client_table.specs.{pair_cmp, waiting_in}
 
@@ -24,9 +24,6 @@ pub pair_is : (p q : ℕ × ℕ) → is_at (pair_cmp p) q ≡ true → p ≡ q
 pair_is p q t =
     let parts = and_parts (eqb p.0 q.0) (eqb p.1 q.1) (sym (pair_test p.0 p.1 q.0 q.1) ∙ t) in
     ap (λ (n : ℕ). (n, p.1)) (eqb-true p.0 q.0 parts.0) ∙ ap (λ (n : ℕ). (q.0, n)) (eqb-true p.1 q.1 parts.1)
-
-pub pair_here : (p : ℕ × ℕ) → is_at (pair_cmp p) p ≡ true
-pair_here p = pair_test p.0 p.1 p.0 p.1 ∙ (ap (λ (b : Bool). b && eqb p.1 p.1) (eq-eqb p.0 p.0 refl) ∙ eq-eqb p.1 p.1 refl)
 
 -- how many have come isn't changed by one that is still to come
 module _ (now : ℕ) where

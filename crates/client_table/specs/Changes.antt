@@ -2,7 +2,7 @@
 use Rattle.std.specs.Prelude.{◌≡◌, ℕ, ◌+◌, ◌%◌, Option, Some, None}
 use Rattle.client_table.specs.declared.entry.Burst.{Burst}
 use Rattle.client_table.specs.declared.entry.Entry.{Entry}
-use Rattle.client_table.specs.Clients.{Clients, clients_of, entry_of}
+use Rattle.client_table.specs.Clients.{Clients, clients_of, entry_of, with_entry}
 
 -- each known client, with its entry, is as asked
 abbrev pub AreAll : (ℕ → Entry → Type 0) → Clients → Type 0
@@ -22,6 +22,18 @@ pub record AreChanged (change : ℕ → Entry → Entry → Type 0) (old new : C
 -- one that is idle for a tick more, modulo 2^32
 abbrev pub aged : Entry → Entry
 aged e = record e { idle = (e.idle + 1) % 4294967296 }
+
+-- the client isn't idle
+abbrev pub awake : Entry → Entry
+awake e = record e { idle = 0 }
+
+-- the table with a client's entry changed, where it is known
+abbrev pub changed_by : (Entry → Entry) → Clients → ℕ → Option Entry → Clients
+changed_by change table client None = table
+changed_by change table client (Some e) = with_entry table client (change e)
+
+abbrev pub changed : (Entry → Entry) → Clients → ℕ → Clients
+changed change table client = changed_by change table client (entry_of table client)
 
 -- its burst was changed, where it has one, and nothing else
 abbrev pub IsBurstChangedBy : (Burst → Burst → Type 0) → Option Burst → Entry → Entry → Type 0

@@ -1,5 +1,5 @@
 -- The known clients of a channel, and what each call makes of them.
-use Rattle.std.specs.Prelude.{◌≡◌, ℕ, ◌≤◌, Bool, true, false, nat_lt, List, [], Option, Some, None, is_some, All, Contains, find, filter}
+use Rattle.std.specs.Prelude.{ℕ, List, [], Option, None, is_some, filter}
 use Rattle.std.specs.Ordering.{nat_cmp}
 use Rattle.std.specs.Map.{keys_of, lookup, set_value, remove_entry}
 use Rattle.std.specs.BTreeMap.{insert_entry, is_at}
@@ -46,17 +46,3 @@ without t client = record t { known = remove_entry (is_at (nat_cmp client)) t.kn
 -- the known clients with an open burst, each with its entry, by rising client
 abbrev pub opened_of : Clients → List (ℕ × Entry)
 opened_of t = filter (λ e. is_some e.1.burst) t.known
-
--- above a client; each is where none is given
-abbrev pub is_above : Option ℕ → ℕ → Bool
-is_above None client = true
-is_above (Some bound) client = nat_lt bound client
-
--- the first known client above a bound
-abbrev pub next_of : Clients → Option ℕ → Option ℕ
-next_of t bound = find (is_above bound) (clients_of t)
-
--- The least of these clients above a bound: it is one of them, and none of the others above is below it.
-abbrev pub IsLeastAbove : Option ℕ → List ℕ → Option ℕ → Type 0
-IsLeastAbove bound clients None = All (λ j. is_above bound j ≡ false) clients
-IsLeastAbove bound clients (Some k) = Contains clients k × (is_above bound k ≡ true) × All (λ j. is_above bound j ≡ true → k ≤ j) clients

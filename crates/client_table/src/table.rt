@@ -10,7 +10,6 @@ use slab::Slab;
 use std::alloc::Global;
 use std::collections::BTreeMap;
 use std::marker::Model;
-use std::ops::Bound;
 
 /// The known clients. The entries stand in a slab, and an index by rising client has each one's key;
 /// a hash map has them too, another index has those with an open burst, and an ordered set has all by the
@@ -58,9 +57,9 @@ impl Table {
     ghost use Rattle.std.specs.Prelude.{◌≡◌, ◌≤◌, ◌↔◌, ◌+◌, ℕ, Some, None, Err, All, Contains, length, IfSome, IfOk, OnOk, OnErr, MatchOption};
     ghost use Rattle.std.specs.List.Sorted.{IsStrictlySortedBy};
     ghost use Rattle.std.specs.Ordering.{nat_cmp};
-    ghost use Rattle.client_table.specs.Clients.{Clients, nobody, clients_of, AreRising, entry_of, new_entry, with_client, with_entry, without, opened_of, next_of, IsLeastAbove};
+    ghost use Rattle.client_table.specs.Clients.{Clients, nobody, AreRising, entry_of, new_entry, with_client, with_entry, without, opened_of};
     ghost use Rattle.client_table.specs.Left.{clients_left, bursts_left, due_left};
-    ghost use Rattle.client_table.specs.Changes.{AreAll, AreChanged, aged, IsBurstChanged};
+    ghost use Rattle.client_table.specs.Changes.{AreAll, AreChanged, aged, awake, changed, IsBurstChanged};
     ghost use Rattle.client_table.specs.declared.entry.Entry.{Entry};
     ghost use Rattle.client_table.specs.declared.entry.AdmitFault.TheVariants.{Full};
 
@@ -117,16 +116,17 @@ impl Table {
         mark(&mut self.bursts, client, key, was_open, is_open);
     }
 
+    /// A client is no longer idle, where it is known. It takes no memory.
+    pub fn wake(&mut self, client: u64)
+        ensures { self.new ≡ changed awake self.old client }
+    {
+        self.change(client, |entry| Entry { idle: 0, ..entry });
+    }
+
     /// A client that isn't known becomes known, under this SSRC and with this first sequence number of its
     /// retransmission stream. `Full` exactly where as many are known as may be; after any error all is as
     /// before.
-    pub fn admit(
-        &mut self,
-        _alloc: Global,
-        client: u64,
-        ssrc: u32,
-        seq0: u16,
-    ) -> Result<(), AdmitFault>
+    pub fn admit(&mut self, client: u64, ssrc: u32, seq0: u16) -> Result<(), AdmitFault>
         requires unknown { entry_of self.old client ≡ None }
         ensures ok { OnOk result (self.new ≡ with_client self.old client (new_entry ssrc seq0)) }
         ensures full { (result ≡ Err Full) ↔ (length self.old.known ≡ self.old.most) }
@@ -157,17 +157,6 @@ impl Table {
         let stored = take_out(&mut self.entries, key)?;
         self.due.remove(client, stored.due);
         Some(stored.entry(self.tick))
-    }
-
-    /// The least known client above another, or of all where none is given; `None` where there is none.
-    pub fn next_after(&self, client: Option<u64>) -> Option<u64>
-        ensures value { result ≡ next_of self.now client }
-        ensures least { IsLeastAbove client (clients_of self.now) result }
-    {
-        match client {
-            Some(bound) => first_from(&self.index, Bound::Excluded(bound)),
-            None => first_from(&self.index, Bound::Unbounded),
-        }
     }
 
     /// The known clients by rising number, each with what is kept of it.
@@ -245,11 +234,10 @@ impl Table {
     }
 }
 
-ghost use Rattle.std.specs.Prelude.{◌≡◌, ◌≢◌, ℕ, true, IsSome, IsSomeAnd, Some, None, find, slice_set};
+ghost use Rattle.std.specs.Prelude.{◌≡◌, ◌≢◌, ℕ, true, IsSome, IsSomeAnd, Some, None, slice_set};
 ghost use Rattle.std.specs.Ordering.{nat_cmp};
 ghost use Rattle.std.specs.Map.{lookup};
-ghost use Rattle.std.specs.BTreeMap.{is_at, keys};
-ghost use Rattle.std.specs.BTreeMap.Range.{is_from_start};
+ghost use Rattle.std.specs.BTreeMap.{is_at};
 ghost use Rattle.slab.specs.Slab.{Updates};
 ghost use Rattle.client_table.specs.{slot_at, entry_at, IsFree, AreJoined, AreReady, AreSlotsChanged, IsBurstChanged, Tells, times_at, waiting, AreInTime, AreLater, IsInTime, MovesOnly};
 
@@ -361,12 +349,4 @@ fn change_each<F: Fn(Burst) -> Burst>(
             Stored::new(Entry { burst, ..entry }, tick, stored.due),
         );
     }
-}
-
-// The first client from a bound on.
-fn first_from(index: &BTreeMap<u64, usize>, from: Bound<u64>) -> Option<u64>
-    ensures { result ≡ find (is_from_start nat_cmp from) (keys index.now) }
-{
-    let (client, _) = index.range((from, Bound::Unbounded)).next()?;
-    Some(*client)
 }

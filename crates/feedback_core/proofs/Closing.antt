@@ -12,18 +12,17 @@ use Rattle.rams_model.specs.Service.{answered, Settings, Message, messages, unfr
 use Rattle.rams_model.specs.Formats.{Framed, framed}
 use Rattle.reckoning.specs.link_budget.Amounts.{Amounts}
 use Rattle.client_table.specs.Clients.{Clients}
-use Rattle.client_table.specs.{entry_of}
+use Rattle.client_table.specs.{entry_of, awake, changed, changed_by}
 use Rattle.channel_parts.specs.declared.parts.Parts.{Parts}
 use Rattle.channel_parts.specs.{IsTable, IsQueue, IsBudget, IsCache, StandsFor}
 use Rattle.channel_parts.proofs.Facts.{events_reserve_nothing, other_notes_reserve_nothing, only_known_clients_have_bursts, repairs_are_of_known_clients}
 use Rattle.channel_parts.proofs.Given.{moment}
-use Rattle.channel_parts.proofs.Turning.{OthersAreClosed}
 use Rattle.channel_parts.proofs.Staying.{cache_stays}
 use Rattle.feedback_core.specs.declared.page.Page.{Page}
 use Rattle.feedback_core.specs.declared.visitor.Visitor.{Visitor}
-use Rattle.feedback_core.specs.{woken, IsAsBefore, IsClient, IsVisit, answered_of, IsTurned, has_place, with_place, with_kept, with_changed}
+use Rattle.feedback_core.specs.{woken, IsAsBefore, IsClient, IsVisit, answered_of, IsTurned, has_place, with_place, with_kept}
 use Rattle.feedback_core.proofs.Beginning.{at_datagram}
-use Rattle.feedback_core.proofs.Places.{place_is, table_ended, table_woken}
+use Rattle.feedback_core.proofs.Places.{OthersAreClosed, place_is, table_ended, table_woken}
 use Rattle.feedback_core.proofs.Visiting.{entry_as_before}
 
 -- the history after a datagram that frames
@@ -96,7 +95,7 @@ stands_after p new events k seq0 bytes ps queue v page st e ke pe placed t ne =
 pub stands_unasked : (p new : Parts) (events : List Event) (k : ℕ) (bytes : List ℕ) (ms : List Message) (v : Visitor) → StandsFor p events → v.client ≡ k
     → v.entry ≡ woken (entry_of p.table k) → v.budget ≡ p.budget
     → IsVisit p.config (at_datagram k ms (history_of p.config events)) (history_of p.config (Feedback k bytes ∷ events)) v p.queue
-    → new ≡ record p { table = with_changed p.table k (woken (entry_of p.table k)) } → StandsFor new (Feedback k bytes ∷ events)
+    → new ≡ record p { table = changed awake p.table k } → StandsFor new (Feedback k bytes ∷ events)
 unfolding known
 stands_unasked p new events k bytes ms v st ke ee be w ne =
     let s = p.config in
@@ -105,11 +104,11 @@ stands_unasked p new events k bytes ms v st ke ee be w ne =
     let o = entry_of p.table k in
     let closed : OthersAreClosed s after = λ j. only_known_clients_have_bursts s (Feedback k bytes ∷ events) st.lawful j in
     let client : IsClient s k after (woken o) = subst (IsClient s k after) ee (subst (λ (j : ℕ). IsClient s j after v.entry) ke w.client_is) in
-    let table : IsTable s after (with_changed p.table k (woken o)) =
+    let table : IsTable s after (changed_by awake p.table k o) =
     table_woken s k history after p.table o refl st.table client (λ j away. begun_as_before s j k ms history after away (w.others j (λ q. away (q ∙ ke))))
     (subst (λ (j : ℕ). without j (known after) ≡ without j (known history)) ke w.rest) closed in
-    stands_visited p new events k bytes ms p.queue v (with_changed p.table k (woken o)) st w table
-    (ne ∙ ap (λ (b : Amounts). record p { budget = b; table = with_changed p.table k (woken o) }) (sym be))
+    stands_visited p new events k bytes ms p.queue v (changed_by awake p.table k o) st w table
+    (ne ∙ ap (λ (b : Amounts). record p { budget = b; table = changed_by awake p.table k o }) (sym be))
 
 pub answer_after : (s : Settings) (events : List Event) (k : ℕ) (bytes : List ℕ) (ps : List Framed) (queue : List Wanted) (v : Visitor) (page : Page) (orders : List Order)
     → framed bytes ≡ Ok ps → v.client ≡ k

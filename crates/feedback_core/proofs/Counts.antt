@@ -1,24 +1,20 @@
 -- How much the messages of a datagram get.
-use Rattle.std.proofs.Common.{◌≡◌, ℕ, zero, suc, ◌+◌, ◌-◌, ◌/◌, ◌%◌, ◌^◌, ◌<◌, ◌≤◌, Bool, true, false, List, [], ◌∷◌, length, drop, get_or, Option, Some, None, Result, Ok, Err, refl, ap, sym, ◌∙◌, subst, arith, length-append}
-use Rattle.std.specs.Prelude.{◌==◌, max, if◌then◌else◌, filter, filter_map, option_map, option_to_list}
+use Rattle.std.proofs.Common.{◌≡◌, ℕ, zero, suc, ◌+◌, ◌-◌, ◌/◌, ◌%◌, ◌^◌, ◌<◌, ◌≤◌, Bool, true, false, List, [], ◌∷◌, length, drop, get_or, Option, Some, None, refl, ap, sym, ◌∙◌, subst, arith, length-append}
+use Rattle.std.specs.Prelude.{◌==◌, max, if◌then◌else◌, filter, filter_map, option_to_list}
 use Rattle.std.specs.Int.{w16, from_be_bytes, bit_at}
 use Rattle.std.specs.Int.RustNames.{count_ones}
 use Rattle.std.specs.List.{cons_option}
 use Rattle.std.proofs.Math.Nat.{div-div-eq-div-mul, pow-suc}
-use Rattle.std.proofs.lemmas.Bool.{cond_both, eqb-true, eqb-false, ne_eqb}
+use Rattle.std.proofs.lemmas.Bool.{cond_both, eqb-true, eqb-false}
 use Rattle.std.proofs.lemmas.List.{length-map}
 use Rattle.std.proofs.lemmas.Nat.{div_below, ones_le_self}
 use lib.Count.{ones_step}
-use Rattle.rams_model.specs.declared.fault.NackFault.{NackFault}
-use Rattle.rams_model.specs.declared.fault.NackFault.TheVariants.{Empty, Length}
 use Rattle.rams_model.specs.declared.message.Info.{Info}
-use Rattle.rams_model.specs.declared.note.Cause.{Cause}
-use Rattle.rams_model.specs.Service.{Message, named, message_of, with_one_rams, info_order}
+use Rattle.rams_model.specs.Service.{Message, named, message_of, with_one_rams}
 use Rattle.rams_model.specs.Service.Messages.{bye, nack, asks, stops}
 use Rattle.rams_model.specs.Formats.{Framed, counted_from, word_numbers, numbers_of, nack_numbers}
 use Rattle.wire_packets.proofs.rtcp_feedback.NumberSteps.{all_numbers, word_ends}
-use Rattle.feedback_core.specs.declared.said.Said.{Said}
-use Rattle.feedback_core.specs.{most_of_message, most_of_found, most_notes, most_orders, orders_of, orders_of_found, answered_of, end_notes, said_notes}
+use Rattle.feedback_core.specs.{most_of_message, most_of_found, most_notes, most_orders, orders_of, orders_of_found, answered_of}
 
 -- ---- the numbers of a NACK
 
@@ -68,12 +64,6 @@ unfolding numbers_of
 named_whole [] whole = refl
 named_whole (b ∷ bytes) whole = ap named (all_numbers (b ∷ bytes) (omega arith) whole) ∙ word_ends 0 0 (b ∷ bytes)
 
--- or not
-pub named_broken : (fci : List ℕ) → (length fci % 4 ≡ 0 → ⊥) → named (nack_numbers fci) ≡ []
-named_broken fci broken =
-    cond_both (length fci == 0) (Err Empty) (if length fci % 4 == 0 then Ok (numbers_of fci) else Err Length) (λ (r : Result (List ℕ) NackFault). named r ≡ []) (λ t. refl)
-    (λ f. ap (λ (b : Bool). named (if b then Ok (numbers_of fci) else Err Length)) (ne_eqb (length fci % 4) 0 broken))
-
 -- ---- messages
 
 some_notes : (m : Message) → 0 < most_of_message m
@@ -109,14 +99,3 @@ pub told_more : (rams : Bool) (old new : Option Info) → (rams ≡ false → ne
 told_more true old None same = omega arith
 told_more true old (Some info) same = omega arith
 told_more false old new same = let is : length (option_to_list new) ≡ length (option_to_list old) = ap (λ (o : Option Info). length (option_to_list o)) (same refl) in omega arith
-
-pub told_count : (client : ℕ) (o : Option Info) → length (option_to_list (option_map (info_order client) o)) ≡ length (option_to_list o)
-told_count client None = refl
-told_count client (Some info) = refl
-
-pub said_few : (client : ℕ) (said : Said) → length (said_notes client said []) ≤ 2
-said_few client said = by_end said.end
-  where
-    by_end : (o : Option Cause) → length (said.note ∷ end_notes client o []) ≤ 2
-    by_end None = omega arith
-    by_end (Some cause) = omega arith

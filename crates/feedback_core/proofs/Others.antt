@@ -1,8 +1,9 @@
 -- A note of one client changes nothing of the others, and most notes change nothing of their own.
 use Rattle.std.proofs.Common.{◌≡◌, ℕ, Bool, true, false, cond, not, ◌&&◌, ◌||◌, List, [], ◌∷◌, ◌++◌, Option, refl, ap, sym, ◌∙◌, subst, eqb, ltb}
-use Rattle.std.specs.Prelude.{◌≢◌, ◌==◌, filter}
+use Rattle.std.specs.Prelude.{◌≢◌, ◌==◌}
 use Rattle.std.specs.List.{list_any}
-use Rattle.std.proofs.lemmas.Bool.{cond_both, cond-true, cond-false, eqb-true, eq-eqb, ne_eqb, not-false}
+use Rattle.std.proofs.lemmas.Bool.{cond_both, cond-true, cond-false, eqb-true, eq-eqb, ne_eqb, not_from_false}
+use Rattle.std.proofs.lemmas.Map.Views.{any-filter_same}
 use Rattle.rams_model.specs.declared.held.Held.{Held}
 use Rattle.rams_model.specs.declared.note.Note.{Note}
 use Rattle.rams_model.specs.declared.note.Note.TheVariants as note
@@ -38,14 +39,6 @@ apart j k client ne e = ne_eqb client j (λ q. ne (sym q ∙ e))
 pub any_behind : {A : Type 0} (p : A → Bool) (xs : List A) (x : A) → p x ≡ false → list_any p (xs ++ x ∷ []) ≡ list_any p xs
 any_behind p [] x f = ap (λ (b : Bool). b || false) f
 any_behind p (y ∷ ys) x f = ap (λ (b : Bool). p y || b) (any_behind p ys x f)
-
--- what passes is not among what is taken out
-pub any_left : {A : Type 0} (p q : A → Bool) → ((x : A) → q x ≡ true → p x ≡ false) → (xs : List A) → list_any p (filter (λ x. not (q x)) xs) ≡ list_any p xs
-any_left p q apart [] = refl
-any_left p q apart (x ∷ xs) =
-    cond_both (not (q x)) (x ∷ filter (λ y. not (q y)) xs) (filter (λ y. not (q y)) xs) (λ l. list_any p l ≡ list_any p (x ∷ xs))
-    (λ t. ap (λ (b : Bool). p x || b) (any_left p q apart xs))
-    (λ f. any_left p q apart xs ∙ ap (λ (b : Bool). b || list_any p xs) (sym (apart x (not-false (q x) f))))
 
 -- the same, after a note that changes them only of its client
 ssrc_of_others : (j : ℕ) (n : Note) (k : ℕ) (packet : Option Held) (history : History) → j ≢ k → IsOf k n → ssrc j (noted n packet ∷ history) ≡ ssrc j history
@@ -90,7 +83,8 @@ waits_of_others j (note.Queued client n) k packet history ne e = any_behind (λ 
 waits_of_others j (note.Repair client n sequence) k packet history ne e = absurd e
 waits_of_others j (note.Gone client n) k packet history ne e = absurd e
 waits_of_others j (note.Bye client) k packet history ne e =
-    any_left (λ (w : Wanted). w.client == j) (λ w. w.client == client) (λ w t. apart j k w.client ne (eqb-true w.client client t ∙ e)) (pending history)
+    any-filter_same (λ (w : Wanted). w.client == j) (λ w. not (w.client == client)) true
+    (λ w t. not_from_false (w.client == client) (ne_eqb w.client client (λ same. ne (sym (eqb-true w.client j t) ∙ same ∙ e)))) (pending history)
 waits_of_others j n k packet history ne e = refl
 
 known_of_others : (j : ℕ) (n : Note) (k : ℕ) (packet : Option Held) (history : History) → j ≢ k → IsOf k n

@@ -2,20 +2,24 @@
 use Rattle.std.proofs.Common.{◌≡◌, ◌≢◌, ℕ, ◌≤◌, ◌<◌, Bool, true, false, not, ◌||◌, ⊎_elim, List, [], ◌∷◌, length, Option, Some, None, refl, ap, sym, ◌∙◌, subst, arith, eqb, ltb}
 use Rattle.std.specs.Prelude.{is_some, IsSome}
 use Rattle.std.specs.Map.{keys_of}
-use Rattle.std.proofs.lemmas.Bool.{cond_both, cond-true, cond-false, cases_Bool, cases_eq, or_from, or_left, or_right, or_cases, both_ways, eqb-true, eqb-false, ne_eqb, lt-ltb, le-ltb, not-true, not_from_true, not_from_false}
+use Rattle.std.proofs.lemmas.Bool.{cond_both, cond-true, cond-false, cases_Bool, cases_eq, or_from, or_left, or_right, or_cases, both_ways, eqb-true, eqb-false, ne_eqb, lt-ltb, le-ltb, not_from_true, not_from_false}
+use Rattle.std.proofs.lemmas.Map.Views.{any-filter_same}
 use Rattle.rams_model.specs.declared.note.Note.TheVariants as note
-use Rattle.rams_model.specs.Service.{Settings, known, is_among, with_client, without, noted, History}
+use Rattle.rams_model.specs.Service.{Settings, known, open_burst, is_among, with_client, without, noted, History}
 use Rattle.client_table.specs.declared.entry.Entry.{Entry}
-use Rattle.client_table.specs.{clients_of, entry_of, new_entry, with_entry}
+use Rattle.client_table.specs.{clients_of, entry_of, new_entry, with_entry, awake, changed_by}
 use Rattle.client_table.specs.Clients.{Clients}
 use Rattle.client_table.specs.Clients as tables
 use Rattle.channel_parts.specs.{IsEntry, IsTable}
 use Rattle.channel_parts.proofs.Ordered.{Rise, known_rise, same_rise}
 use Rattle.channel_parts.proofs.Tables.{has_entry, entry_among, no_entry, clients-with_entry, entry-with_entry, others-with_entry, clients-with_client, entry-with_client, others-with_client, clients-without, others-without, without_none}
-use Rattle.channel_parts.proofs.Turning.{OthersAreClosed}
-use Rattle.feedback_core.specs.{woken, IsAsBefore, IsClient, is_full_table, has_place, with_place, with_kept, with_changed}
-use Rattle.feedback_core.proofs.Others.{rest_noted, any_left}
+use Rattle.feedback_core.specs.{woken, IsAsBefore, IsClient, is_full_table, has_place, with_place, with_kept}
+use Rattle.feedback_core.proofs.Others.{rest_noted}
 use Rattle.feedback_core.proofs.Visiting.{entry_as_before}
+
+-- only known clients have an open burst
+abbrev pub OthersAreClosed : Settings → History → Type 0
+OthersAreClosed s history = (k : ℕ) → is_among k (known history) ≡ false → open_burst s k history ≡ None
 
 -- A table with a place for a client, or without one: its others are as they were.
 pub record HasOwnPlace (k : ℕ) (t u : Clients) (there : Bool) : Type 0 where
@@ -103,7 +107,7 @@ place_counts s k history t is few =
 -- clients that rise are the same where their others are, and both have this one
 among_rest : (k i : ℕ) (ks : List ℕ) → i ≢ k → is_among i (without k ks) ≡ is_among i ks
 among_rest k i ks ne =
-    any_left (λ (j : ℕ). eqb j i) (λ j. eqb j k) (λ j t. ne_eqb j i (λ e. ne (sym e ∙ eqb-true j k t))) ks
+    any-filter_same (λ (j : ℕ). eqb j i) (λ j. not (eqb j k)) true (λ j t. not_from_false (eqb j k) (ne_eqb j k (λ e. ne (sym (eqb-true j i t) ∙ e)))) ks
 
 same_clients : (k : ℕ) (ks js : List ℕ) → Rise ks → Rise js → is_among k ks ≡ true → is_among k js ≡ true → without k ks ≡ without k js → ks ≡ js
 same_clients k ks js r q a b e =
@@ -127,13 +131,7 @@ known_client s k history None c = c.unknown
 known_client s k history (Some e) c = c.is_known
 
 gone_from : (t : Clients) (k : ℕ) → Rise (clients_of t) → entry_of (tables.without t k) k ≡ None
-gone_from t k r = no_entry (tables.without t k) k (ap (is_among k) (clients-without t k r) ∙ none_left k (clients_of t))
-  where
-    none_left : (k : ℕ) (ks : List ℕ) → is_among k (without k ks) ≡ false
-    none_left k [] = refl
-    none_left k (j ∷ js) =
-        cond_both (not (eqb j k)) (j ∷ without k js) (without k js) (λ l. is_among k l ≡ false)
-        (λ t. or_from (eqb j k) (is_among k (without k js)) (not-true (eqb j k) t) (none_left k js)) (λ f. none_left k js)
+gone_from t k r = no_entry (tables.without t k) k (ap (is_among k) (clients-without t k r) ∙ any-filter_same (λ j. eqb j k) (λ j. not (eqb j k)) false (λ j t. not_from_true (eqb j k) t) (clients_of t))
 
 -- The table as the datagram ends.
 pub table_ended : (s : Settings) (k : ℕ) (before after : History) (t u : Clients) (there : Bool) (o : Option Entry) → IsTable s before t → HasOwnPlace k t u there → IsClient s k after o
@@ -161,7 +159,7 @@ table_ended s k before after t u there (Some e) is place client placed same rest
 
 -- The table as a datagram ends that changes nothing of the client but that it is no longer idle.
 pub table_woken : (s : Settings) (k : ℕ) (before after : History) (t : Clients) (o : Option Entry) → entry_of t k ≡ o → IsTable s before t → IsClient s k after (woken o)
-    → ((j : ℕ) → j ≢ k → IsAsBefore s j before after) → without k (known after) ≡ without k (known before) → OthersAreClosed s after → IsTable s after (with_changed t k (woken o))
+    → ((j : ℕ) → j ≢ k → IsAsBefore s j before after) → without k (known after) ≡ without k (known before) → OthersAreClosed s after → IsTable s after (changed_by awake t k o)
 table_woken s k before after t None found is client same rest closed =
     let apart : is_among k (known before) ≡ false = ap (is_among k) (sym is.clients) ∙ sym (has_entry t k) ∙ ap is_some found in
     record {

@@ -8,7 +8,7 @@ use Rattle.rams_model.specs.Service.{Answered, answered, Settings, Message, Hist
 use Rattle.rams_model.specs.Formats.{Framed, framed}
 use Rattle.reckoning.specs.link_budget.Amounts.{Amounts}
 use Rattle.client_table.specs.declared.entry.Entry.{Entry}
-use Rattle.client_table.specs.{entry_of}
+use Rattle.client_table.specs.{entry_of, awake, changed}
 use Rattle.client_table.specs.Clients.{Clients}
 use Rattle.channel_parts.specs.declared.parts.Parts.{Parts}
 use Rattle.channel_parts.specs.{StandsFor}
@@ -16,7 +16,7 @@ use Rattle.channel_parts.proofs.Facts.{known_clients_are_few}
 use Rattle.channel_parts.proofs.Given.{moment, held_is}
 use Rattle.feedback_core.specs.declared.page.Page.{Page}
 use Rattle.feedback_core.specs.declared.visitor.Visitor.{Visitor}
-use Rattle.feedback_core.specs.{woken, answered_of, IsVisit, IsPage, IsTurned, Holds, ServesAt, is_full_table, has_place, with_place, with_kept, with_changed, IsReady, IsSafe, AreOfOne}
+use Rattle.feedback_core.specs.{woken, answered_of, IsVisit, IsPage, IsTurned, Holds, ServesAt, is_full_table, has_place, with_place, with_kept, IsReady, IsSafe, AreOfOne}
 use Rattle.feedback_core.proofs.Beginning.{at_datagram, visit_begun, page_begun, ready_is, safe_begun}
 use Rattle.feedback_core.proofs.Places.{place_counts}
 use Rattle.feedback_core.proofs.Closing.{history_framed, stands_after, stands_unasked, answer_after}
@@ -98,7 +98,7 @@ served p q new events k bytes ps v w queue page written given st fe e ve ne ie d
 
 -- a datagram without a message
 pub unasked : (p new : Parts) (events : List Event) (k : ℕ) (bytes : List ℕ) (ps : List Framed) (given : Answered) → StandsFor p events → framed bytes ≡ Ok ps → answered_of true ps ≡ []
-    → new ≡ record p { table = with_changed p.table k (woken (entry_of p.table k)) } → given ≡ answered [] []
+    → new ≡ record p { table = changed awake p.table k } → given ≡ answered [] []
     → (given ≡ answer p.config events (Feedback k bytes)) × StandsFor new (Feedback k bytes ∷ events)
 unfolding after_messages newest_notes newest_orders
 unasked p new events k bytes ps given st fe none ne ge =

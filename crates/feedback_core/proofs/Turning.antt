@@ -1,8 +1,9 @@
 -- What an Update, a StopAt, an End, a Bye and a Queued make of what is kept of their client.
 use Rattle.std.proofs.Common.{◌≡◌, ℕ, ◌+◌, ◌-◌, ◌≤◌, Bool, false, not, ◌&&◌, List, [], ◌∷◌, ◌++◌, Option, Some, None, refl, ap, sym, ◌∙◌, eqb, ltb}
-use Rattle.std.specs.Prelude.{◌==◌, filter, length, option_map}
+use Rattle.std.specs.Prelude.{◌==◌, length, option_map}
 use Rattle.std.specs.List.{list_any}
-use Rattle.std.proofs.lemmas.Bool.{cond_both, cond-true, eq-eqb, or_from, not-true}
+use Rattle.std.proofs.lemmas.Bool.{cond-true, eq-eqb, not_from_true}
+use Rattle.std.proofs.lemmas.Map.Views.{any-filter_same}
 use Rattle.rams_model.specs.declared.note.Cause.{Cause}
 use Rattle.rams_model.specs.declared.note.Cause.TheVariants as cause
 use Rattle.rams_model.specs.declared.note.Note.TheVariants as note
@@ -114,15 +115,9 @@ ended s why before history v queue o budget is taken w =
 gone : (k : ℕ) (history : History) → is_among k (known (noted (note.Bye k) None ∷ history)) ≡ false
 gone k history = known_step k (noted (note.Bye k) None) history ∙ ap (λ (b : Bool). not b && is_among k (known history)) (eq-eqb k k refl)
 
-none_left : (k : ℕ) (ws : List Wanted) → list_any (λ w. w.client == k) (filter (λ w. not (w.client == k)) ws) ≡ false
-none_left k [] = refl
-none_left k (w ∷ ws) =
-    cond_both (not (w.client == k)) (w ∷ filter (λ x. not (x.client == k)) ws) (filter (λ x. not (x.client == k)) ws) (λ l. list_any (λ x. x.client == k) l ≡ false)
-    (λ t. or_from (w.client == k) (list_any (λ x. x.client == k) (filter (λ x. not (x.client == k)) ws)) (not-true (w.client == k) t) (none_left k ws)) (λ f. none_left k ws)
-
 none_waits : (k : ℕ) (history : History) → list_any (λ w. w.client == k) (pending (noted (note.Bye k) None ∷ history)) ≡ false
 unfolding pending
-none_waits k history = none_left k (pending history)
+none_waits k history = any-filter_same (λ (w : Wanted). w.client == k) (λ w. not (w.client == k)) false (λ w t. not_from_true (w.client == k) t) (pending history)
 
 pub left_idle : (s : Settings) (before history : History) (v : Visitor) (queue later : List Wanted) → open_burst s v.client history ≡ None → later ≡ queues.without v.client queue
     → IsVisit s before history v queue → IsVisit s before (noted (note.Bye v.client) None ∷ history) (record v { entry = None }) later

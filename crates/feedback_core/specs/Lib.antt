@@ -21,7 +21,7 @@ pub use Rattle.feedback_core.specs.Pads.{Written}
 unfoldable pub use Rattle.feedback_core.specs.Framing.{shown_message, answered_of, turn_of, due_after}
 unfoldable pub use Rattle.feedback_core.specs.Pages.{or_info, last_of, info_for, told_by, IsFresh}
 pub use Rattle.feedback_core.specs.Pages.{IsPage, IsTurned}
-unfoldable pub use Rattle.feedback_core.specs.Places.{is_full_table, has_place, with_place, with_kept, with_changed}
+unfoldable pub use Rattle.feedback_core.specs.Places.{is_full_table, has_place, with_place, with_kept}
 unfoldable pub use Rattle.feedback_core.specs.Telling.{IsInfo, TellsAlone}
 pub use Rattle.feedback_core.specs.Desks.{IsSameDesk, IsReadyDesk}
 unfoldable pub use Rattle.feedback_core.specs.Desks.{HoldsOn, IsHeardOn, HasBurstOn, Serves}

@@ -20,8 +20,3 @@ with_place t k seq0 = if is_some (entry_of t k) then t else if is_full_table t t
 abbrev pub with_kept : Clients → ℕ → Option Entry → Clients
 with_kept t k None = without t k
 with_kept t k (Some e) = with_entry t k e
-
--- where something is kept of a client it is put into its place; else all is as it was
-abbrev pub with_changed : Clients → ℕ → Option Entry → Clients
-with_changed t k None = t
-with_changed t k (Some e) = with_entry t k e

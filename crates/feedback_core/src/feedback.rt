@@ -13,7 +13,7 @@ use crate::answering::answer_packets;
 use crate::counting::most_of_packets;
 use crate::desk::Desk;
 use crate::page::Page;
-use crate::placing::{keep, make_place, wake};
+use crate::placing::{keep, make_place};
 use crate::visitor::Visitor;
 use channel_parts::Parts;
 use ram_io::NoMemory;
@@ -75,12 +75,12 @@ fn answer_framed(
 {
     let most = most_of_packets(packets);
     if most.notes == 0 {
-        wake(&mut parts.table, client);
+        parts.table.wake(client);
         return Ok(Answer::new(Vec::new(alloc), Vec::new(alloc)));
     }
     let page = Page::new(alloc, most.notes)?;
     let orders = Vec::with_capacity(alloc, most.orders)?;
-    let visitor = receive(alloc, parts, client)?;
+    let visitor = receive(parts, client)?;
     let mut desk = Desk {
         config: &parts.config,
         cache: &parts.cache,
@@ -102,7 +102,7 @@ fn answer_framed(
 }
 
 // The client, with a place in the table where it can have one. It takes the memory.
-fn receive(alloc: Global, parts: &mut Parts, client: u64) -> Result<Visitor, NoMemory>
+fn receive(parts: &mut Parts, client: u64) -> Result<Visitor, NoMemory>
     ensures visitor { IfOk result (λ v. v ≡ record {
       client = client;
       entry = woken (entry_of parts.old.table client);
@@ -114,6 +114,6 @@ fn receive(alloc: Global, parts: &mut Parts, client: u64) -> Result<Visitor, NoM
 {
     let entry = parts.table.find(client);
     let seq0 = parts.config.channel().seq0;
-    let has_place = make_place(alloc, &mut parts.table, client, entry.is_some(), seq0)?;
+    let has_place = make_place(&mut parts.table, client, entry.is_some(), seq0)?;
     Ok(Visitor::new(client, entry, has_place, &parts.budget))
 }

@@ -1,16 +1,14 @@
 //! A client's place in the table while its datagram is answered.
 ghost use Rattle.std.specs.Prelude.{◌≡◌, ◌↔◌, is_some, IfOk, OnOk, OnErr};
 ghost use Rattle.client_table.specs.{entry_of};
-ghost use Rattle.feedback_core.specs.{has_place, with_place, with_kept, with_changed, woken};
+ghost use Rattle.feedback_core.specs.{has_place, with_place, with_kept};
 
 use client_table::{AdmitFault, Entry, Table};
 use ram_io::NoMemory;
-use std::alloc::Global;
 
 /// Makes a place for the client, where it isn't known and can be: whether it has one. It takes the
 /// memory; after want of it all is as before. The caller has looked whether the client is known.
 pub(crate) fn make_place(
-    alloc: Global,
     table: &mut Table,
     client: u64,
     is_known: bool,
@@ -24,7 +22,7 @@ pub(crate) fn make_place(
     if is_known {
         return Ok(true);
     }
-    match table.admit(alloc, client, 0, seq0) {
+    match table.admit(client, 0, seq0) {
         Ok(()) => Ok(true),
         Err(AdmitFault::Full) => Ok(false),
         Err(AdmitFault::NoMemory) => Err(NoMemory),
@@ -41,11 +39,4 @@ pub(crate) fn keep(table: &mut Table, client: u64, entry: Option<Entry>)
             table.remove(client);
         }
     }
-}
-
-/// The client is no longer idle, where it is known.
-pub(crate) fn wake(table: &mut Table, client: u64)
-    ensures { table.new ≡ with_changed table.old client (woken (entry_of table.old client)) }
-{
-    table.change(client, |entry| Entry { idle: 0, ..entry });
 }

@@ -1,21 +1,11 @@
 -- What changes of entries and of open bursts make of a table.
-use Rattle.std.proofs.Common.{◌≡◌, ℕ, Option, Some, None, MatchOption, IfSome, refl, ap, sym, ◌∙◌, subst}
+use Rattle.std.proofs.Common.{◌≡◌, ℕ, Option, Some, None, IfSome, refl, ap, sym, ◌∙◌, subst}
 use Rattle.std.specs.Option.{option_map}
 use Rattle.client_table.specs.declared.entry.Burst.{Burst}
 use Rattle.client_table.specs.declared.entry.Entry.{Entry}
-use Rattle.client_table.specs.{entry_of, with_entry, AreAll, IsChanged, AreChanged, aged, IsBurstChangedBy, IsBurstChanged}
+use Rattle.client_table.specs.{entry_of, AreAll, IsChanged, AreChanged, aged, IsBurstChangedBy, IsBurstChanged}
 use Rattle.client_table.specs.Clients.{Clients}
-use Rattle.tick_core.specs.{changed, changed_by, opened_for_tick, entry_begun, burst_ended, entry_ended, IsSmallBurst, IsSmallIfOpen, IsSmallIfKnown, AreSmall, AreAllChanged}
-
--- one client's entry
-changed_one : (f : Entry → Entry) (Q : Entry → Entry → Type 0) (t u : Clients) (k : ℕ) (o : Option Entry) → ((e d : Entry) → Q e d → d ≡ f e)
-    → MatchOption o (u ≡ t) (λ e. (d : Entry) × Q e d × (u ≡ with_entry t k d)) → u ≡ changed_by f t k o
-changed_one f Q t u k None makes change = change
-changed_one f Q t u k (Some e) makes change = change.2 ∙ ap (with_entry t k) (makes e change.0 change.1)
-
-pub changed_so : (f : Entry → Entry) (Q : Entry → Entry → Type 0) (t u : Clients) (k : ℕ) → ((e d : Entry) → Q e d → d ≡ f e)
-    → MatchOption (entry_of t k) (u ≡ t) (λ e. (d : Entry) × Q e d × (u ≡ with_entry t k d)) → u ≡ changed f t k
-changed_so f Q t u k makes change = changed_one f Q t u k (entry_of t k) makes change
+use Rattle.tick_core.specs.{opened_for_tick, entry_begun, IsSmallBurst, IsSmallIfOpen, IsSmallIfKnown, AreSmall, AreAllChanged}
 
 -- ---- all open bursts
 module _ (f : Burst → Burst) (Q : Burst → Burst → Type 0) (makes : (b c : Burst) → Q b c → c ≡ f b) where
@@ -61,12 +51,3 @@ module _ (P : Burst → Type 0) (small_so : (b : Burst) → IsSmallBurst b → P
 
   pub all_small : (t m : Clients) → AreSmall t → AreChanged (λ _ e d. d ≡ aged e) t m → AreAll (λ _ e. IfSome e.burst P) m
   all_small t m small first = λ k d found. small_entry (entry_of t k) d (sym (aged_so (entry_of t k) (entry_of m k) (first.entries k)) ∙ found) (small k)
-
--- as it ends
-pub all_ended : (Q : Burst → Burst → Type 0) (depth : ℕ) (t u : Clients) → ((b c : Burst) → Q b c → c ≡ burst_ended depth b) → AreChanged (λ _. IsBurstChanged Q) t u
-    → AreAllChanged (λ _. entry_ended depth) t u
-all_ended Q depth t u makes change = record {
-  most = change.most;
-  clients = change.clients;
-  entries = λ k. bursts_so (burst_ended depth) Q makes t u k change;
-}

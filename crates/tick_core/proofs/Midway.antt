@@ -1,7 +1,8 @@
 -- The known clients and the budget in the middle of a tick, on the history.
 use Rattle.std.proofs.Common.{◌≡◌, ◌≢◌, ℕ, ◌+◌, ◌-◌, ◌%◌, ◌^◌, ◌≤◌, true, false, not, ⊎_elim, List, [], ◌∷◌, ◌++◌, append_assoc, Option, Some, None, is_some, refl, ap, sym, ◌∙◌, subst, arith, eqb}
 use Rattle.std.specs.Option.{option_map}
-use Rattle.std.proofs.lemmas.Bool.{cond_both, cases_eq, eq-eqb, both_ways, not_from_false, not-false, not-true, ne_eqb, eqb-true, or_parts, or_from}
+use Rattle.std.proofs.lemmas.Bool.{cases_eq, eq-eqb, both_ways, not_from_false, ne_eqb, eqb-true, not_from_true}
+use Rattle.std.proofs.lemmas.Map.Views.{any-filter_same}
 use Rattle.rams_model.specs.declared.held.Held.{Held}
 use Rattle.rams_model.specs.declared.note.Cause.{Cause}
 use Rattle.rams_model.specs.declared.note.Note.{Note}
@@ -15,7 +16,7 @@ use Rattle.reckoning.specs.link_budget.{amounts}
 use Rattle.reckoning.specs.link_budget.Amounts.{Amounts}
 use Rattle.client_table.specs.declared.entry.Burst.{Burst}
 use Rattle.client_table.specs.declared.entry.Entry.{Entry}
-use Rattle.client_table.specs.{clients_of, entry_of}
+use Rattle.client_table.specs.{clients_of, entry_of, awake, changed, changed_by}
 use Rattle.client_table.specs.Clients.{Clients}
 use Rattle.client_table.specs.Clients as tables
 use Rattle.channel_cache.specs.packet_ring.{packet_of}
@@ -23,7 +24,7 @@ use Rattle.channel_parts.specs.{IsBudget}
 use Rattle.channel_parts.proofs.Facts.{open_bursts_are_within_bounds, each_burst_is_reserved, ends_release, other_notes_reserve_nothing, the_end_of_the_held_never_falls}
 use Rattle.channel_parts.proofs.Ordered.{Rise, known_rise}
 use Rattle.channel_parts.proofs.Tables.{clients-with_entry, entry-with_entry, others-with_entry, clients-without, others-without, entry_among, has_entry}
-use Rattle.tick_core.specs.{entry_sent, burst_sent, entry_closed, entry_awake, changed, changed_by, amount_of, amount_for, with_committed, with_all_committed, IsNextSmall, IsNextSmallIfKnown, MayCommit, MayCommitAll}
+use Rattle.tick_core.specs.{entry_sent, burst_sent, entry_closed, amount_of, amount_for, with_committed, with_all_committed, IsNextSmall, IsNextSmallIfKnown, MayCommit, MayCommitAll}
 use Rattle.tick_core.specs.Committed.{Committed}
 use Rattle.tick_core.proofs.Sparing.{spares, one as spared_one, serves, known_kept, IsSpared, spared}
 use Rattle.tick_core.proofs.Idling.{idle_same, busy_spared, idle_anew}
@@ -217,7 +218,7 @@ unfolding ssrc sendings channel_left bursts
 gone_mid s held k n packet history c mid =
     let note = Gone k n in
     let after = noted note packet ∷ history in
-    mid_changed s entry_awake k history after c c.budget mid (known_kept history after (spared_one serves note packet history refl))
+    mid_changed s awake k history after c c.budget mid (known_kept history after (spared_one serves note packet history refl))
     (λ e is. record {
       ssrc_is = is.ssrc_is;
       seq_is = is.seq_is;
@@ -230,11 +231,8 @@ gone_mid s held k n packet history c mid =
 
 -- one that is forgotten is among the others no longer
 among_without : (k j : ℕ) (ks : List ℕ) → is_among j (without k ks) ≡ false → j ≢ k → is_among j ks ≡ false
-among_without k j [] out differ = refl
-among_without k j (i ∷ is) out differ =
-    cond_both (not (eqb i k)) (i ∷ without k is) (without k is) (λ l. is_among j l ≡ false → is_among j (i ∷ is) ≡ false)
-    (λ t o. let parts = or_parts (eqb i j) (is_among j (without k is)) o in or_from (eqb i j) (is_among j is) parts.0 (among_without k j is parts.1 differ))
-    (λ f o. let same = eqb-true i k (not-false (eqb i k) f) in or_from (eqb i j) (is_among j is) (ne_eqb i j (λ e. differ (sym e ∙ same))) (among_without k j is o differ)) out
+among_without k j ks out differ =
+    sym (any-filter_same (λ i. eqb i j) (λ i. not (eqb i k)) true (λ i t. not_from_false (eqb i k) (ne_eqb i k (λ e. differ (sym (eqb-true i j t) ∙ e)))) ks) ∙ out
 
 forgot_mid : (s : Settings) (held : List Held) (k : ℕ) (packet : Option Held) (history : History) (c : Committed) → open_burst s k history ≡ None → IsMid s history c
     → IsMid s (noted (Forgot k) packet ∷ history) (with_committed s held (Forgot k) c)
@@ -249,18 +247,12 @@ forgot_mid s held k packet history c closed mid =
       entries = λ j e found. ⊎_elim
           (λ (same : j ≡ k).
           let among = entry_among (tables.without c.table k) j e found in
-          let out : is_among k (without k (known history)) ≡ false = not_without k (known history) in
+          let out : is_among k (without k (known history)) ≡ false = any-filter_same (λ i. eqb i k) (λ i. not (eqb i k)) false (λ i t. not_from_true (eqb i k) t) (known history) in
           absurd (both_ways (is_among j (clients_of (tables.without c.table k))) (ap (is_among j) clients_are ∙ subst (λ (i : ℕ). is_among i (without k (known history)) ≡ false) (sym same) out) among))
           (λ differ. by_note s j note packet history e (differs k j differ) (mid.entries j e (sym (others-without c.table k j differ) ∙ found))) (cases_eq j k);
       others = λ j out. ⊎_elim (λ (same : j ≡ k). subst (λ (i : ℕ). open_burst s i history ≡ None) (sym same) closed) (λ differ. mid.others j (among_without k j (known history) out differ)) (cases_eq j k);
       budget = mid.budget ∙ ap (λ (r : ℕ). amounts s.channel.share s.channel.reserve s.channel.swell r (channel_left s history)) (sym (other_notes_reserve_nothing s note packet history refl));
     }
-  where
-    not_without : (k : ℕ) (ks : List ℕ) → is_among k (without k ks) ≡ false
-    not_without k [] = refl
-    not_without k (i ∷ is) =
-        cond_both (not (eqb i k)) (i ∷ without k is) (without k is) (λ l. is_among k l ≡ false)
-        (λ t. or_from (eqb i k) (is_among k (without k is)) (not-true (eqb i k) t) (not_without k is)) (λ f. not_without k is)
 
 -- ---- any note
 pub note_mid : (s : Settings) (held : List Held) (note : Note) (packet : Option Held) (history : History) (c : Committed) → Fits s held note packet history → IsMid s history c

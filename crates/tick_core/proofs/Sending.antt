@@ -5,17 +5,14 @@ use Rattle.std.specs.Map.{set_value}
 use Rattle.std.specs.BTreeMap.{is_at}
 use Rattle.std.specs.Ordering.{nat_cmp}
 use Rattle.std.proofs.lemmas.Bool.{cond_both, cond-true, cond-false}
-use Rattle.rams_model.specs.declared.note.Note.{Note}
-use Rattle.rams_model.specs.declared.note.Note.TheVariants.{Burst as BurstNote, Repair, Gone, End, Forgot}
-use Rattle.rams_model.specs.Service.{Settings}
 use Rattle.client_table.specs.declared.entry.Burst.{Burst}
 use Rattle.client_table.specs.declared.entry.Entry.{Entry}
-use Rattle.client_table.specs.{entry_of, with_entry}
+use Rattle.client_table.specs.{entry_of, with_entry, changed, changed_by}
 use Rattle.client_table.specs.Clients.{Clients}
 use Rattle.reckoning.specs.link_budget.Amounts.{Amounts}
 use Rattle.channel_parts.proofs.Tables.{entry-with_entry, entry_among}
 use Rattle.tick_core.specs.declared.sendings.Sendings.{Sendings}
-use Rattle.tick_core.specs.{committing, changed, changed_by, burst_sent, IsNextSmall, IsNextSmallIfKnown, MayCommit, both_sendings, entry_after, with_sendings, MaySend, with_sent, MaySendIfAny, sending_of, with_other, with_sized}
+use Rattle.tick_core.specs.{committing, burst_sent, IsNextSmall, IsNextSmallIfKnown, both_sendings, entry_after, with_sendings, MaySend}
 use Rattle.tick_core.specs.Committed.{Committed}
 use Rattle.tick_core.proofs.Midway.{is_change}
 
@@ -82,24 +79,3 @@ may_both x y c same may =
     let own = (is_change (entry_after x) x.client c.table).own in
     let here : IsNextSmallIfKnown y.of_burst (entry_of (changed (entry_after x) c.table x.client) x.client) = subst (λ (k : ℕ). IsNextSmallIfKnown y.of_burst (entry_of (changed (entry_after x) c.table x.client) k)) same may in
     known_both x y.of_burst (entry_of c.table x.client) (subst (IsNextSmallIfKnown y.of_burst) own here)
-
--- ---- a note
--- one that sends a packet
-pub sends : (s : Settings) (size : ℕ) (note : Note) (x : Sendings) (c : Committed) → Some x ≡ sending_of size note → with_sendings x c ≡ with_sized s size note c
-sends s size (BurstNote k n seq) x c is = ap (λ (o : Option Sendings). with_sent o c) is
-sends s size (Repair k n seq) x c is = ap (λ (o : Option Sendings). with_sent o c) is
-sends s size note x c is = absurd cc
-
-pub may_send : (s : Settings) (size : ℕ) (note : Note) (x : Sendings) (c : Committed) → Some x ≡ sending_of size note → MayCommit s note c → MaySend x c
-may_send s size (BurstNote k n seq) x c is may = subst (λ (o : Option Sendings). MaySendIfAny o c) (sym is) may
-may_send s size (Repair k n seq) x c is may = subst (λ (o : Option Sendings). MaySendIfAny o c) (sym is) may
-may_send s size note x c is may = absurd cc
-
--- one that sends none
-pub sends_none : (s : Settings) (size : ℕ) (note : Note) (c : Committed) → None ≡ sending_of size note → with_other s note c ≡ with_sized s size note c
-sends_none s size (BurstNote k n seq) c is = absurd cc
-sends_none s size (Repair k n seq) c is = absurd cc
-sends_none s size (End k cause) c is = refl
-sends_none s size (Gone k n) c is = refl
-sends_none s size (Forgot k) c is = refl
-sends_none s size note c is = refl

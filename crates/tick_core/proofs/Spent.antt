@@ -11,11 +11,6 @@ use Rattle.tick_core.specs.declared.allowance.Allowance.{Allowance}
 use Rattle.tick_core.specs.{Drafted, Repaired, allowance_for, fits, waiting, with_repair, with_wanted, with_all_wanted, IsSpent, FitsNowhere, AreHeld, IsGone}
 use Rattle.tick_core.proofs.Within.{some_there}
 
--- less is left than the least size
-pub spent_below : (least : ℕ) (held : List Held) (r : Repaired) → AreAtLeast least held → r.draft.left < least → IsSpent held r
-spent_below least [] r all below = tt
-spent_below least (h ∷ held) r all below = (omega (arith, all.0), spent_below least held r all.1 below)
-
 -- what holds of all holds of the one that is found
 found_too : (P : Held → Type 0) (n : ℕ) (held : List Held) → AllByRecursion P held → IfSome (packet_of n held) P
 found_too P n [] all = tt
@@ -35,10 +30,6 @@ no_fit w h (Some a) r none = cond-false (fits h a r.draft) _ (waiting r) none
 over_left_all : (h : Held) (o : Option Allowance) (r : Repaired) → r.draft.left < h.wire → IfSome o (λ a. fits h a r.draft ≡ false)
 over_left_all h None r large = tt
 over_left_all h (Some a) r large = over_left h a r.draft large
-
--- what takes more than the channel has left waits
-pub too_large : (w : Wanted) (h : Held) (o : Option Allowance) (r : Repaired) → r.draft.left < h.wire → with_repair w h o r ≡ waiting r
-too_large w h o r large = no_fit w h o r (over_left_all h o r large)
 
 -- nothing fits where the channel has less left than any packet takes
 pub none_fits : (held : List Held) (w : Wanted) (r : Repaired) → IsSpent held r → FitsNowhere held w r
@@ -68,9 +59,6 @@ held_waits w (Some h) r none some = no_fit w h (allowance_for w.client r.allowan
 none_held : (o : Option Held) → false ≡ is_some o → None ≡ o
 none_held None some = refl
 none_held (Some h) some = cc
-
-pub passed : (held : List Held) (w : Wanted) (r r2 : Repaired) → FitsNowhere held w r → true ≡ is_some (packet_of w.n held) → r2 ≡ waiting r → r2 ≡ with_wanted w (packet_of w.n held) r
-passed held w r r2 none some made = made ∙ sym (held_waits w (packet_of w.n held) r none some)
 
 pub gone : (held : List Held) (w : Wanted) (r r2 : Repaired) → false ≡ is_some (packet_of w.n held) → r2 ≡ with_wanted w None r → r2 ≡ with_wanted w (packet_of w.n held) r
 gone held w r r2 none made = made ∙ ap (λ (o : Option Held). with_wanted w o r) (none_held (packet_of w.n held) none)

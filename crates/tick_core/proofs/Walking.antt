@@ -1,25 +1,22 @@
 -- Going through the known clients, by rising number.
-use Rattle.std.proofs.Common.{All, ◌≡◌, ℕ, ◌<◌, Bool, true, false, cond, ⊎_elim, IsSome, List, [], ◌∷◌, Option, Some, None, is_some, filter, eqb, refl, ap, sym, ◌∙◌, subst, arith}
+use Rattle.std.proofs.Common.{All, ◌≡◌, ℕ, ◌<◌, Bool, true, false, cond, ⊎_elim, IsSome, List, [], ◌∷◌, Option, Some, None, is_some, filter, eqb, refl, ap, sym, ◌∙◌, subst}
 use Rattle.std.specs.List.{AllByRecursion}
 use Rattle.std.specs.Map.{keys_of}
 use Rattle.std.specs.Ordering.{nat_cmp}
 use Rattle.std.specs.declared.cmp.Ordering.TheVariants.{Less}
 use Rattle.std.specs.List.Sorted.{IsStrictlySortedBy}
 use Rattle.std.proofs.lemmas.Bool.{cond_both, cond-true, cond-false, cases_Bool, eqb-true, eq-eqb}
-use Rattle.std.proofs.lemmas.Bool.Decides.{nat_tests}
 use Rattle.std.proofs.lemmas.List.Elements.{All-head, All-rest, All-same}
 use Rattle.std.proofs.lemmas.Map.Keys.{sorted_head, sorted_tail}
 use Rattle.client_table.specs.declared.entry.Entry.{Entry}
 use Rattle.client_table.specs.declared.entry.Burst.{Burst}
 use Rattle.client_table.specs.{entry_of, opened_of}
 use Rattle.client_table.specs.Clients.{Clients}
+use Rattle.client_table.proofs.Opened.{below}
 use Rattle.rams_model.specs.declared.held.Held.{Held}
 use Rattle.rams_model.specs.Service.{Settings, is_lost}
 use Rattle.tick_core.specs.declared.allowance.Allowance.{Allowance}
 use Rattle.tick_core.specs.{Drafted, Rise, clients_of, allowance_of, allowances_of, with_served, with_all_served}
-
-below : (a b : ℕ) → nat_cmp a b ≡ Less → a < b
-below a b h = grind (arith, nat_tests)
 
 -- one more client was served
 pub served_turn : (s : Settings) (held : List Held) (e : ℕ × Entry) (es rest : List (ℕ × Entry)) (d d2 end : Drafted) → es ≡ e ∷ rest → d2 ≡ with_served s held e.0 e.1 e.1.burst d

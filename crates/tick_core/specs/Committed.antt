@@ -7,7 +7,7 @@ use Rattle.rams_model.specs.Service.{Settings, size_of}
 use Rattle.rams_model.specs.Packets.{following}
 use Rattle.client_table.specs.declared.entry.Burst.{Burst}
 use Rattle.client_table.specs.declared.entry.Entry.{Entry}
-use Rattle.client_table.specs.{clients_of, entry_of, with_entry, without}
+use Rattle.client_table.specs.{clients_of, entry_of, awake, changed, without}
 use Rattle.client_table.specs.Clients.{Clients}
 use Rattle.reckoning.specs.link_budget.Amounts.{Amounts}
 use Rattle.channel_cache.specs.packet_ring.{packet_of}
@@ -67,18 +67,6 @@ IsNextSmallIfKnown count (Some e) = IsNextSmall count e.burst
 abbrev pub entry_closed : Entry → Entry
 entry_closed e = record e { idle = 0; burst = None }
 
--- the client isn't idle
-abbrev pub entry_awake : Entry → Entry
-entry_awake e = record e { idle = 0 }
-
--- the table with a client's entry changed, where it is known
-abbrev pub changed_by : (Entry → Entry) → Clients → ℕ → Option Entry → Clients
-changed_by change table client None = table
-changed_by change table client (Some e) = with_entry table client (change e)
-
-abbrev pub changed : (Entry → Entry) → Clients → ℕ → Clients
-changed change table client = changed_by change table client (entry_of table client)
-
 -- the entries of all clients were changed
 pub record AreAllChanged (change : ℕ → Entry → Entry) (old new : Clients) : Type 0 where
   pub most : new.most ≡ old.most
@@ -118,7 +106,7 @@ abbrev pub with_committed : Settings → List Held → Note → Committed → Co
 with_committed s held (BurstNote client n seq) c = with_sending client 1 (size_of (packet_of n held)) c
 with_committed s held (Repair client n seq) c = with_sending client 0 (size_of (packet_of n held)) c
 with_committed s held (End client cause) c = with_closed s.channel.depth client c
-with_committed s held (Gone client n) c = record c { table = changed entry_awake c.table client }
+with_committed s held (Gone client n) c = record c { table = changed awake c.table client }
 with_committed s held (Forgot client) c = record c { table = without c.table client }
 with_committed s held _ c = c
 

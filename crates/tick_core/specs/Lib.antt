@@ -17,7 +17,7 @@ unfoldable pub use Rattle.tick_core.specs.Allowances.{in_place, told_by, AreOfKn
 unfoldable pub use Rattle.tick_core.specs.Forgetting.{idle_after, with_forgotten, with_forgotten_if, with_due_forgotten, with_all_forgotten}
 unfoldable pub use Rattle.tick_core.specs.Plans.{begun_left, drafted_runs, drafted_repairs, drafted_tick, planned_answer, planned_flags, ends_wait, is_over}
 pub use Rattle.tick_core.specs.Plans.{IsPlanOf, IsPlanFor}
-unfoldable pub use Rattle.tick_core.specs.Committed.{opened_for_tick, counted_on, entry_begun, IsSmallIfOpen, IsSmallIfKnown, AreSmall, burst_ended, entry_ended, burst_sent, entry_sent, IsNextSmall, IsNextSmallIfKnown, entry_closed, entry_awake, changed_by, changed, amount_of, amount_for, committing, with_sending, with_closed, with_committed, with_all_committed, MayCommit, MayCommitAll}
+unfoldable pub use Rattle.tick_core.specs.Committed.{opened_for_tick, counted_on, entry_begun, IsSmallIfOpen, IsSmallIfKnown, AreSmall, burst_ended, entry_ended, burst_sent, entry_sent, IsNextSmall, IsNextSmallIfKnown, entry_closed, amount_of, amount_for, committing, with_sending, with_closed, with_committed, with_all_committed, MayCommit, MayCommitAll}
 pub use Rattle.tick_core.specs.Committed.{IsSmallBurst, AreAllChanged, MayEnd}
 unfoldable pub use Rattle.tick_core.specs.Sendings.{one_sending, both_sendings, entry_after, with_sendings, MaySend, with_sent, MaySendIfAny, sending_of, with_other}
 unfoldable pub use Rattle.tick_core.specs.Sizes.{sizes, sizes_left, sizes_named, first_size, later_sizes, sizes_behind, with_sized, with_all_sized, MayCommitSized}

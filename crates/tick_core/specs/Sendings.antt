@@ -4,9 +4,9 @@ use Rattle.rams_model.specs.declared.note.Note.{Note}
 use Rattle.rams_model.specs.declared.note.Note.TheVariants.{Burst as BurstNote, Repair, Gone, End, Forgot}
 use Rattle.rams_model.specs.Service.{Settings}
 use Rattle.client_table.specs.declared.entry.Entry.{Entry}
-use Rattle.client_table.specs.{entry_of, without}
+use Rattle.client_table.specs.{entry_of, awake, changed, without}
 use Rattle.tick_core.specs.declared.sendings.Sendings.{Sendings}
-use Rattle.tick_core.specs.Committed.{Committed, burst_sent, changed, entry_awake, with_closed, IsNextSmallIfKnown}
+use Rattle.tick_core.specs.Committed.{Committed, burst_sent, with_closed, IsNextSmallIfKnown}
 
 -- one packet
 abbrev pub one_sending : ℕ → ℕ → ℕ → Sendings
@@ -45,6 +45,6 @@ sending_of size _ = None
 -- after a note that sends none
 abbrev pub with_other : Settings → Note → Committed → Committed
 with_other s (End client cause) c = with_closed s.channel.depth client c
-with_other s (Gone client n) c = record c { table = changed entry_awake c.table client }
+with_other s (Gone client n) c = record c { table = changed awake c.table client }
 with_other s (Forgot client) c = record c { table = without c.table client }
 with_other s _ c = c

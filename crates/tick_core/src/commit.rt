@@ -6,7 +6,7 @@ ghost use Rattle.channel_parts.specs.{StandsFor};
 ghost use Rattle.tick_core.specs.{IsPlanFor, committing, amount_of, amount_for, with_sendings, MaySend, with_sent, MaySendIfAny, sending_of, with_other, with_closed, sizes, sizes_left, first_size, later_sizes, sizes_behind, with_sized, with_all_sized, MayEnd, MayCommit, MayCommitSized};
 ghost use Rattle.client_table.specs.{entry_of, without};
 
-use crate::entries::{begin_entries, close_entry, end_entries, send_to, wake};
+use crate::entries::{begin_entries, close_entry, end_entries, send_to};
 use crate::plan::TickPlan;
 use crate::sendings::Sendings;
 use crate::sizes::Sizes;
@@ -150,7 +150,7 @@ fn commit_other(config: &Config, table: &mut Table, budget: &mut Budget, note: &
 {
     match *note {
         Note::End { client, .. } => commit_end(config.channel().depth, table, budget, client),
-        Note::Gone { client, .. } => wake(table, client),
+        Note::Gone { client, .. } => table.wake(client),
         Note::Forgot { client } => forget(table, client),
         _ => {}
     }

@@ -1,7 +1,7 @@
 //! What is kept of the clients, as a tick begins, goes on and ends.
 ghost use Rattle.std.specs.Prelude.{◌≡◌, option_map};
-ghost use Rattle.client_table.specs.{entry_of};
-ghost use Rattle.tick_core.specs.{opened_for_tick, entry_begun, IsSmallBurst, burst_ended, entry_ended, burst_sent, entry_after, entry_closed, entry_awake, IsNextSmall, IsNextSmallIfKnown, changed, AreSmall, AreAllChanged};
+ghost use Rattle.client_table.specs.{entry_of, changed};
+ghost use Rattle.tick_core.specs.{opened_for_tick, entry_begun, IsSmallBurst, burst_ended, entry_ended, burst_sent, entry_after, entry_closed, IsNextSmall, IsNextSmallIfKnown, AreSmall, AreAllChanged};
 
 use crate::sendings::Sendings;
 use client_table::{Burst, Entry, Table};
@@ -74,13 +74,6 @@ pub fn close_entry(table: &mut Table, client: u64)
             ..entry
         },
     );
-}
-
-/// A client isn't idle.
-pub fn wake(table: &mut Table, client: u64)
-    ensures { table.new ≡ changed entry_awake table.old client }
-{
-    table.change(client, |entry| Entry { idle: 0, ..entry });
 }
 
 /// What is kept of all clients as a tick begins. Whether one is busy isn't looked at: a busy client is

@@ -33,6 +33,6 @@ returns-clause-told c = page_tells c.finish.result _ c.args.client _ c.finish.en
 
 pub returns-then-most-eq0-clause-stands : goal.returns-then-most-eq0-clause-stands
 returns-then-most-eq0-clause-stands c = λ events bytes st fe.
-    unasked c.args.parts.now (record c.args.parts.now { table = c.wake.new.table }) events c.args.client bytes (packets_left c.args.packets) c.new-then-most-eq0-2.result st fe
+    unasked c.args.parts.now (record c.args.parts.now { table = c.wake.new.self }) events c.args.client bytes (packets_left c.args.packets) c.new-then-most-eq0-2.result st fe
     (none_asked (packets_left c.args.packets) (sym c.most_of_packets-most.ensures.notes ∙ c.if-most-eq0.true)) (ap (λ (t : Clients). record c.args.parts.now { table = t }) c.wake.ensures)
     (c.new-then-most-eq0-2.ensures ∙ ap (λ (ns : List Note). answered ns c.new-then-most-eq0.result.items) c.new.ensures.items ∙ ap (answered []) c.new-then-most-eq0.ensures.items)

@@ -1,6 +1,6 @@
 use Rattle.std.proofs.Common.{rules}
 use Rattle.tick_core.specs.{entry_closed}
-use Rattle.tick_core.proofs.Kept.{changed_so}
+use Rattle.client_table.proofs.Shown.{changed_so}
 use Rattle.tick_core.proofs.entries.close_entry.Goals as goal
 
 pub returns : goal.returns

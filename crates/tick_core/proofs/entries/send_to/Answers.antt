@@ -1,6 +1,6 @@
 use Rattle.std.proofs.Common.{rules}
 use Rattle.tick_core.specs.{entry_after}
-use Rattle.tick_core.proofs.Kept.{changed_so}
+use Rattle.client_table.proofs.Shown.{changed_so}
 use Rattle.tick_core.proofs.entries.send_to.Goals as goal
 
 pub returns : goal.returns
