@@ -13,19 +13,10 @@ type Full = (u32, &'static [u32]);
 
 const FULL: &[Full] = &[(0, &[]), (1, &[5]), (3, &[2, 5, 9])];
 
-// Known clients in the order in which they came, a client, and the least that is above it.
-type Next = (&'static [u32], Option<u64>, Option<u64>);
+// Known clients in the order in which they came, and by rising number.
+type Risen = (&'static [u32], &'static [u32]);
 
-const NEXT: &[Next] = &[
-    (&[], None, None),
-    (&[], Some(0), None),
-    (&[7], Some(6), Some(7)),
-    (&[7], Some(7), None),
-    (&[9, 2, 5], None, Some(2)),
-    (&[9, 2, 5], Some(2), Some(5)),
-    (&[9, 2, 5], Some(3), Some(5)),
-    (&[9, 2, 5], Some(u64::MAX), None),
-];
+const RISEN: &[Risen] = &[(&[], &[]), (&[7], &[7]), (&[9, 2, 5], &[2, 5, 9])];
 
 const BURST: Burst = Burst {
     first: 65546,
@@ -45,14 +36,14 @@ const BURST: Burst = Burst {
 };
 
 // A client that isn't known asks to become known, with its own number as its SSRC.
-fn admit(rt: &impl Abort, alloc: Global, table: &mut Table, client: u32) -> Result<(), AdmitFault> {
+fn admit(rt: &impl Abort, table: &mut Table, client: u32) -> Result<(), AdmitFault> {
     assert!(rt; table.find(u64::from(client)).is_none());
-    table.admit(alloc, u64::from(client), client, 500)
+    table.admit(u64::from(client), client, 500)
 }
 
-fn admit_all(rt: &impl Abort, alloc: Global, table: &mut Table, clients: &[u32]) {
+fn admit_all(rt: &impl Abort, table: &mut Table, clients: &[u32]) {
     for client in clients {
-        same(rt, &admit(rt, alloc, table, *client), &Ok(()), client);
+        same(rt, &admit(rt, table, *client), &Ok(()), client);
     }
 }
 
@@ -61,7 +52,7 @@ fn table_of(rt: &impl Abort, alloc: Global, most: u32, clients: &[u32]) -> Resul
     let Ok(mut table) = Table::new(alloc, most, LIMIT) else {
         return Err(Fail::new("no memory"));
     };
-    admit_all(rt, alloc, &mut table, clients);
+    admit_all(rt, &mut table, clients);
     Ok(table)
 }
 
@@ -84,14 +75,14 @@ fn expect_known(rt: &impl Abort, table: &Table, clients: &[u32]) {
 }
 
 // Each client leaves, once, and becomes known again.
-fn expect_leave(rt: &impl Abort, alloc: Global, table: &mut Table, clients: &[u32]) {
+fn expect_leave(rt: &impl Abort, table: &mut Table, clients: &[u32]) {
     for client in clients {
         let left = (
             table.remove(u64::from(*client)),
             table.remove(u64::from(*client)),
         );
         same(rt, &left, &(Some(admitted(*client)), None), client);
-        same(rt, &admit(rt, alloc, table, *client), &Ok(()), client);
+        same(rt, &admit(rt, table, *client), &Ok(()), client);
     }
 }
 
@@ -100,7 +91,7 @@ fn expect_leave(rt: &impl Abort, alloc: Global, table: &mut Table, clients: &[u3
 fn expect_full(rt: &impl Abort, alloc: Global, rows: &[Full]) -> Result<(), Fail> {
     for (most, known) in rows {
         let mut table = table_of(rt, alloc, *most, known)?;
-        let refused = admit(rt, alloc, &mut table, 6);
+        let refused = admit(rt, &mut table, 6);
         same(
             rt,
             &(refused, table.count()),
@@ -108,7 +99,7 @@ fn expect_full(rt: &impl Abort, alloc: Global, rows: &[Full]) -> Result<(), Fail
             most,
         );
         expect_known(rt, &table, known);
-        expect_leave(rt, alloc, &mut table, known);
+        expect_leave(rt, &mut table, known);
         let_go(table);
     }
     Ok(())
@@ -119,23 +110,19 @@ fn full_tables(rt: HostRuntime) -> Result<(), Fail> {
     expect_full(&rt, rt.alloc(), FULL)
 }
 
-// The call stands alone, as its contract is long.
-fn next_after(table: &Table, client: Option<u64>) -> Option<u64> {
-    table.next_after(client)
-}
-
-fn expect_next(rt: &impl Abort, alloc: Global, rows: &[Next]) -> Result<(), Fail> {
-    for (place, (clients, from, next)) in rows.iter().enumerate() {
+fn expect_risen(rt: &impl Abort, alloc: Global, rows: &[Risen]) -> Result<(), Fail> {
+    for (place, (clients, risen)) in rows.iter().enumerate() {
         let table = table_of(rt, alloc, 4, clients)?;
-        same(rt, &next_after(&table, *from), next, &place);
+        same(rt, &(table.count() as usize), &risen.len(), &place);
+        expect_known(rt, &table, risen);
         let_go(table);
     }
     Ok(())
 }
 
 #[test]
-fn next_clients(rt: HostRuntime) -> Result<(), Fail> {
-    expect_next(&rt, rt.alloc(), NEXT)
+fn clients_rise(rt: HostRuntime) -> Result<(), Fail> {
+    expect_risen(&rt, rt.alloc(), RISEN)
 }
 
 const CLIENTS: [u32; 3] = [2, 5, 9];
