@@ -1,11 +1,10 @@
 //! The book of a channel.
-use crate::copies::copy_event;
 use crate::entry::Entry;
 use crate::twice::answer_twice;
 use channel_config::Config;
 use ram_io::NoMemory;
 use rams_model::{Answer, Event};
-use server_hub::session_core::{Core, Stepped};
+use server_hub::session_core::Core;
 use std::alloc::Global;
 use std::marker::Model;
 
@@ -55,25 +54,7 @@ impl Book {
     }
 
     /// Takes an event of this list: its place, which is the number of entries before it, and the answer.
-    /// After want of memory all is as before.
-    pub fn step(
-        &mut self,
-        alloc: Global,
-        list: u16,
-        event: &Event,
-    ) -> Result<(u64, Answer), NoMemory>
-        requires few { length self.old.entries < 2 ^ 40 }
-        ensures place { IfOk result (λ r. r.0 ≡ length self.old.entries) }
-        ensures added { IfOk result (λ r. self.new.entries ≡ self.old.entries ++ entry list event.now r.1 ∷ []) }
-        ensures legal { OnOk result (IsLegal self.new.settings self.new.entries) }
-        ensures settings { self.new.settings ≡ self.old.settings }
-        ensures same { OnErr result (self.new ≡ self.old) }
-    {
-        let event = copy_event(alloc, event)?;
-        self.take(alloc, list, event)
-    }
-
-    /// `step` with an event that the book keeps; after want of memory it is given up.
+    /// After want of memory all is as before, and the event is given up.
     pub fn take(
         &mut self,
         alloc: Global,
@@ -136,20 +117,5 @@ impl Book {
             .iter()
             .filter(|entry| entry.list == list)
             .count() as u64
-    }
-}
-
-impl Stepped for Book {
-    ghost use Rattle.std.specs.Prelude.{◌≡◌, []};
-    ghost use Rattle.channel_book.specs.{events_behind};
-
-    ghost settings = { λ book. book.settings };
-
-    ghost stands = { λ book events. events_behind [] book.entries ≡ events };
-
-    /// An event of list 0.
-    fn step(&mut self, alloc: Global, event: &Event) -> Result<Answer, NoMemory> {
-        let (_, answer) = self.step(alloc, 0, event)?;
-        Ok(answer)
     }
 }

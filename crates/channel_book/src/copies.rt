@@ -1,30 +1,10 @@
-//! Copies of events and of answers.
+//! Copies of answers.
 ghost use Rattle.std.specs.Prelude.{◌≡◌, ◌+◌, ◌≤◌, [], length, vec_len, vec_capacity, All, IfOk};
 ghost use Rattle.server_hub.specs.session_core.{IsInfo, TellsAlone};
 
 use ram_io::NoMemory;
-use rams_model::{Answer, Event, Note, Octets, Order};
+use rams_model::{Answer, Note, Order};
 use std::alloc::Global;
-
-fn copy_octets(alloc: Global, octets: &Octets) -> Result<Octets, NoMemory>
-    ensures { IfOk result (λ copy. copy ≡ octets.now) }
-{
-    Ok(Octets::of(octets.bytes().to_vec(alloc)?))
-}
-
-/// The event again, with bytes of its own.
-pub(crate) fn copy_event(alloc: Global, event: &Event) -> Result<Event, NoMemory>
-    ensures { IfOk result (λ copy. copy ≡ event.now) }
-{
-    match event {
-        Event::Live(bytes) => Ok(Event::Live(copy_octets(alloc, bytes)?)),
-        Event::Feedback { client, bytes } => Ok(Event::Feedback {
-            client: *client,
-            bytes: copy_octets(alloc, bytes)?,
-        }),
-        Event::Tick => Ok(Event::Tick),
-    }
-}
 
 /// The order again. Its packet is shared.
 fn copy_order(order: &Order) -> Result<Order, NoMemory>

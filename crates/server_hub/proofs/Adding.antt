@@ -2,7 +2,7 @@
 use Rattle.std.proofs.Common.{◌≡◌, ◌≢◌, ℕ, ◌+◌, ◌-◌, ◌<◌, ◌≤◌, Bool, true, false, not, cond, List, [], ◌∷◌, ◌++◌, Option, Some, None, length, refl, sym, ◌∙◌, ap, subst, arith, eqb, ltb, leb}
 use Rattle.std.specs.Prelude.{All, AllPairs, ◌||◌, IfSome, Result, Err}
 use Rattle.std.specs.List.{list_any}
-use Rattle.std.proofs.lemmas.Bool.{or_parts, eqb-false, lt-ltb, le-leb, lt-leb}
+use Rattle.std.proofs.lemmas.Bool.{lt-ltb, le-leb, lt-leb}
 use Rattle.std.proofs.lemmas.List.Elements.{All-append, All-cons}
 use Rattle.std.proofs.lemmas.List.{length-append, length-map, map-append}
 use Rattle.std.proofs.lemmas.List.Quantifiers.{all_pairs_push}
@@ -16,17 +16,12 @@ use Rattle.server_hub.specs.declared.event.AddFault.TheVariants.{Full, Twice, Li
 use Rattle.server_hub.specs.Served.{Served}
 use Rattle.server_hub.specs.Seen.{Seen}
 use Rattle.server_hub.proofs.Pairing.{pair_more}
+use Rattle.server_hub.proofs.Passing.{in_none}
 
 -- the test of all numbers
 pub has_is : (id : ℕ) (all : List Settings) → list_any (λ k. eqb k id) (ids_of all) ≡ has_id id all
 has_is id [] = refl
 has_is id (s ∷ all) = ap (λ b. eqb s.channel.id id || b) (has_is id all)
-
-none_is_it : (id : ℕ) (ks : List ℕ) → list_any (λ k. eqb k id) ks ≡ false → All (λ k. k ≢ id) ks
-none_is_it id [] none = λ k d less. absurd (omega (arith, less))
-none_is_it id (k ∷ ks) none =
-    let both = or_parts (eqb k id) (list_any (λ x. eqb x id) ks) none in
-    All-cons (λ x. x ≢ id) k ks (eqb-false k id both.0) (none_is_it id ks both.1)
 
 -- the first of the three faults
 faults : Bool → Bool → Bool → Option AddFault
@@ -56,7 +51,7 @@ number_fits ids room claimed v f few =
     omega (arith, f.room_is, all, names)
 
 -- one channel more still fits the link
-fit_more : (tick link : ℕ) (all : List Settings) (s : Settings) → FitLink tick link all → length all < 64 → All (λ k. k ≢ s.channel.id) (ids_of all)
+pub fit_more : (tick link : ℕ) (all : List Settings) (s : Settings) → FitLink tick link all → length all < 64 → All (λ k. k ≢ s.channel.id) (ids_of all)
     → shares_of all + s.channel.share ≤ link → s.tick ≡ tick → FitLink tick link (all ++ s ∷ [])
 fit_more tick link all s f few new fits same = record {
   few = omega (arith, length-append all (s ∷ []));
@@ -105,7 +100,7 @@ module _ (ids : List ℕ) (room claimed : ℕ) (v : Seen) (f : AreFields ids roo
   added core settings stands few new fits tick later grows =
       let all : all_settings (v.channels ++ core ∷ []) ≡ settings_of v ++ s ∷ [] = settings_more v.channels core ∙ ap (λ (x : Settings). settings_of v ++ x ∷ []) settings in
       let other : All (λ k. k ≢ s.channel.id) (ids_of (settings_of v)) =
-      none_is_it s.channel.id (ids_of (settings_of v)) (has_is s.channel.id (settings_of v) ∙ found false new) in
+      in_none s.channel.id (ids_of (settings_of v)) (has_is s.channel.id (settings_of v) ∙ found false new) in
       record {
         lawful = record {
           tick_least = f.lawful.tick_least;

@@ -1,7 +1,7 @@
 -- Numbers in which another isn't, block by block.
-use Rattle.std.proofs.Common.{◌≡◌, ◌≢◌, ℕ, ◌+◌, false, ◌==◌, All, List, [], ◌∷◌, take, drop, sym, subst, take-add, take-append-drop}
+use Rattle.std.proofs.Common.{◌≡◌, ◌≢◌, ℕ, ◌+◌, false, ◌==◌, All, List, [], ◌∷◌, take, drop, sym, subst, take-add}
 use Rattle.std.specs.List.{list_any}
-use Rattle.std.proofs.lemmas.Bool.{or_parts, eqb-false}
+use Rattle.std.proofs.lemmas.Bool.{eqb-false, or_parts}
 use Rattle.std.proofs.lemmas.List.Elements.{All-nil, All-cons, All-append}
 
 pub in_none : (id : ℕ) (xs : List ℕ) → list_any (λ k. k == id) xs ≡ false → All (λ k. k ≢ id) xs
@@ -12,7 +12,3 @@ in_none id (x ∷ xs) none =
 pub passed_more : (id from count : ℕ) (ids : List ℕ) → All (λ k. k ≢ id) (take from ids) → list_any (λ k. k == id) (take count (drop from ids)) ≡ false → All (λ k. k ≢ id) (take (from + count) ids)
 passed_more id from count ids front none =
     subst (All (λ k. k ≢ id)) (sym (take-add from count ids)) (All-append (λ k. k ≢ id) (take from ids) (take count (drop from ids)) front (in_none id (take count (drop from ids)) none))
-
-pub passed_all : (id from : ℕ) (ids : List ℕ) → All (λ k. k ≢ id) (take from ids) → All (λ k. k ≢ id) (drop from ids) → All (λ k. k ≢ id) ids
-passed_all id from ids front back =
-    subst (All (λ k. k ≢ id)) (take-append-drop from ids) (All-append (λ k. k ≢ id) (take from ids) (drop from ids) front back)

@@ -222,18 +222,4 @@ impl Hub {
             Heard::Tick => Ok(HubAnswer::Answers(self.tick(alloc)?)),
         }
     }
-
-    /// The same of an event that has its bytes.
-    pub fn step(&mut self, alloc: Global, event: &HubEvent) -> Result<HubAnswer, NoMemory>
-        requires { self.old.calls < 2 ^ 40 }
-        ensures stands { (channels : List Served) → StandsFor self.old channels →
-            IfOk result (λ a. (told a ≡ told_to event.now channels) × StandsFor self.new (after_event event.now channels)) }
-        ensures join_times { (channels : List Served) → StandsFor self.old channels → event.now ≡ HubEvent.Tick →
-            OnOk result (AllKeepJoinTimes (after_event event.now channels)) }
-        ensures settings { KeepsSettings self.old self.new }
-        ensures calls { OnOk result (self.new.calls ≡ self.old.calls + 1) }
-        ensures same { OnErr result (self.new ≡ self.old) }
-    {
-        self.hear(alloc, event.heard())
-    }
 }

@@ -5,7 +5,6 @@
 
 mod channel;
 mod live;
-mod stepped;
 
 pub use channel::Core;
 pub use channel_cache::Incoming;
@@ -13,5 +12,4 @@ pub use channel_config::Config;
 pub use feedback_core::{Most, most_in};
 pub use ram_io::NoMemory;
 pub use rams_model::{Answer, Event, LiveNote};
-pub use stepped::Stepped;
 pub use tick_core::TickPlan;

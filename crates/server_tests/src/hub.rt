@@ -123,7 +123,7 @@ fn expect_steps(rt: &impl Abort, alloc: Global, hub: &mut Hub, steps: &[Step]) -
     let mut place = 0usize;
     for (id, given, expected) in steps {
         let event = event_at(alloc, *id, *given)?;
-        let answer = hub.step(alloc, &event);
+        let answer = hub.hear(alloc, event.heard());
         let_go(event);
         let Ok(answer) = answer else {
             return Err(Fail::new("no memory"));

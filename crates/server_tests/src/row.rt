@@ -1,12 +1,12 @@
 //! What a row of a table is, and how it is run.
-ghost use Rattle.std.specs.Prelude.{◌+◌, ◌<◌, ◌^◌, List, [], IfOk, length};
+ghost use Rattle.std.specs.Prelude.{◌+◌, ◌<◌, ◌^◌, List, [], ◌∷◌, IfOk, OnOk, length};
 ghost use Rattle.rams_model.specs.declared.event.Event.{Event};
-ghost use Rattle.server_hub.specs.session_core.{StandsFor};
+ghost use Rattle.server_hub.specs.session_core.{StandsFor, StandsForFewer};
 
 use crate::fixtures::{REQUEST, let_go};
 use channel_config::{Channel, Config};
 use rams_model::{Answer, Event, Info, Note, Octets, Order};
-use server_hub::session_core::{Core, Stepped};
+use server_hub::session_core::{Core, NoMemory};
 use std::alloc::{AllocError, Global};
 use std::process::Abort;
 use std::test::Fail;
@@ -104,20 +104,32 @@ fn new_core(alloc: Global, channel: Channel) -> Result<Core, Fail>
     Ok(core)
 }
 
+/// What a channel answers to the event.
+fn answer_of(alloc: Global, core: &mut Core, event: &Event) -> Result<Answer, NoMemory>
+    requires { StandsForFewer core.old (2 ^ 40) }
+    ensures { (events : List Event) → StandsFor core.old events → OnOk result (StandsFor core.new (event.now ∷ events)) }
+{
+    match event {
+        Event::Live(bytes) => core.live(alloc, bytes.bytes()),
+        Event::Feedback { client, bytes } => core.feedback(alloc, *client, bytes.bytes()),
+        Event::Tick => core.tick(alloc),
+    }
+}
+
 /// Each row's event is answered as it says.
-fn expect<S: Stepped>(
+fn expect(
     rt: &impl Abort,
     alloc: Global,
-    stepped: &mut S,
+    core: &mut Core,
     rows: &[Row],
     case: usize,
 ) -> Result<(), Fail>
-    requires { (events : List Event) × S.stands stepped.old events × (length events + length rows.now < 2 ^ 40) }
+    requires { (events : List Event) × StandsFor core.old events × (length events + length rows.now < 2 ^ 40) }
 {
     let mut place = 0usize;
     for (given, notes, orders, info) in rows {
         let event = event_of(alloc, *given)?;
-        let answer = stepped.step(alloc, &event);
+        let answer = answer_of(alloc, core, &event);
         let_go(event);
         let Ok(answer) = answer else {
             return Err(Fail::new("no memory"));

@@ -1,12 +1,11 @@
 //! The core of one channel.
 use crate::session_core::live::{answer_live, note_live};
-use crate::session_core::stepped::Stepped;
 use channel_cache::Incoming;
 use channel_config::Config;
 use channel_parts::Parts;
 use feedback_core::answer_feedback;
 use ram_io::NoMemory;
-use rams_model::{Answer, Event, LiveNote};
+use rams_model::{Answer, LiveNote};
 use std::alloc::Global;
 use std::marker::Model;
 use tick_core::TickPlan;
@@ -159,21 +158,5 @@ impl Core {
     {
         tick_core::commit_tick(&mut self.parts, &plan);
         plan.answer
-    }
-}
-
-impl Stepped for Core {
-    ghost use Rattle.server_hub.specs.session_core.{StandsFor};
-
-    ghost settings = { λ core. core.settings };
-
-    ghost stands = { StandsFor };
-
-    fn step(&mut self, alloc: Global, event: &Event) -> Result<Answer, NoMemory> {
-        match event {
-            Event::Live(bytes) => self.live(alloc, bytes.bytes()),
-            Event::Feedback { client, bytes } => self.feedback(alloc, *client, bytes.bytes()),
-            Event::Tick => self.tick(alloc),
-        }
     }
 }
