@@ -87,22 +87,18 @@ fn new_parts_have_the_amounts_of_the_settings(rt: HostRuntime) -> Result<(), Fai
 }
 
 /// How a second client is admitted behind a first.
-fn second_client(
-    rt: &impl Abort,
-    alloc: Global,
-    parts: &mut Parts,
-) -> Result<Option<AdmitFault>, Fail> {
+fn second_client(rt: &impl Abort, parts: &mut Parts) -> Result<Option<AdmitFault>, Fail> {
     assert!(rt; parts.table.find(9).is_none());
-    let Ok(()) = parts.table.admit(alloc, 9, 9, 500) else {
+    let Ok(()) = parts.table.admit(9, 9, 500) else {
         return Err(Fail::new("the first client"));
     };
     assert!(rt; parts.table.find(5).is_none());
-    Ok(parts.table.admit(alloc, 5, 5, 500).err())
+    Ok(parts.table.admit(5, 5, 500).err())
 }
 
 /// The first client alone comes in.
-fn expect_one_client(rt: &impl Abort, alloc: Global, parts: &mut Parts) -> Result<(), Fail> {
-    let second = second_client(rt, alloc, parts)?;
+fn expect_one_client(rt: &impl Abort, parts: &mut Parts) -> Result<(), Fail> {
+    let second = second_client(rt, parts)?;
     same(rt, &second, &Some(AdmitFault::Full), &"the second client");
     Ok(())
 }
@@ -111,7 +107,7 @@ fn expect_one_client(rt: &impl Abort, alloc: Global, parts: &mut Parts) -> Resul
 #[test]
 fn one_client_is_known(rt: HostRuntime) -> Result<(), Fail> {
     let mut parts = parts(rt.alloc())?;
-    let done = expect_one_client(&rt, rt.alloc(), &mut parts);
+    let done = expect_one_client(&rt, &mut parts);
     let_go(parts);
     done
 }
