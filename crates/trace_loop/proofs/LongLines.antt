@@ -6,7 +6,7 @@ use Rattle.rams_model.specs.Texts.{Reached, judged}
 use Rattle.trace_loop.specs.trace_book.trace_serving.{Serving, Stage, Outcome, ends, refused, after_judging, turn}
 
 -- a line that is too long has no form
-judged_by : (r : Reached) (bytes : List ℕ) → 4096 < length bytes → judged r bytes ≡ Err Form
+pub judged_by : (r : Reached) (bytes : List ℕ) → 4096 < length bytes → judged r bytes ≡ Err Form
 unfolding judged
 judged_by r bytes long = rw (lt-ltb 4096 (length bytes) long) refl
 
@@ -17,7 +17,11 @@ module _ {State Event : Type 0} (s : Serving State Event) where
       let short : 4096 < length (take 4097 bytes) = omega (arith, length-take 4097 bytes) in
       ap (after_judging s stage number) (judged_by stage.reached bytes long ∙ sym (judged_by stage.reached (take 4097 bytes) short))
 
-  -- a line that is too long ends the trace
-  pub long_ends : (stage : Stage State) (number : ℕ) (bytes : List ℕ) → 4096 < length bytes → (o : Outcome) × (turn s stage number bytes ≡ ends o)
+  -- it is refused
+  pub long_refused : (stage : Stage State) (number : ℕ) (bytes : List ℕ) → 4096 < length bytes → turn s stage number bytes ≡ ends (refused number Form)
   unfolding turn
-  long_ends stage number bytes long = (refused number Form, ap (after_judging s stage number) (judged_by stage.reached bytes long))
+  long_refused stage number bytes long = ap (after_judging s stage number) (judged_by stage.reached bytes long)
+
+  -- so it ends the trace
+  pub long_ends : (stage : Stage State) (number : ℕ) (bytes : List ℕ) → 4096 < length bytes → (o : Outcome) × (turn s stage number bytes ≡ ends o)
+  long_ends stage number bytes long = (refused number Form, long_refused stage number bytes long)

@@ -1,10 +1,11 @@
 -- How a call of several pieces ends.
-use Rattle.std.proofs.Common.{◌≡◌, ℕ, ◌+◌, List, ◌++◌, length, Option, Result, Err, IfErr, sym, ◌∙◌, subst, length-append, arith}
+use Rattle.std.proofs.Common.{◌≡◌, ℕ, ◌+◌, ◌≤◌, List, ◌++◌, length, Option, Result, Err, IfErr, sym, ◌∙◌, subst, length-append, arith}
 use Rattle.line_io.specs.Passes.{Passes}
 use Rattle.line_io.proofs.Passing.{Passes-put}
 use Rattle.trace_loop.specs.declared.stop.Stop.{Stop}
 use Rattle.trace_loop.specs.declared.stop.Stop.TheVariants.{Memory, Read, Write, Wire}
-use Rattle.trace_loop.specs.{OnlyMemoryStops, StopsIn}
+use Rattle.trace_loop.specs.{IsWriteStop, OnlyMemoryStops, StopsIn}
+use Rattle.trace_loop.proofs.Reading.{rose_since}
 use Rattle.trace_loop.proofs.Writing.{IsWriting}
 
 -- what holds of the stop that a call gives on
@@ -13,6 +14,13 @@ err_so {T} r stop was P is same p = subst (λ (q : Result T Stop). IfErr q P) (s
 
 pub only_err : {T : Type 0} (r : Result T Stop) (stop was : Stop) (P : Type 0) → r ≡ Err stop → stop ≡ was → was ≡ Memory → OnlyMemoryStops r P
 only_err {T} r stop was P is same memory = subst (λ (q : Result T Stop). OnlyMemoryStops q P) (sym is) (same ∙ memory)
+
+-- the sink stopped a call that began before
+pub write_since : (write mid writes : ℕ) (stop : Stop) → write ≤ mid → IsWriteStop mid writes stop → IsWriteStop write writes stop
+write_since write mid writes Memory less cause = tt
+write_since write mid writes Read less cause = cause
+write_since write mid writes Write less cause = rose_since write mid writes less cause
+write_since write mid writes Wire less cause = cause
 
 -- room for what waits and for a text, together
 pub together : (steady : ℕ → Type 0) (waits text : List ℕ) (room : ℕ) → steady (length waits + length text + room) → steady (length (waits ++ text) + room)

@@ -16,13 +16,6 @@ pub told_all : (o : Option (List ℕ)) (Q : List ℕ → Type 0) → ((xs : List
 told_all None Q gives = tt
 told_all (Some xs) Q gives = gives xs
 
--- a front went, whatever stopped the call
-pub stops_in_front : (a b : Option (List ℕ)) (text waits : List ℕ) (stop : Stop) → StopsIn a b text waits stop → (rest : List ℕ) × Passes a b text rest
-stops_in_front a b text waits Memory p = (waits ++ p.0, p.1)
-stops_in_front a b text waits Read p = (waits ++ p.0, p.1)
-stops_in_front a b text waits Write p = p
-stops_in_front a b text waits Wire p = (waits ++ p.0, p.1)
-
 module _ {State Event : Type 0} (s : Serving State Event) where
   -- a text of which nothing went
   pub none_of : (a : Option (List ℕ)) (left : Option (List ℕ)) → IfTold left (λ xs. (rest : List ℕ) × Passes a a (served_text s xs).text rest)

@@ -1,4 +1,5 @@
 pub mod Channels
+pub mod Claims
 pub mod AtPorts
 pub mod Opening
 pub mod Cutting

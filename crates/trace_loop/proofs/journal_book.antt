@@ -7,5 +7,6 @@ pub mod Heard
 pub mod Channels
 pub mod Spelled
 pub mod Orders
+pub mod Renders
 pub mod Turns
 pub mod Opened

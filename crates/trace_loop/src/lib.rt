@@ -17,5 +17,5 @@ pub use rams_model::Status;
 pub use server::TraceServer;
 pub use stop::Stop;
 pub use text::{close, write_text};
-pub use turn::Turn;
+pub use turn::{MOST_EVENTS, Turn};
 pub use writer::{Writer, flush, put, settle};

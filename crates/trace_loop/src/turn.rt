@@ -6,6 +6,9 @@ use book_text::{append_count, append_refused};
 use ram_io::NoMemory;
 use rams_model::{LineFault, Status};
 
+/// Most events of a trace.
+pub const MOST_EVENTS: u64 = 1_000_000;
+
 /// What a line does; `A` is what an event is answered with.
 #[derive(Drop)]
 pub enum Turn<A> {

@@ -11,7 +11,7 @@ use Rattle.trace_loop.specs.trace_book.trace_serving.{Stage, Outcome, Turn, ends
 use Rattle.trace_loop.proofs.trace_book.trace_serving.Judged.{judged_so}
 use Rattle.trace_loop.specs.trace_book.{run, most_events}
 
-same_end : (o p : Outcome) → ◌≡◌ {A = Turn (List Served)} (ends o) (ends p) → o ≡ p
+pub same_end : (o p : Outcome) → ◌≡◌ {A = Turn (List Served)} (ends o) (ends p) → o ≡ p
 same_end o p e = cc
 
 -- an event goes on, or is one too many

@@ -1,7 +1,6 @@
 -- How the lines of a head are read, one after another.
-use Rattle.std.proofs.Common.{◌≡◌, ℕ, ◌+◌, ◌<◌, List, [], ◌∷◌, ◌++◌, length, take, map, ltb, true, false, not, ◌&&◌, Option, None, Some, Result, Ok, Err, inl, inr, codes, refl, sym, ap, ◌∙◌, subst, arith, length-take, append_assoc, append-nil}
+use Rattle.std.proofs.Common.{◌≡◌, ℕ, ◌+◌, ◌<◌, List, [], ◌∷◌, ◌++◌, length, take, true, Option, None, Some, Result, Ok, Err, inl, inr, codes, refl, sym, ap, ◌∙◌, subst, arith, length-take, append_assoc, append-nil}
 use Rattle.std.specs.List.{flat_map}
-use Rattle.std.proofs.lemmas.Bool.{and_parts, lt-ltb}
 use Rattle.std.specs.Prelude.{◌⊎◌}
 use Rattle.line_io.specs.{IsCutOff, TakesNext}
 use Rattle.line_io.specs.declared.reader.Next.TheVariants.{Line, Long, End}
@@ -9,7 +8,7 @@ use Rattle.rams_model.specs.declared.fault.LineFault.{LineFault}
 use Rattle.rams_model.specs.declared.fault.LineFault.TheVariants.{Form, Order}
 use Rattle.rams_model.specs.declared.mode.Mode.TheVariants.{Serve}
 use Rattle.rams_model.specs.declared.status.Status.TheVariants.{Done, BadTrace}
-use Rattle.rams_model.specs.Texts.{TraceLine, Claim, Head, Reached, judged, lines_of, has_channel, may_come, end_line, tick_of}
+use Rattle.rams_model.specs.Texts.{TraceLine, Head, Reached, judged, lines_of, may_come, end_line, tick_of}
 use Rattle.server_hub.specs.Seen.{Seen}
 use Rattle.server_hub.specs.Served.{Served}
 use Rattle.trace_loop.specs.trace_book.trace_serving.{Stage, Outcome, Turn, goes_on, ends, done, refused, turn, after_line, after_judging, after_turn, text_from, stage_after, stage_from, taken_with, taken_from, brought}
@@ -17,18 +16,10 @@ use Rattle.trace_loop.specs.trace_book.{run}
 use Rattle.trace_loop.specs.journal_book.{Leads, line as leads_on, nothing, starting}
 use Rattle.trace_loop.specs.declared.head_loop.head.HeadLine.{HeadLine}
 use Rattle.trace_loop.specs.declared.head_loop.head.HeadLine.TheVariants.{GoesOn, Ends, Refused}
-use Rattle.trace_loop.specs.head_loop.{claim_of, head_end, head_stage, head_text, with_feed, HubServes, HasOpened, HasOpenedBy, Took, Grows, StandsAfter, GoesOnAfter, EndsAt, IsFirstLine, IsHeadOf}
-use Rattle.trace_loop.proofs.head_loop.Cutting.{ended_by}
+use Rattle.trace_loop.specs.head_loop.{head_end, head_stage, head_text, with_feed, HubServes, HasOpened, HasOpenedBy, Took, Grows, StandsAfter, GoesOnAfter, EndsAt, IsFirstLine, IsHeadOf}
+use Rattle.trace_loop.proofs.LongLines.{long_refused}
+use Rattle.trace_loop.proofs.head_loop.Cutting.{ended_by, same_end}
 use Rattle.trace_loop.specs.{IfTold, IfBothTold}
-
--- a line that is too long has no form
-judged_by : (r : Reached) (bytes : List ℕ) → 4096 < length bytes → judged r bytes ≡ Err Form
-unfolding judged
-judged_by r bytes long = rw (lt-ltb 4096 (length bytes) long) refl
-
-long_refused : (stage : Stage (List Served)) (number : ℕ) (bytes : List ℕ) → 4096 < length bytes → turn run stage number bytes ≡ ends (refused number Form)
-unfolding turn
-long_refused stage number bytes long = ap (after_judging run stage number) (judged_by stage.reached bytes long)
 
 -- the turn of a line that was judged
 pub judged_turn : (stage : Stage (List Served)) (number : ℕ) (bytes : List ℕ) (read : TraceLine) (later now : Reached) (hub : Option Seen) (ids : List ℕ) (did : HeadLine) → judged stage.reached bytes ≡ Ok (read, later)
@@ -50,9 +41,6 @@ took_stands stage was hub ids reached number (Refused fault) took = tt
 -- a line that is refused neither goes on nor is the end
 never_goes_on : (o : Outcome) (stage : Stage (List Served)) → ends o ≡ goes_on stage [] → ⊥
 never_goes_on o stage e = cc
-
-same_end : (o p : Outcome) → ◌≡◌ {A = Turn (List Served)} (ends o) (ends p) → o ≡ p
-same_end o p e = cc
 
 never_done : (o p : Outcome) → o.status ≡ BadTrace → p.status ≡ Done → ◌≡◌ {A = Turn (List Served)} (ends o) (ends p) → ⊥
 never_done o p bad done e = differ (sym bad ∙ ap (λ (x : Outcome). x.status) (same_end o p e) ∙ done)
@@ -85,14 +73,14 @@ module _ (stage : Stage (List Served)) (number : ℕ) (xs : List ℕ) (hub : Opt
   long_line first line rest did e long front took = by did took
     where
       short : turn run stage number line ≡ ends (refused number Form)
-      short = ap (turn run stage number) front ∙ long_refused stage number (take 4097 first) (omega (arith, length-take 4097 first, long))
+      short = ap (turn run stage number) front ∙ long_refused run stage number (take 4097 first) (omega (arith, length-take 4097 first, long))
 
       by : (d : HeadLine) → Took stage (turn run stage number line) hub ids reached number d → IsFirstLine stage number xs hub ids reached text texts d ys
       by GoesOn took = absurd (never_goes_on (refused number Form) took.0 (sym short ∙ took.1))
       by Ends took = absurd (never_done (refused number Form) (done 0) refl refl (sym short ∙ took.0))
       by (Refused fault) took =
           let outcome = same_end (refused number Form) (refused number fault) (sym short ∙ took) in
-          ap (text_from run stage number) e ∙ ap (λ (was : Turn (List Served)). after_turn was (λ later. text_from run later (number + 1) rest)) (long_refused stage number first long) ∙ outcome
+          ap (text_from run stage number) e ∙ ap (λ (was : Turn (List Served)). after_turn was (λ later. text_from run later (number + 1) rest)) (long_refused run stage number first long) ∙ outcome
 
 no_line : (stage : Stage (List Served)) (number : ℕ) (xs : List ℕ) → lines_of xs ≡ [] → text_from run stage number (lines_of xs) ≡ refused number Order
 unfolding text_from
@@ -228,28 +216,6 @@ reading_told None leaves later hub later_hub ids later_ids reached later_reached
 reading_told (Some xs) None later hub later_hub ids later_ids reached later_reached text texts number did r takes = absurd r
 reading_told (Some xs) (Some ys) None hub later_hub ids later_ids reached later_reached text texts number did r takes = absurd (takes r.stage number r.opened)
 reading_told (Some xs) (Some ys) (Some zs) hub later_hub ids later_ids reached later_reached text texts number did r takes = tt
-
--- a hub that stands behind `end` is there
-no_channel : (r : Reached) (channels : List Served) → r.channels ≡ map claim_of channels → channels ≡ [] → has_channel r ≡ false
-no_channel r channels claims none = ap (λ (l : List Claim). ltb 0 (length l)) (claims ∙ ap (map claim_of) none)
-
-pub has_hub : (hub : Option Seen) (ids : List ℕ) (stage : Stage (List Served)) → HasOpened hub ids stage → may_come stage.reached end_line ≡ true → hub ≡ None → ⊥
-has_hub hub ids stage opened may none = by stage.reached.head (subst (λ (o : Option Seen). HubServes o stage.reached.head stage.state) none opened.served)
-  where
-    has : has_channel stage.reached ≡ true
-    has = let both = and_parts (not stage.reached.ended && has_channel stage.reached) true may in (and_parts (not stage.reached.ended) (has_channel stage.reached) both.0).1
-
-    by : (h : Option Head) → HubServes None h stage.state → ⊥
-    by None serves =
-        let yes : has_channel stage.reached ≡ true = has in
-        let never : has_channel stage.reached ≡ false = no_channel stage.reached stage.state opened.claims serves in
-        absurd cc
-    by (Some head) serves = serves
-
--- what follows from what is told
-pub told_gives : (o : Option (List ℕ)) (P Q : List ℕ → Type 0) → ((xs : List ℕ) → P xs → Q xs) → IfTold o P → IfTold o Q
-told_gives None P Q gives p = tt
-told_gives (Some xs) P Q gives p = gives xs p
 
 -- a head that was read whole
 pub head_is : (xs ids text numbered kept : List ℕ) (hub : Option Seen) (v : Seen) → Some v ≡ hub → numbered ≡ ids → kept ≡ text → IsWhole hub ids text xs → IsHeadOf xs v numbered kept

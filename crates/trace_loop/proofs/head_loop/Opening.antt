@@ -1,19 +1,16 @@
 -- What the lines of a head open.
-use Rattle.std.proofs.Common.{◌≡◌, ℕ, suc, ◌+◌, ◌≤◌, Bool, true, false, not, ◌&&◌, ◌||◌, List, [], ◌∷◌, ◌++◌, map, length, Option, None, Some, Ok, is_some, refl, sym, subst, ap, ◌∙◌, arith, eqb, ltb, leb, length-append}
-use Rattle.std.specs.Prelude.{IsSomeAnd, sum, sum_by}
-use Rattle.std.specs.List.{list_any}
-use Rattle.std.proofs.lemmas.Bool.{and_parts, leb-true, lt-ltb, le-leb}
+use Rattle.std.proofs.Common.{◌≡◌, ℕ, ◌+◌, ◌≤◌, true, false, not, List, [], ◌∷◌, ◌++◌, length, Option, None, Some, Ok, is_some, refl, sym, subst, ap, ◌∙◌, arith, length-append}
+use Rattle.std.specs.Prelude.{IsSomeAnd}
+use Rattle.std.proofs.lemmas.Bool.{and_parts, leb-true}
 use Rattle.std.proofs.lemmas.List.{length-map, map-append}
-use Rattle.std.proofs.lemmas.List.Sums.{sum-map}
 use Rattle.rams_model.specs.declared.channel.Channel.{Channel}
 use Rattle.rams_model.specs.declared.mode.Mode.TheVariants.{Serve}
 use Rattle.rams_model.specs.declared.mode.LineKind.TheVariants as kind
 use Rattle.rams_model.specs.Service.{Settings, settings}
 use Rattle.rams_model.specs.Texts.{TraceLine, head_line, channel_line, end_line, line_in_range, Claim, Head, Reached, tick_of, may_come, may_come_next, kind_may_come, has_events, has_receivers, has_channel}
-use Rattle.server_hub.specs.{AllServe, new_hub, settings_of, has_id, shares_of, refused, Serves as CoreServes, served}
+use Rattle.server_hub.specs.{AllServe, new_hub, served}
 use Rattle.server_hub.specs.Seen.{Seen}
 use Rattle.server_hub.specs.Served.{Served}
-use Rattle.server_hub.proofs.Pairing.{same_length}
 use Rattle.trace_loop.specs.trace_book.trace_serving.{Stage, eventless, done, ends}
 use Rattle.trace_loop.specs.trace_book.{run}
 use Rattle.trace_loop.specs.trace_book.Stages.{settings_of as settings_all}
@@ -22,43 +19,17 @@ use Rattle.trace_text.specs.declared.line.Line.{Line}
 use Rattle.trace_text.specs.{shown, IsOther}
 use Rattle.trace_text.specs.declared.line.Line.TheVariants as line
 use Rattle.trace_loop.specs.declared.head_loop.head.HeadLine.TheVariants.{GoesOn, Ends}
-use Rattle.trace_loop.specs.head_loop.{HasOpened, HubServes, Serves, CanOpen, OpensIn, Comes, Took, claim_of, numbers}
-use Rattle.trace_loop.proofs.head_loop.Channels.{settings_stand}
+use Rattle.trace_loop.specs.head_loop.{HasOpened, HubServes, Serves, CanOpen, OpensIn, Comes, Took, claim_of}
+use Rattle.trace_loop.proofs.head_loop.Channels.{settings_stand, numbers_append, numbers_length}
+use Rattle.trace_loop.proofs.head_loop.Claims.{claims_are, fits, none_before}
 
 -- the line was accepted
 pub accepted_so : (hub : Option Seen) (ids : List ℕ) (reached : Reached) (read : TraceLine) (stage : Stage (List Served)) → Comes hub ids reached read stage → IsAccepted stage.reached read reached
 accepted_so hub ids reached read stage comes = (judged_so stage.reached comes.bytes read reached comes.comes).accepts
 
--- the numbers and shares of the channels are those that the lines kept
-ids_claimed : (id : ℕ) (channels : List Served) → has_id id (settings_all channels) ≡ list_any (λ k. eqb k.id id) (map claim_of channels)
-ids_claimed id [] = refl
-ids_claimed id (c ∷ channels) = ap (λ b. eqb c.settings.channel.id id || b) (ids_claimed id channels)
-
-shares_listed : (channels : List Served) → map (λ s. s.channel.share) (settings_all channels) ≡ map (λ k. k.share) (map claim_of channels)
-shares_listed [] = refl
-shares_listed (c ∷ channels) = ap (λ l. c.settings.channel.share ∷ l) (shares_listed channels)
-
-shares_claimed : (channels : List Served) → shares_of (settings_all channels) ≡ sum_by (λ k. k.share) (map claim_of channels)
-shares_claimed channels =
-    sym (sum-map (λ s. s.channel.share) (settings_all channels)) ∙ ap sum (shares_listed channels) ∙ sum-map (λ k. k.share) (map claim_of channels)
-
-module _ (v : Seen) (r later : Reached) (head : Head) (c : Channel) (channels : List Served) (j : IsJoined r head c later) (claims : r.channels ≡ map claim_of channels) (serves : Serves v head channels) where
-  few_claimed : length v.channels ≡ length r.channels
-  few_claimed = same_length CoreServes v.channels channels serves.stands ∙ sym (length-map channels claim_of) ∙ ap length (sym claims)
-
-  pub fits : refused v (settings c v.tick) ≡ None
-  fits =
-      let all = settings_stand v channels serves.stands in
-      let few : ltb (length v.channels) 64 ≡ true = ap (λ n. ltb n 64) few_claimed ∙ lt-ltb (length r.channels) 64 j.few in
-      let new : has_id c.id (settings_of v) ≡ false = ap (has_id c.id) all ∙ ids_claimed c.id channels ∙ ap (list_any (λ k. eqb k.id c.id)) (sym claims) ∙ j.new in
-      let shares : shares_of (settings_of v) ≡ sum_by (λ k. k.share) r.channels = ap shares_of all ∙ shares_claimed channels ∙ ap (sum_by (λ k. k.share)) (sym claims) in
-      let room : leb (shares_of (settings_of v) + c.share) v.link ≡ true =
-      ap (λ n. leb (n + c.share) v.link) shares ∙ ap (leb (sum_by (λ k. k.share) r.channels + c.share)) serves.link ∙ le-leb (sum_by (λ k. k.share) r.channels + c.share) head.link j.fits in
-      rw (few, new, room) refl
-
-  -- the head line is still that of the trace
-  pub later_head : r.head ≡ Some head → later.head ≡ Some head
-  later_head is = ap (λ (x : Reached). x.head) (sym j.gives) ∙ is
+-- the head line is still that of the trace
+pub later_head : (r later : Reached) (head : Head) (c : Channel) → IsJoined r head c later → r.head ≡ Some head → later.head ≡ Some head
+later_head r later head c j is = ap (λ (x : Reached). x.head) (sym j.gives) ∙ is
 
 -- the hub serves under this head line
 served_under : (hub : Option Seen) (stage : Stage (List Served)) (ids : List ℕ) (head : Head) → HasOpened hub ids stage → stage.reached.head ≡ Some head → HubServes hub (Some head) stage.state
@@ -74,15 +45,7 @@ opens_next hub ids version later s stage tick comes =
     by : (head : Head) → stage.reached.head ≡ Some head → IsJoined stage.reached head s.channel later → (o : Option Seen) → HubServes o (Some head) stage.state → IsSomeAnd o (λ v. CanOpen v s)
     by head is j None serves = absurd serves
     by head is j (Some v) serves =
-        record { tick = tick ∙ (ap tick_of (ap (λ (x : Reached). x.head) (sym j.gives) ∙ is) ∙ sym serves.tick); fits = fits v stage.reached later head s.channel stage.state j comes.before.claims serves }
-
-numbers_append : (channels : List Served) (c : Served) → numbers (channels ++ c ∷ []) ≡ numbers channels ++ c.settings.channel.id ∷ []
-numbers_append [] c = refl
-numbers_append (b ∷ channels) c = ap (λ l. b.settings.channel.id ∷ l) (numbers_append channels c)
-
-numbers_length : (channels : List Served) → length (numbers channels) ≡ length channels
-numbers_length [] = refl
-numbers_length (c ∷ channels) = ap suc (numbers_length channels)
+        record { tick = tick ∙ (ap tick_of (ap (λ (x : Reached). x.head) (sym j.gives) ∙ is) ∙ sym serves.tick); fits = fits v stage.reached (settings_all stage.state) (comes.before.claims ∙ claims_are stage.state) (settings_stand v stage.state serves.stands) later head s.channel j serves.link }
 
 -- what stands behind the line of a channel
 pub opened_turn : (hub new : Option Seen) (ids : List ℕ) (version number : ℕ) (later : Reached) (s : Settings) (stage : Stage (List Served)) → s.tick ≡ tick_of later.head → OpensIn s hub new
@@ -93,7 +56,7 @@ opened_turn (Some v) (Some w) ids version number later s stage tick opens comes 
     let c = s.channel in
     let j = channel_so stage.reached stage.reached.head c later (accepted_so (Some v) ids later (channel_line version c) stage comes).gives in
     let at : Serves v j.0 stage.state = served_under (Some v) stage ids j.0 comes.before j.1 in
-    let head : later.head ≡ Some j.0 = later_head v stage.reached later j.0 c stage.state j.2 comes.before.claims at j.1 in
+    let head : later.head ≡ Some j.0 = later_head stage.reached later j.0 c j.2 j.1 in
     let one = served (settings c (tick_of later.head)) [] in
     let more = stage.state ++ one ∷ [] in
     let stands = subst (λ (n : ℕ). AllServe w.channels (stage.state ++ served (settings c n) [] ∷ [])) tick (opens.stands stage.state at.stands) in
@@ -120,11 +83,6 @@ opened_turn (Some v) (Some w) ids version number later s stage tick opens comes 
     )
 
 -- the head line gives the hub
-none_before : (ended head : Bool) → (not ended && not head) ≡ true → head ≡ false
-none_before true head h = absurd cc
-none_before false true h = absurd cc
-none_before false false h = refl
-
 pub head_turn : (hub : Option Seen) (ids : List ℕ) (version tick link number : ℕ) (later : Reached) (stage : Stage (List Served)) → Comes hub ids later (head_line version tick link) stage
     → Took stage (eventless run stage later (head_line version tick link)) (Some (new_hub tick link)) ids later number GoesOn
 head_turn hub ids version tick link number later stage comes =
@@ -166,7 +124,7 @@ pub record Bounded (tick link : ℕ) : Type 0 where
   pub link_least : 1500 ≤ link
   pub link_most : link ≤ 1000000000
 
-bounded : (version tick link : ℕ) → line_in_range (head_line version tick link) ≡ true → Bounded tick link
+pub bounded : (version tick link : ℕ) → line_in_range (head_line version tick link) ≡ true → Bounded tick link
 bounded version tick link h =
     let both = and_parts _ _ h in
     let ticks = and_parts _ _ both.0 in

@@ -10,14 +10,11 @@ use Rattle.ram_io.specs.{Outgoing}
 use Rattle.server_hub.specs.declared.event.HubEvent.{HubEvent}
 use Rattle.server_hub.specs.declared.event.HubEvent.TheVariants.{Live, Feedback, Tick}
 use Rattle.server_hub.specs.Served.{Served}
-use Rattle.server_hub.specs.{id_of, answer_to, channel_of, ids_of}
+use Rattle.server_hub.specs.{id_of, answer_to, channel_of}
 use Rattle.server_hub.proofs.Changing.{rest_once, first_once, later_differs}
 use Rattle.trace_loop.specs.trace_book.{settings_of, named_text, channel_text}
+use Rattle.trace_loop.specs.head_loop.{numbers}
 use Rattle.trace_loop.specs.journal_book.{own_event, answer_datagrams, own_datagrams, datagrams_of, AreApart, own_text, own_texts, absent_text, OneAnswers, ChannelsAnswerInOrder, RunsWriteOfThem}
-
--- the numbers of some channels
-abbrev numbers : List Served → List ℕ
-numbers channels = ids_of (settings_of channels)
 
 -- An event of one channel: it comes to each channel of this number.
 module _ (id : ℕ) (e : Event) where

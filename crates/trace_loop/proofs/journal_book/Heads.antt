@@ -25,7 +25,7 @@ goes_behind stage reached (ask_line id client) other = refl
 goes_behind stage reached (drop_line id client) other = refl
 
 -- bytes that are read as a line in range are its text
-text_is : (bytes : List ℕ) (read : TraceLine) → line_of bytes ≡ Some read → line_in_range read ≡ true → line_text read ≡ bytes
+pub text_is : (bytes : List ℕ) (read : TraceLine) → line_of bytes ≡ Some read → line_in_range read ≡ true → line_text read ≡ bytes
 unfolding line_at
 text_is bytes read reads in_range = (read_is_spelled bytes read (ap ranged reads ∙ rw in_range refl)).1
 

@@ -15,6 +15,7 @@ use Rattle.server_hub.specs.Served.{Served}
 use Rattle.trace_loop.specs.trace_book.trace_serving.{last_stage, AreLawful}
 use Rattle.trace_loop.specs.trace_book.{run, served_by, settings_of, new_channels, came, IsServed, KeepsTheLink}
 use Rattle.trace_loop.specs.journal_book.{journal_of, behind, IsNumber, HasLine, AreApart, IsJournal, Opens}
+use Rattle.trace_loop.proofs.trace_book.Links.{settings_new}
 use Rattle.trace_loop.proofs.journal_book.Served.{journals_are_served}
 
 no_events : (events : List HubEvent) → 0 ≡ length events → events ≡ []
@@ -30,10 +31,6 @@ new_channels_are head channels opens is =
     let idle : served_by (journal_of head []) ≡ new_channels (served_by (journal_of head [])) =
     is.after ∙ ap (λ (es : List HubEvent). after_events es (new_channels (served_by (journal_of head [])))) none in
     subst (λ (cs : List Served). cs ≡ new_channels cs) alone.0 idle
-
-settings_are : (channels : List Served) → settings_of (new_channels channels) ≡ settings_of channels
-settings_are [] = refl
-settings_are (c ∷ channels) = ap (λ (all : List Settings). c.settings ∷ all) (settings_are channels)
 
 none_apart : AreApart []
 none_apart = λ i j d less short. absurd (omega arith)
@@ -83,7 +80,7 @@ trace_fits trace keeps = by (last_stage run trace).reached.head refl
         let within = keeps.link head e in
         record {
           numbered = all_numbered (served_by trace) within.lawful;
-          apart = subst (λ (all : List Settings). AllPairs (λ x y. x ≢ y) (ids_of all)) (settings_are (served_by trace)) within.fit.once;
+          apart = subst (λ (all : List Settings). AllPairs (λ x y. x ≢ y) (ids_of all)) (settings_new (served_by trace)) within.fit.once;
         }
 
 pub journal_fits : (head : List ℕ) (channels : List Served) (events : List HubEvent) → IsJournal head channels events → KeepsTheLink (journal_of head events) → IsFit (behind events channels)

@@ -37,14 +37,14 @@ settings_over [] cs = refl
 settings_over (e ∷ events) cs = settings_after e (after_events events cs) ∙ settings_over events cs
 
 -- Channels with these settings, to which nothing has come.
-abbrev new_of : List Settings → List Served
+abbrev pub new_of : List Settings → List Served
 new_of all = map (λ s. served s []) all
 
-settings_are : (all : List Settings) → settings_of (new_of all) ≡ all
+pub settings_are : (all : List Settings) → settings_of (new_of all) ≡ all
 settings_are [] = refl
 settings_are (s ∷ all) = ap (λ (l : List Settings). s ∷ l) (settings_are all)
 
-new_are : (cs : List Served) → new_channels cs ≡ new_of (settings_of cs)
+pub new_are : (cs : List Served) → new_channels cs ≡ new_of (settings_of cs)
 new_are [] = refl
 new_are (c ∷ cs) = ap (λ (l : List Served). served c.settings [] ∷ l) (new_are cs)
 
@@ -91,7 +91,7 @@ all_got : (events : List HubEvent) (cs : List Served) → All (IsGot events) (ma
 all_got events [] = All-nil (IsGot events)
 all_got events (c ∷ cs) = All-cons (IsGot events) (served c.settings (events_of (id_of c) events ++ [])) _ (append-nil (events_of (id_of c) events)) (all_got events cs)
 
-channels_of : (cs : List Served) → map (λ c. c.settings.channel) cs ≡ map (λ s. s.channel) (settings_of cs)
+pub channels_of : (cs : List Served) → map (λ c. c.settings.channel) cs ≡ map (λ s. s.channel) (settings_of cs)
 channels_of [] = refl
 channels_of (c ∷ cs) = ap (λ (l : List Channel). c.settings.channel ∷ l) (channels_of cs)
 

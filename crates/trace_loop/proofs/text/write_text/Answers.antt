@@ -6,7 +6,8 @@ use Rattle.trace_loop.specs.declared.stop.Stop.{Stop}
 use Rattle.trace_loop.specs.{OnlyMemoryStops, StopsIn}
 use Rattle.trace_loop.proofs.Reading.{not_by_source, ended_by_source, either, rose_since, lines_then_all}
 use Rattle.trace_loop.proofs.Running.{outcome, told_gives}
-use Rattle.trace_loop.proofs.Whole.{told_all, none_of, stops_in_front, part_of_first, part_of_front, first_goes, has_whole_text, has_front, room_of}
+use Rattle.trace_loop.proofs.Stopping.{stops_front}
+use Rattle.trace_loop.proofs.Whole.{told_all, none_of, part_of_first, part_of_front, first_goes, has_whole_text, has_front, room_of}
 use Rattle.trace_loop.proofs.text.write_text.Goals as goal
 
 pub returns-in_err-writer-clause-front : goal.returns-in_err-writer-clause-front
@@ -17,7 +18,7 @@ returns-in_err-put-clause-front g c =
     let held = g.K.Sink.held c.args.sink.now in
     let holds = g.K.Sink.held c.put.new.sink in
     let waiting = c.in_ok-writer.writer.gather in
-    part_of_first g.V.TraceServer.serving held holds waiting (g.S.Source.left c.args.source.now) c.in_ok-writer.ensures (stops_in_front held holds (waiting ++ g.V.TraceServer.serving.first_line) c.put.new.gather c.in_err-put.field-0.0
+    part_of_first g.V.TraceServer.serving held holds waiting (g.S.Source.left c.args.source.now) c.in_ok-writer.ensures (stops_front held holds (waiting ++ g.V.TraceServer.serving.first_line) c.put.new.gather c.in_err-put.field-0.0
     (subst (λ (l : List ℕ). StopsIn held holds (waiting ++ l) c.put.new.gather c.in_err-put.field-0.0) c.requires.first c.in_err-put.ensures.front))
 
 pub returns-in_err-put-clause-read : goal.returns-in_err-put-clause-read

@@ -48,7 +48,7 @@ unfolding judged
 judged_so r bytes line later e = let both = line_so r (line_of bytes) line later e in record { reads = both.0; accepts = both.1 }
 
 -- settings that pass are themselves
-checked_is : (s t : Settings) → checked s ≡ Ok t → checked s ≡ Ok s
+pub checked_is : (s t : Settings) → checked s ≡ Ok t → checked s ≡ Ok s
 unfolding checked
 checked_is s t e =
     let c = s.channel in

@@ -36,7 +36,7 @@ other_way id (x ∷ all) e =
     let both = or_parts (eqb x.channel.id id) (list_any (λ k. eqb k.id id) (map claim_of all)) e in
     All-cons (λ k. k ≢ id) x.channel.id (ids_of all) (eqb-false x.channel.id id both.0) (other_way id all both.1)
 
-shares_are : (all : List Settings) → sum_by (λ k. k.share) (map claim_of all) ≡ shares_of all
+pub shares_are : (all : List Settings) → sum_by (λ k. k.share) (map claim_of all) ≡ shares_of all
 shares_are [] = refl
 shares_are (x ∷ all) =
     sum_by-cons (λ (k : Claim). k.share) (claim_of x) (map claim_of all) ∙ ap (λ (n : ℕ). x.channel.share + n) (shares_are all)

@@ -6,7 +6,8 @@ use Rattle.trace_loop.specs.declared.stop.Stop.TheVariants.{Read}
 use Rattle.trace_loop.specs.journal_book.{starting}
 use Rattle.trace_loop.specs.declared.head_loop.head.HeadLine.{HeadLine}
 use Rattle.trace_loop.specs.head_loop.{IsHeadOf, StandsAfter}
-use Rattle.trace_loop.proofs.head_loop.HeadLines.{IsWhole, TakesLine, head_is, reading_begins, reading_ends, reading_goes_on, reading_refuses, reading_told, told_gives}
+use Rattle.trace_loop.proofs.Running.{told_gives}
+use Rattle.trace_loop.proofs.head_loop.HeadLines.{IsWhole, TakesLine, head_is, reading_begins, reading_ends, reading_goes_on, reading_refuses, reading_told}
 use Rattle.trace_loop.proofs.head_loop.Leaving.{reading_leaves, reading_cut}
 use Rattle.trace_loop.proofs.head_loop.head.read_head.Goals as goal
 
