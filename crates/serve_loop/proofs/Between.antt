@@ -1,5 +1,5 @@
 -- What a server has between two events.
-use Rattle.std.proofs.Common.{◌≡◌, ℕ, ◌<◌, ◌≤◌, false, leb, List, [], ◌∷◌, take, drop, Option, None, Some, option_to_list, Result, Ok, Err, IfErr, refl, sym, ap, subst, ◌∙◌, arith}
+use Rattle.std.proofs.Common.{◌≡◌, ℕ, ◌<◌, ◌≤◌, false, leb, List, [], ◌∷◌, take, drop, Option, None, Some, option_to_list, Result, Ok, refl, sym, ap, subst, ◌∙◌, arith}
 use Rattle.std.proofs.lemmas.Bool.{le-leb}
 use Rattle.std.proofs.lemmas.Bool.Decides.{nat_tests}
 use Rattle.ram_io.specs.declared.failed.Failed.{Failed}
@@ -10,7 +10,6 @@ use Rattle.server_hub.specs.declared.event.HubEvent.{HubEvent}
 use Rattle.server_hub.specs.declared.event.HubEvent.TheVariants.{Tick}
 use Rattle.server_hub.specs.Seen.{Seen}
 use Rattle.trace_loop.specs.journal_book.{heard, heard_from, next_moment, tick_at}
-use Rattle.trace_loop.specs.declared.stop.Stop.{Stop}
 use Rattle.serve_loop.specs.{Begun, Ready, GoesOn, IsBetween, AnswersFrom, next_events}
 
 lt-leb-false : (due moment : ℕ) → moment < due → leb due moment ≡ false
@@ -60,10 +59,6 @@ tick_due due moment less = rw (le-leb due moment less) refl
 
 pub no_tick_due : (due moment : ℕ) → moment < due → tick_at due moment ≡ []
 no_tick_due due moment less = rw (lt-leb-false due moment less) refl
-
-pub err_weaker : {T : Type 0} (r : Result T Stop) (P Q : Stop → Type 0) → ((stop : Stop) → P stop → Q stop) → IfErr r P → IfErr r Q
-err_weaker (Ok t) P Q f p = p
-err_weaker (Err stop) P Q f p = f stop p
 
 -- the moment that a clock gave, where it tells its moments
 pub told_moment : (old new : Option (List ℕ)) (result : ℕ) (moments : List ℕ) → old ≡ Some moments → GivesNext old new result → (result ≡ next_moment moments) × (new ≡ Some (later moments))

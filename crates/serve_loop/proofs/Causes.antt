@@ -1,24 +1,20 @@
 -- Why an event stopped a server.
 use Rattle.std.proofs.Common.{ℕ, ◌≤◌, Result, Ok, Err, IfErr, arith}
-use Rattle.ram_io.specs.{Rose}
 use Rattle.trace_loop.specs.declared.stop.Stop.{Stop}
 use Rattle.trace_loop.specs.declared.stop.Stop.TheVariants.{Memory, Read, Write, Wire}
+use Rattle.trace_loop.proofs.Reading.{rose_since}
 use Rattle.serve_loop.specs.{IsOutStop, IsWireStop, IsWriteStop, IsStoppedByWire, IsStoppedByWrite, IsStoppedOutside}
-
--- a count that rose later rose
-rose_later : (before mid now : ℕ) → before ≤ mid → Rose mid now → Rose before now
-rose_later before mid now less rose = omega (arith, less, rose)
 
 wire_out : (write writes wire mid wires : ℕ) (stop : Stop) → wire ≤ mid → IsWireStop mid wires stop → IsOutStop write writes wire wires stop
 wire_out write writes wire mid wires Memory less cause = tt
 wire_out write writes wire mid wires Read less cause = absurd cause
 wire_out write writes wire mid wires Write less cause = absurd cause
-wire_out write writes wire mid wires Wire less cause = rose_later wire mid wires less cause
+wire_out write writes wire mid wires Wire less cause = rose_since wire mid wires less cause
 
 write_out : (write mid writes wire wires : ℕ) (stop : Stop) → write ≤ mid → IsWriteStop mid writes stop → IsOutStop write writes wire wires stop
 write_out write mid writes wire wires Memory less cause = tt
 write_out write mid writes wire wires Read less cause = absurd cause
-write_out write mid writes wire wires Write less cause = rose_later write mid writes less cause
+write_out write mid writes wire wires Write less cause = rose_since write mid writes less cause
 write_out write mid writes wire wires Wire less cause = absurd cause
 
 -- the wire stopped the call, or want of memory did
@@ -44,14 +40,8 @@ outside_since write mid writes wire second wires r less same s =
     by (Ok t) h = tt
     by (Err Memory) h = tt
     by (Err Read) h = h
-    by (Err Write) h = rose_later write mid writes less h
-    by (Err Wire) h = rose_later wire second wires same h
-
-pub write_since : (write mid writes : ℕ) (stop : Stop) → write ≤ mid → IsWriteStop mid writes stop → IsWriteStop write writes stop
-write_since write mid writes Memory less cause = tt
-write_since write mid writes Read less cause = cause
-write_since write mid writes Write less cause = rose_later write mid writes less cause
-write_since write mid writes Wire less cause = cause
+    by (Err Write) h = rose_since write mid writes less h
+    by (Err Wire) h = rose_since wire second wires same h
 
 -- the sink stopped the call, or want of memory did
 pub stopped_by_write : {T : Type 0} (write writes wire wires : ℕ) (r : Result T Stop) → wire ≤ wires → IsStoppedByWrite write writes r → IsStoppedOutside write writes wire wires r

@@ -7,7 +7,6 @@ use Rattle.std.proofs.KnownBytes.{Appends-trans}
 use Rattle.std.proofs.lemmas.List.Elements.{All-take}
 use Rattle.line_io.specs.Passes.{Passes}
 use Rattle.line_io.proofs.Passing.{Passes-none, Passes-then}
-use Rattle.rams_model.specs.declared.fault.LineFault.{LineFault}
 use Rattle.rams_model.specs.declared.status.Status.{Status}
 use Rattle.rams_model.specs.declared.status.Status.TheVariants.{Done}
 use Rattle.rams_model.specs.Texts.{tick_of}
@@ -17,26 +16,20 @@ use Rattle.server_hub.specs.Seen.{Seen}
 use Rattle.ram_io.specs.{Outgoing}
 use Rattle.server_hub.specs.declared.event.HubEvent.{HubEvent}
 use Rattle.server_hub.specs.Served.{Served}
-use Rattle.trace_loop.specs.trace_book.trace_serving.{Outcome, done, ended, refused}
+use Rattle.trace_loop.specs.trace_book.trace_serving.{Outcome, done, ended}
 use Rattle.trace_loop.specs.trace_book.{trace_text}
 use Rattle.trace_loop.specs.journal_book.{HasLine, IsJournal, event_lines, events_of, journal_of, replayed, sent_for, behind, FrontsReplay, HeadsOpenNewChannels, JournalsReplay, RunsWriteJournals}
 use Rattle.trace_loop.specs.declared.stop.Stop.{Stop}
 use Rattle.trace_loop.specs.declared.stop.Stop.TheVariants.{Memory, Read, Write, Wire}
+use Rattle.trace_loop.proofs.Reading.{passes_whole}
 use Rattle.serve_loop.specs.{Begun, Broken, Ending, EndsAs, Given, GoOut, HasEnded, HasRoom, HasStopped, IsBetween, IsHeadOf, OnlyMemoryStops, Room, Serving, Stopping, StopsIn, WaitsIn, datagrams_by, given_events, given_journal, head_end, head_stage, head_text, sent_by, served_datagrams, served_text, text_by}
 use Rattle.serve_loop.proofs.GoingOut.{GoOut-none}
 use Rattle.serve_loop.proofs.Rooms.{quiet_room, wire_none}
 use Rattle.serve_loop.proofs.Steps.{lines_append, waits_more}
 
--- all of a text has gone
-pub passes_whole : (a b : Option (List ℕ)) (text : List ℕ) → Passes a b text [] → Appends a b text
-passes_whole a b text p = subst (Appends a b) (sym (p.whole ∙ append-nil p.front)) p.sink
-
--- a front went, whatever stopped the call
-pub stops_front : (a b : Option (List ℕ)) (text waits : List ℕ) (stop : Stop) → StopsIn a b text waits stop → (rest : List ℕ) × Passes a b text rest
-stops_front a b text waits Memory p = (waits ++ p.0, p.1)
-stops_front a b text waits Read p = (waits ++ p.0, p.1)
-stops_front a b text waits Write p = p
-stops_front a b text waits Wire p = (waits ++ p.0, p.1)
+-- a line behind nothing
+pub alone : (a b : Option (List ℕ)) (waits text rest : List ℕ) → waits ≡ [] → Passes a b (waits ++ text) rest → Passes a b text rest
+alone a b waits text rest none p = subst (λ (l : List ℕ). Passes a b (l ++ text) rest) none p
 
 abbrev pub end_text : List ℕ
 end_text = codes "end\n"
@@ -160,10 +153,6 @@ pub served_is : (g : Given) → head_end g.source ≡ done 0 → (served_text g 
 served_is g e =
     (ap (λ (o : Outcome). text_by o.status o (given_journal g)) e, ap (λ (o : Outcome). datagrams_by o.status (sent_for (g.live + 1) (head_stage g.source).state (given_events g))) e)
 
-pub refused_is : (g : Given) (number : ℕ) (fault : LineFault) → head_end g.source ≡ refused number fault → (served_text g ≡ refused number fault) × (served_datagrams g ≡ [])
-refused_is g number fault e =
-    (ap (λ (o : Outcome). text_by o.status o (given_journal g)) e, ap (λ (o : Outcome). datagrams_by o.status (sent_for (g.live + 1) (head_stage g.source).state (given_events g))) e)
-
 first_lines : (past next : List HubEvent) → All HasLine (past ++ next) → All HasLine past
 first_lines past next all = subst (All HasLine) (take-append_seam past next) (All-take HasLine (length past) (past ++ next) all)
 
@@ -222,11 +211,6 @@ serving_begins live head channels a c waits went p none = record {
   wire = GoOut-none went;
   quietly = refl;
 }
-
--- what follows for each end
-pub ok_weaker : {T : Type 0} (r : Result T Stop) (P Q : T → Type 0) → ((t : T) → P t → Q t) → IfOk r P → IfOk r Q
-ok_weaker (Ok t) P Q f p = f t p
-ok_weaker (Err stop) P Q f p = p
 
 -- the events of the turns, by what is given
 pub events_given : (g : Given) (port turns tick : ℕ) → g.live ≡ port → g.turns ≡ turns → tick ≡ tick_of (head_stage g.source).reached.head → events_of port tick (head_stage g.source).state turns g.arrivals g.moments ≡ given_events g

@@ -23,8 +23,8 @@ use Rattle.trace_loop.specs.declared.stop.Stop.{Stop}
 use Rattle.trace_loop.specs.declared.stop.Stop.TheVariants.{Memory, Read, Write, Wire}
 use Rattle.serve_loop.specs.{Begun, Ready, Serving, Broken, WaitsIn, sent_by, AnswersFrom, Sends, StopsIn, GoOut, order_datagrams, settled_datagrams, said_datagrams}
 use Rattle.serve_loop.proofs.GoingOut.{GoOut-then}
-use Rattle.serve_loop.proofs.Writing.{unwritten}
 use Rattle.trace_loop.proofs.head_loop.Channels.{settings_stand}
+use Rattle.trace_loop.proofs.Writing.{unwritten}
 use Rattle.serve_loop.proofs.Telling.{settled_behind, said_is_sent}
 
 -- a text goes on until the call stops

@@ -1,17 +1,15 @@
 -- What is sent for the answers of the channels.
-use Rattle.std.proofs.Common.{◌≡◌, ◌≢◌, ◌≤◌, ℕ, zero, suc, ◌+◌, Bool, true, false, cond, eqb, List, [], ◌∷◌, ◌++◌, map, length, Option, None, Some, option_map, refl, sym, ap, subst, ◌∙◌, append_assoc, append-nil, arith}
+use Rattle.std.proofs.Common.{◌≡◌, ◌≢◌, ◌≤◌, ℕ, zero, suc, ◌+◌, false, cond, eqb, List, [], ◌∷◌, ◌++◌, map, length, Option, None, Some, option_map, refl, sym, ap, subst, ◌∙◌, append_assoc, append-nil, arith}
 use Rattle.std.proofs.lemmas.List.{length-map}
-use Rattle.std.specs.Prelude.{All, AllPairs, slice_get}
+use Rattle.std.specs.Prelude.{AllPairs, slice_get}
 use Rattle.std.proofs.lemmas.Bool.{eq-eqb, ne_eqb}
 use Rattle.std.proofs.lemmas.Option.{slice_get-map}
-use Rattle.std.proofs.lemmas.List.Elements.{All-nil, All-map, All-cons}
 use Rattle.rams_model.specs.declared.event.Event.{Event}
 use Rattle.rams_model.specs.declared.event.Event.TheVariants as event
 use Rattle.rams_model.specs.Service.{Settings}
-use Rattle.book_text.proofs.order_datagrams.ReadPackets.{answer_renders}
 use Rattle.server_hub.specs.declared.event.HubEvent.{HubEvent}
 use Rattle.server_hub.specs.declared.event.HubEvent.TheVariants.{Live, Feedback, Tick}
-use Rattle.server_hub.specs.{IsHub, StandsFor, settings_of, ids_of, with_event, after_event, after_event_of, after_tick, id_of, channel_of, answer_to, answer_of, answer_at, answers_to_tick, told_of, told_to, answers_said}
+use Rattle.server_hub.specs.{IsHub, StandsFor, settings_of, ids_of, with_event, after_event, after_tick, id_of, channel_of, answer_to, answer_of, answer_at, answers_to_tick, told_of, told_to, answers_said}
 use Rattle.server_hub.specs.Seen.{Seen}
 use Rattle.server_hub.specs.Served.{Served}
 use Rattle.server_hub.proofs.Changing.{rest_once, later_differs}
@@ -19,8 +17,9 @@ use Rattle.server_hub.proofs.Finding.{with_id, one_has, settings_found}
 use Rattle.trace_loop.specs.trace_book.Stages.{settings_of as settings_all}
 use Rattle.trace_loop.specs.journal_book.{AreApart, answer_datagrams, datagrams_of, behind}
 use Rattle.trace_loop.proofs.journal_book.Channels.{one_answers}
-use Rattle.trace_loop.proofs.head_loop.Channels.{settings_stand, at_place}
-use Rattle.serve_loop.specs.{AllRender, settled_datagrams, said_datagrams, AnswersFrom, numbers}
+use Rattle.trace_loop.proofs.head_loop.Channels.{settings_stand, at_place, id_there, settings_there}
+use Rattle.trace_loop.proofs.trace_book.Served.{settings_after}
+use Rattle.serve_loop.specs.{settled_datagrams, said_datagrams, AnswersFrom, numbers}
 
 -- where no two have one number, it is found by that
 channel_there : (channels : List Served) (place id : ℕ) (c : Served) → slice_get channels place ≡ Some c → id_of c ≡ id → AreApart channels → channel_of id channels ≡ Some c
@@ -43,15 +42,6 @@ one_said first all id e channels c is there =
     let found : with_id id all ≡ Some c.settings = ap (with_id id) is ∙ (settings_found id channels ∙ ap (option_map (λ (x : Served). x.settings)) there) in
     ap (λ (o : Option Served). said_datagrams first all (answers_said (told_of id (option_map (answer_to e) o)))) there
     ∙ (append-nil (settled_datagrams first (answer_to e c) (with_id id all)) ∙ ap (settled_datagrams first (answer_to e c)) found)
-
--- the channel at its place, behind those before it
-id_there : (before rest : List Served) (c : Served) → slice_get (numbers (before ++ c ∷ rest)) (length before) ≡ Some (id_of c)
-id_there [] rest c = refl
-id_there (b ∷ before) rest c = id_there before rest c
-
-settings_there : (before rest : List Served) (c : Served) → slice_get (settings_all (before ++ c ∷ rest)) (length before) ≡ Some c.settings
-settings_there [] rest c = refl
-settings_there (b ∷ before) rest c = settings_there before rest c
 
 -- what each is said to answer to a tick
 each_said : (first : ℕ) (all : List Settings) (before rest : List Served) → all ≡ settings_all (before ++ rest) → AllPairs (λ x y. x ≢ y) (ids_of all)
@@ -84,22 +74,6 @@ said_is_sent live first all Tick channels is apart from =
     ap (λ p. said_datagrams p all (answers_to_tick channels)) from
     ∙ each_said (live + 1) all [] channels is (subst (λ (l : List Settings). AllPairs (λ x y. x ≢ y) (ids_of l)) (sym is) apart)
 
--- each order of an answer has a datagram
-named_renders : (id : ℕ) (e : Event) (channels : List Served) → All AllRender (answers_said (told_of id (answer_of id e channels)))
-named_renders id e channels = by (channel_of id channels)
-  where
-    by : (o : Option Served) → All AllRender (answers_said (told_of id (option_map (answer_to e) o)))
-    by None = All-nil AllRender
-    by (Some c) = All-cons AllRender (record { id = id; answer = answer_to e c }) [] (answer_renders c.settings c.events e) (All-nil AllRender)
-
-ticks_at : (channels : List Served) → All (λ c. AllRender (answer_at event.Tick c)) channels
-ticks_at channels = λ k d less. answer_renders _ _ event.Tick
-
-pub said_renders : (h : HubEvent) (channels : List Served) → All AllRender (answers_said (told_to h channels))
-said_renders (Live id bytes) channels = named_renders id (event.Live bytes) channels
-said_renders (Feedback id client bytes) channels = named_renders id (event.Feedback client bytes) channels
-said_renders Tick channels = All-map AllRender (answer_at event.Tick) channels (ticks_at channels)
-
 -- no more channels answer than the hub has
 named_few : (id : ℕ) (e : Event) (channels : List Served) → length (answers_said (told_of id (answer_of id e channels))) ≤ 1
 named_few id e channels = by (channel_of id channels)
@@ -118,26 +92,7 @@ said_few Tick channels w stands hub =
     let said : length (answers_to_tick channels) ≡ length channels = length-map channels (answer_at event.Tick) in
     subst (λ n. n ≤ 64) (same ∙ (all ∙ (ticked ∙ sym said))) (hub refl).channels.few
 
--- an event changes no channel's settings
-one_settled : (b : Bool) (e : Event) (c : Served) → (cond b (with_event e c) c).settings ≡ c.settings
-one_settled true e c = refl
-one_settled false e c = refl
-
-event_settled : (id : ℕ) (e : Event) (channels : List Served) → settings_all (after_event_of id e channels) ≡ settings_all channels
-event_settled id e [] = refl
-event_settled id e (c ∷ channels) =
-    ap (λ s. s ∷ settings_all (after_event_of id e channels)) (one_settled (eqb (id_of c) id) e c) ∙ ap (λ l. c.settings ∷ l) (event_settled id e channels)
-
-tick_settled : (channels : List Served) → settings_all (after_tick channels) ≡ settings_all channels
-tick_settled [] = refl
-tick_settled (c ∷ channels) = ap (λ l. c.settings ∷ l) (tick_settled channels)
-
-pub settled : (h : HubEvent) (channels : List Served) → settings_all (after_event h channels) ≡ settings_all channels
-settled (Live id bytes) channels = event_settled id (event.Live bytes) channels
-settled (Feedback id client bytes) channels = event_settled id (event.Feedback client bytes) channels
-settled Tick channels = tick_settled channels
-
 pub settled_behind : (events : List HubEvent) (channels : List Served) → settings_all (behind events channels) ≡ settings_all channels
 unfolding behind
 settled_behind [] channels = refl
-settled_behind (h ∷ events) channels = settled_behind events (after_event h channels) ∙ settled h channels
+settled_behind (h ∷ events) channels = settled_behind events (after_event h channels) ∙ settings_after h channels

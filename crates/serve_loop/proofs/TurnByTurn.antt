@@ -1,5 +1,5 @@
 -- What a server has between two turns.
-use Rattle.std.proofs.Common.{◌≡◌, ℕ, zero, suc, ◌+◌, List, [], ◌∷◌, ◌++◌, drop, Option, Some, refl, sym, ap, subst, ◌∙◌, append_assoc, append-nil}
+use Rattle.std.proofs.Common.{◌≡◌, ℕ, zero, suc, ◌+◌, List, [], ◌∷◌, ◌++◌, drop, Option, Some, refl, sym, ap, subst, ◌∙◌, append_assoc, append-nil, ◌-◌, ◌<◌, ◌≤◌, arith}
 use Rattle.ram_io.specs.declared.wire.Incoming.{Incoming}
 use Rattle.ram_io.specs.{Outgoing, later}
 use Rattle.server_hub.specs.declared.event.HubEvent.{HubEvent}
@@ -36,17 +36,24 @@ serving_begins b sink wire waits tick due turns live ids hub holds sent told arr
     subst (λ d. IsServing b sink wire sink wire waits (events_of b.live tick b.channels turns arrivals moments) tick d turns (drop turns arrivals) live ids hub holds waits sent told shows) (sym due_is)
     (record { events = []; brings = arrivals; shows = later moments; between = between; wire_is = wire_is; clock_is = clock_is; whole = refl; end_is = refl; room = λ more h. h })
 
+-- the turns that are left are one, and those behind it
+pub one_left : (turns counter : ℕ) → counter < turns → turns - counter ≡ suc (turns - (counter + 1))
+one_left turns counter less = omega arith
+
+pub none_left : (turns counter : ℕ) → turns ≤ counter → turns - counter ≡ 0
+none_left turns counter less = omega arith
+
 -- the events of the next turn, and of those behind it
-one_turn : (b : Begun) (tick due k : ℕ) (brings : List Incoming) (shows : List ℕ) → events_of_turns b.live tick b.channels due (turns_of (suc k) brings shows)
+pub one_turn : (b : Begun) (tick due k : ℕ) (brings : List Incoming) (shows : List ℕ) → events_of_turns b.live tick b.channels due (turns_of (suc k) brings shows)
     ≡ (next_events b brings ++ tick_at due (next_moment shows)) ++ events_of_turns b.live tick b.channels (due_after tick due (next_moment shows)) (turns_of k (drop 1 brings) (later shows))
 unfolding events_of_turns turns_of
 one_turn b tick due k brings shows = refl
 
-no_turn : (b : Begun) (tick due : ℕ) (brings : List Incoming) (shows : List ℕ) → events_of_turns b.live tick b.channels due (turns_of zero brings shows) ≡ []
+pub no_turn : (b : Begun) (tick due : ℕ) (brings : List Incoming) (shows : List ℕ) → events_of_turns b.live tick b.channels due (turns_of zero brings shows) ≡ []
 unfolding events_of_turns turns_of
 no_turn b tick due brings shows = refl
 
-drop_one : (k : ℕ) (brings : List Incoming) → drop (suc k) brings ≡ drop k (drop 1 brings)
+pub drop_one : (k : ℕ) (brings : List Incoming) → drop (suc k) brings ≡ drop k (drop 1 brings)
 drop_one k [] = sym (nothing k)
   where
     nothing : (n : ℕ) → drop {A = Incoming} n [] ≡ []

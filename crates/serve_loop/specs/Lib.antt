@@ -4,7 +4,7 @@ pub mod Sending
 pub mod Progress
 pub mod Steady
 pub mod Ended
-unfoldable pub use Rattle.serve_loop.specs.Sending.{GoOut, AllRender, order_datagrams, settled_datagrams, at_datagrams, said_datagrams, IsWireStop}
+unfoldable pub use Rattle.serve_loop.specs.Sending.{GoOut, order_datagrams, settled_datagrams, at_datagrams, said_datagrams, IsWireStop}
 pub use Rattle.serve_loop.specs.Sending.{Sends, IsStoppedByWire}
 unfoldable pub use Rattle.serve_loop.specs.Progress.{sent_by, WaitsIn, IsOutStop, next_events}
 pub use Rattle.serve_loop.specs.Progress.{Begun, Serving, Broken, IsStoppedOutside, Ready, GoesOn, IsServer, IsBetween}

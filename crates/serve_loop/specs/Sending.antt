@@ -1,9 +1,8 @@
 -- What goes out on a wire, and why a server stops.
-use Rattle.std.specs.Prelude.{◌≡◌, ℕ, ◌+◌, ◌==◌, ◌≤◌, List, [], ◌∷◌, ◌++◌, map, find, All, Option, None, Some, Result, IfErr, IfSome}
+use Rattle.std.specs.Prelude.{◌≡◌, ℕ, ◌+◌, ◌==◌, ◌≤◌, List, [], ◌∷◌, ◌++◌, map, find, Option, None, Some, Result, IfErr, IfSome}
 use Rattle.rams_model.specs.declared.answer.Order.{Order}
 use Rattle.rams_model.specs.Service.{Answered, Settings, client_of, datagram}
 use Rattle.ram_io.specs.{Outgoing, outgoing, Rose}
-use Rattle.book_text.specs.order_datagrams.{Renders}
 use Rattle.server_hub.specs.declared.event.At.{At}
 use Rattle.trace_loop.specs.declared.stop.Stop.{Stop}
 use Rattle.trace_loop.specs.declared.stop.Stop.TheVariants.{Memory, Wire}
@@ -17,10 +16,6 @@ pub record Sends (old new : Option (List Outgoing)) (datagrams rest : List Outgo
   pub front : List Outgoing
   pub wire : GoOut old new front
   pub whole : datagrams ≡ front ++ rest
-
--- the orders of an answer can be rendered
-abbrev pub AllRender : At → Type 0
-AllRender at = All Renders at.answer.orders
 
 -- the datagrams of these orders, from this port
 abbrev pub order_datagrams : Settings → ℕ → List Order → List Outgoing

@@ -2,8 +2,8 @@ pub mod Reading
 pub mod Turns
 pub mod Taking
 pub mod Journals
-unfoldable pub use Rattle.serve_loop.specs.takeover_loop.Reading.{is_fed, has_lines, left_text, IsFollowStop}
-pub use Rattle.serve_loop.specs.takeover_loop.Reading.{KeepsLines, IsReading, IsOver, IsFresh, IsFollowing, FollowsWithin, HasFollowed, HoldsItsLines, IsStoppedFollowing}
+unfoldable pub use Rattle.serve_loop.specs.takeover_loop.Reading.{is_fed, has_lines, left_text}
+pub use Rattle.serve_loop.specs.takeover_loop.Reading.{KeepsLines, IsReading, IsOver, IsFresh, IsFollowing, FollowsWithin, HasFollowed, HoldsItsLines}
 unfoldable pub use Rattle.serve_loop.specs.takeover_loop.Turns.{DoesWithin, IsWithin, last_line}
 unfoldable pub use Rattle.trace_loop.specs.{EndsAs}
 pub use Rattle.serve_loop.specs.takeover_loop.Turns.{Stopping, Ending}

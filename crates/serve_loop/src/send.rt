@@ -4,7 +4,8 @@ ghost use Rattle.ram_io.specs.{Outgoing};
 ghost use Rattle.book_text.specs.order_datagrams.{Renders};
 ghost use Rattle.rams_model.specs.Service.{client_of, datagram};
 ghost use Rattle.server_hub.specs.{settings_of};
-ghost use Rattle.serve_loop.specs.{Sends, IsStoppedByWire, OnlyMemoryStops, AllRender, bytes_of, order_datagrams, at_datagrams, said_datagrams};
+ghost use Rattle.trace_loop.specs.journal_book.{AllRender};
+ghost use Rattle.serve_loop.specs.{Sends, IsStoppedByWire, OnlyMemoryStops, bytes_of, order_datagrams, at_datagrams, said_datagrams};
 
 use book_text::order_datagrams::{Config, append_order};
 use ram_io::Wire;

@@ -15,7 +15,7 @@ use trace_loop::head_loop::event_at;
 use trace_loop::{Stop, flush};
 
 /// Most bytes of a datagram.
-const MOST: usize = 2_000;
+pub(crate) const MOST_DATAGRAM: usize = 2_000;
 
 /// Takes what comes next, and hears it where it is an event. Where nothing comes, what waits goes to the
 /// sink.
@@ -176,7 +176,7 @@ pub fn take_turns<K: Sink, W: Wire, C: Clock, T: Watch>(
         (sent_for (b.live + 1) b.channels (events_of b.live server.old.hub.tick b.channels turns arrivals moments)) more
         → OnlyMemoryStops result (HasRoom (K.is_steady sink.new) (W.is_steady wire.new) server.new.journal [] more) }
 {
-    let mut room = [0; MOST];
+    let mut room = [0; MOST_DATAGRAM];
     let mut due = clock.now_ms() + u64::from(server.hub.tick_ms());
     for _ in 0..turns {
         due = take_turn(alloc, server, sink, wire, clock, &mut room, due, watch)?;

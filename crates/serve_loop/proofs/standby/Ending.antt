@@ -9,9 +9,10 @@ use Rattle.line_io.proofs.LineFeeds.{whole_lines-kept}
 use Rattle.server_hub.specs.Served.{Served}
 use Rattle.trace_loop.specs.trace_book.trace_serving.{Stage, Turn, Outcome, goes_on, ends, refused, opening, turn, stage_after, stage_from, taken_from, taken_with}
 use Rattle.trace_loop.specs.trace_book.{run}
+use Rattle.trace_loop.proofs.LongLines.{long_refused}
 use Rattle.serve_loop.specs.standby.{Seen, HasRead, Halted, Stands, end_after, end_from, end_of, is_feed, lines_followed, looked_at, overlong, rest_of, stage_of, StaysEnded}
 use Rattle.serve_loop.proofs.standby.Pieces.{has_line, no_feed, no_feed_in_both, no_line_more, one_line_more, one_more_looked_at, rest_clean, rest_grows, rest_whole, split_lines}
-use Rattle.serve_loop.proofs.standby.Reading.{end_append, end_front, long_refused, stage_append}
+use Rattle.serve_loop.proofs.standby.Reading.{end_append, end_front, stage_append}
 
 -- Lines that end a journal end it alike, whatever stands behind them.
 record Same (stage : Stage (List Served)) (number : ℕ) (xs ys : List (List ℕ)) (o : Outcome) : Type 0 where
@@ -56,15 +57,15 @@ taken_all xs stage number none =
 -- a line that is too long ends the journal there
 long_ends : (stage : Stage (List Served)) (count : ℕ) (x : List ℕ) (ys : List (List ℕ)) → 4096 < length x → end_from stage count (x ∷ ys) ≡ Some (refused count Form)
 unfolding end_from
-long_ends stage count x ys long = ap (λ (was : Turn (List Served)). end_after was (λ later. end_from later (count + 1) ys)) (long_refused stage count x long)
+long_ends stage count x ys long = ap (λ (was : Turn (List Served)). end_after was (λ later. end_from later (count + 1) ys)) (long_refused run stage count x long)
 
 long_reaches : (stage : Stage (List Served)) (count : ℕ) (x : List ℕ) (ys : List (List ℕ)) → 4096 < length x → stage_from run stage count (x ∷ ys) ≡ stage
 unfolding stage_from
-long_reaches stage count x ys long = ap (λ (was : Turn (List Served)). stage_after stage was (λ later. stage_from run later (count + 1) ys)) (long_refused stage count x long)
+long_reaches stage count x ys long = ap (λ (was : Turn (List Served)). stage_after stage was (λ later. stage_from run later (count + 1) ys)) (long_refused run stage count x long)
 
 long_takes : (stage : Stage (List Served)) (count : ℕ) (x : List ℕ) (ys : List (List ℕ)) → 4096 < length x → taken_from run stage count (x ∷ ys) ≡ []
 unfolding taken_from
-long_takes stage count x ys long = ap (λ (was : Turn (List Served)). taken_with x was (λ later. taken_from run later (count + 1) ys)) (long_refused stage count x long)
+long_takes stage count x ys long = ap (λ (was : Turn (List Served)). taken_with x was (λ later. taken_from run later (count + 1) ys)) (long_refused run stage count x long)
 
 -- no line goes on to where it is
 nothing_reached : (stage : Stage (List Served)) (count : ℕ) → stage_from run stage count [] ≡ stage

@@ -1,10 +1,9 @@
 -- The turns of lines that open a hub and its channels.
-use Rattle.std.proofs.Common.{◌≡◌, ℕ, ◌+◌, ◌≤◌, ◌<◌, Bool, true, false, not, cond, ◌&&◌, ◌||◌, List, [], ◌∷◌, ◌++◌, map, length, Option, None, Some, Result, Ok, Err, is_some, refl, sym, subst, ap, ◌∙◌, arith, eqb, ltb, leb}
-use Rattle.std.specs.Prelude.{is_ok, is_none, sum, sum_by, if◌then◌else◌, IfNone, IfSome, IsOkUnless, OnErr, OnOk}
+use Rattle.std.proofs.Common.{◌≡◌, ℕ, ◌+◌, ◌<◌, Bool, true, false, not, cond, ◌&&◌, List, [], ◌∷◌, ◌++◌, map, length, Option, None, Some, Result, Ok, Err, is_some, refl, sym, subst, ap, ◌∙◌, arith, eqb, ltb, leb}
+use Rattle.std.specs.Prelude.{is_ok, is_none, sum_by, if◌then◌else◌, IfNone, IfSome, IsOkUnless, OnErr, OnOk}
 use Rattle.std.specs.List.{list_any}
-use Rattle.std.proofs.lemmas.Bool.{and_parts, leb-true, le-leb, lt-ltb}
+use Rattle.std.proofs.lemmas.Bool.{and_parts, le-leb, lt-ltb}
 use Rattle.std.proofs.lemmas.List.{length-map, map-append}
-use Rattle.std.proofs.lemmas.List.Sums.{sum-map}
 use Rattle.rams_model.specs.declared.channel.Channel.{Channel}
 use Rattle.rams_model.specs.declared.fault.ConfigFault.{ConfigFault}
 use Rattle.rams_model.specs.declared.fault.ConfigFault.TheVariants as config
@@ -14,36 +13,18 @@ use Rattle.rams_model.specs.Service.{Settings, settings, checked, tick_in_range,
 use Rattle.rams_model.specs.Texts.{head_line, channel_line, line_in_range, Claim, Head, Reached, tick_of, accepted, may_come, with_channel, with_reached}
 use Rattle.server_hub.specs.declared.event.AddFault.{AddFault}
 use Rattle.server_hub.specs.declared.event.AddFault.TheVariants.{Full, Twice, Link, NoMemory}
-use Rattle.server_hub.specs.{AddsSettings, AllServe, Pairwise, StandsFor, new_hub, settings_of as hub_settings, has_id, shares_of, refused as refused_add, Serves as CoreServes, served}
+use Rattle.server_hub.specs.{AddsSettings, AllServe, StandsFor, new_hub, settings_of as hub_settings, has_id, shares_of, refused as refused_add, served}
 use Rattle.server_hub.specs.Seen as hubs
 use Rattle.server_hub.specs.Served.{Served}
-use Rattle.server_hub.proofs.Pairing.{same_length}
 use Rattle.trace_loop.proofs.trace_book.trace_serving.Judged.{IsJoined, accepted_so, channel_so}
-use Rattle.trace_loop.specs.trace_book.trace_serving.{Stage, goes_on, after_judging}
+use Rattle.trace_loop.specs.trace_book.trace_serving.{Stage, goes_on, after_judging, claim_of as claim_in}
 use Rattle.trace_loop.specs.trace_book.{run, settings_of}
+use Rattle.trace_loop.specs.head_loop.{claim_of}
+use Rattle.trace_loop.proofs.head_loop.Channels.{settings_stand, numbers_append}
+use Rattle.trace_loop.proofs.head_loop.Claims.{claims_are, few_claimed, ids_claimed, shares_claimed, none_before}
 use Rattle.serve_loop.specs.declared.standby.fault.Step.TheVariants.{GoesOn}
-use Rattle.serve_loop.specs.standby.{HubServes, Serves, Stands, OpensIn, Took, can_open, lacks_memory, claim_of, numbers, turn_of}
+use Rattle.serve_loop.specs.standby.{HubServes, Serves, Stands, OpensIn, Took, can_open, lacks_memory, turn_of}
 use Rattle.serve_loop.proofs.standby.Turning.{accepts}
-
--- What the head line says is in its range.
-pub record Bounded (tick link : ℕ) : Type 0 where
-  pub tick_least : 1 ≤ tick
-  pub tick_most : tick ≤ 1000
-  pub link_least : 1500 ≤ link
-  pub link_most : link ≤ 1000000000
-
-pub bounded : (version tick link : ℕ) → line_in_range (head_line version tick link) ≡ true → Bounded tick link
-bounded version tick link h =
-    let both = and_parts _ _ h in
-    let ticks = and_parts _ _ both.0 in
-    let links = and_parts _ _ both.1 in
-    record { tick_least = leb-true 1 tick ticks.0; tick_most = leb-true tick 1000 ticks.1; link_least = leb-true 1500 link links.0; link_most = leb-true link 1000000000 links.1 }
-
--- no head line came before one that may come
-none_before : (ended head : Bool) → (not ended && not head) ≡ true → head ≡ false
-none_before true head h = absurd cc
-none_before false true h = absurd cc
-none_before false false h = refl
 
 -- the head line gives the hub
 pub head_turn : (hub : Option hubs.Seen) (ids : List ℕ) (events version tick link number : ℕ) (r later : Reached) (stage : Stage (List Served)) → Stands hub ids events r stage
@@ -89,50 +70,6 @@ head_turn hub ids events version tick link number r later stage stands may in_ra
         let some : is_some stage.reached.head ≡ true = ap is_some is in
         absurd cc
 
--- there was no hub before a head line
-pub no_hub : (hub : Option hubs.Seen) (ids : List ℕ) (events version tick link : ℕ) (r : Reached) (stage : Stage (List Served)) → Stands hub ids events r stage → may_come r (head_line version tick link) ≡ true → is_some hub ≡ false
-no_hub hub ids events version tick link r stage stands may = by hub stage.reached.head refl stands.serves
-  where
-    may_there : may_come stage.reached (head_line version tick link) ≡ true
-    may_there = subst (λ (x : Reached). may_come x (head_line version tick link) ≡ true) stands.lines may
-
-    by : (o : Option hubs.Seen) (h : Option Head) → stage.reached.head ≡ h → HubServes o h stage.state stage.events → is_some o ≡ false
-    by None h is serves = refl
-    by (Some v) None is serves = absurd serves
-    by (Some v) (Some head) is serves =
-        let none = none_before stage.reached.ended (is_some stage.reached.head) (and_parts _ _ may_there).0 in
-        let some : is_some stage.reached.head ≡ true = ap is_some is in
-        absurd cc
-
--- the numbers and shares of the channels are those that the lines kept
-ids_claimed : (id : ℕ) (channels : List Served) → has_id id (settings_of channels) ≡ list_any (λ k. eqb k.id id) (map claim_of channels)
-ids_claimed id [] = refl
-ids_claimed id (c ∷ channels) = ap (λ b. eqb c.settings.channel.id id || b) (ids_claimed id channels)
-
-shares_listed : (channels : List Served) → map (λ s. s.channel.share) (settings_of channels) ≡ map (λ k. k.share) (map claim_of channels)
-shares_listed [] = refl
-shares_listed (c ∷ channels) = ap (λ l. c.settings.channel.share ∷ l) (shares_listed channels)
-
-shares_claimed : (channels : List Served) → shares_of (settings_of channels) ≡ sum_by (λ k. k.share) (map claim_of channels)
-shares_claimed channels =
-    sym (sum-map (λ s. s.channel.share) (settings_of channels)) ∙ ap sum (shares_listed channels) ∙ sum-map (λ k. k.share) (map claim_of channels)
-
--- one channel more has its number last
-numbers_more : (channels : List Served) (x : Served) → numbers (channels ++ x ∷ []) ≡ numbers channels ++ x.settings.channel.id ∷ []
-numbers_more [] x = refl
-numbers_more (k ∷ channels) x = ap (λ (l : List ℕ). k.settings.channel.id ∷ l) (numbers_more channels x)
-
--- a hub has the settings of the channels that it stands for
-pairs_settled : {A : Type 0} (f : A → Settings) (R : A → Served → Type 0) → ((v : A) (c : Served) → R v c → f v ≡ c.settings) → (vs : List A) (channels : List Served)
-    → Pairwise R vs channels → map f vs ≡ settings_of channels
-pairs_settled f R same [] [] all = refl
-pairs_settled f R same [] (c ∷ channels) all = absurd all
-pairs_settled f R same (v ∷ vs) [] all = absurd all
-pairs_settled f R same (v ∷ vs) (c ∷ channels) all = ap (λ s. s ∷ map f vs) (same v c all.0) ∙ ap (λ l. c.settings ∷ l) (pairs_settled f R same vs channels all.1)
-
-settings_stand : (v : hubs.Seen) (channels : List Served) → StandsFor v channels → hub_settings v ≡ settings_of channels
-settings_stand v channels stands = pairs_settled (λ core. core.settings) CoreServes (λ core c serves. serves.settings) v.channels channels stands
-
 -- settings that pass are in range, and are themselves
 passes : (s t : Settings) → checked s ≡ Ok t → (channel_in_range s.channel ≡ true) × (checked s ≡ Ok s)
 unfolding checked
@@ -151,9 +88,6 @@ passes s t e = by (tick_in_range s.tick) (channel_in_range s.channel) (eqb c.pt 
     by true true true f g h = absurd cc
     by true false d f g h = absurd cc
     by false b d f g h = absurd cc
-
-pub lawful_so : (s t : Settings) → checked s ≡ Ok t → checked s ≡ Ok s
-lawful_so s t h = (passes s t h).1
 
 pub passed : (s t : Settings) → checked s ≡ Ok t → t ≡ s
 passed s t h = let same : Ok t ≡ Ok s = sym h ∙ (passes s t h).1 in cc
@@ -204,25 +138,22 @@ module _ (v w : hubs.Seen) (c : Channel) (s : Settings) (is_settings : s ≡ set
       by (Err g) None is some same stands adds refused added = absurd (lacks g added some)
 
 module _ (v : hubs.Seen) (head : Head) (r : Reached) (c : Channel) (channels : List Served) (events : ℕ) (claims : r.channels ≡ map claim_of channels) (serves : Serves v head channels events) where
-  lengths : length v.channels ≡ length r.channels
-  lengths = same_length CoreServes v.channels channels serves.stands ∙ sym (length-map channels claim_of) ∙ ap length (sym claims)
+  is : hub_settings v ≡ settings_of channels
+  is = settings_stand v channels serves.stands
 
-  news : has_id c.id (hub_settings v) ≡ list_any (λ k. eqb k.id c.id) r.channels
-  news = ap (has_id c.id) (settings_stand v channels serves.stands) ∙ ids_claimed c.id channels ∙ ap (list_any (λ k. eqb k.id c.id)) (sym claims)
-
-  shares : shares_of (hub_settings v) ≡ sum_by (λ k. k.share) r.channels
-  shares = ap shares_of (settings_stand v channels serves.stands) ∙ shares_claimed channels ∙ ap (sum_by (λ k. k.share)) (sym claims)
+  kept : r.channels ≡ map claim_in (settings_of channels)
+  kept = claims ∙ claims_are channels
 
   rooms : leb (shares_of (hub_settings v) + c.share) v.link ≡ leb (sum_by (λ k. k.share) r.channels + c.share) head.link
-  rooms = ap (λ n. leb (n + c.share) v.link) shares ∙ ap (leb (sum_by (λ k. k.share) r.channels + c.share)) serves.link
+  rooms = ap (λ n. leb (n + c.share) v.link) (shares_claimed v r (settings_of channels) kept is) ∙ ap (leb (sum_by (λ k. k.share) r.channels + c.share)) serves.link
 
   -- a channel that the hub can have is taken
   opens_taken : can_open (Some v) c ≡ true → (later : Reached) × (channel_in_range c ≡ true) × (with_channel r (Some head) c ≡ Ok later)
   opens_taken can =
       let both = and_parts _ _ can in
       let parts = fits_so (ltb (length v.channels) 64) (has_id c.id (hub_settings v)) (leb (shares_of (hub_settings v) + c.share) v.link) both.1 in
-      let few : ltb (length r.channels) 64 ≡ true = ap (λ n. ltb n 64) (sym lengths) ∙ parts.0 in
-      let new : list_any (λ k. eqb k.id c.id) r.channels ≡ false = sym news ∙ parts.1 in
+      let few : ltb (length r.channels) 64 ≡ true = ap (λ n. ltb n 64) (sym (few_claimed v r (settings_of channels) kept is)) ∙ parts.0 in
+      let new : list_any (λ k. eqb k.id c.id) r.channels ≡ false = sym (ids_claimed v r (settings_of channels) kept is c.id) ∙ parts.1 in
       let room : leb (sum_by (λ k. k.share) r.channels + c.share) head.link ≡ true = sym rooms ∙ parts.2 in
       let lawful = pass (checked (settings c v.tick)) refl both.0 in
       let there = subst (λ (n : ℕ). checked (settings c n) ≡ Ok (settings c n)) serves.tick lawful.1 in
@@ -235,8 +166,8 @@ module _ (v : hubs.Seen) (head : Head) (r : Reached) (c : Channel) (channels : L
   -- a channel that is taken the hub can have
   taken_opens : (later : Reached) → IsJoined r head c later → can_open (Some v) c ≡ true
   taken_opens later j =
-      let few : ltb (length v.channels) 64 ≡ true = ap (λ n. ltb n 64) lengths ∙ lt-ltb (length r.channels) 64 j.few in
-      let new : has_id c.id (hub_settings v) ≡ false = news ∙ j.new in
+      let few : ltb (length v.channels) 64 ≡ true = ap (λ n. ltb n 64) (few_claimed v r (settings_of channels) kept is) ∙ lt-ltb (length r.channels) 64 j.few in
+      let new : has_id c.id (hub_settings v) ≡ false = ids_claimed v r (settings_of channels) kept is c.id ∙ j.new in
       let room : leb (shares_of (hub_settings v) + c.share) v.link ≡ true = rooms ∙ le-leb (sum_by (λ k. k.share) r.channels + c.share) head.link j.fits in
       let lawful = subst (λ (n : ℕ). checked (settings c n) ≡ Ok (settings c n)) (sym serves.tick) j.lawful in
       rw (lawful, few, new, room) refl
@@ -359,7 +290,7 @@ module _ (hub : Option hubs.Seen) (ids : List ℕ) (events version : ℕ) (r : R
                 link = opens.link ∙ f.serves.link;
                 calls = opens.calls ∙ f.serves.calls;
               });
-          ids_are = ap (λ (l : List ℕ). l ++ c.id ∷ []) stands.ids_are ∙ sym (numbers_more stage.state (served (settings c (tick_of later.head)) []));
+          ids_are = ap (λ (l : List ℕ). l ++ c.id ∷ []) stands.ids_are ∙ sym (numbers_append stage.state (served (settings c (tick_of later.head)) []));
           claims =
               ap (λ (x : Reached). x.channels) (sym f.joins.gives) ∙ ap (λ (l : List Claim). l ++ (record { id = c.id; share = c.share } ∷ [])) stands.claims
               ∙ sym (map-append claim_of stage.state (served (settings c (tick_of later.head)) [] ∷ []));

@@ -3,17 +3,18 @@ use Rattle.std.proofs.Common.{◌≡◌, ℕ, ◌+◌, ◌<◌, ◌≤◌, Bool,
 use Rattle.std.specs.Prelude.{IfErr, OnErr, OnOk}
 use Rattle.std.proofs.lemmas.Bool.{lt-ltb, le-ltb}
 use Rattle.rams_model.specs.declared.fault.LineFault.TheVariants.{Form}
-use Rattle.rams_model.specs.Texts.{Reached, judged, whole_lines}
+use Rattle.rams_model.specs.Texts.{Reached, whole_lines}
 use Rattle.line_io.specs.{HasNoFeed}
 use Rattle.server_hub.specs.Seen as hubs
 use Rattle.server_hub.specs.Served.{Served}
-use Rattle.trace_loop.specs.trace_book.trace_serving.{Stage, Turn, Outcome, goes_on, ends, done, refused, too_long, opening, turn, stage_after, stage_from, after_judging}
+use Rattle.trace_loop.specs.trace_book.trace_serving.{Stage, Turn, Outcome, goes_on, ends, done, refused, too_long, opening, turn, stage_after, stage_from}
 use Rattle.trace_loop.specs.trace_book.{run}
+use Rattle.trace_loop.proofs.LongLines.{long_refused}
 use Rattle.serve_loop.specs.declared.standby.fault.FeedFault.{FeedFault}
 use Rattle.serve_loop.specs.declared.standby.fault.FeedFault.TheVariants.{Line, TooLong, NoMemory}
 use Rattle.serve_loop.specs.declared.standby.fault.Step.{Step}
 use Rattle.serve_loop.specs.declared.standby.fault.Step.TheVariants.{GoesOn, Ends}
-use Rattle.serve_loop.specs.standby.{rest_of, overlong, end_after, end_from, end_of, stage_of, Stands, count_of, Took, Halting, IsSame, Seen, Halted, HasRead, Fails, Feeds, Takes, is_end, lasting}
+use Rattle.serve_loop.specs.standby.{rest_of, overlong, end_after, end_from, end_of, stage_of, Stands, count_of, Took, Halting, IsSame, Seen, Halted, HasRead, Fails, Takes, is_end}
 use Rattle.serve_loop.proofs.standby.Pieces.{one_line_more, nothing_left, one_more_looked_at, no_line_more, rest_longer, looked_at_longer}
 
 -- lines of which none ends the journal, and more lines behind them
@@ -50,15 +51,6 @@ stage_append (x ∷ xs) ys stage number count is none = by (turn run stage numbe
         → stage_after stage was (λ later. stage_from run later (number + 1) (xs ++ ys)) ≡ stage_from run (stage_after stage was (λ later. stage_from run later (number + 1) xs)) count ys
     by (goes_on later text) none rest = rest later none
     by (ends o) none rest = absurd cc
-
--- a line that is too long has no form
-judged_by : (r : Reached) (bytes : List ℕ) → 4096 < length bytes → judged r bytes ≡ Err Form
-unfolding judged
-judged_by r bytes long = rw (lt-ltb 4096 (length bytes) long) refl
-
-pub long_refused : (stage : Stage (List Served)) (number : ℕ) (bytes : List ℕ) → 4096 < length bytes → turn run stage number bytes ≡ ends (refused number Form)
-unfolding turn
-long_refused stage number bytes long = ap (after_judging run stage number) (judged_by stage.reached bytes long)
 
 -- nothing has ended the journal of a standby that has neither end nor fault
 pub none_yet : (ended : Bool) (fault : Option FeedFault) (end : Option Outcome) → Halted ended fault end → ended ≡ false → fault ≡ None → end ≡ None
@@ -190,7 +182,7 @@ module _ (v : Seen) (bytes : List ℕ) (r : HasRead v bytes) (none : end_of byte
         let there : stage_of (bytes ++ piece) ≡ stage = ap (stage_from run (opening run) 1) (no_line_more bytes piece clean) in
         let end : end_of (bytes ++ piece) ≡ Some (refused number Form) =
         ap (end_from (opening run) 1) (looked_at_longer bytes piece clean ∙ one_longer) ∙ end_next line
-        ∙ ap (λ (t : Turn (List Served)). end_after t (λ later. None)) (long_refused stage number line long) in
+        ∙ ap (λ (t : Turn (List Served)). end_after t (λ later. None)) (long_refused run stage number line long) in
         record {
           stands = subst (Stands v.hub v.ids v.events v.reached) (sym there) r.stands;
           halted = end;
@@ -232,10 +224,3 @@ pub seen_same : (hub hub_old : Option hubs.Seen) (ids ids_old : List ℕ) (event
     (record { hub = hub_old; ids = ids_old; events = events_old; reached = reached_old; part = part_old; ended = ended; fault = fault })
 seen_same hub hub_old ids ids_old events events_old reached reached_old part part_old ended fault same stays =
     rw (same.hub_is, same.ids_are, same.events_are, same.lines_are, stays) refl
-
--- a fault is kept, and want of memory isn't
-pub fault_kept : (fault : FeedFault) (old new : Seen) (bytes : List ℕ) → old.fault ≡ None → Fails fault old new bytes → Feeds {T = ℕ} (Err fault) old (record new { fault = lasting fault }) bytes
-fault_kept (Line n fault) old new bytes none fails = (fails, refl)
-fault_kept TooLong old new bytes none fails = (fails, refl)
-fault_kept NoMemory old new bytes none fails =
-    ap (λ (x : Seen). record x { fault = None }) fails ∙ ap (λ (f : Option FeedFault). record old { fault = f }) (sym none)

@@ -1,5 +1,5 @@
 -- The turns of lines, as a standby takes them.
-use Rattle.std.proofs.Common.{◌≡◌, ℕ, ◌+◌, ◌<◌, ◌≤◌, Bool, true, false, cond, List, [], ◌∷◌, map, Option, None, Some, Result, Ok, Err, is_some, refl, sym, subst, ap, ◌∙◌, arith, eqb, ltb, length}
+use Rattle.std.proofs.Common.{◌≡◌, ℕ, ◌+◌, ◌<◌, ◌≤◌, Bool, true, false, List, Option, None, Some, Result, Ok, Err, refl, sym, subst, ap, ◌∙◌, arith}
 use Rattle.std.specs.Prelude.{if◌then◌else◌}
 use Rattle.std.proofs.lemmas.Bool.{and_parts, lt-ltb, le-ltb}
 use Rattle.rams_model.specs.declared.event.Event.{Event}
@@ -9,18 +9,20 @@ use Rattle.rams_model.specs.declared.mode.LineKind.{LineKind}
 use Rattle.rams_model.specs.declared.mode.LineKind.TheVariants as kind
 use Rattle.rams_model.specs.declared.mode.Mode.{Mode}
 use Rattle.rams_model.specs.declared.mode.Mode.TheVariants.{Run}
-use Rattle.rams_model.specs.Texts.{TraceLine, head_line, channel_line, live_line, feedback_line, tick_line, end_line, tune_line, give_line, mcast_line, ask_line, drop_line, Claim, Head, Reached, accepted, has_channel, has_receivers, judged, judged_line, kind_of, kind_may_come, line_at, line_of, line_in_range, line_is_served, may_come, expected, ranged, with_line, with_reached}
+use Rattle.rams_model.specs.Texts.{TraceLine, head_line, channel_line, live_line, feedback_line, tick_line, end_line, tune_line, give_line, mcast_line, ask_line, drop_line, Head, Reached, accepted, has_receivers, judged, judged_line, kind_of, kind_may_come, line_at, line_of, line_in_range, line_is_served, may_come, expected, ranged, with_line, with_reached}
 use Rattle.server_hub.specs.declared.event.HubEvent.{HubEvent}
-use Rattle.server_hub.specs.{StandsFor, id_of, with_event, after_event, after_event_of, after_tick}
-use Rattle.server_hub.specs.declared.event.HubEvent.TheVariants.{Live, Feedback, Tick}
+use Rattle.server_hub.specs.{StandsFor, after_event, ids_of}
 use Rattle.server_hub.specs.Seen as hubs
 use Rattle.server_hub.specs.Served.{Served}
-use Rattle.trace_loop.specs.trace_book.trace_serving.{Stage, ends, refused, too_long, done, after_judging, after_line, counted, turn, brought}
+use Rattle.trace_loop.specs.trace_book.trace_serving.{Stage, ends, too_long, done, after_judging, after_line, counted, turn, brought}
 use Rattle.trace_loop.proofs.trace_book.trace_serving.Judged.{judged_so}
 use Rattle.trace_text.proofs.Judging.{expected_is}
 use Rattle.trace_loop.specs.trace_book.{run, event_text}
+use Rattle.trace_loop.specs.head_loop.{numbers}
+use Rattle.trace_loop.proofs.head_loop.Claims.{claims_kept}
+use Rattle.trace_loop.proofs.trace_book.Served.{settings_after}
 use Rattle.serve_loop.specs.declared.standby.fault.Step.TheVariants.{GoesOn}
-use Rattle.serve_loop.specs.standby.{HubServes, Stands, Took, claim_of, numbers, turn_of}
+use Rattle.serve_loop.specs.standby.{HubServes, Stands, Took, turn_of}
 
 -- what reads well is the line, and its numbers are in range
 pub read_so : (o : Option TraceLine) (line : TraceLine) → ranged o ≡ Ok line → (o ≡ Some line) × (line_in_range line ≡ true)
@@ -46,11 +48,6 @@ judged_reads r bytes line later h =
 pub read_turn : (stage : Stage (List Served)) (number : ℕ) (bytes : List ℕ) (line : TraceLine) → line_of bytes ≡ Some line → turn run stage number bytes ≡ turn_of stage number line
 unfolding turn judged
 read_turn stage number bytes line h = ap (λ (o : Option TraceLine). after_judging run stage number (judged_line stage.reached o)) h
-
--- the turn of a line that is refused
-pub refused_turn : (stage : Stage (List Served)) (number : ℕ) (bytes : List ℕ) (fault : LineFault) → judged stage.reached bytes ≡ Err fault → turn run stage number bytes ≡ ends (refused number fault)
-unfolding turn
-refused_turn stage number bytes fault h = ap (after_judging run stage number) h
 
 -- a line that may come, with its numbers in range, does what it says
 served_in_run : (r : Reached) (line : TraceLine) → r.mode ≡ Run → line_is_served r line ≡ true
@@ -114,60 +111,8 @@ event_kind (mcast_line id client n) e h = absurd cc
 event_kind (ask_line id client) e h = absurd cc
 event_kind (drop_line id client) e h = absurd cc
 
--- an event changes no channel's number and share
-claim_kept : (b : Bool) (e : Event) (c : Served) → claim_of (cond b (with_event e c) c) ≡ claim_of c
-claim_kept true e c = refl
-claim_kept false e c = refl
-
-one_kept : (id : ℕ) (e : Event) (channels : List Served) → map claim_of (after_event_of id e channels) ≡ map claim_of channels
-one_kept id e [] = refl
-one_kept id e (c ∷ channels) =
-    ap (λ x. x ∷ map claim_of (after_event_of id e channels)) (claim_kept (eqb (id_of c) id) e c) ∙ ap (λ l. claim_of c ∷ l) (one_kept id e channels)
-
-tick_kept : (channels : List Served) → map claim_of (after_tick channels) ≡ map claim_of channels
-tick_kept [] = refl
-tick_kept (c ∷ channels) = ap (λ l. claim_of c ∷ l) (tick_kept channels)
-
-claims_kept : (e : HubEvent) (channels : List Served) → map claim_of (after_event e channels) ≡ map claim_of channels
-claims_kept (Live id bytes) channels = one_kept id _ channels
-claims_kept (Feedback id client bytes) channels = one_kept id _ channels
-claims_kept Tick channels = tick_kept channels
-
--- the channels' numbers are those of the claims
-numbers_claimed : (channels : List Served) → numbers channels ≡ map (λ (k : Claim). k.id) (map claim_of channels)
-numbers_claimed [] = refl
-numbers_claimed (c ∷ channels) = ap (λ (l : List ℕ). c.settings.channel.id ∷ l) (numbers_claimed channels)
-
 pub numbers_kept : (e : HubEvent) (channels : List Served) → numbers (after_event e channels) ≡ numbers channels
-numbers_kept e channels =
-    numbers_claimed (after_event e channels) ∙ ap (λ (l : List Claim). map (λ (k : Claim). k.id) l) (claims_kept e channels) ∙ sym (numbers_claimed channels)
-
--- an event comes behind a channel line, so there is a hub
-no_channel : (r : Reached) (channels : List Served) → r.channels ≡ map claim_of channels → channels ≡ [] → has_channel r ≡ false
-no_channel r channels claims none = ap (λ (l : List Claim). ltb 0 (length l)) (claims ∙ ap (map claim_of) none)
-
-pub has_hub : (hub : Option hubs.Seen) (ids : List ℕ) (events : ℕ) (r : Reached) (stage : Stage (List Served)) → Stands hub ids events r stage → has_channel stage.reached ≡ true → is_some hub ≡ true
-has_hub hub ids events r stage stands has = by hub stage.reached.head stands.serves
-  where
-    by : (o : Option hubs.Seen) (h : Option Head) → HubServes o h stage.state stage.events → is_some o ≡ true
-    by (Some v) h serves = refl
-    by None (Some head) serves = absurd serves
-    by None None serves = let none = no_channel stage.reached stage.state stands.claims serves.0 in absurd cc
-
-pub event_has_hub : (hub : Option hubs.Seen) (ids : List ℕ) (events : ℕ) (r : Reached) (stage : Stage (List Served)) (line : TraceLine) (e : HubEvent) → Stands hub ids events r stage → may_come r line ≡ true → brought run line ≡ Some e
-    → is_some hub ≡ true
-event_has_hub hub ids events r stage line e stands may brings =
-    let at = subst (λ (x : Reached). may_come x line ≡ true) stands.lines may in
-    let event : kind_may_come stage.reached kind.Event ≡ true = subst (λ (k : LineKind). kind_may_come stage.reached k ≡ true) (event_kind line e brings) (and_parts _ _ at).0 in
-    has_hub hub ids events r stage stands ((and_parts _ _ (and_parts _ _ event).1).0)
-
--- the hub counts the events
-pub hub_counts : (v : hubs.Seen) (ids : List ℕ) (events : ℕ) (r : Reached) (stage : Stage (List Served)) → Stands (Some v) ids events r stage → v.calls ≡ events
-hub_counts v ids events r stage stands = by stage.reached.head stands.serves
-  where
-    by : (h : Option Head) → HubServes (Some v) h stage.state stage.events → v.calls ≡ events
-    by None serves = absurd serves
-    by (Some head) serves = serves.calls ∙ sym stands.counted
+numbers_kept e channels = ap ids_of (settings_after e channels)
 
 -- The hub is of the same head line, counts one more event, and has served it.
 pub record HasServedOne (e : HubEvent) (old new : hubs.Seen) : Type 0 where

@@ -20,8 +20,9 @@ use Rattle.trace_loop.specs.trace_book.Stages.{settings_of}
 use Rattle.trace_loop.specs.journal_book.{HeadsOpenNewChannels, behind, event_lines, events_of}
 use Rattle.trace_loop.specs.declared.stop.Stop.{Stop}
 use Rattle.trace_loop.specs.declared.stop.Stop.TheVariants.{Memory, Read, Write, Wire}
+use Rattle.trace_loop.proofs.Reading.{passes_whole}
 use Rattle.serve_loop.specs.{Begun, Broken, Given, GoOut, HasRoom, IsBetween, OnlyMemoryStops, Room, Serving, StopsIn, WaitsIn, sent_by}
-use Rattle.serve_loop.proofs.Closing.{passes_whole, serving_begins}
+use Rattle.serve_loop.proofs.Closing.{serving_begins}
 use Rattle.serve_loop.proofs.GoingOut.{GoOut-none}
 use Rattle.serve_loop.proofs.Telling.{settled_behind}
 use Rattle.serve_loop.proofs.Rooms.{quiet_room, wire_none}

@@ -11,12 +11,10 @@ use Rattle.server_hub.specs.Served.{Served}
 use Rattle.trace_loop.specs.trace_book.trace_serving.{Stage, Outcome, Turn, goes_on, ends, refused, too_long, opening, turn, after_line, after_judging, counted, brought, stage_after, stage_from}
 use Rattle.trace_loop.proofs.trace_book.trace_serving.Judged.{judged_so}
 use Rattle.trace_loop.specs.trace_book.{run, most_events}
+use Rattle.trace_loop.proofs.LongLines.{long_refused}
+use Rattle.trace_loop.proofs.head_loop.Cutting.{same_end}
 use Rattle.serve_loop.specs.standby.{end_after, end_from, end_of, lines_followed, overlong, rest_of, stage_of}
-use Rattle.serve_loop.proofs.standby.Reading.{long_refused}
 use Rattle.serve_loop.specs.takeover_loop.{end_or, opened_by, reading_end}
-
-same_end : (o p : Outcome) → ◌≡◌ {A = Turn (List Served)} (ends o) (ends p) → o ≡ p
-same_end o p e = cc
 
 no_more : (o : Outcome) (later : Stage (List Served)) (text : List ℕ) → ◌≡◌ {A = Turn (List Served)} (goes_on later text) (ends o) → ⊥
 no_more o later text e = cc
@@ -86,7 +84,7 @@ overlong_never line o well stage number = by (ltb 4096 (length line)) refl
         let long = ltb-true 4096 (length line) is in
         let one : overlong line ≡ line ∷ [] = rw is refl in
         let was : end_after (turn run stage number line) (λ later. None) ≡ Some o = sym (ap (end_from stage number) one) ∙ end in
-        let refuses : Some (refused number Form) ≡ Some o = sym (ap (λ (t : Turn (List Served)). end_after t (λ later. None)) (long_refused stage number line long)) ∙ was in
+        let refuses : Some (refused number Form) ≡ Some o = sym (ap (λ (t : Turn (List Served)). end_after t (λ later. None)) (long_refused run stage number line long)) ∙ was in
         refused_differs o number Form (some_ends o (refused number Form) refuses) well
     by false is end =
         let none : overlong line ≡ [] = rw is refl in

@@ -8,7 +8,7 @@ use Rattle.rams_model.specs.Texts.{whole_lines}
 use Rattle.line_io.specs.{HasNoFeed}
 use Rattle.line_io.specs.Passes.{Passes}
 use Rattle.line_io.proofs.Passing.{Passes-more, Passes-then}
-use Rattle.trace_loop.specs.trace_book.trace_serving.{Outcome, done}
+use Rattle.trace_loop.specs.trace_book.trace_serving.{Outcome}
 use Rattle.trace_loop.specs.declared.stop.Stop.{Stop}
 use Rattle.trace_loop.specs.declared.stop.Stop.TheVariants.{Memory, Read, Write, Wire}
 use Rattle.serve_loop.specs.{StopsIn}
@@ -172,11 +172,6 @@ pub halted_by : (fault : FeedFault) (ended : Bool) (end : Option Outcome) → Ha
 halted_by (Line number fault) ended end h = (_, h)
 halted_by TooLong ended end h = (_, h)
 halted_by NoMemory ended end h = absurd h
-
-pub ended_by : (fault : Option FeedFault) (ended : Bool) (end : Option Outcome) → Halted ended fault end → ended ≡ true → (o : Outcome) × (end ≡ Some o)
-ended_by (Some fault) ended end h is = halted_by fault ended end h
-ended_by None true end h is = (done h.0, h.1)
-ended_by None false end h is = absurd cc
 
 -- nothing has ended a journal that is read on
 pub reading_none : (held holds : Option (List ℕ)) (v : Seen) (waits line : List ℕ) (begun : Bool) (bytes : List ℕ) → IsReading held holds v waits line begun bytes → end_of bytes ≡ None

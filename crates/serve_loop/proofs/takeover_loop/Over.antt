@@ -13,14 +13,15 @@ use Rattle.trace_loop.specs.trace_book.trace_serving.{Outcome, after_text}
 use Rattle.trace_loop.specs.journal_book.{event_lines, sent_for}
 use Rattle.trace_loop.specs.declared.stop.Stop.{Stop}
 use Rattle.trace_loop.specs.declared.stop.Stop.TheVariants.{Memory, Read, Write, Wire}
+use Rattle.trace_loop.proofs.Reading.{passes_whole, rose_since}
+use Rattle.trace_loop.specs.{IsStop as IsSourceOrSinkStop}
 use Rattle.serve_loop.specs.{Given, HasRoom, IfBothTold, IsGiven, IsOutStop, IsStop, IsStopped, IsStoppedByWrite, IsStoppedOutside, IsWriteStop, OnlyMemoryStops, Room, StopsIn, datagrams_by}
-use Rattle.serve_loop.proofs.Closing.{passes_whole}
 use Rattle.serve_loop.proofs.Rooms.{only_weaker, quiet_room, wire_none}
 use Rattle.serve_loop.specs.declared.standby.fault.FeedFault.{FeedFault}
 use Rattle.serve_loop.specs.declared.standby.fault.FeedFault.TheVariants.{Line, TooLong as LineTooLong, NoMemory}
 use Rattle.serve_loop.specs.standby.{stage_of}
 use Rattle.serve_loop.specs.standby.standby_book.{followed_text}
-use Rattle.serve_loop.specs.takeover_loop.{HasEnded, HasStopped, HoldsItsLines, IsFollowStop, IsServedEnd, IsTakeoverEnd, behind_by, behind_journal, done_events, outcome_of, reading_end, taken_datagrams, taken_text, turns_end}
+use Rattle.serve_loop.specs.takeover_loop.{HasEnded, HasStopped, HoldsItsLines, IsServedEnd, IsTakeoverEnd, behind_by, behind_journal, done_events, outcome_of, reading_end, taken_datagrams, taken_text, turns_end}
 use Rattle.serve_loop.proofs.takeover_loop.Closing.{refused_ended, stopped_alone}
 
 -- what is given, where the source is told
@@ -69,16 +70,13 @@ cut_closed held mid later left leaves waits rest cut p = by left leaves cut.0
 rose_still : (before mid now : ℕ) → Rose before mid → mid ≤ now → Rose before now
 rose_still before mid now rose less = omega (arith, rose, less)
 
-rose_later : (before mid now : ℕ) → before ≤ mid → Rose mid now → Rose before now
-rose_later before mid now less rose = omega (arith, less, rose)
-
 -- the reading was stopped
-pub follow_cause : (read reads write mid writes wire : ℕ) (stop : Stop) (r : Result Status Stop) → read ≤ reads → write ≤ mid → mid ≤ writes → IsFollowStop read reads write mid stop → r ≡ Err stop → IsStopped read reads write writes wire wire r
+pub follow_cause : (read reads write mid writes wire : ℕ) (stop : Stop) (r : Result Status Stop) → read ≤ reads → write ≤ mid → mid ≤ writes → IsSourceOrSinkStop read reads write mid stop → r ≡ Err stop → IsStopped read reads write writes wire wire r
 follow_cause read reads write mid writes wire stop r reads_later write_later closes cause is =
     subst (λ (x : Result Status Stop). IsStopped read reads write writes wire wire x) (sym is)
     (record { read_later = reads_later; write_later = omega (arith, write_later, closes); wire_later = omega arith; cause = by stop cause })
   where
-    by : (s : Stop) → IsFollowStop read reads write mid s → IsStop read reads write writes wire wire s
+    by : (s : Stop) → IsSourceOrSinkStop read reads write mid s → IsStop read reads write writes wire wire s
     by Memory h = tt
     by Read h = h
     by Write h = rose_still write mid writes h closes
@@ -93,7 +91,7 @@ served_cause read reads write mid writes wire wires r reads_later write_later s 
     by_stop : (s : Stop) → IsOutStop mid writes wire wires s → IsStop read reads write writes wire wires s
     by_stop Memory h = tt
     by_stop Read h = absurd h
-    by_stop Write h = rose_later write mid writes write_later h
+    by_stop Write h = rose_since write mid writes write_later h
     by_stop Wire h = h
 
     by : (x : Result Status Stop) → IfErr x (IsOutStop mid writes wire wires) → IfErr x (IsStop read reads write writes wire wires)

@@ -1,5 +1,5 @@
 -- What a server that may have only so many more events has between two turns.
-use Rattle.std.proofs.Common.{◌≡◌, ℕ, zero, suc, ◌+◌, ◌-◌, ◌<◌, ◌≤◌, List, [], ◌∷◌, ◌++◌, length, take, drop, Option, Some, refl, sym, ap, subst, ◌∙◌, arith, length-append, append_assoc, append-nil}
+use Rattle.std.proofs.Common.{◌≡◌, ℕ, suc, ◌+◌, ◌-◌, ◌<◌, ◌≤◌, List, [], ◌++◌, length, take, drop, Option, Some, refl, sym, ap, subst, ◌∙◌, arith, length-append, append_assoc, append-nil}
 use Rattle.ram_io.specs.declared.wire.Incoming.{Incoming}
 use Rattle.ram_io.specs.{Outgoing, later}
 use Rattle.server_hub.specs.declared.event.HubEvent.{HubEvent}
@@ -11,6 +11,7 @@ use Rattle.serve_loop.specs.{Begun, Broken, HasRoom, IsBetween, Room, Serving, n
 use Rattle.serve_loop.proofs.Rooms.{behind_append, room_for, room_join, room_none}
 use Rattle.serve_loop.proofs.Steps.{broken_more}
 use Rattle.serve_loop.proofs.takeover_loop.Within.{all_within, done_both, done_first, none_left, room_done, room_first, take_append}
+use Rattle.serve_loop.proofs.TurnByTurn.{one_turn, no_turn, drop_one}
 
 -- The events so far, and those of the turns that are left, are all events; so many of the latter may come. Where there was room for as many of all as might come, there is for as many of these.
 pub record IsPacing (b : Begun) (sink_then : ℕ → Type 0) (wire_then : ℕ → ℕ → Type 0) (sink : ℕ → Type 0) (wire : ℕ → ℕ → Type 0) (waited : List ℕ) (all : List HubEvent) (limit tick due may left : ℕ) (end : List Incoming)
@@ -38,24 +39,6 @@ pacing_begins b sink wire waits limit tick due turns live ids hub holds sent tol
     let none : limit + length {A = HubEvent} [] ≡ limit = omega arith in
     subst (λ d. IsPacing b sink wire sink wire waits (events_of b.live tick b.channels turns arrivals moments) limit tick d limit turns (drop turns arrivals) live ids hub holds waits sent told shows) (sym due_is)
     (record { events = []; brings = arrivals; shows = later moments; between = between; wire_is = wire_is; clock_is = clock_is; whole = refl; count = none; end_is = refl; room = λ more h. h })
-
--- the events of the next turn, and of those behind it
-one_turn : (b : Begun) (tick due k : ℕ) (brings : List Incoming) (shows : List ℕ) → events_of_turns b.live tick b.channels due (turns_of (suc k) brings shows)
-    ≡ (next_events b brings ++ tick_at due (next_moment shows)) ++ events_of_turns b.live tick b.channels (due_after tick due (next_moment shows)) (turns_of k (drop 1 brings) (later shows))
-unfolding events_of_turns turns_of
-one_turn b tick due k brings shows = refl
-
-no_turn : (b : Begun) (tick due : ℕ) (brings : List Incoming) (shows : List ℕ) → events_of_turns b.live tick b.channels due (turns_of zero brings shows) ≡ []
-unfolding events_of_turns turns_of
-no_turn b tick due brings shows = refl
-
-drop_one : (k : ℕ) (brings : List Incoming) → drop (suc k) brings ≡ drop k (drop 1 brings)
-drop_one k [] = sym (nothing k)
-  where
-    nothing : (n : ℕ) → drop {A = Incoming} n [] ≡ []
-    nothing zero = refl
-    nothing (suc n) = refl
-drop_one k (a ∷ brings) = refl
 
 module _ (b : Begun) (sink_then : ℕ → Type 0) (wire_then : ℕ → ℕ → Type 0) (sink : ℕ → Type 0) (wire : ℕ → ℕ → Type 0) (waited : List ℕ) (all : List HubEvent) (limit tick due may left : ℕ) (end : List Incoming)
     (live : ℕ) (ids : List ℕ) (hub : Seen) (holds : Option (List ℕ)) (waits : List ℕ) (sent : Option (List Outgoing)) (arrivals : Option (List Incoming)) (moments : Option (List ℕ))

@@ -10,8 +10,8 @@ use Rattle.line_io.proofs.Passing.{Passes-none, Passes-then}
 use Rattle.trace_loop.specs.trace_book.trace_serving.{Outcome}
 use Rattle.trace_loop.specs.declared.stop.Stop.{Stop}
 use Rattle.trace_loop.specs.declared.stop.Stop.TheVariants.{Memory}
+use Rattle.trace_loop.proofs.Reading.{passes_whole}
 use Rattle.serve_loop.specs.{IfBothTold, StopsIn}
-use Rattle.serve_loop.proofs.Closing.{passes_whole}
 use Rattle.serve_loop.specs.declared.standby.fault.FeedFault.{FeedFault}
 use Rattle.serve_loop.specs.declared.standby.fault.FeedFault.TheVariants.{Line, TooLong, NoMemory}
 use Rattle.serve_loop.specs.standby.{Halted, HasReadSome, Seen, end_from, end_of, rest_of, whole_text}

@@ -1,36 +1,19 @@
 -- What is taken over of a journal, and why nothing is.
-use Rattle.std.proofs.Common.{◌≡◌, ℕ, ◌+◌, ◌-◌, ◌<◌, ◌≤◌, ltb, Bool, true, false, List, length, Option, None, Some, refl, sym, ap, subst, ◌∙◌, arith}
+use Rattle.std.proofs.Common.{◌≡◌, ℕ, ◌+◌, ◌-◌, ◌<◌, ltb, Bool, true, false, List, length, Option, None, Some, refl, sym, ap, subst, ◌∙◌, arith}
 use Rattle.std.specs.Prelude.{if◌then◌else◌}
 use Rattle.std.proofs.lemmas.Bool.{lt-ltb}
-use Rattle.std.proofs.lemmas.List.{length-map}
 use Rattle.rams_model.specs.declared.fault.LineFault.TheVariants.{Order}
 use Rattle.rams_model.specs.declared.status.Status.TheVariants.{Done}
 use Rattle.rams_model.specs.Texts.{Head, has_channel, whole_lines}
-use Rattle.server_hub.specs.{IsHub}
 use Rattle.server_hub.specs.Seen as hubs
 use Rattle.server_hub.specs.Served.{Served}
-use Rattle.trace_loop.proofs.head_loop.Channels.{settings_stand}
 use Rattle.trace_loop.specs.trace_book.trace_serving.{Outcome, done, refused}
-use Rattle.trace_loop.specs.trace_book.Stages.{settings_of as settings_all}
 use Rattle.serve_loop.specs.{numbers}
 use Rattle.serve_loop.specs.declared.standby.fault.FeedFault.{FeedFault}
-use Rattle.serve_loop.specs.declared.standby.fault.FeedFault.TheVariants.{Line, TooLong, NoMemory}
-use Rattle.serve_loop.specs.standby.{HasRead, Halted, HubServes, IsTakenOver, Refuses, Seen, count_of, end_of, lines_followed, stage_of}
+use Rattle.serve_loop.specs.standby.{HasRead, Halted, HubServes, Refuses, Seen, count_of, end_of, lines_followed, stage_of}
 use Rattle.serve_loop.proofs.standby.Ending.{all_followed}
-use Rattle.serve_loop.specs.takeover_loop.{IsTaken, end_or, has_lines, opened_by, outcome_of, reading_end}
+use Rattle.serve_loop.specs.takeover_loop.{end_or, has_lines, opened_by, reading_end}
 use Rattle.serve_loop.proofs.takeover_loop.Ends.{ended_has_channel}
-
--- a fault ends the reading
-pub fault_ends : (v : Seen) (fault : FeedFault) (bytes : List ℕ) → HasRead v bytes → v.fault ≡ Some fault → reading_end bytes ≡ outcome_of fault
-fault_ends v fault bytes r is = by fault (subst (λ (f : Option FeedFault). Halted v.ended f (end_of bytes)) is r.halted)
-  where
-    rest : Outcome
-    rest = opened_by (has_channel (stage_of bytes).reached) (length (lines_followed bytes) + 1)
-
-    by : (f : FeedFault) → Halted v.ended (Some f) (end_of bytes) → reading_end bytes ≡ outcome_of f
-    by (Line number fault) h = ap (λ (o : Option Outcome). end_or o rest) h
-    by TooLong h = ap (λ (o : Option Outcome). end_or o rest) h
-    by NoMemory h = absurd h
 
 -- without a fault the reading ends with `end`, or where the bytes do
 data IsOpen (bytes : List ℕ) : Type 0 where
@@ -57,31 +40,6 @@ well_ends bytes (ended events end) has =
 well_ends bytes (unended none) has =
     ap (λ (o : Option Outcome). (end_or o (opened_by (has_channel (stage_of bytes).reached) (length (lines_followed bytes) + 1))).status) none
     ∙ ap (λ (t : Bool). (opened_by t (length (lines_followed bytes) + 1)).status) has
-
--- the hub that is taken over
-pub is_taken : (v : Seen) (hub : hubs.Seen) (ids : List ℕ) (left : ℕ) (bytes : List ℕ) → HasRead v bytes → v.fault ≡ None → (Refuses v → ⊥) → IsTakenOver hub bytes → ids ≡ v.ids → left ≡ 1000000 - v.events → IsTaken bytes hub ids left
-is_taken v hub ids left bytes r none goes t are is =
-    let has = channel_there v bytes r none goes in
-    record {
-      ends = well_ends bytes (no_fault v bytes r none) has;
-      channel = has;
-      stands = t.stands;
-      tick = t.tick;
-      ids_are = are ∙ r.stands.ids_are;
-      left_is = is ∙ ap (λ n. 1000000 - n) r.stands.counted;
-    }
-
--- has no more channels than there may be
-pub few_ids : (v : Seen) (hub : hubs.Seen) (ids : List ℕ) (bytes : List ℕ) → HasRead v bytes → IsTakenOver hub bytes → IsHub hub → ids ≡ v.ids → length ids ≤ 64
-few_ids v hub ids bytes r t lawful are =
-    let few = lawful.channels.few in
-    let settings = ap length (settings_stand hub (stage_of bytes).state t.stands) in
-    let size : length ids ≡ length (settings_all (stage_of bytes).state) = ap length (are ∙ r.stands.ids_are) ∙ length-map (settings_all (stage_of bytes).state) (λ s. s.channel.id) in
-    omega (arith, few, settings, size)
-
--- and may have so many more events
-pub calls_left : (v : Seen) (hub : hubs.Seen) (left : ℕ) (bytes : List ℕ) → HasRead v bytes → IsTakenOver hub bytes → left ≡ 1000000 - v.events → hub.calls + left ≤ 1000000
-calls_left v hub left bytes r t is = let calls = t.calls in let few = t.few in let counted = r.stands.counted in omega (arith, calls, few, counted, is)
 
 -- The number of the line that is missing, where no channel stands.
 head_counts : (hub : Option hubs.Seen) (head : Option Head) (channels : List Served) (ids : List ℕ) (events lines : ℕ) → HubServes hub head channels events → ids ≡ numbers channels → count_of hub ids events ≡ lines

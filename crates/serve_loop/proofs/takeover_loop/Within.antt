@@ -48,9 +48,6 @@ done_first xs ys left less =
     let rest : left - length xs ≡ 0 = omega (arith, less) in
     take_append left xs ys ∙ ap (λ n. take left xs ++ take n ys) rest ∙ append-nil (take left xs)
 
-pub too_many_both : (xs ys : List HubEvent) (left : ℕ) → left < length xs → left < length (xs ++ ys)
-too_many_both xs ys left less = omega (arith, less, length-append xs ys)
-
 -- a server that stopped among the first
 pub breaks_first : (b : Begun) (events xs ys : List HubEvent) (left : ℕ) (holds : Option (List ℕ)) (waits : List ℕ) (sent : Option (List Outgoing)) (stop : Stop)
     → Broken b (events ++ take left xs) holds waits sent stop → Broken b (events ++ take left (xs ++ ys)) holds waits sent stop

@@ -1,28 +1,21 @@
 -- What the lines of a journal lead to, as code has it.
-use Rattle.std.specs.Prelude.{◌≡◌, ℕ, ◌+◌, ◌≤◌, Bool, true, false, ◌&&◌, if◌then◌else◌, List, [], ◌∷◌, ◌++◌, map, length, Option, None, Some, is_some, is_none, Result, Ok, Err, is_ok}
+use Rattle.std.specs.Prelude.{◌≡◌, ℕ, ◌+◌, ◌≤◌, Bool, true, false, ◌&&◌, if◌then◌else◌, List, [], map, length, Option, None, Some, is_some, is_none, Result, Ok, Err, is_ok}
 use Rattle.rams_model.specs.declared.channel.Channel.{Channel}
 use Rattle.rams_model.specs.declared.mode.Mode.TheVariants.{Run}
 use Rattle.rams_model.specs.Service.{settings, checked}
-use Rattle.rams_model.specs.Texts.{TraceLine, Claim, Head, Reached, accepted, with_reached}
+use Rattle.rams_model.specs.Texts.{TraceLine, Head, Reached, accepted, with_reached}
 use Rattle.server_hub.specs.declared.event.AddFault.{AddFault}
 use Rattle.server_hub.specs.declared.event.AddFault.TheVariants.{NoMemory as OutOfMemory}
-use Rattle.server_hub.specs.{StandsFor, ids_of, refused as refused_add, served}
+use Rattle.server_hub.specs.{StandsFor, refused as refused_add}
 use Rattle.server_hub.specs.Seen as hubs
 use Rattle.server_hub.specs.Served.{Served}
 use Rattle.trace_loop.specs.trace_book.trace_serving.{Stage, Turn, goes_on, ends, done, refused, too_long, after_judging}
-use Rattle.trace_loop.specs.trace_book.{run, settings_of}
+use Rattle.trace_loop.specs.trace_book.{run}
+use Rattle.trace_loop.specs.head_loop.{OpensChannel, claim_of, numbers}
 use Rattle.serve_loop.specs.declared.standby.fault.FeedFault.{FeedFault}
 use Rattle.serve_loop.specs.declared.standby.fault.FeedFault.TheVariants.{Line, TooLong, NoMemory}
 use Rattle.serve_loop.specs.declared.standby.fault.Step.{Step}
 use Rattle.serve_loop.specs.declared.standby.fault.Step.TheVariants.{GoesOn, Ends}
-
--- what a journal's lines keep of a channel
-abbrev pub claim_of : Served → Claim
-claim_of c = record { id = c.settings.channel.id; share = c.settings.channel.share }
-
--- the numbers of the channels
-abbrev pub numbers : List Served → List ℕ
-numbers channels = ids_of (settings_of channels)
 
 -- The hub of this head line stands for the channels, and counts their events.
 pub record Serves (v : hubs.Seen) (head : Head) (channels : List Served) (events : ℕ) : Type 0 where
@@ -55,16 +48,9 @@ StandsSomewhere hub ids events reached = (stage : Stage (List Served)) × Stands
 abbrev pub count_of : Option hubs.Seen → List ℕ → ℕ → ℕ
 count_of hub ids events = (if is_some hub then 1 else 0) + length ids + events
 
--- the channel was opened, beside the others
-pub record OpensChannel (c : Channel) (old new : hubs.Seen) : Type 0 where
-  pub stands : (channels : List Served) → StandsFor old channels → StandsFor new (channels ++ served (settings c old.tick) [] ∷ [])
-  pub tick : new.tick ≡ old.tick
-  pub link : new.link ≡ old.link
-  pub calls : new.calls ≡ old.calls
-
--- the same of a hub that is there
+-- the channel was opened in a hub that is there, with its tick
 abbrev pub OpensIn : Channel → Option hubs.Seen → Option hubs.Seen → Type 0
-OpensIn c (Some old) (Some new) = OpensChannel c old new
+OpensIn c (Some old) (Some new) = OpensChannel (settings c old.tick) old new
 OpensIn c _ _ = ⊥
 
 -- the hub can have the channel: its settings are lawful, and it fits beside the others

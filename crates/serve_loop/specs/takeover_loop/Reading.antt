@@ -1,11 +1,8 @@
 -- How a journal is read as far as it goes, and its lines put to a sink.
-use Rattle.std.specs.Prelude.{◌≡◌, ℕ, ◌+◌, ◌-◌, ◌≤◌, ◌==◌, Bool, false, nat_lt, List, [], ◌++◌, length, slice_index, Option, None, Some, Result, IfErr}
+use Rattle.std.specs.Prelude.{◌≡◌, ℕ, ◌+◌, ◌-◌, ◌==◌, Bool, false, nat_lt, List, [], ◌++◌, length, slice_index, Option, None, Some}
 use Rattle.std.specs.Io.KnownBytes.{Appends, Consumes}
 use Rattle.rams_model.specs.Texts.{whole_lines}
-use Rattle.ram_io.specs.{Rose}
 use Rattle.line_io.specs.Passes.{Passes}
-use Rattle.trace_loop.specs.declared.stop.Stop.{Stop}
-use Rattle.trace_loop.specs.declared.stop.Stop.TheVariants.{Memory, Read, Write, Wire}
 use Rattle.serve_loop.specs.standby.{HasRead, HasReadSome, Seen, end_of, rest_of, whole_text}
 use Rattle.serve_loop.specs.standby.standby_book.{followed_text}
 
@@ -71,16 +68,3 @@ pub record HoldsItsLines (held holds : Option (List ℕ)) (all left : List ℕ) 
   pub taken : List ℕ
   pub whole : all ≡ taken ++ left
   pub text : Appends held holds (whole_text taken)
-
--- the source's faults or the sink's rose where the stop is said to be that one's
-abbrev pub IsFollowStop : ℕ → ℕ → ℕ → ℕ → Stop → Type 0
-IsFollowStop read reads write writes Memory = Unit {0}
-IsFollowStop read reads write writes Read = Rose read reads
-IsFollowStop read reads write writes Write = Rose write writes
-IsFollowStop read reads write writes Wire = ⊥
-
--- Neither count of faults fell, and that of the source or of the sink rose where that one is said to have stopped the call. No wire is.
-pub record IsStoppedFollowing {T : Type 0} (read reads write writes : ℕ) (result : Result T Stop) : Type 0 where
-  pub read_later : read ≤ reads
-  pub write_later : write ≤ writes
-  pub cause : IfErr result (IsFollowStop read reads write writes)

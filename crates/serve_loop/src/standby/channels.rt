@@ -17,10 +17,8 @@ use ram_io::NoMemory;
 use rams_model::{Channel, Mode};
 use server_hub::{AddFault, Heard, Hub};
 use std::alloc::Global;
+use trace_loop::MOST_EVENTS;
 use trace_text::{Line, State};
-
-/// Most events of a journal.
-const MOST_EVENTS: u64 = 1_000_000;
 
 /// What the lines so far lead to.
 #[derive(Drop)]

@@ -2,10 +2,11 @@
 ghost use Rattle.std.specs.Prelude.{◌≡◌, ◌+◌, ◌<◌, ◌≤◌, ◌++◌, Bool, ℕ, List, [], Option, Ok, Err, None, Some, IfErr, IfOk, MatchBool, MatchResult, OnErr, OnOk, false, take, true, length};
 ghost use Rattle.std.specs.Io.KnownBytes.{Consumes, IsAtEnd, Keeps};
 ghost use Rattle.trace_loop.specs.declared.stop.Stop.TheVariants.{Memory, Read};
+ghost use Rattle.trace_loop.specs.{IsStopped};
 ghost use Rattle.serve_loop.specs.{IfBothTold, IsStoppedByRead, IsStoppedByWrite, OnlyMemoryStops, StopsIn};
 ghost use Rattle.serve_loop.specs.standby.{HasReadSome, end_of};
 ghost use Rattle.serve_loop.specs.standby.standby_book.{followed_text};
-ghost use Rattle.serve_loop.specs.takeover_loop.{FollowsWithin, HasFollowed, HoldsItsLines, IsFollowing, IsFresh, IsOver, IsReading, IsStoppedFollowing, left_text};
+ghost use Rattle.serve_loop.specs.takeover_loop.{FollowsWithin, HasFollowed, HoldsItsLines, IsFollowing, IsFresh, IsOver, IsReading, left_text};
 
 use crate::takeover_loop::reading::{Reading, take_part};
 use ram_io::{Sink, Source};
@@ -91,7 +92,7 @@ fn next_piece<S: Source, K: Sink>(
     ensures cut { (left held : Option (List ℕ))
         → IsFollowing left held (S.left source.old) (K.held sink.old) reading.old.standby reading.old.journal reading.old.line.items reading.old.begun
         → result ≡ Err Read → IfBothTold left (S.left source.new) (HoldsItsLines held (K.held sink.new)) × (reading.new.journal ≡ []) }
-    ensures cause { IsStoppedFollowing (S.faults source.old) (S.faults source.new) (K.faults sink.old) (K.faults sink.new) result }
+    ensures cause { IsStopped (S.faults source.old) (S.faults source.new) (K.faults sink.old) (K.faults sink.new) result }
     ensures steady { (left held : Option (List ℕ)) (all : List ℕ) (more : ℕ)
         → FollowsWithin left held all more (S.left source.old) (K.is_steady sink.old) (K.held sink.old) reading.old.standby reading.old.journal reading.old.line.items reading.old.begun
         → S.is_steady source.old → MatchResult result (λ goes_on. S.is_steady source.new × MatchBool goes_on
@@ -120,7 +121,7 @@ pub fn follow<S: Source, K: Sink>(
     ensures followed { OnOk result (HasFollowed (S.left source.old) (K.held sink.old) (K.held sink.new) reading.new.standby reading.new.journal reading.new.begun) }
     ensures stops { IfErr result (λ stop. (all : List ℕ) → S.left source.old ≡ Some all → StopsIn (K.held sink.old) (K.held sink.new) (followed_text all) reading.new.journal stop) }
     ensures cut { result ≡ Err Read → IfBothTold (S.left source.old) (S.left source.new) (HoldsItsLines (K.held sink.old) (K.held sink.new)) × (reading.new.journal ≡ []) }
-    ensures cause { IsStoppedFollowing (S.faults source.old) (S.faults source.new) (K.faults sink.old) (K.faults sink.new) result }
+    ensures cause { IsStopped (S.faults source.old) (S.faults source.new) (K.faults sink.old) (K.faults sink.new) result }
     ensures steady { (all : List ℕ) (more : ℕ) → S.left source.old ≡ Some all → S.is_steady source.old → K.is_steady sink.old (length (followed_text all) + more) → OnlyMemoryStops result (K.is_steady sink.new more) }
 {
     let mut room = [0; PIECE];

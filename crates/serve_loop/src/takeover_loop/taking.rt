@@ -23,10 +23,7 @@ use ram_io::{Clock, NoMemory, Sink, Source, Wire};
 use rams_model::{LineFault, Status};
 use std::alloc::Global;
 use trace_loop::journal_book::laws::heads_open_new_channels;
-use trace_loop::{Stop, close, flush, put};
-
-/// Most events of a journal.
-const MOST_EVENTS: u64 = 1_000_000;
+use trace_loop::{MOST_EVENTS, Stop, close, flush, put};
 
 /// What is taken over of a journal.
 #[derive(Drop)]

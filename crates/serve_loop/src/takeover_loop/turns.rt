@@ -8,15 +8,13 @@ ghost use Rattle.trace_loop.specs.journal_book.{next_moment, tick_at, due_after,
 ghost use Rattle.serve_loop.specs.{AnswersFrom, Begun, Broken, HasRoom, IsBetween, IsServer, IsStoppedOutside, OnlyMemoryStops, Room, Serving, next_events};
 ghost use Rattle.serve_loop.specs.takeover_loop.{DoesWithin, IsWithin};
 
+use crate::turns::MOST_DATAGRAM;
 use crate::{Server, Watch, hear};
 use ram_io::{Clock, Sink, Wire};
 use server_hub::Heard;
 use std::alloc::Global;
 use trace_loop::head_loop::event_at;
 use trace_loop::{Stop, flush};
-
-/// Most bytes of a datagram.
-const MOST: usize = 2_000;
 
 /// When the next tick is due, in ms, and how many events may come still.
 #[derive(Clone, Copy)]
@@ -275,7 +273,7 @@ pub fn take_turns<K: Sink, W: Wire, C: Clock, T: Watch>(
         (sent_for (b.live + 1) b.channels (take left (events_of b.live server.old.hub.tick b.channels turns arrivals moments))) more
         → OnlyMemoryStops result (HasRoom (K.is_steady sink.new) (W.is_steady wire.new) server.new.journal [] more) }
 {
-    let mut room = [0; MOST];
+    let mut room = [0; MOST_DATAGRAM];
     let due = clock.now_ms() + u64::from(server.hub.tick_ms());
     let mut pace = Pace { due, left };
     for _ in 0..turns {

@@ -6,15 +6,16 @@ use Rattle.ram_io.specs.{Outgoing}
 use Rattle.server_hub.specs.{answers_said, event_of, after_event, settings_of, told, Told}
 use Rattle.server_hub.specs.declared.event.At.{At}
 use Rattle.line_io.proofs.Passing.{Passes-then}
-use Rattle.trace_loop.specs.journal_book.{behind, datagrams_of, event_line}
+use Rattle.trace_loop.specs.journal_book.{behind, datagrams_of, event_line, AllRender}
 use Rattle.trace_loop.specs.declared.stop.Stop.{Stop}
 use Rattle.trace_loop.proofs.Stopping.{err_so, only_err}
+use Rattle.trace_loop.proofs.journal_book.Renders.{said_renders}
+use Rattle.trace_loop.proofs.Writing.{unwritten}
 use Rattle.serve_loop.proofs.Causes.{stopped_by_wire, write_stops}
-use Rattle.serve_loop.specs.{AllRender, Broken, HasRoom, IsOutStop, Sends, Serving, bytes_of, said_datagrams}
+use Rattle.serve_loop.specs.{Broken, HasRoom, IsOutStop, Sends, Serving, bytes_of, said_datagrams}
 use Rattle.serve_loop.proofs.Rooms.{only_weaker, quiet_room, text_parts, wire_quiet}
 use Rattle.serve_loop.proofs.Steps.{StopsIn-then, quiet_goes_on, line_breaks, sent_goes_on, sending_breaks, none_ordered, each_error, where_ok, heard_sends, heard_stands}
-use Rattle.serve_loop.proofs.Telling.{said_few, said_renders}
-use Rattle.serve_loop.proofs.Writing.{unwritten}
+use Rattle.serve_loop.proofs.Telling.{said_few}
 use Rattle.serve_loop.proofs.hearing.hear.Goals as goal
 
 pub send_all-requires-clause-render : goal.send_all-requires-clause-render

@@ -1,18 +1,13 @@
-use Rattle.std.proofs.Common.{◌≡◌, ℕ, ◌+◌, List, [], ◌++◌, length, Option, Result, sym, ap, subst, ◌∙◌, arith}
+use Rattle.std.proofs.Common.{◌≡◌, ℕ, ◌+◌, List, [], length, Result, sym, ap, subst, ◌∙◌, arith}
 use Rattle.std.proofs.lemmas.Result.{err_from_is_err_and}
-use Rattle.line_io.specs.Passes.{Passes}
 use Rattle.line_io.proofs.Passing.{Passes-none, Passes-then}
 use Rattle.rams_model.specs.declared.status.Status.{Status}
 use Rattle.rams_model.specs.Texts.{refused_line}
 use Rattle.trace_loop.specs.declared.stop.Stop.{Stop}
 use Rattle.serve_loop.specs.{IsWriteStop, OnlyMemoryStops}
-use Rattle.trace_loop.proofs.Stopping.{err_so, only_err}
-use Rattle.serve_loop.proofs.Causes.{write_since}
+use Rattle.trace_loop.proofs.Stopping.{err_so, only_err, write_since}
 use Rattle.serve_loop.proofs.serving.refuse.Goals as goal
-
--- a line behind nothing
-alone : (a b : Option (List ℕ)) (waits text rest : List ℕ) → waits ≡ [] → Passes a b (waits ++ text) rest → Passes a b text rest
-alone a b waits text rest none p = subst (λ (l : List ℕ). Passes a b (l ++ text) rest) none p
+use Rattle.serve_loop.proofs.Closing.{alone}
 
 none_waits : (sink : ℕ → Type 0) (waits text : List ℕ) (room : ℕ) → waits ≡ [] → sink (length text + room) → sink (length waits + length text + room)
 none_waits sink waits text room none h =

@@ -1,4 +1,4 @@
-use Rattle.std.proofs.Common.{◌≡◌, ℕ, ◌+◌, List, [], ◌++◌, length, drop, Option, Some, Result, sym, ap, subst, ◌∙◌}
+use Rattle.std.proofs.Common.{ℕ, ◌+◌, List, [], ◌++◌, length, drop, Some, Result, sym, ap, subst, ◌∙◌}
 use Rattle.std.proofs.lemmas.Result.{err_from_is_err_and}
 use Rattle.line_io.specs.Passes.{Passes}
 use Rattle.line_io.proofs.Passing.{Passes-then}
@@ -8,14 +8,11 @@ use Rattle.server_hub.specs.declared.event.HubEvent.{HubEvent}
 use Rattle.server_hub.specs.Seen.{Seen}
 use Rattle.trace_loop.specs.journal_book.{event_lines, events_of, journal_of, sent_for}
 use Rattle.trace_loop.specs.declared.stop.Stop.{Stop}
+use Rattle.trace_loop.proofs.Stopping.{stops_front}
 use Rattle.serve_loop.specs.{HasEnded, HasRoom, OnlyMemoryStops, given_events, head_stage, served_text}
-use Rattle.serve_loop.proofs.Closing.{begun_with, between_begins, closed_room, end_text, ended_so, events_given, front_alone, gone_front, gone_so, has_ended, room_begins, served_is, stops_front, text_begins, text_is_journal}
+use Rattle.serve_loop.proofs.Closing.{begun_with, between_begins, closed_room, end_text, ended_so, events_given, front_alone, gone_front, gone_so, has_ended, room_begins, served_is, text_begins, text_is_journal, alone}
 use Rattle.serve_loop.proofs.Steps.{each_error}
 use Rattle.serve_loop.proofs.serving.serve_turns.Goals as goal
-
--- a text behind nothing
-alone : (a b : Option (List ℕ)) (waits text rest : List ℕ) → waits ≡ [] → Passes a b (waits ++ text) rest → Passes a b text rest
-alone a b waits text rest none p = subst (λ (l : List ℕ). Passes a b (l ++ text) rest) none p
 
 pub returns-in_err-put-clause-stopped : goal.returns-in_err-put-clause-stopped
 returns-in_err-put-clause-stopped g c = λ given is head.

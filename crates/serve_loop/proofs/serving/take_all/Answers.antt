@@ -1,10 +1,9 @@
 use Rattle.std.proofs.Common.{◌≡◌, ℕ, ◌+◌, List, [], ◌++◌, length, Result, IfErr, refl, sym, subst, ◌∙◌, arith, length-append}
-use Rattle.std.proofs.lemmas.Result.{err_from_is_err_and}
+use Rattle.std.proofs.lemmas.Result.{err_from_is_err_and, IfErr-weaker}
 use Rattle.trace_loop.specs.journal_book.{event_lines, events_of, sent_for}
 use Rattle.ram_io.specs.{Outgoing}
 use Rattle.trace_loop.specs.declared.stop.Stop.{Stop}
 use Rattle.serve_loop.specs.{HasRoom, OnlyMemoryStops, Room, Stopping}
-use Rattle.serve_loop.proofs.Between.{err_weaker}
 use Rattle.serve_loop.proofs.Closing.{end_text, end_goes, end_breaks, turns_stop}
 use Rattle.serve_loop.proofs.Rooms.{only_weaker, quiet_room, wire_none}
 use Rattle.serve_loop.proofs.Steps.{where_ok}
@@ -51,7 +50,7 @@ pub returns-clause-stopping : goal.returns-clause-stopping
 returns-clause-stopping g c = λ b arrivals moments i told shows.
     let events = events_of b.live c.args.server.now.hub.tick b.channels c.args.turns arrivals moments in
     let served = c.in_ok-take_turns.ensures.goes_on b arrivals moments i told shows in
-    err_weaker c.put.result _ _ (λ stop p. end_breaks b events (g.K.Sink.held c.take_turns.new.sink) c.take_turns.new.server.journal (g.W.Wire.sent c.take_turns.new.wire) served.0 (g.K.Sink.held c.put.new.sink) c.put.new.gather stop p) c.put.ensures.front
+    IfErr-weaker c.put.result _ _ (λ stop p. end_breaks b events (g.K.Sink.held c.take_turns.new.sink) c.take_turns.new.server.journal (g.W.Wire.sent c.take_turns.new.wire) served.0 (g.K.Sink.held c.put.new.sink) c.put.new.gather stop p) c.put.ensures.front
 
 pub returns-clause-steady : goal.returns-clause-steady
 returns-clause-steady g c = λ b arrivals moments more i told shows h.

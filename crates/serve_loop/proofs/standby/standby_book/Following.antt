@@ -12,7 +12,6 @@ use Rattle.rams_model.specs.declared.mode.LineKind.TheVariants as kind
 use Rattle.rams_model.specs.declared.mode.Mode.TheVariants.{Run, Serve}
 use Rattle.rams_model.specs.Texts.{TraceLine, head_line, channel_line, live_line, feedback_line, tick_line, end_line, tune_line, give_line, mcast_line, ask_line, drop_line, Claim, Reached, has_channel, is_spelled, judged, kind_may_come, line_at, line_in_range, line_of, line_text, may_come, ranged}
 use Rattle.line_io.specs.{HasNoFeed}
-use Rattle.ram_io.specs.{Outgoing}
 use Rattle.server_hub.specs.declared.event.HubEvent.{HubEvent}
 use Rattle.server_hub.specs.{after_event}
 use Rattle.server_hub.specs.Served.{Served}
@@ -20,7 +19,7 @@ use Rattle.trace_loop.specs.trace_book.trace_serving.{Stage, Turn, goes_on, ends
 use Rattle.trace_loop.proofs.trace_book.trace_serving.Judged.{IsAccepted, channel_so, judged_so}
 use Rattle.trace_loop.specs.trace_book.{run, most_events, event_text}
 use Rattle.trace_text.proofs.Spelling.{is_text, read_is_spelled}
-use Rattle.trace_loop.specs.journal_book.{HasLine, JournalsGrow, Leads, nothing, behind, event_line, event_lines, sent_for, stage_behind, starting, datagrams_of}
+use Rattle.trace_loop.specs.journal_book.{HasLine, JournalsGrow, Leads, nothing, behind, event_line, event_lines, stage_behind, starting}
 use Rattle.trace_loop.proofs.journal_book.Heads.{heads_grow}
 use Rattle.serve_loop.proofs.standby.Followed.{AreClean}
 use Rattle.serve_loop.proofs.standby.Turning.{begun_by, event_kind, never_receiver}
@@ -267,11 +266,3 @@ journal_follows grow (bytes ∷ rest) lines stage number clean a =
     by (goes_on later text) is more =
         subst (λ (ls : List (List ℕ)). AsJournal ls (stage_from run later (number + 1) rest)) (append_assoc lines (bytes ∷ []) (taken_from run later (number + 1) rest)) (more later text is)
     by (ends o) is more = subst (λ (ls : List (List ℕ)). AsJournal ls stage) (sym (append-nil lines)) a
-
--- what is sent for events and for more events
-pub sent_append : (port : ℕ) (channels : List Served) (xs ys : List HubEvent) → sent_for port channels (xs ++ ys) ≡ sent_for port channels xs ++ sent_for port (behind xs channels) ys
-unfolding sent_for behind
-sent_append port channels [] ys = refl
-sent_append port channels (x ∷ xs) ys =
-    ap (λ (l : List Outgoing). datagrams_of port x channels ++ l) (sent_append port (after_event x channels) xs ys)
-    ∙ sym (append_assoc (datagrams_of port x channels) (sent_for port (after_event x channels) xs) (sent_for port (behind xs (after_event x channels)) ys))

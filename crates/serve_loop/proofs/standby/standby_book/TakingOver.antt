@@ -12,7 +12,8 @@ use Rattle.trace_loop.specs.journal_book.{HasLine, IsJournal, JournalsGrow, Jour
 use Rattle.serve_loop.specs.standby.{followed, lines_followed, stage_of}
 use Rattle.serve_loop.proofs.standby.Followed.{lines_clean}
 use Rattle.serve_loop.specs.standby.standby_book.{followed_text, IsTakenOver}
-use Rattle.serve_loop.proofs.standby.standby_book.Following.{AsJournal, journal_begins, journal_follows, sent_append}
+use Rattle.serve_loop.proofs.standby.standby_book.Following.{AsJournal, journal_begins, journal_follows}
+use Rattle.serve_loop.proofs.Rooms.{sent_append}
 
 module _ (grow : JournalsGrow) (replay : JournalsReplay) (bytes : List ℕ) (has : has_channel (stage_of bytes).reached ≡ true) where
   a : AsJournal (lines_followed bytes) (stage_of bytes)

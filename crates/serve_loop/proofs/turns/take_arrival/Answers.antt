@@ -1,10 +1,11 @@
 use Rattle.std.proofs.Common.{rules, ◌≡◌, ℕ, ◌+◌, length, refl, arith, List, [], ◌∷◌, ◌++◌, Option, None, Some, sym, subst, ◌∙◌}
+use Rattle.std.proofs.lemmas.Result.{IfErr-weaker}
 use Rattle.ram_io.specs.{Outgoing}
 use Rattle.server_hub.specs.{event_of}
 use Rattle.trace_loop.specs.journal_book.{behind, datagrams_of, event_line}
 use Rattle.trace_loop.specs.declared.stop.Stop.TheVariants.{Wire}
 use Rattle.serve_loop.specs.{Broken, HasRoom, next_events}
-use Rattle.serve_loop.proofs.Between.{told_next, nothing_next, datagram_next, err_weaker}
+use Rattle.serve_loop.proofs.Between.{told_next, nothing_next, datagram_next}
 use Rattle.serve_loop.proofs.Rooms.{only_both, only_weaker, quiet_room, room_at, room_none, room_one, wire_none}
 use Rattle.serve_loop.proofs.Steps.{broken_more, flushing_breaks, serving_breaks}
 use Rattle.serve_loop.proofs.Causes.{outside_since, stopped_by_write}
@@ -24,7 +25,7 @@ returns-in-Ok-None-clause-breaks g c = λ b events arrivals i told.
     let waits = c.args.server.now.journal in
     let was = g.W.Wire.sent c.args.wire.now in
     let now = g.K.Sink.held c.flush.new.sink in
-    err_weaker c.flush.result _ _
+    IfErr-weaker c.flush.result _ _
     (λ stop h. subst (λ (s : Option (List Outgoing)). Broken b (events ++ next_events b arrivals) now c.flush.new.gather s stop) (sym c.receive.ensures.unsent)
     (broken_more b events (next_events b arrivals) now c.flush.new.gather was stop (flushing_breaks b events holds waits was i.serving now c.flush.new.gather stop h)))
     c.flush.ensures.front

@@ -1,18 +1,11 @@
-use Rattle.std.proofs.Common.{rules, ◌≡◌, ℕ, suc, ◌+◌, ◌-◌, ◌<◌, ◌≤◌, [], drop, Result, IfErr, refl, sym, ap, subst, ◌∙◌, arith}
+use Rattle.std.proofs.Common.{rules, ◌≡◌, ◌+◌, ◌-◌, [], drop, Result, IfErr, refl, sym, ap, subst, ◌∙◌, arith}
 use Rattle.std.proofs.lemmas.Result.{err_from_is_err_and}
 use Rattle.trace_loop.specs.journal_book.{due_after, events_of, next_moment}
 use Rattle.trace_loop.specs.declared.stop.Stop.{Stop}
 use Rattle.serve_loop.specs.{Broken, HasRoom, OnlyMemoryStops}
 use Rattle.serve_loop.proofs.Between.{told_moment}
-use Rattle.serve_loop.proofs.TurnByTurn.{IsServing, serving_begins, serving_ends, turn_breaks, turn_goes_on, turn_room}
+use Rattle.serve_loop.proofs.TurnByTurn.{IsServing, serving_begins, serving_ends, turn_breaks, turn_goes_on, turn_room, one_left, none_left}
 use Rattle.serve_loop.proofs.turns.take_turns.Goals as goal
-
--- the turns that are left are one, and those behind it
-one_left : (turns counter : ℕ) → counter < turns → turns - counter ≡ suc (turns - (counter + 1))
-one_left turns counter less = omega arith
-
-none_left : (turns counter : ℕ) → turns ≤ counter → turns - counter ≡ 0
-none_left turns counter less = omega arith
 
 pub loop-init : goal.loop-init
 loop-init g c =

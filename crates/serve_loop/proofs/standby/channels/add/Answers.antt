@@ -2,7 +2,8 @@ use Rattle.std.proofs.Common.{◌≡◌, Option, Some, Ok, true, false, ap, sym,
 use Rattle.rams_model.specs.Service.{Settings, settings, checked}
 use Rattle.server_hub.specs.Seen as hubs
 use Rattle.serve_loop.specs.standby.{OpensIn, can_open}
-use Rattle.serve_loop.proofs.standby.Opening.{passed, lawful_so, asked}
+use Rattle.serve_loop.proofs.standby.Opening.{passed, asked}
+use Rattle.trace_loop.proofs.trace_book.trace_serving.Judged.{checked_is}
 use Rattle.serve_loop.proofs.standby.channels.add.Goals as goal
 
 pub add-added-requires : goal.add-added-requires
@@ -15,7 +16,7 @@ returns c =
     let channel = c.args.channel in
     let made = settings channel c.tick_ms.result in
     let is = passed made c.in-Ok.config (sym c.in-Ok.ensures) ∙ ap (settings channel) c.tick_ms.ensures.value in
-    let lawful = subst (λ n. checked (settings channel n) ≡ Ok (settings channel n)) c.tick_ms.ensures.value (lawful_so made c.in-Ok.config (sym c.in-Ok.ensures)) in
+    let lawful = subst (λ n. checked (settings channel n) ≡ Ok (settings channel n)) c.tick_ms.ensures.value (checked_is made c.in-Ok.config (sym c.in-Ok.ensures)) in
     let e = c.add-added.ensures in
     let a = asked v c.add-added.new.self channel c.in-Ok.config is c.add-added.result (sym c.lacks_memory.ensures ∙ c.if-lacks_memory.false) lawful e.same e.stands e.settings e.refused e.added in
     record {

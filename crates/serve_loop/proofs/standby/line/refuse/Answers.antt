@@ -1,6 +1,6 @@
 use Rattle.std.proofs.Common.{◌≡◌, Err, sym, subst, ◌∙◌}
 use Rattle.rams_model.specs.Texts.{Reached, judged}
-use Rattle.serve_loop.proofs.standby.Turning.{refused_turn}
+use Rattle.trace_loop.proofs.head_loop.HeadLines.{refused_turn}
 use Rattle.serve_loop.proofs.standby.line.refuse.Goals as goal
 
 pub returns-clause-turn : goal.returns-clause-turn

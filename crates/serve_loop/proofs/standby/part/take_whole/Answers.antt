@@ -2,10 +2,10 @@ use Rattle.std.proofs.Common.{◌<◌, ◌++◌, length, Result, Err, sym, subst
 use Rattle.std.proofs.lemmas.Result.{err_from_is_err_and}
 use Rattle.trace_loop.specs.trace_book.trace_serving.{turn}
 use Rattle.trace_loop.specs.trace_book.{run}
+use Rattle.trace_loop.proofs.LongLines.{long_refused}
 use Rattle.serve_loop.specs.declared.standby.fault.FeedFault.{FeedFault}
 use Rattle.serve_loop.specs.declared.standby.fault.Step.{Step}
 use Rattle.serve_loop.specs.standby.{Stands, Took}
-use Rattle.serve_loop.proofs.standby.Reading.{long_refused}
 use Rattle.serve_loop.proofs.standby.part.take_whole.Goals as goal
 
 pub returns-in_err-append-clause-turn : goal.returns-in_err-append-clause-turn
@@ -16,4 +16,4 @@ returns-in_err-append-clause-turn c = λ stage number stands is.
     let long : 4096 < length line = omega (arith, length-append c.args.part.now.items c.args.rest.now, c.in_err-append.ensures.long) in
     subst (λ (r : Result Step FeedFault). Took r (turn run stage number line) (Stands old.hub old.ids.items old.events old.state) number) (sym p.1)
     (subst (λ (f : FeedFault). Took (Err f) (turn run stage number line) (Stands old.hub old.ids.items old.events old.state) number) (sym (p.2 ∙ c.in_err-append.ensures.fault))
-    (sym is, long_refused stage number line long))
+    (sym is, long_refused run stage number line long))

@@ -1,7 +1,7 @@
-use Rattle.serve_loop.proofs.Closing.{ok_weaker}
 use Rattle.serve_loop.proofs.Steps.{each_error}
 use Rattle.serve_loop.specs.standby.standby_book.{followed_text}
 use Rattle.serve_loop.proofs.takeover_loop.Over.{lines_alone, lines_gone, ok_of, err_of, quiet_still, refused_all, refused_cause, refused_ends, refused_room, refused_stopped, served_ends, turns_room}
+use Rattle.std.proofs.lemmas.Result.{IfOk-weaker}
 use Rattle.serve_loop.proofs.takeover_loop.taking.go_on.Goals as goal
 
 pub returns-in_err-taken-clause-stopped : goal.returns-in_err-taken-clause-stopped
@@ -41,7 +41,7 @@ returns-clause-stopped g c = λ given held is over.
     each_error c.refuse.result _ (λ stop. refused_stopped given c.in-Err.fault held (g.K.Sink.held c.args.sink.now) (g.K.Sink.held c.refuse.new.sink) (g.W.Wire.sent c.args.wire.now) front.0 e text front.1)
 
 pub returns-clause-status : goal.returns-clause-status
-returns-clause-status g c = ok_weaker c.refuse.result _ _ (λ status is. refused_ends c.in-Err.fault status is) c.refuse.ensures.status
+returns-clause-status g c = IfOk-weaker c.refuse.result _ _ (λ status is. refused_ends c.in-Err.fault status is) c.refuse.ensures.status
 
 pub returns-clause-cause : goal.returns-clause-cause
 returns-clause-cause g c = refused_cause _ _ (g.W.Wire.faults c.args.wire.now) c.refuse.result c.refuse.ensures.cause

@@ -3,8 +3,8 @@ use Rattle.std.proofs.lemmas.Result.{err_from_is_err_and}
 use Rattle.rams_model.specs.declared.status.Status.{Status}
 use Rattle.trace_loop.specs.declared.stop.Stop.{Stop}
 use Rattle.trace_loop.specs.declared.stop.Stop.TheVariants.{Memory}
+use Rattle.trace_loop.proofs.Writing.{unwritten}
 use Rattle.serve_loop.specs.{StopsIn}
-use Rattle.serve_loop.proofs.Writing.{unwritten}
 use Rattle.serve_loop.specs.declared.standby.fault.FeedFault.{FeedFault}
 use Rattle.serve_loop.specs.takeover_loop.{outcome_of}
 use Rattle.serve_loop.proofs.takeover_loop.taking.put_fault.Goals as goal

@@ -1,12 +1,7 @@
-use Rattle.std.proofs.Common.{◌≡◌, ℕ, List, [], ◌++◌, Option, subst}
-use Rattle.line_io.specs.Passes.{Passes}
 use Rattle.line_io.proofs.Passing.{Passes-then}
 use Rattle.serve_loop.specs.takeover_loop.{outcome_of}
 use Rattle.serve_loop.proofs.takeover_loop.taking.refuse.Goals as goal
-
--- a line behind nothing
-alone : (a b : Option (List ℕ)) (waits text rest : List ℕ) → waits ≡ [] → Passes a b (waits ++ text) rest → Passes a b text rest
-alone a b waits text rest none p = subst (λ (l : List ℕ). Passes a b (l ++ text) rest) none p
+use Rattle.serve_loop.proofs.Closing.{alone}
 
 pub returns-in_err-flush-clause-front : goal.returns-in_err-flush-clause-front
 returns-in_err-flush-clause-front g c =

@@ -1,11 +1,10 @@
 use Rattle.std.proofs.Common.{◌≡◌, ◌+◌, [], Bool, not, length, take, Result, Ok, IfErr, refl, sym, ap, subst, ◌∙◌}
 use Rattle.std.specs.Prelude.{IfOk, OnOk, nat_lt}
-use Rattle.std.proofs.lemmas.Result.{err_from_is_err_and}
+use Rattle.std.proofs.lemmas.Result.{err_from_is_err_and, IfErr-weaker}
 use Rattle.rams_model.specs.declared.status.Status.{Status}
 use Rattle.trace_loop.specs.journal_book.{events_of}
 use Rattle.trace_loop.specs.declared.stop.Stop.{Stop}
 use Rattle.serve_loop.specs.{HasRoom, OnlyMemoryStops}
-use Rattle.serve_loop.proofs.Between.{err_weaker}
 use Rattle.serve_loop.proofs.Rooms.{only_weaker, quiet_room, wire_none}
 use Rattle.serve_loop.proofs.Steps.{where_ok}
 use Rattle.serve_loop.specs.takeover_loop.{Ending, Stopping, last_line}
@@ -47,7 +46,7 @@ returns-clause-stopping g c = λ b arrivals moments i told shows.
     let over = within_is all c.args.left c.in_ok-within.within (c.in_ok-within.ensures.within b arrivals moments i told shows) in
     let serving = c.in_ok-within.ensures.goes_on b arrivals moments i told shows in
     subst (λ (t : Bool). IfErr c.put_last.result (Stopping b (take c.args.left all) (last_line t).text (g.K.Sink.held c.put_last.new.sink) c.put_last.new.gather (g.W.Wire.sent c.take_turns.new.wire))) over
-    (err_weaker c.put_last.result _ _ (λ stop p. last_breaks b (take c.args.left all) (last_line (not c.in_ok-within.within)).text _ _ _ serving _ _ stop p) c.put_last.ensures.front)
+    (IfErr-weaker c.put_last.result _ _ (λ stop p. last_breaks b (take c.args.left all) (last_line (not c.in_ok-within.within)).text _ _ _ serving _ _ stop p) c.put_last.ensures.front)
 
 pub returns-clause-left : goal.returns-clause-left
 returns-clause-left g c = λ b arrivals moments i told shows done.

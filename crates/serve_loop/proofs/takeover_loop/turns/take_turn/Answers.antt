@@ -1,6 +1,6 @@
 use Rattle.std.proofs.Common.{rules, ◌≡◌, ◌+◌, ◌-◌, List, [], ◌++◌, length, take, Option, option_map, Result, IfErr, sym, subst, ◌∙◌, arith}
 use Rattle.std.specs.Prelude.{OnOk}
-use Rattle.std.proofs.lemmas.Result.{err_from_is_err_and}
+use Rattle.std.proofs.lemmas.Result.{err_from_is_err_and, IfOk-weaker}
 use Rattle.server_hub.specs.declared.event.HubEvent.{HubEvent}
 use Rattle.server_hub.specs.Served.{Served}
 use Rattle.trace_loop.specs.journal_book.{behind, event_lines, next_moment, sent_for, tick_at}
@@ -8,7 +8,6 @@ use Rattle.trace_loop.specs.declared.stop.Stop.{Stop}
 use Rattle.trace_loop.proofs.Stopping.{err_so}
 use Rattle.serve_loop.specs.{Broken, HasRoom, IsBetween, IsOutStop, OnlyMemoryStops, next_events}
 use Rattle.serve_loop.proofs.Causes.{outside_since}
-use Rattle.serve_loop.proofs.Closing.{ok_weaker}
 use Rattle.serve_loop.proofs.Rooms.{behind_append, room_join}
 use Rattle.serve_loop.specs.declared.takeover_loop.turns.Pace.{Pace}
 use Rattle.serve_loop.specs.takeover_loop.{DoesWithin}
@@ -53,7 +52,7 @@ pub returns-clause-within : goal.returns-clause-within
 returns-clause-within g c = λ b events arrivals moments i told shows.
     let moment : c.now_ms-moment.result ≡ next_moment moments = search rules in
     let first = some_done _ c.in-Some.left (next_events b arrivals) c.args.pace.left c.in-Some.is (c.in_ok-left.ensures.within b events arrivals i told) in
-    ok_weaker c.hear_tick.result _ _
+    IfOk-weaker c.hear_tick.result _ _
     (λ o h. does_both (next_events b arrivals) (tick_at c.args.pace.due (next_moment moments)) c.args.pace.left c.in-Some.left _ first
     (subst (λ m. DoesWithin (tick_at c.args.pace.due m) c.in-Some.left (option_map (λ (p : Pace). p.left) o)) moment h))
     c.hear_tick.ensures.within

@@ -1,4 +1,4 @@
-use Rattle.std.proofs.Common.{rules, ◌≡◌, ℕ, suc, ◌+◌, ◌-◌, ◌<◌, ◌≤◌, [], take, drop, option_map, Result, IfErr, refl, sym, ap, subst, ◌∙◌, arith}
+use Rattle.std.proofs.Common.{rules, ◌≡◌, ◌+◌, ◌-◌, [], take, drop, option_map, Result, IfErr, refl, sym, ap, subst, ◌∙◌, arith}
 use Rattle.std.proofs.lemmas.Result.{err_from_is_err_and}
 use Rattle.trace_loop.specs.journal_book.{due_after, events_of, next_moment}
 use Rattle.trace_loop.specs.declared.stop.Stop.{Stop}
@@ -8,13 +8,7 @@ use Rattle.serve_loop.specs.declared.takeover_loop.turns.Pace.{Pace}
 use Rattle.serve_loop.proofs.takeover_loop.Pacing.{IsPacing, pacing_begins, pacing_breaks, pacing_ends, pacing_goes_on, pacing_room, pacing_room_last, pacing_too_many}
 use Rattle.serve_loop.proofs.takeover_loop.Within.{none_done, some_done, some_is}
 use Rattle.serve_loop.proofs.takeover_loop.turns.take_turns.Goals as goal
-
--- the turns that are left are one, and those behind it
-one_left : (turns counter : ℕ) → counter < turns → turns - counter ≡ suc (turns - (counter + 1))
-one_left turns counter less = omega arith
-
-none_left : (turns counter : ℕ) → turns ≤ counter → turns - counter ≡ 0
-none_left turns counter less = omega arith
+use Rattle.serve_loop.proofs.TurnByTurn.{one_left, none_left}
 
 pub loop-init : goal.loop-init
 loop-init g c =
