@@ -10,19 +10,14 @@ use Rattle.trace_loop.specs.journal_book.{event_lines}
 use Rattle.trace_loop.specs.trace_book.trace_serving.{Outcome, after_text}
 use Rattle.trace_loop.specs.declared.stop.Stop.{Stop}
 use Rattle.trace_loop.specs.declared.stop.Stop.TheVariants.{Memory, Read, Write, Wire}
-use Rattle.std.specs.Prelude.{◌≤◌, IsOkAnd, MatchResult}
-use Rattle.trace_loop.specs.{EndsAs, Ends, IfBothTold, IfTold, IsStop, IsStoppedByWrite, IsWriteStop, StopsIn}
+use Rattle.std.specs.Prelude.{◌≤◌, MatchResult}
+use Rattle.trace_loop.specs.{EndsAs, Ends, IfBothTold, IsStop, IsStoppedByWrite, IsWriteStop, StopsIn}
 use Rattle.converters.specs.declared.capture_loop.pcap_trace.head.CaptureFault.{CaptureFault}
-use Rattle.trace_loop.proofs.Reading.{passes_whole, rose_since}
-use Rattle.trace_loop.proofs.Stopping.{err_so}
+use Rattle.trace_loop.proofs.Reading.{passes_whole}
+use Rattle.trace_loop.proofs.Stopping.{err_so, write_since}
 use Rattle.converters.specs.declared.capture_loop.last.End.{End}
 use Rattle.converters.specs.declared.capture_loop.last.End.TheVariants.{Whole, Refused, TooLong}
 use Rattle.converters.specs.capture_loop.{ComesTo, HasLinesOf, last}
-
--- what is told, by what it follows from
-pub told_twice : (o : Option (List ℕ)) (P Q R : List ℕ → Type 0) → ((xs : List ℕ) → P xs → Q xs → R xs) → IfTold o P → IfTold o Q → IfTold o R
-told_twice None P Q R gives p q = tt
-told_twice (Some xs) P Q R gives p q = gives xs p q
 
 pub both_told : (old new : Option (List ℕ)) (P Q : List ℕ → List ℕ → Type 0) → ((xs ys : List ℕ) → P xs ys → Q xs ys) → IfBothTold old new P → IfBothTold old new Q
 both_told None new P Q gives p = tt
@@ -113,20 +108,6 @@ done_before before now (Err stop) result ends e = let no : Err stop ≡ Ok Done 
 pub lines_gone : (a d e : Option (List ℕ)) (waited waits : List ℕ) (events : List ℕ → List HubEvent) (xs ys : List ℕ) → HasLinesOf events a d waited waits xs ys → Passes d e waits [] → HasLinesOf events a e waited [] xs ys
 lines_gone a d e waited waits events xs ys h p = (h.0, h.1, Passes-then a d e (waited ++ event_lines (events h.0)) waits [] h.2 p)
 
--- a count that rose has risen since it was no greater
-pub write_since : (before mid now : ℕ) (stop : Stop) → before ≤ mid → IsWriteStop mid now stop → IsWriteStop before now stop
-write_since before mid now Memory less stops = tt
-write_since before mid now Read less stops = stops
-write_since before mid now Write less stops = rose_since before mid now less stops
-write_since before mid now Wire less stops = stops
-
-pub stopped_since : {T : Type 0} (before mid now : ℕ) (r : Result T Stop) → before ≤ mid → IsStoppedByWrite mid now r → IsStoppedByWrite before now r
-stopped_since {T} before mid now r less s = record { later = let after = s.later in omega arith; cause = by r s.cause }
-  where
-    by : (q : Result T Stop) → IfErr q (IsWriteStop mid now) → IfErr q (IsWriteStop before now)
-    by (Ok t) h = tt
-    by (Err stop) h = write_since before mid now stop less h
-
 pub err_since : {T : Type 0} (before mid now : ℕ) (r : Result T Stop) (stop was : Stop) → r ≡ Err stop → stop ≡ was → before ≤ mid → mid ≤ now → IsWriteStop mid now was → IsStoppedByWrite before now r
 err_since {T} before mid now r stop was is same less after stops = record { later = omega arith; cause = err_so r stop was (IsWriteStop before now) is same (write_since before mid now was less stops) }
 
@@ -158,10 +139,6 @@ write_stops_so read reads write writes Wire stops = stops
 
 pub match_err : {T : Type 0} (r : Result T Stop) (stop was : Stop) (P : T → Type 0) → r ≡ Err stop → stop ≡ was → was ≡ Memory → MatchResult r P (λ s. s ≡ Memory)
 match_err {T} r stop was P is same memory = subst (λ (q : Result T Stop). MatchResult q P (λ s. s ≡ Memory)) (sym is) (same ∙ memory)
-
-pub ok_and : {T E : Type 0} (r : Result T E) (x : T) (P : Type 0) → r ≡ Ok x → IsOkAnd r (λ t. P) → P
-ok_and {T} {E} (Ok t) x P is h = h
-ok_and {T} {E} (Err e) x P is h = absurd h
 
 -- the same of a call that gives its stop on
 pub not_by_sink : {T : Type 0} (before now : ℕ) (r : Result T Stop) (stop was : Stop) → r ≡ Err stop → stop ≡ was → IsWriteStop before now was → r ≡ Err Read → ⊥

@@ -1,9 +1,10 @@
 -- The head of a file, and the records behind it.
-use Rattle.std.proofs.Common.{◌≡◌, ℕ, ◌+◌, ◌≤◌, List, [], ◌++◌, length, drop, take, Option, None, Some, Result, Ok, Err, IfOk, IfErr, sym, ap, subst, ◌∙◌, arith, append-nil, length-append, append_assoc, take-append-drop, take-take, length-take, inl, inr}
+use Rattle.std.proofs.Common.{◌≡◌, ℕ, ◌+◌, ◌≤◌, List, [], ◌++◌, length, drop, take, Option, None, Some, Result, Ok, Err, sym, ap, subst, ◌∙◌, arith, append-nil, length-append, append_assoc, take-append-drop, take-take, length-take, inl, inr}
 use Rattle.std.specs.Prelude.{MatchResult}
 use Rattle.std.specs.Io.KnownBytes.{Keeps, prepend_known}
 use Rattle.std.proofs.Math.Seq.{drop-append_seam}
 use Rattle.std.proofs.lemmas.List.{take-append-le}
+use Rattle.std.proofs.lemmas.Result.{IfErr-weaker}
 use Rattle.line_io.specs.Passes.{Passes}
 use Rattle.line_io.proofs.Passing.{Passes-none}
 use Rattle.converters.specs.declared.capture_loop.pcap_trace.head.CaptureFault.{CaptureFault}
@@ -17,25 +18,12 @@ use Rattle.trace_loop.specs.declared.stop.Stop.{Stop}
 use Rattle.trace_loop.specs.declared.stop.Stop.TheVariants.{Memory, Read, Write, Wire}
 use Rattle.trace_loop.specs.{IfBothTold, IfTold, IsStop, IsStopped, StopsIn}
 use Rattle.trace_loop.proofs.Reading.{rose_since}
-use Rattle.trace_loop.proofs.Writing.{unwritten}
 use Rattle.trace_loop.specs.journal_book.{event_lines}
 use Rattle.converters.specs.declared.capture_loop.last.End.{End}
 use Rattle.converters.specs.declared.capture_loop.last.End.TheVariants.{Refused}
 use Rattle.converters.specs.capture_loop.{AreWritten, ComesTo, HasLinesOf, HasOrder, file_events, file_text, last, new_clock, order_in, records_events, records_outcome, text_by_order, events_by}
 use Rattle.converters.proofs.capture_loop.Cutting.{short_head}
 use Rattle.converters.proofs.capture_loop.Limits.{fits_or_not}
-
-pub nothing_waits : (a : Option (List ℕ)) (waits text : List ℕ) (stop : Stop) → StopsIn a a (waits ++ text) waits stop
-nothing_waits a waits text stop = unwritten a waits text stop
-
--- what follows at each end, and at each stop
-pub all_ends : {T : Type 0} (r : Result T Stop) (P Q : T → Type 0) → ((t : T) → P t → Q t) → IfOk r P → IfOk r Q
-all_ends {T} (Ok t) P Q f p = f t p
-all_ends {T} (Err stop) P Q f p = p
-
-pub all_stops : {T : Type 0} (r : Result T Stop) (P Q : Stop → Type 0) → ((stop : Stop) → P stop → Q stop) → IfErr r P → IfErr r Q
-all_stops {T} (Ok t) P Q f p = p
-all_stops {T} (Err stop) P Q f p = f stop p
 
 stop_later : (before read reads write writes : ℕ) (stop : Stop) → before ≤ read → IsStop read reads write writes stop → IsStop before reads write writes stop
 stop_later before read reads write writes Memory less stops = tt
@@ -47,7 +35,7 @@ pub stopped_later : {T : Type 0} (before read reads write writes : ℕ) (r : Res
 stopped_later {T} before read reads write writes r less s = record {
   read_later = let after = s.read_later in omega arith;
   write_later = s.write_later;
-  cause = all_stops r _ _ (λ stop h. stop_later before read reads write writes stop less h) s.cause;
+  cause = IfErr-weaker r _ _ (λ stop h. stop_later before read reads write writes stop less h) s.cause;
 }
 
 module _ (port : ℕ) (channels : List Served) (clock : Elapsed) where

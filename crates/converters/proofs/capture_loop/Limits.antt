@@ -20,12 +20,6 @@ pub lines_append : (xs ys : List HubEvent) → event_lines (xs ++ ys) ≡ event_
 lines_append [] ys = refl
 lines_append (x ∷ xs) ys = ap (λ (l : List ℕ). event_line x ++ l) (lines_append xs ys) ∙ sym (append_assoc (event_line x) (event_lines xs) (event_lines ys))
 
-pub take_all : {A : Type 0} (room : ℕ) (xs : List A) → length xs ≤ room → take room xs ≡ xs
-take_all {A} zero [] h = refl
-take_all {A} (suc room) [] h = refl
-take_all {A} zero (x ∷ xs) h = absurd (omega arith)
-take_all {A} (suc room) (x ∷ xs) h = ap (λ (l : List A). x ∷ l) (take_all room xs (omega arith))
-
 take_past : {A : Type 0} (room left : ℕ) (xs ys : List A) → left + length xs ≡ room → take room (xs ++ ys) ≡ xs ++ take left ys
 take_past {A} room left [] ys h = let same : room ≡ left = omega arith in ap (λ n. take n ys) same
 take_past {A} zero left (x ∷ xs) ys h = absurd (omega arith)

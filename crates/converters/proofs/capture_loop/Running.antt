@@ -1,5 +1,5 @@
 -- The records of a file, one after another: what is written so far, and what is still to come.
-use Rattle.std.proofs.Common.{◌≡◌, ℕ, zero, suc, ◌+◌, ◌-◌, ◌<◌, ◌≤◌, List, [], ◌++◌, length, take, drop, Option, None, Some, Ok, Err, refl, sym, ap, subst, ◌∙◌, arith, append_assoc, append-nil, length-append, length-take, take-append-drop, take-take, inl, inr}
+use Rattle.std.proofs.Common.{◌≡◌, ℕ, zero, suc, ◌+◌, ◌-◌, ◌<◌, ◌≤◌, List, [], ◌++◌, length, take, drop, Option, None, Some, Ok, Err, refl, sym, ap, subst, ◌∙◌, arith, append_assoc, append-nil, length-append, length-take, take-append-drop, take-take, inl, inr, take_all}
 use Rattle.std.specs.Prelude.{All}
 use Rattle.std.specs.Io.KnownBytes.{IsAtEnd, Keeps, prepend_known}
 use Rattle.std.proofs.lemmas.List.Elements.{All-nil, All-append}
@@ -22,7 +22,7 @@ use Rattle.trace_loop.specs.journal_book.{HasLine, event_lines}
 use Rattle.converters.specs.declared.capture_loop.last.End.{End}
 use Rattle.converters.specs.declared.capture_loop.last.End.TheVariants.{Whole, Refused, TooLong}
 use Rattle.converters.specs.capture_loop.{AreWritten, Captured, ComesTo, HasLinesOf, Records, broken, captured_in, clock_told, ended_by, ending, event_room, events_in, last, limited, most_records, record_events, record_in, records_in, records_text, too_many, whole}
-use Rattle.converters.proofs.capture_loop.Limits.{fits_or_not, limited_full, limited_none, limited_past, lines_append, take_all}
+use Rattle.converters.proofs.capture_loop.Limits.{fits_or_not, limited_full, limited_none, limited_past, lines_append}
 use Rattle.converters.proofs.capture_loop.Cutting.{records_broken, records_none, records_past, records_too_many, records_unread, whole_record}
 
 pub event_room_is : event_room ≡ most_events

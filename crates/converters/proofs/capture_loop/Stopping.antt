@@ -4,7 +4,7 @@ use Rattle.rams_model.specs.declared.status.Status.{Status}
 use Rattle.rams_model.specs.declared.status.Status.TheVariants.{Done}
 use Rattle.trace_loop.specs.declared.stop.Stop.{Stop}
 use Rattle.trace_loop.specs.declared.stop.Stop.TheVariants.{Memory, Read, Write, Wire}
-use Rattle.trace_loop.specs.{IsStop, IsStopped, IsStoppedByWrite, IsWriteStop, OnlyMemoryStops, StopsIn}
+use Rattle.trace_loop.specs.{IsStop, IsStopped, IsStoppedByWrite, IsWriteStop, StopsIn}
 use Rattle.trace_loop.proofs.Reading.{rose_since}
 use Rattle.converters.specs.declared.capture_loop.last.End.{End}
 use Rattle.converters.specs.declared.capture_loop.last.End.TheVariants.{Whole, Refused, TooLong}
@@ -79,10 +79,6 @@ stopped_behind {T} read reads write mid writes r less s = record {
     by : (q : Result T Stop) → IfErr q (IsStop read reads mid writes) → IfErr q (IsStop read reads write writes)
     by (Ok u) h = tt
     by (Err stop) h = both_so read reads write mid writes stop less h
-
-pub only_so : {T : Type 0} (r : Result T Stop) (P Q : Type 0) → (P → Q) → OnlyMemoryStops r P → OnlyMemoryStops r Q
-only_so {T} (Ok t) P Q f p = f p
-only_so {T} (Err stop) P Q f p = p
 
 -- the first of two texts stops
 pub first_stops : (a b : Option (List ℕ)) (waited text more waits : List ℕ) (stop : Stop) → StopsIn a b (waited ++ text) waits stop → StopsIn a b (waited ++ (text ++ more)) waits stop

@@ -14,9 +14,6 @@ use Rattle.converters.specs.description_loop.{Heading, says, refuses, behind_lin
 
 -- ---- a line that may not stand where it does
 
-abbrev Never : Said → Said → Type 0
-Never s t = s ≡ t → ⊥
-
 other_first : (bytes : List ℕ) (line : TraceLine) (r : Reached) → IsOfNoHead line → behind_none bytes line r ≡ refuses 1 Order
 other_first bytes (head_line version tick link) r is = absurd is
 other_first bytes (channel_line version c) r is = refl

@@ -1,7 +1,6 @@
 -- What the next line of some bytes says, and what stands behind it.
-use Rattle.std.proofs.Common.{◌≡◌, ℕ, ◌<◌, List, [], ◌∷◌, ◌++◌, length, Option, None, Some, Result, Err, refl, sym, ap, ◌∙◌, subst, inl, inr}
+use Rattle.std.proofs.Common.{◌≡◌, ℕ, List, [], ◌∷◌, ◌++◌, Option, None, Some, Result, Err, refl, sym, ap, ◌∙◌, subst, inl, inr}
 use Rattle.std.specs.Prelude.{◌⊎◌}
-use Rattle.std.proofs.lemmas.Bool.{lt-ltb}
 use Rattle.line_io.specs.{HasNoFeed, IsCutOff, TakesNext}
 use Rattle.line_io.specs.declared.reader.Next.TheVariants.{Line, Long, End}
 use Rattle.rams_model.specs.declared.fault.LineFault.{LineFault}
@@ -11,6 +10,7 @@ use Rattle.trace_text.specs.declared.line.Line as code
 use Rattle.trace_text.specs.declared.line.Line.TheVariants as line
 use Rattle.trace_text.specs.{shown, IsOther}
 use Rattle.trace_loop.specs.{IfBothTold}
+use Rattle.trace_loop.proofs.LongLines.{judged_by}
 use Rattle.converters.specs.declared.description_loop.said.Said.{Said}
 use Rattle.converters.specs.declared.description_loop.said.Said.TheVariants as said
 use Rattle.converters.specs.description_loop.{behind_line, first_judged, next_judged, IsOfNoHead, SaysOf, Says, IsBehind, IsNext}
@@ -48,11 +48,6 @@ none_is : (r : Reached) (xs : List ℕ) → lines_of xs ≡ [] → next_judged r
 unfolding next_judged
 none_is r xs e = ap (first_judged r) e
 
--- a line that is too long has no form
-long_is : (r : Reached) (bytes : List ℕ) → 4096 < length bytes → judged r bytes ≡ Err Form
-unfolding judged
-long_is r bytes long = rw (lt-ltb 4096 (length bytes) long) refl
-
 -- what the reader's line says
 pub line_says : (left leaves : Option (List ℕ)) (front : List ℕ) (r now : Reached) (s : Said) → TakesNext left leaves front Line → Says r front now s → IfBothTold left leaves (IsNext r now s)
 line_says None leaves front r now s next says = tt
@@ -63,7 +58,7 @@ line_says (Some xs) (Some ys) front r now s next says =
 pub long_says : (left leaves : Option (List ℕ)) (front : List ℕ) (r now : Reached) → TakesNext left leaves front Long → IfBothTold left leaves (IsNext r now (said.Refused Form))
 long_says None leaves front r now next = tt
 long_says (Some xs) None front r now next = next
-long_says (Some xs) (Some ys) front r now next = (next_is r xs next.0 next.1 next.2 ∙ long_is r next.0 next.3, tt)
+long_says (Some xs) (Some ys) front r now next = (next_is r xs next.0 next.1 next.2 ∙ judged_by r next.0 next.3, tt)
 
 pub end_says : (left leaves : Option (List ℕ)) (front : List ℕ) (r now : Reached) → TakesNext left leaves front End → IfBothTold left leaves (IsNext r now (said.Refused Order))
 end_says None leaves front r now next = tt

@@ -8,6 +8,7 @@ use Rattle.rams_model.specs.declared.status.Status.{Status}
 use Rattle.converters.specs.description_loop.sdp_config.{sdp_at}
 use Rattle.trace_loop.specs.{IfTold, IfBothTold}
 use Rattle.trace_loop.specs.trace_book.trace_serving.{Outcome, refused}
+use Rattle.trace_loop.proofs.Whole.{told_all}
 use Rattle.converters.specs.declared.description_loop.said.Head.TheVariants.{Lawful, Unlawful}
 use Rattle.converters.specs.declared.description_loop.said.Heading as code
 use Rattle.converters.specs.declared.description_loop.reply.Reply.{Reply}
@@ -78,11 +79,6 @@ module _ (o : List ℕ → Outcome) (a b : Option (List ℕ)) (reply : Reply) wh
   pub writes_steadily : (left : Option (List ℕ)) (steady : ℕ → Type 0) (P : Type 0) → IfTold left (λ xs. answered reply ≡ o xs) → (steady (length reply.text.items) → P) → IfTold left (λ xs. steady (length (o xs).text) → P)
   writes_steadily None steady P is gives = tt
   writes_steadily (Some xs) steady P is gives = λ s. gives (subst steady (ap (λ (x : Outcome). length x.text) (sym is)) s)
-
--- where it holds of all bytes
-pub told_all : (o : Option (List ℕ)) (Q : List ℕ → Type 0) → ((xs : List ℕ) → Q xs) → IfTold o Q
-told_all None Q gives = tt
-told_all (Some xs) Q gives = gives xs
 
 -- nothing is written yet
 pub unwritten : (o : List ℕ → Outcome) (a left : Option (List ℕ)) → IfTold left (λ xs. (rest : List ℕ) × Passes a a (o xs).text rest)

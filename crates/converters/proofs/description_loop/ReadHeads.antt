@@ -6,9 +6,10 @@ use Rattle.rams_model.specs.declared.channel.Channel.{Channel}
 use Rattle.rams_model.specs.declared.fault.LineFault.{LineFault}
 use Rattle.rams_model.specs.declared.mode.Mode.TheVariants.{Describe}
 use Rattle.rams_model.specs.Service.{settings}
-use Rattle.rams_model.specs.Texts.{TraceLine, head_line, channel_line, live_line, feedback_line, tick_line, end_line, tune_line, give_line, mcast_line, ask_line, drop_line, onto_first, lines_of, line_of, line_at, ranged, line_in_range, line_text, line_has_form, Head, Reached, nothing_reached, tick_of, version_of, kind_may_come, kind_of, has_version, may_come}
-use Rattle.trace_text.proofs.Spelling.{read_is_spelled, is_text}
+use Rattle.rams_model.specs.Texts.{TraceLine, head_line, channel_line, live_line, feedback_line, tick_line, end_line, tune_line, give_line, mcast_line, ask_line, drop_line, onto_first, lines_of, line_in_range, line_text, line_has_form, Head, Reached, nothing_reached, tick_of, version_of, kind_may_come, kind_of, has_version, may_come}
+use Rattle.trace_text.proofs.Spelling.{is_text}
 use Rattle.trace_loop.proofs.trace_book.trace_serving.Judged.{IsJudged, IsJoined, judged_so, channel_so}
+use Rattle.trace_loop.proofs.journal_book.Heads.{text_is}
 use Rattle.channel_config.specs.{IsLawful}
 use Rattle.channel_config.proofs.Laws.{IsLawful-from_checked}
 use Rattle.converters.specs.description_loop.{Heading, says, behind_line, first_judged, next_judged, by_judging, behind_second, behind_first, behind_none, head_of, HeadsAreThreeLines}
@@ -143,11 +144,6 @@ behind_lines (b ∷ bytes) = by (b == 10) (rest_onto b (lines_of bytes) ∙ behi
         → rest_of (if t then [] ∷ lines_of bytes else onto_first b (lines_of bytes)) ≡ lines_of (if t then bytes else behind_line bytes)
     by true h = refl
     by false h = h
-
--- bytes that are read as a line in range are its text
-text_is : (bytes : List ℕ) (read : TraceLine) → line_of bytes ≡ Some read → line_in_range read ≡ true → line_text read ≡ bytes
-unfolding line_at
-text_is bytes read reads in_range = (read_is_spelled bytes read (ap ranged reads ∙ rw in_range refl)).1
 
 -- The first line is the text of this one, which is judged so.
 pub record IsFirst (r : Reached) (bytes : List ℕ) (line : TraceLine) (later : Reached) : Type 0 where

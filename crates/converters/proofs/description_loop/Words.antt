@@ -15,6 +15,7 @@ use Rattle.line_io.specs.{HasNoFeed}
 use Rattle.trace_text.proofs.Spelled.{digits_of, and_both}
 use Rattle.trace_text.proofs.Steps.{two_versions}
 use Rattle.trace_text.proofs.Word32.{word32_back, word32_digits}
+use Rattle.trace_loop.proofs.journal_book.EventLines.{all_weaker, no_feed}
 
 abbrev pub is_inner : ℕ → Bool
 is_inner b = not (b == 10)
@@ -22,18 +23,6 @@ is_inner b = not (b == 10)
 -- no line feed, and at most 15 bytes
 abbrev pub is_plain : List ℕ → Bool
 is_plain word = list_all is_inner word && nat_le (length word) 15
-
-unlike : (b : Bool) → not b ≡ true → b ≡ false
-unlike true h = absurd cc
-unlike false h = refl
-
-no_feed : (bytes : List ℕ) → list_all is_inner bytes ≡ true → HasNoFeed bytes
-no_feed [] h = tt
-no_feed (b ∷ bytes) h = let parts = and_parts (is_inner b) (list_all is_inner bytes) h in (unlike (b == 10) parts.0, no_feed bytes parts.1)
-
-all_weaker : (p q : ℕ → Bool) → ((b : ℕ) → p b ≡ true → q b ≡ true) → (bytes : List ℕ) → list_all p bytes ≡ true → list_all q bytes ≡ true
-all_weaker p q f [] h = refl
-all_weaker p q f (b ∷ bytes) h = let parts = and_parts (p b) (list_all p bytes) h in and_both (f b parts.0) (all_weaker p q f bytes parts.1)
 
 digit_inner : (b : ℕ) → is_digit b ≡ true → is_inner b ≡ true
 digit_inner b h = grind (arith, nat_tests)

@@ -10,12 +10,9 @@ use Rattle.converters.specs.declared.description_loop.sdp_config.sdp.SdpFault.{S
 use Rattle.converters.specs.declared.description_loop.sdp_config.sdp.SdpFault.TheVariants.{Form, Version, Long, NoChannel, NoSsrc, NoRtx, Same}
 use Rattle.converters.specs.description_loop.sdp_config.{sdp_at, description}
 use Rattle.trace_loop.specs.trace_book.trace_serving.{Outcome, ended, refused}
+use Rattle.trace_loop.specs.head_loop.{with_feed}
 use Rattle.converters.specs.declared.description_loop.reply.Reply.{Reply}
 use Rattle.converters.specs.description_loop.Heads.{Heading, HeadSays, says, refuses, behind_head, head_of}
-
--- a line with its line feed
-abbrev pub with_feed : List ℕ → List ℕ
-with_feed line = line ++ codes "\n"
 
 -- the three lines of a head: a trace of one channel, to which nothing comes
 unfoldable pub heading_text : Heading → List ℕ

@@ -17,11 +17,8 @@ use crate::capture_loop::watch::CaptureWatch;
 use line_io::Gather;
 use ram_io::{Sink, Source};
 use rams_model::Status;
-use trace_loop::Stop;
 use trace_loop::head_loop::Opened;
-
-/// Most events of a trace.
-const MOST_EVENTS: u64 = 1_000_000;
+use trace_loop::{MOST_EVENTS, Stop};
 
 /// Adds the lines of the events of the records that are left, and says how these end.
 fn write_records<S: Source, K: Sink, T: CaptureWatch>(

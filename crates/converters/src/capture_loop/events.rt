@@ -18,7 +18,7 @@ use trace_loop::head_loop::{Opened, event_at};
 use trace_loop::journal_book::laws::turns_make_journals;
 
 /// Most bytes of an event's datagram.
-const MOST: usize = 2_000;
+const MOST_DATAGRAM: usize = 2_000;
 
 /// What stands before a record: the ticks so far, and for how many more events there is room.
 #[derive(Drop)]
@@ -50,7 +50,7 @@ pub(crate) fn frame_heard<'a>(port: u16, ids: &[u16], frame: &'a [u8]) -> Option
     ensures spelled { (channels : List Served) → Numbered ids.now channels → IfSome result (λ heard. CanCome (event_of heard)) }
 {
     let udp = datagram(frame)?;
-    if udp.payload.len() > MOST {
+    if udp.payload.len() > MOST_DATAGRAM {
         return None;
     }
     let arrival = Arrival {

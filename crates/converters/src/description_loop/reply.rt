@@ -5,7 +5,8 @@ ghost use Rattle.rams_model.specs.Texts.{line_text};
 ghost use Rattle.trace_text.specs.{shown};
 ghost use Rattle.converters.specs.description_loop.sdp_config.{sdp_at};
 ghost use Rattle.trace_loop.specs.trace_book.trace_serving.{ended, refused};
-ghost use Rattle.converters.specs.description_loop.{answered, described_by, fault_line, heading_text, said_by, settings_by, with_feed, with_sdp, with_settings, IsReplyEnd};
+ghost use Rattle.trace_loop.specs.head_loop.{with_feed};
+ghost use Rattle.converters.specs.description_loop.{answered, described_by, fault_line, heading_text, said_by, settings_by, with_sdp, with_settings, IsReplyEnd};
 
 use crate::description_loop::said::Heading;
 use crate::description_loop::sdp_config::{Sdp, SdpFault, read_sdp, write_sdp};

@@ -37,10 +37,6 @@ record Begins (most : ℕ) (ls : List (List ℕ)) : Type 0 where
 begins_onto : (b n : ℕ) (ls : List (List ℕ)) → Begins n ls → Begins (suc n) (onto_first b ls)
 begins_onto b n ls h = record { line = b ∷ h.line; others = h.others; are = ap (onto_first b) h.are; long = let l = h.long in omega arith }
 
-begins_any : (b : ℕ) (ls : List (List ℕ)) → Begins 1 (onto_first b ls)
-begins_any b [] = record { line = b ∷ []; others = []; are = refl; long = omega arith }
-begins_any b (l ∷ ls) = record { line = b ∷ l; others = ls; are = refl; long = omega arith }
-
 begins_some : (ls : List (List ℕ)) → 0 < length ls → Begins 1 ls
 begins_some [] h = absurd (omega arith)
 begins_some (l ∷ ls) h = record { line = l; others = ls; are = refl; long = omega arith }

@@ -111,10 +111,6 @@ channel_section c port = record { fields = pieces_of 32 (codes "video " ++ decim
 abbrev pub repair_section : Channel → ℕ → Section
 repair_section c port = record { fields = pieces_of 32 (codes "video " ++ decimal (port + 1) ++ codes " RTP/AVPF " ++ decimal c.rtx); lines = repairs_of c }
 
--- the two sections
-pub two_sections : (c : Channel) (port : ℕ) → sections_of (lines_of c port) ≡ channel_section c port ∷ repair_section c port ∷ []
-two_sections c port = refl
-
 -- the channel is found first
 pub channel_found : (c : Channel) (port : ℕ) → IsDescribable c port → first_format Media (channel_section c port) ≡ Some c.pt
 channel_found c port h =

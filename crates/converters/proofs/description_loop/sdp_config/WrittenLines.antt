@@ -11,6 +11,7 @@ use Rattle.rams_model.specs.Texts.{is_digit, is_short}
 use Rattle.trace_text.proofs.Spelled.{digits_of, and_both}
 use Rattle.converters.specs.description_loop.sdp_config.{lines_in, is_line, pieces_of, joined_lines, first_fault}
 use Rattle.converters.proofs.description_loop.sdp_config.Cuts.{lines-feed, lines-return, lines-other, lines-none}
+use Rattle.trace_loop.proofs.journal_book.EventLines.{all_weaker}
 
 -- no byte of a line's end stands in these
 abbrev pub is_inner : ℕ → Bool
@@ -54,18 +55,12 @@ plain_both m n a b p q = record {
 digit_inner : (c : ℕ) → is_digit c ≡ true → is_inner c ≡ true
 digit_inner c h = grind (arith, nat_tests)
 
-all_digits : (p : ℕ → Bool) → ((c : ℕ) → is_digit c ≡ true → p c ≡ true) → (word : List ℕ) → list_all is_digit word ≡ true → list_all p word ≡ true
-all_digits p one [] h = refl
-all_digits p one (c ∷ word) h =
-    let parts = and_parts (is_digit c) (list_all is_digit word) h in
-    and_both (one c parts.0) (all_digits p one word parts.1)
-
 pub short_of : (n : ℕ) → n < 2 ^ 32 → is_short n ≡ true
 short_of n h = lt-ltb n (10 ^ 15) (omega arith)
 
 pub plain_number : (n : ℕ) → n < 2 ^ 32 → IsPlain 15 (decimal n)
 plain_number n h = record {
-  clean = all_digits is_inner digit_inner (decimal n) (digits_of n (short_of n h));
+  clean = all_weaker is_digit is_inner digit_inner (decimal n) (digits_of n (short_of n h));
   short = length-decimal-le 15 n (omega arith) (omega arith) (omega arith);
 }
 
@@ -97,10 +92,10 @@ semicolon_apart : (c : ℕ) → is_digit c ≡ true → not (c == 59) ≡ true
 semicolon_apart c h = grind (arith, nat_tests)
 
 pub no_space : (n : ℕ) → n < 2 ^ 32 → has_no 32 (decimal n) ≡ true
-no_space n h = all_digits (λ b. not (b == 32)) space_apart (decimal n) (digits_of n (short_of n h))
+no_space n h = all_weaker is_digit (λ b. not (b == 32)) space_apart (decimal n) (digits_of n (short_of n h))
 
 pub no_semicolon : (n : ℕ) → n < 2 ^ 32 → has_no 59 (decimal n) ≡ true
-no_semicolon n h = all_digits (λ b. not (b == 59)) semicolon_apart (decimal n) (digits_of n (short_of n h))
+no_semicolon n h = all_weaker is_digit (λ b. not (b == 59)) semicolon_apart (decimal n) (digits_of n (short_of n h))
 
 other : (mark b : ℕ) → not (b == mark) ≡ true → eqb b mark ≡ false
 other mark b h = grind (arith, nat_tests)

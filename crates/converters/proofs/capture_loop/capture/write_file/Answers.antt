@@ -1,12 +1,11 @@
 use Rattle.std.proofs.Common.{Ok, ap}
-use Rattle.std.proofs.lemmas.Result.{err_from_is_err_and}
+use Rattle.std.proofs.lemmas.Result.{err_from_is_err_and, IfErr-weaker}
 use Rattle.std.specs.Io.KnownBytes.{prepend_known}
 use Rattle.rams_model.specs.declared.status.Status.TheVariants.{Done}
 use Rattle.trace_loop.proofs.Running.{told_gives}
 use Rattle.converters.specs.capture_loop.{file_text, new_clock}
 use Rattle.trace_loop.proofs.Stopping.{err_so, only_err}
 use Rattle.converters.proofs.capture_loop.Closing.{last_goes, last_stops, never_read}
-use Rattle.converters.proofs.capture_loop.Heading.{all_stops}
 use Rattle.converters.proofs.capture_loop.Stopping.{both_ok, done_end, ends_so, given_on, not_ok, read_was, stopped_then}
 use Rattle.converters.proofs.capture_loop.capture.write_file.Goals as goal
 
@@ -60,7 +59,7 @@ returns-clause-ended g c = λ e.
 
 pub returns-clause-front : goal.returns-clause-front
 returns-clause-front g c =
-    all_stops c.write_last.result _ _
+    IfErr-weaker c.write_last.result _ _
     (λ stop h channels numbered. told_gives (prepend_known c.args.intake.now (g.S.Source.left c.args.source.now)) _ _ (λ xs come. last_stops (g.K.Sink.held c.args.sink.now) (g.K.Sink.held c.write_events.new.sink) (g.K.Sink.held c.write_last.new.sink) c.args.gather.now c.write_events.new.gather c.write_last.new.gather (file_text c.args.port channels (new_clock c.args.opened.now.hub.tick) xs) c.in_ok-end.end stop come h) (c.in_ok-end.ensures.text channels numbered))
     c.write_last.ensures.front
 

@@ -7,8 +7,8 @@ use Rattle.trace_loop.proofs.Running.{told_gives}
 use Rattle.trace_loop.proofs.Whole.{told_all}
 use Rattle.converters.specs.declared.capture_loop.records.Next.{Next}
 use Rattle.converters.specs.capture_loop.{IsNextWithin, new_clock}
-use Rattle.trace_loop.proofs.Stopping.{err_so}
-use Rattle.converters.proofs.capture_loop.Closing.{never_err, never_ok, match_err, memory_not_read, not_by_sink, not_refused, not_too_long, other_end, write_since, write_stops_so}
+use Rattle.trace_loop.proofs.Stopping.{err_so, write_since}
+use Rattle.converters.proofs.capture_loop.Closing.{never_err, never_ok, match_err, memory_not_read, not_by_sink, not_refused, not_too_long, other_end, write_stops_so}
 use Rattle.converters.proofs.capture_loop.Filling.{when_full, when_not}
 use Rattle.converters.proofs.capture_loop.Running.{running_begins, running_breaks, running_broken, running_crowded, running_ended, running_full, running_goes_on, running_has_room, running_reads, running_stops}
 use Rattle.converters.proofs.capture_loop.capture.write_records.Goals as goal

@@ -1,5 +1,5 @@
 use Rattle.std.proofs.Common.{ℕ, ◌+◌, List, ◌++◌, length, sym, subst}
-use Rattle.std.proofs.lemmas.Result.{err_from_is_err_and}
+use Rattle.std.proofs.lemmas.Result.{err_from_is_err_and, IfOk-weaker, IfErr-weaker}
 use Rattle.std.specs.Io.KnownBytes.{prepend_known}
 use Rattle.line_io.specs.Passes.{Passes}
 use Rattle.rams_model.specs.declared.status.Status.TheVariants.{Done}
@@ -9,7 +9,6 @@ use Rattle.trace_loop.proofs.Whole.{told_all}
 use Rattle.converters.specs.capture_loop.{file_events, file_text, new_clock}
 use Rattle.trace_loop.proofs.Stopping.{err_so, only_err}
 use Rattle.converters.proofs.capture_loop.Closing.{both_told, ends_behind, lines_behind, not_by_sink, stops_behind_text}
-use Rattle.converters.proofs.capture_loop.Heading.{all_ends, all_stops}
 use Rattle.converters.proofs.capture_loop.Stopping.{first_fits, first_stops, not_ok, stopped_behind, then_fits}
 use Rattle.converters.proofs.capture_loop.text.write_all.Goals as goal
 
@@ -45,13 +44,13 @@ returns-in_err-put-clause-steady g c = λ s channels numbered.
 
 pub returns-clause-text : goal.returns-clause-text
 returns-clause-text g c =
-    all_ends c.write_file.result _ _
+    IfOk-weaker c.write_file.result _ _
     (λ status h channels numbered. told_gives (prepend_known c.args.intake.now (g.S.Source.left c.args.source.now)) _ _ (λ xs ends. ends_behind (g.K.Sink.held c.args.sink.now) (g.K.Sink.held c.put.new.sink) (g.K.Sink.held c.write_file.new.sink) c.args.gather.now c.args.opened.now.text.items c.put.new.gather c.write_file.new.gather (subst (λ (t : List ℕ). Passes (g.K.Sink.held c.args.sink.now) (g.K.Sink.held c.put.new.sink) (c.args.gather.now ++ t) c.put.new.gather) c.deref.ensures.value c.in_ok-put.ensures.all) (file_text c.args.port channels (new_clock c.args.opened.now.hub.tick) xs) status ends) (h channels numbered))
     c.write_file.ensures.text
 
 pub returns-clause-front : goal.returns-clause-front
 returns-clause-front g c =
-    all_stops c.write_file.result _ _
+    IfErr-weaker c.write_file.result _ _
     (λ stop h channels numbered. told_gives (prepend_known c.args.intake.now (g.S.Source.left c.args.source.now)) _ _ (λ xs stops. stops_behind_text (g.K.Sink.held c.args.sink.now) (g.K.Sink.held c.put.new.sink) (g.K.Sink.held c.write_file.new.sink) c.args.gather.now c.args.opened.now.text.items c.put.new.gather c.write_file.new.gather (subst (λ (t : List ℕ). Passes (g.K.Sink.held c.args.sink.now) (g.K.Sink.held c.put.new.sink) (c.args.gather.now ++ t) c.put.new.gather) c.deref.ensures.value c.in_ok-put.ensures.all) (file_text c.args.port channels (new_clock c.args.opened.now.hub.tick) xs) stop stops) (h channels numbered))
     c.write_file.ensures.front
 

@@ -1,5 +1,5 @@
 use Rattle.std.proofs.Common.{◌≡◌, ℕ, List, length, Option, refl, sym, subst, inl}
-use Rattle.std.proofs.lemmas.Result.{err_from_is_err_and}
+use Rattle.std.proofs.lemmas.Result.{err_from_is_err_and, IfOk-weaker}
 use Rattle.std.specs.Io.KnownBytes.{Appends, prepend_known}
 use Rattle.line_io.specs.Passes.{Passes}
 use Rattle.line_io.proofs.Passing.{Passes-none}
@@ -14,7 +14,7 @@ use Rattle.trace_loop.specs.head_loop.{HasRead, IsCutBefore, IsHeadOf, LeavesBeh
 use Rattle.converters.specs.capture_loop.{capture_text}
 use Rattle.trace_loop.proofs.Stopping.{only_err}
 use Rattle.converters.proofs.capture_loop.Closing.{never_read}
-use Rattle.converters.proofs.capture_loop.Heading.{all_ends, stopped_later}
+use Rattle.converters.proofs.capture_loop.Heading.{stopped_later}
 use Rattle.converters.proofs.capture_loop.Stopping.{both_ok, not_ok, read_was, stopped_alone}
 use Rattle.converters.proofs.capture_loop.Whole.{bad_ends, bad_is_not_done, cut_read, keeps_nothing, lawful_front, lawful_read, lawful_steady, lawful_text, lawful_trace, memory_never_reads, memory_stopped, read_stopped, refused_is}
 use Rattle.converters.proofs.capture_loop.text.write_capture.Goals as goal
@@ -122,7 +122,7 @@ returns-clause-text g c =
     let read = subst (λ (o : Option (List ℕ)). IfTold o (λ xs. IsHeadOf xs c.in-Lawful.opened.hub c.in-Lawful.opened.ids.items c.in-Lawful.opened.text.items)) same (subst (λ (h : Head). IfTold (prepend_known c.in_ok-reader.reader.kept (g.S.Source.left c.args.source.now)) (λ xs. HasRead xs h)) c.in-Lawful.is c.in_ok-line.ensures.read) in
     let rest = subst (λ (k : List ℕ). IfBothTold (g.S.Source.left c.args.source.now) (prepend_known k (g.S.Source.left c.read_head.new.source)) (λ xs ys. ys ≡ behind_head xs)) (sym c.kept.ensures.kept)
     (subst (λ (o : Option (List ℕ)). IfBothTold o (prepend_known c.read_head.new.reader.kept (g.S.Source.left c.read_head.new.source)) (λ xs ys. ys ≡ behind_head xs)) same (subst (λ (h : Head). IfBothTold (prepend_known c.in_ok-reader.reader.kept (g.S.Source.left c.args.source.now)) (prepend_known c.read_head.new.reader.kept (g.S.Source.left c.read_head.new.source)) (LeavesBehind h)) c.in-Lawful.is c.in_ok-line.ensures.left)) in
-    all_ends c.write_behind.result _ _ (λ status h. lawful_text c.heads_open_new_channels.ensures.new c.args.port c.in-Lawful.opened.hub c.in-Lawful.opened.ids.items c.in-Lawful.opened.text.items (g.S.Source.left c.args.source.now) (prepend_known c.kept.result.now (g.S.Source.left c.read_head.new.source)) read rest (g.K.Sink.held c.args.sink.now) (g.K.Sink.held c.write_behind.new.sink) status h) c.write_behind.ensures.text
+    IfOk-weaker c.write_behind.result _ _ (λ status h. lawful_text c.heads_open_new_channels.ensures.new c.args.port c.in-Lawful.opened.hub c.in-Lawful.opened.ids.items c.in-Lawful.opened.text.items (g.S.Source.left c.args.source.now) (prepend_known c.kept.result.now (g.S.Source.left c.read_head.new.source)) read rest (g.K.Sink.held c.args.sink.now) (g.K.Sink.held c.write_behind.new.sink) status h) c.write_behind.ensures.text
 
 pub returns-clause-journal : goal.returns-clause-journal
 returns-clause-journal g c = λ e.

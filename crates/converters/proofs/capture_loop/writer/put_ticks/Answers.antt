@@ -1,17 +1,12 @@
-use Rattle.std.proofs.Common.{◌≡◌, ℕ, ◌+◌, List, ◌++◌, replicate, length, refl, sym, subst, arith, length-append}
+use Rattle.std.proofs.Common.{◌+◌, ◌++◌, replicate, refl, sym, subst, arith}
 use Rattle.std.proofs.lemmas.Result.{err_from_is_err_and}
 use Rattle.server_hub.specs.declared.event.HubEvent.TheVariants.{Tick}
 use Rattle.trace_loop.specs.journal_book.{event_line, event_lines}
 use Rattle.trace_loop.proofs.Writing.{IsWriting, writing_begins, writing_has_room, writing_goes_on, writing_stops, writing_ends, writing_ends_steadily}
-use Rattle.trace_loop.proofs.Stopping.{err_so, only_err}
+use Rattle.trace_loop.proofs.Stopping.{err_so, only_err, together}
 use Rattle.converters.proofs.capture_loop.Closing.{err_since}
 use Rattle.converters.proofs.capture_loop.Ticking.{ticks_all, ticks_next, ticks_none}
 use Rattle.converters.proofs.capture_loop.writer.put_ticks.Goals as goal
-
-together : (steady : ℕ → Type 0) (waits lines : List ℕ) (room : ℕ) → steady (length waits + length lines + room) → steady (length (waits ++ lines) + room)
-together steady waits lines room h =
-    let same : length waits + length lines + room ≡ length (waits ++ lines) + room = omega (arith, length-append waits lines) in
-    subst steady same h
 
 pub loop-done-init : goal.loop-done-init
 loop-done-init g c =

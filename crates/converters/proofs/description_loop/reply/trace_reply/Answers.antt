@@ -3,7 +3,8 @@ use Rattle.rams_model.specs.declared.channel.Channel.{Channel}
 use Rattle.rams_model.specs.declared.status.Status.TheVariants.{Done}
 use Rattle.rams_model.specs.Texts.{head_line, channel_line, end_line, line_text}
 use Rattle.trace_loop.specs.trace_book.trace_serving.{ended}
-use Rattle.converters.specs.description_loop.{heading_text, with_feed, with_settings}
+use Rattle.trace_loop.specs.head_loop.{with_feed}
+use Rattle.converters.specs.description_loop.{heading_text, with_settings}
 use Rattle.converters.proofs.description_loop.reply.trace_reply.Goals as goal
 
 three : (none a b d first second third : List ℕ) → none ≡ [] → first ≡ none ++ a → second ≡ first ++ b → third ≡ second ++ d → third ≡ a ++ b ++ d
