@@ -1,4 +1,3 @@
-pub mod Claims
 pub mod Opening
 pub mod Turning
 pub mod Writing

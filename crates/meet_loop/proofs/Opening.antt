@@ -1,23 +1,25 @@
 -- The turns of lines that bring no event.
-use Rattle.std.proofs.Common.{◌≡◌, ℕ, ◌≤◌, Bool, true, false, not, ◌&&◌, List, [], ◌∷◌, ◌++◌, map, Option, None, Some, Ok, is_some, refl, sym, subst, ap, ◌∙◌}
+use Rattle.std.proofs.Common.{◌≡◌, ℕ, Bool, true, false, not, ◌&&◌, List, [], ◌∷◌, ◌++◌, map, Option, None, Some, Ok, is_some, refl, sym, subst, ap, ◌∙◌}
 use Rattle.std.specs.Prelude.{IsSomeAnd}
-use Rattle.std.proofs.lemmas.Bool.{and_parts, leb-true}
+use Rattle.std.proofs.lemmas.Bool.{and_parts}
 use Rattle.std.proofs.lemmas.List.{map-append}
 use Rattle.rams_model.specs.declared.channel.Channel.{Channel}
 use Rattle.rams_model.specs.declared.mode.LineKind.TheVariants as kind
 use Rattle.rams_model.specs.Service.{Settings, settings}
-use Rattle.rams_model.specs.Texts.{TraceLine, head_line, channel_line, line_in_range, Claim, Head, Reached, tick_of, may_come, may_come_next, kind_may_come, has_channel, has_one_channel}
+use Rattle.rams_model.specs.Texts.{TraceLine, head_line, channel_line, Claim, Head, Reached, tick_of, may_come, may_come_next, kind_may_come, has_channel, has_one_channel}
 use Rattle.server_hub.specs.{served, refused}
 use Rattle.trace_loop.proofs.trace_book.trace_serving.Judged.{IsAccepted, IsJoined, judged_so, channel_so}
 use Rattle.trace_loop.specs.trace_book.trace_serving.{Stage, eventless, claim_of}
 use Rattle.trace_loop.specs.declared.turn.Turn.TheVariants.{GoesOn}
 use Rattle.trace_loop.specs.trace_book.{settings_of}
+use Rattle.trace_loop.proofs.head_loop.Channels.{settings_stand}
+use Rattle.trace_loop.proofs.head_loop.Claims.{fits, none_before}
+use Rattle.trace_loop.proofs.head_loop.Opening.{Bounded, bounded}
 use Rattle.meet_loop.specs.world_laws.World.{World}
 use Rattle.meet_loop.specs.declared.world_laws.world.WorldNote.{WorldNote}
 use Rattle.meet_loop.specs.world_net.{CameAtMost, Seen, StandsFor, with_channel}
 use Rattle.meet_loop.specs.world_book.{meet}
 use Rattle.meet_loop.specs.{WorldServes, Serves, Stands, CanOpen, OpensIn, IsUnder, Comes, Took}
-use Rattle.meet_loop.proofs.Claims.{settings_stand, fits}
 
 -- the line was accepted
 pub accepted_so : (world : Option Seen) (events : ℕ) (later : Reached) (line : TraceLine) (stage : Stage World) → Comes world events later line stage → IsAccepted stage.reached line later
@@ -56,7 +58,7 @@ opens_next world events version later s stage tick comes =
         record {
           tick = same;
           fits = ap (λ n. refused v.kept.hub (settings s.channel n)) same
-              ∙ fits v.kept.hub stage.reached later head s.channel (settings_of stage.state.channels) j comes.before.claims (settings_stand v.kept.hub stage.state.channels serves.stands.kept.hub) (serves.link none);
+              ∙ fits v.kept.hub stage.reached (settings_of stage.state.channels) comes.before.claims (settings_stand v.kept.hub stage.state.channels serves.stands.kept.hub) later head s.channel j (serves.link none);
         }
 
 -- what the lines keep of one channel more
@@ -90,11 +92,6 @@ opened_turn (Some v) (Some w) events version number later s stage notes tick ope
     )
 
 -- the head line begins the world
-none_before : (ended head : Bool) → (not ended && not head) ≡ true → head ≡ false
-none_before true head h = absurd cc
-none_before false true h = absurd cc
-none_before false false h = refl
-
 pub head_turn : (world : Option Seen) (v : Seen) (events version tick link number : ℕ) (later : Reached) (stage : Stage World) (notes : List WorldNote) → IsUnder tick link v → Comes world events later (head_line version tick link) stage
     → Took (eventless meet stage later (head_line version tick link)) (Some v) events later notes number GoesOn
 head_turn world v events version tick link number later stage notes under comes = (by world stage.reached.head refl comes.before.served, refl, refl)
@@ -121,20 +118,6 @@ head_turn world v events version tick link number later stage notes under comes 
         let none = none_before stage.reached.ended (is_some stage.reached.head) (and_parts _ _ so.may).0 in
         let some : is_some stage.reached.head ≡ true = ap is_some is in
         absurd cc
-
--- What the head line says is in its range.
-pub record Bounded (tick link : ℕ) : Type 0 where
-  pub tick_least : 1 ≤ tick
-  pub tick_most : tick ≤ 1000
-  pub link_least : 1500 ≤ link
-  pub link_most : link ≤ 1000000000
-
-bounded : (version tick link : ℕ) → line_in_range (head_line version tick link) ≡ true → Bounded tick link
-bounded version tick link h =
-    let both = and_parts _ _ h in
-    let ticks = and_parts _ _ both.0 in
-    let links = and_parts _ _ both.1 in
-    record { tick_least = leb-true 1 tick ticks.0; tick_most = leb-true tick 1000 ticks.1; link_least = leb-true 1500 link links.0; link_most = leb-true link 1000000000 links.1 }
 
 pub head_bounds : (world : Option Seen) (events version tick link : ℕ) (later : Reached) (stage : Stage World) → Comes world events later (head_line version tick link) stage → Bounded tick link
 head_bounds world events version tick link later stage comes = bounded version tick link (accepted_so world events later (head_line version tick link) stage comes).in_range

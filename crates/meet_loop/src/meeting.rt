@@ -22,8 +22,8 @@ use std::alloc::Global;
 use trace_loop::{Stop, TraceServer, Writer};
 use trace_text::{Judged, Line, Mode, State};
 
-/// Most events of a trace.
-const MOST_EVENTS: u64 = 100_000;
+/// Most events of a trace of `meet`.
+const MOST_WORLD_EVENTS: u64 = 100_000;
 
 /// Most datagrams that are sent in a world, by the server and by receivers.
 const MOST_DATAGRAMS: u64 = 400_000;
@@ -185,7 +185,7 @@ fn serve(
     ensures { IfOk result (λ t. (stage : Stage Worlds) (number : ℕ) → Stands world.old events.old stage.reached stage → stage.reached.begun ≡ true
         → Took (counted meet stage stage.reached event.now) world.new events.new stage.reached notes.new.items number t) }
 {
-    if *events >= MOST_EVENTS {
+    if *events >= MOST_WORLD_EVENTS {
         return Ok(Turn::TooLong);
     }
     let Some(world) = world else {

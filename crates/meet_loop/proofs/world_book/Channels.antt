@@ -1,5 +1,5 @@
 -- The channels of a world keep their settings, and are those of the lines.
-use Rattle.std.proofs.Common.{◌≡◌, ◌≢◌, ℕ, suc, ◌&&◌, cond, List, [], ◌∷◌, ◌++◌, map, length, Option, Some, None, refl, ap, sym, ◌∙◌, subst, arith, append_assoc, eqb}
+use Rattle.std.proofs.Common.{◌≡◌, ◌≢◌, ℕ, suc, ◌&&◌, cond, List, [], ◌∷◌, ◌++◌, length, Option, Some, None, refl, ap, sym, ◌∙◌, subst, arith, append_assoc, eqb}
 use Rattle.std.specs.Prelude.{All, AllPairs, nat_le, slice_get, option_map, ◌<◌}
 use Rattle.std.specs.List.{list_any}
 use Rattle.std.specs.Int.{is_in_range}
@@ -13,9 +13,9 @@ use Rattle.server_hub.specs.{served, ids_of, channel_of}
 use Rattle.server_hub.specs.Served.{Served}
 use Rattle.server_hub.proofs.Finding.{with_id, one_has}
 use Rattle.trace_loop.specs.trace_book.trace_serving.{AreLawful}
-use Rattle.trace_loop.specs.trace_book.{settings_of, new_channels}
+use Rattle.trace_loop.specs.trace_book.{settings_of}
 use Rattle.trace_loop.proofs.trace_book.Lawful.{lawful_range}
-use Rattle.trace_loop.proofs.trace_book.Served.{settings_after}
+use Rattle.trace_loop.proofs.trace_book.Served.{settings_after, new_of}
 use Rattle.meet_loop.specs.declared.world_laws.world.WorldEvent.{WorldEvent}
 use Rattle.meet_loop.specs.declared.world_laws.world.WorldEvent.TheVariants.{Hub, Tune, Give, Mcast, Ask, Drop}
 use Rattle.meet_loop.specs.world_laws.World.{Way, posts, tells, repeats, Datagram, Listener, World, Step}
@@ -75,18 +75,6 @@ happens_keeps (Give number) w = giving_keeps number (datagram_at number w) w
 happens_keeps (Mcast id client n) w = casting_keeps id client n (channel_of id w.channels) w
 happens_keeps (Ask id client) w = asking_keeps id client (channel_of id w.channels) w
 happens_keeps (Drop id client) w = leaving_keeps id client (channel_of id w.channels) w
-
--- Channels with these settings, to which nothing has come.
-abbrev pub new_of : List Settings → List Served
-new_of all = map (λ s. served s []) all
-
-pub settings_are : (all : List Settings) → settings_of (new_of all) ≡ all
-settings_are [] = refl
-settings_are (s ∷ all) = ap (λ (l : List Settings). s ∷ l) (settings_are all)
-
-pub new_are : (cs : List Served) → new_channels cs ≡ new_of (settings_of cs)
-new_are [] = refl
-new_are (c ∷ cs) = ap (λ (l : List Served). served c.settings [] ∷ l) (new_are cs)
 
 -- each is found under its number, where no two have one
 found_new : (id : ℕ) (all : List Settings) → channel_of id (new_of all) ≡ option_map (λ s. served s []) (with_id id all)

@@ -2,7 +2,6 @@
 use Rattle.std.proofs.Common.{◌≡◌, ℕ, suc, ◌+◌, arith, List, [], ◌∷◌, ◌++◌, map, length, get_or, Option, Some, None, refl, ap, ap₂, sym, ◌∙◌, subst, append_assoc, append-nil}
 use Rattle.std.specs.Prelude.{All, IfSome}
 use Rattle.std.proofs.lemmas.List.Elements.{All-nil, All-cons}
-use Rattle.rams_model.specs.declared.channel.Channel.{Channel}
 use Rattle.rams_model.specs.Service.{Settings}
 use Rattle.rams_model.specs.Texts.{Head, TraceLine, head_line, channel_line, live_line, feedback_line, tick_line, end_line, tune_line, give_line, mcast_line, ask_line, drop_line}
 use Rattle.server_hub.specs.{served}
@@ -18,9 +17,10 @@ use Rattle.meet_loop.specs.world_laws.{new_world, happens, world_after, BringsBy
 use Rattle.meet_loop.specs.world_text.{first_line, event_lines, world_lines}
 use Rattle.meet_loop.specs.world_book.{meet, world_of, IsServedByAWorld, EndsSo, ReceiversPresent}
 use Rattle.trace_loop.proofs.trace_book.trace_serving.Brought.{all_came}
+use Rattle.trace_loop.proofs.trace_book.Served.{new_of, settings_are, new_are, channels_of}
 use Rattle.meet_loop.proofs.world_book.Promising.{IsWorldOfBytes, IsOf, happens_stays}
 use Rattle.meet_loop.proofs.world_book.Fields.{settings_have, each_informed}
-use Rattle.meet_loop.proofs.world_book.Channels.{happens_keeps, new_of, settings_are, new_are, are_new}
+use Rattle.meet_loop.proofs.world_book.Channels.{happens_keeps, are_new}
 
 -- the channels are those of the lines
 opened_are : (all : List Settings) (cs : List Served) → opened_all meet all (new_world cs) ≡ new_world (cs ++ new_of all)
@@ -42,10 +42,6 @@ settings_over : (events : List WorldEvent) (cs : List Served) → settings_of (w
 unfolding world_after
 settings_over [] cs = refl
 settings_over (e ∷ events) cs = happens_keeps e (world_after cs events) ∙ settings_over events cs
-
-channels_of : (cs : List Served) → map (λ c. c.settings.channel) cs ≡ map (λ s. s.channel) (settings_of cs)
-channels_of [] = refl
-channels_of (c ∷ cs) = ap (λ (l : List Channel). c.settings.channel ∷ l) (channels_of cs)
 
 -- what lines bring are bytes
 line_brings : (line : TraceLine) → IfSome (brought meet line) BringsBytes

@@ -10,6 +10,7 @@ use Rattle.rams_model.specs.Packets.{has_number}
 use Rattle.rams_model.specs.Receiver.{Media, multicast, brought_again, brought_by_multicast, told_by, reception, asked}
 use Rattle.service_laws.specs.receiver_laws.{IsMedia}
 use Rattle.service_laws.specs.receiver_laws.Fair.{IsFair}
+use Rattle.service_laws.specs.byte_laws.{HasBytes}
 use Rattle.rams_model.proofs.Legality.{found}
 use Rattle.server_hub.specs.declared.event.HubEvent.TheVariants as hub
 use Rattle.server_hub.specs.{id_of, channel_of}
@@ -17,7 +18,7 @@ use Rattle.server_hub.specs.Served.{Served}
 use Rattle.meet_loop.specs.declared.world_laws.world.WorldEvent.{WorldEvent}
 use Rattle.meet_loop.specs.declared.world_laws.world.WorldEvent.TheVariants.{Hub, Tune, Give, Mcast, Ask, Drop}
 use Rattle.meet_loop.specs.declared.world_laws.world.WorldItem.TheVariants as item
-use Rattle.meet_loop.specs.world_laws.{Way, posts, tells, repeats, Datagram, Listener, Step, refused, is_listener, datagram_at, HasBytes, IsTunedTo, IsNew, HasFields, IsInfo, BringsBytes, source_of, as_it_came, packet_of_source, delivering_near, hearing, new_listener, with_listener, tuning, giving_by, giving, casting_packet, casting, post_all, asking, leave, leaving, happens, world_after}
+use Rattle.meet_loop.specs.world_laws.{Way, posts, tells, repeats, Datagram, Listener, Step, refused, is_listener, datagram_at, IsTunedTo, IsNew, HasFields, IsInfo, BringsBytes, source_of, as_it_came, packet_of_source, delivering_near, hearing, new_listener, with_listener, tuning, giving_by, giving, casting_packet, casting, post_all, asking, leave, leaving, happens, world_after}
 use Rattle.meet_loop.specs.world_laws.World.{World}
 use Rattle.meet_loop.proofs.world_laws.Readings.{multicast_read}
 use Rattle.meet_loop.proofs.world_laws.Right.{IsWell, Repeats, Informs, IsSentBy, IsRightSent, IsRightListener, IsRight}

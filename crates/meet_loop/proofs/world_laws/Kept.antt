@@ -20,11 +20,12 @@ use Rattle.rams_model.proofs.PlainPackets.{below_at}
 use Rattle.rams_model.proofs.Rising.{end_of}
 use Rattle.rams_model.proofs.RtpPackets.{spelled_so}
 use Rattle.rams_model.specs.Laws.{Rises}
-use Rattle.meet_loop.specs.world_laws.{takes, hears_number, as_it_came, HasBytes}
+use Rattle.meet_loop.specs.world_laws.{takes, hears_number, as_it_came}
 use Rattle.service_laws.proofs.byte_laws.Low.{IsLow, IsHigh, live_note_low}
 use Rattle.service_laws.proofs.book_laws.CameBefore.{all_of}
 use Rattle.service_laws.proofs.book_laws.Members.{of_one}
 use Rattle.service_laws.proofs.byte_laws.Rising.{all_rises, stands_once}
+use Rattle.service_laws.specs.byte_laws.{HasBytes}
 
 -- the bytes that are looked up under a packet's number are those of which it was read
 pub record IsKept (c : Channel) (look : ℕ → Option (List ℕ)) (h : Held) : Type 0 where
@@ -170,7 +171,7 @@ heard_kept s events bytes (feedback client messages) h r small old has = old h h
 heard_kept s events bytes (unframed client fault) h r small old has = old h has
 heard_kept s events bytes tick h r small old has = old h has
 
-not_live : (client : ℕ) (r : Result (List Framed) FrameFault) (history : History) → arrivals (began (heard_feedback client r) ∷ history) ≡ arrivals history
+pub not_live : (client : ℕ) (r : Result (List Framed) FrameFault) (history : History) → arrivals (began (heard_feedback client r) ∷ history) ≡ arrivals history
 unfolding arrivals
 not_live client (Err fault) history = refl
 not_live client (Ok packets) history = refl

@@ -1,7 +1,7 @@
 -- The orders of an answer are for packets of the source, and the source only grows.
-use Rattle.std.proofs.Common.{◌≡◌, ℕ, Bool, ⊎_elim, List, [], ◌∷◌, ◌++◌, Option, Some, None, refl, sym, subst, arith, ltb}
-use Rattle.std.specs.Prelude.{filter, option_map, option_to_list, All, Contains}
-use Rattle.std.proofs.lemmas.List.Elements.{All-nil, All-cons, All-filter, All-contains, All-contains_itself, Contains-append_left, Contains-append_right, Contains-append_cases}
+use Rattle.std.proofs.Common.{◌≡◌, ℕ, List, [], ◌∷◌, ◌++◌, Option, Some, None, refl, sym, subst, arith}
+use Rattle.std.specs.Prelude.{option_map, option_to_list, All, Contains}
+use Rattle.std.proofs.lemmas.List.Elements.{All-nil, All-cons}
 use Rattle.rams_model.specs.declared.answer.Order.{Order}
 use Rattle.rams_model.specs.declared.event.Event.{Event}
 use Rattle.rams_model.specs.declared.held.Held.{Held}
@@ -10,28 +10,14 @@ use Rattle.rams_model.specs.declared.note.Cause.{Cause}
 use Rattle.rams_model.specs.declared.note.Note.{Note}
 use Rattle.rams_model.specs.declared.note.Note.TheVariants as note
 use Rattle.rams_model.specs.Laws.{source}
-use Rattle.rams_model.specs.Packets.{awaited}
-use Rattle.rams_model.specs.Packets.Source as sources
-use Rattle.rams_model.specs.Service.{Settings, began, told, noted, History, arrivals, stream, sequence, Burst, open_burst, end_info, info_order, packet_order, again_order, update_order, end_order, order_of, newest_orders, heard_of, history_of, answer}
+use Rattle.rams_model.specs.Service.{Settings, began, told, noted, History, arrivals, sequence, Burst, open_burst, end_info, info_order, packet_order, again_order, update_order, end_order, order_of, newest_orders, heard_of, history_of, answer}
 use Rattle.rams_model.proofs.Adding.{adds_hearing}
 use Rattle.rams_model.proofs.Legal.{Allows, IsLegal}
 use Rattle.rams_model.proofs.Legality.{legal_history}
 use Rattle.service_laws.proofs.book_laws.SentSources.{held_of_source, source_stays, source_after}
 use Rattle.meet_loop.specs.world_laws.{IsAgain}
-use Rattle.service_laws.proofs.book_laws.CameBefore.{all_of}
 
 -- ---- what is of the source came in time, and stays
-
-of_filter : (test : Held → Bool) (hs : List Held) (h : Held) → Contains (filter test hs) h → Contains hs h
-of_filter test hs h c = All-contains (Contains hs) (filter test hs) h (All-filter test (Contains hs) hs (All-contains_itself hs)) c
-
-pub came_in_time : (s : Settings) (history : History) (h : Held) → Contains (source s history) h → Contains (all_of (stream s history)) h
-unfolding sources.source
-came_in_time s history h c =
-    let st = stream s history in
-    let test : Held → Bool = λ x. ltb x.n (awaited s.channel.window st.present) in
-    ⊎_elim (λ e. Contains-append_left st.ended st.present h e) (λ p. Contains-append_right st.ended st.present h (of_filter test st.present h p))
-    (Contains-append_cases st.ended (filter test st.present) h c)
 
 pub source_grows_by : (s : Settings) (event : Event) (events : List Event) (h : Held) → Contains (source s (history_of s events)) h → Contains (source s (history_of s (event ∷ events))) h
 unfolding history_of

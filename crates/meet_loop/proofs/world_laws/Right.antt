@@ -11,9 +11,10 @@ use Rattle.rams_model.specs.declared.reception.Tuned.{Tuned}
 use Rattle.rams_model.specs.declared.message.Info.{Info}
 use Rattle.rams_model.specs.Receiver.{informs, told_by, Media, again, multicast, unfit, brought_again, Turn, hears, delivers, presents, reception, shown_now}
 use Rattle.service_laws.specs.receiver_laws.Fair.{IsOf, IsFair, AreFair}
+use Rattle.service_laws.specs.byte_laws.{HasBytes}
 use Rattle.server_hub.specs.{id_of, with_event, channel_of}
 use Rattle.server_hub.specs.Served.{Served}
-use Rattle.meet_loop.specs.world_laws.{Way, posts, tells, repeats, Datagram, Listener, source_of, HasBytes, IsTunedTo, AreMedia, HasFields, AreInfos}
+use Rattle.meet_loop.specs.world_laws.{Way, posts, tells, repeats, Datagram, Listener, source_of, IsTunedTo, AreMedia, HasFields, AreInfos}
 use Rattle.meet_loop.specs.world_laws.World.{World}
 use Rattle.meet_loop.proofs.world_laws.Ordered.{source_grows_by}
 

@@ -16,14 +16,16 @@ use Rattle.server_hub.specs.declared.event.HubEvent.{HubEvent}
 use Rattle.server_hub.specs.declared.event.HubEvent.TheVariants as hub
 use Rattle.server_hub.specs.{id_of, with_event, channel_of, after_event}
 use Rattle.server_hub.specs.Served.{Served}
-use Rattle.meet_loop.specs.world_laws.{Datagram, IsAgain, EachPacketOfTheSourceCame, source_of, as_it_came, HasBytes, IsTunedTo, HasFields, sent, sent_by, sent_where, all_sent, serving}
+use Rattle.meet_loop.specs.world_laws.{Datagram, IsAgain, EachPacketOfTheSourceCame, source_of, as_it_came, IsTunedTo, HasFields, sent, sent_by, sent_where, all_sent, serving}
 use Rattle.meet_loop.specs.world_laws.World.{World}
 use Rattle.meet_loop.proofs.world_laws.Infos.{IsSoundOrder, answer_sound}
 use Rattle.meet_loop.proofs.world_laws.Informing.{told_read}
 use Rattle.meet_loop.proofs.world_laws.Kept.{IsKept, each_kept}
-use Rattle.meet_loop.proofs.world_laws.Ordered.{came_in_time, answer_fine}
+use Rattle.meet_loop.proofs.world_laws.Ordered.{answer_fine}
 use Rattle.meet_loop.proofs.world_laws.Readings.{again_read}
 use Rattle.meet_loop.proofs.world_laws.Right.{IsWell, IsRightSent, IsRight, Changes, one_event, one_changes, all_change, found_after, right_after}
+use Rattle.service_laws.specs.byte_laws.{HasBytes}
+use Rattle.service_laws.proofs.book_laws.CameBefore.{came_in_time}
 
 -- a packet of the source is kept
 pub source_kept : (c : Served) → AllByRecursion HasBytes c.events → (h : Held) → Contains (source_of c) h → IsKept c.settings.channel (as_it_came c.settings c.events) h

@@ -20,6 +20,7 @@ use Rattle.meet_loop.specs.declared.world_laws.world.WorldItem.TheVariants as it
 use Rattle.meet_loop.specs.declared.world_laws.world.WorldNote.{WorldNote}
 use Rattle.meet_loop.specs.world_laws.{send_note, notes_with_orders, said_by, sent_by, said_where, sent_where, all_said, all_sent}
 use Rattle.meet_loop.specs.world_net.{sent_of, sent_note, note_with_sent, notes_with_sent, settled_notes, settled_sent, at_notes, at_sent, told_notes, told_sent}
+use Rattle.trace_loop.proofs.head_loop.Channels.{id_there, settings_there}
 
 -- the settings of channels
 abbrev pub settings_all : List Served → List Settings
@@ -58,15 +59,6 @@ named_said id e all None is = (refl, refl)
 named_said id e all (Some c) is =
     let at : At = record { id = id; answer = answer_to e c } in
     (append-nil (at_notes all at) ∙ one_said c e (with_id id all) is, append-nil (at_sent all at) ∙ one_sent c e (with_id id all) is)
-
--- the channel at its place, behind those before it
-id_there : (before rest : List Served) (c : Served) → slice_get (ids_of (settings_all (before ++ c ∷ rest))) (length before) ≡ Some (id_of c)
-id_there [] rest c = refl
-id_there (b ∷ before) rest c = id_there before rest c
-
-settings_there : (before rest : List Served) (c : Served) → slice_get (settings_all (before ++ c ∷ rest)) (length before) ≡ Some c.settings
-settings_there [] rest c = refl
-settings_there (b ∷ before) rest c = settings_there before rest c
 
 -- all of them, in a tick
 each_said : (all : List Settings) (before rest : List Served) → all ≡ settings_all (before ++ rest) → AllPairs (λ x y. x ≢ y) (ids_of all)

@@ -1,5 +1,5 @@
 -- A packet that came in time is of the source exactly where its number is below the end of what is held.
-use Rattle.std.proofs.Common.{◌≡◌, ℕ, ◌<◌, ◌≤◌, Bool, true, false, ◌||◌, not, cond, eqb, ltb, leb, List, [], ◌∷◌, ◌++◌, filter, Option, Some, Result, Ok, Err, ◌-◌, ◌≢◌, refl, sym, ap, ◌∙◌, subst, arith, ⊎_elim}
+use Rattle.std.proofs.Common.{◌≡◌, ℕ, ◌<◌, ◌≤◌, Bool, true, false, ◌||◌, not, cond, eqb, ltb, leb, List, [], ◌∷◌, ◌++◌, filter, Option, Some, ◌-◌, ◌≢◌, refl, sym, ap, ◌∙◌, subst, arith, ⊎_elim}
 use Rattle.std.proofs.lemmas.Bool.{cases_Bool, cond_both, eqb-true, eq-eqb, and_parts, ltb-true, ltb-false, lt-ltb}
 use Rattle.std.proofs.lemmas.List.Folds.{list_any-append}
 use Rattle.rams_model.specs.declared.event.Event.{Event}
@@ -10,9 +10,8 @@ use Rattle.rams_model.specs.declared.note.LiveNote.TheVariants.{Took, Restart}
 use Rattle.rams_model.specs.Laws.{Rises}
 use Rattle.rams_model.specs.Packets.{hi, has_number, with_packet, awaited, held_as, Arrival, Stream, stream_of, stream_after, live_note}
 use Rattle.rams_model.specs.Packets.Source as sources
-use Rattle.rams_model.specs.declared.fault.FrameFault.{FrameFault}
-use Rattle.rams_model.specs.Formats.{Framed, framed}
-use Rattle.rams_model.specs.Service.{Settings, Heard, live, History, began, stream, heard_of, heard_live, heard_feedback, arrivals, history_of}
+use Rattle.rams_model.specs.Formats.{framed}
+use Rattle.rams_model.specs.Service.{Settings, Heard, live, History, began, stream, heard_of, heard_live, arrivals, history_of}
 use Rattle.rams_model.proofs.Growing.{source_rises}
 use Rattle.rams_model.proofs.HeldEnds.{hi-hold}
 use Rattle.rams_model.proofs.Induction.{arrivals_of_event}
@@ -21,6 +20,7 @@ use Rattle.rams_model.proofs.Waiting.{from_first, is_missing_itself}
 use Rattle.server_hub.specs.{hi_of}
 use Rattle.server_hub.specs.Served.{Served}
 use Rattle.meet_loop.specs.world_laws.{source_of, takes, hears_number, as_it_came}
+use Rattle.meet_loop.proofs.world_laws.Kept.{not_live}
 use Rattle.service_laws.proofs.book_laws.CameBefore.{all_of}
 use Rattle.service_laws.proofs.byte_laws.Rising.{all_rises}
 
@@ -75,11 +75,6 @@ heard_came : (s : Settings) (n : ℕ) (history : History) (h : Heard) (bytes got
 unfolding arrivals stream_of
 heard_came s n history (live a) bytes got old before e = let st = stream s history in note_came n st a (live_note s.channel.window st a.sequence) bytes got old before e
 heard_came s n history h bytes got old before e = before e
-
-not_live : (client : ℕ) (r : Result (List Framed) FrameFault) (history : History) → arrivals (began (heard_feedback client r) ∷ history) ≡ arrivals history
-unfolding arrivals
-not_live client (Err fault) history = refl
-not_live client (Ok packets) history = refl
 
 event_came : (s : Settings) (n : ℕ) (event : Event) (events : List Event) (got : List ℕ) → (as_it_came s events n ≡ Some got → Came n (stream s (history_of s events)))
     → as_it_came s (event ∷ events) n ≡ Some got → Came n (stream_of s.channel.window (arrivals (began (heard_of s.channel event) ∷ history_of s events)))

@@ -1,6 +1,5 @@
 -- Lists that grow by what is left of others.
 use Rattle.std.proofs.Common.{◌≡◌, ℕ, ◌+◌, ◌<◌, ◌≤◌, List, [], ◌∷◌, ◌++◌, map, length, get_or, take, drop, sym, ap, ◌∙◌, append_assoc, append-nil}
-use Rattle.std.specs.List.{flat_map}
 use Rattle.std.proofs.lemmas.List.{drop_more, drop_all}
 use Rattle.rams_model.specs.declared.note.Note.{Note}
 use Rattle.rams_model.specs.Texts.{order_count}
@@ -19,15 +18,6 @@ goes_on_one {B} new done more rest whole x y is same inv e = goes_on new done mo
 -- with nothing left
 pub ended : {B : Type 0} (done more whole : List B) → done ++ more ≡ whole → more ≡ [] → done ≡ whole
 ended {B} done more whole inv e = sym (append-nil done) ∙ ap (λ (l : List B). done ++ l) (sym e) ∙ inv
-
-pub flat_more : {A B : Type 0} (f : A → List B) (xs : List A) (i : ℕ) (x : A) → i < length xs → x ≡ get_or xs i x → flat_map f (drop i xs) ≡ f x ++ flat_map f (drop (i + 1) xs)
-flat_more {A} f xs i x below is = ap (flat_map f) (drop_more xs i x below) ∙ ap (λ (y : A). f y ++ flat_map f (drop (i + 1) xs)) (sym is)
-
-pub flat_past : {A B : Type 0} (f : A → List B) (xs : List A) (i : ℕ) → length xs ≤ i → flat_map f (drop i xs) ≡ []
-flat_past f xs i end = ap (flat_map f) (drop_all i xs end)
-
-pub map_more : {A B : Type 0} (f : A → B) (xs : List A) (i : ℕ) (x : A) → i < length xs → x ≡ get_or xs i x → map f (drop i xs) ≡ f x ∷ map f (drop (i + 1) xs)
-map_more {A} f xs i x below is = ap (map f) (drop_more xs i x below) ∙ ap (λ (y : A). f y ∷ map f (drop (i + 1) xs)) (sym is)
 
 pub map_past : {A B : Type 0} (f : A → B) (xs : List A) (i : ℕ) → length xs ≤ i → map f (drop i xs) ≡ []
 map_past f xs i end = ap (map f) (drop_all i xs end)

@@ -8,7 +8,8 @@ use Rattle.rams_model.specs.declared.held.Held.{Held}
 use Rattle.rams_model.specs.Formats.{Packet, stripped, packet_at}
 use Rattle.server_hub.specs.{answer_to, with_event}
 use Rattle.server_hub.specs.Served.{Served}
-use Rattle.meet_loop.specs.world_laws.Sources.{source_of, as_it_came, HasBytes}
+use Rattle.meet_loop.specs.world_laws.Sources.{source_of, as_it_came}
+use Rattle.service_laws.specs.byte_laws.{HasBytes}
 
 -- A packet of the source came in a live event, and was read of its bytes: a packet of the media source and payload type, whose sequence number are the low 16 bits of its number.
 pub record CameAs (c : Served) (h : Held) : Type 0 where

@@ -1,5 +1,5 @@
 -- The source of a channel, and the bytes of its packets as they came.
-use Rattle.std.specs.Prelude.{◌≡◌, ℕ, ◌<◌, Bool, false, ◌==◌, if◌then◌else◌, List, [], ◌∷◌, Option, Some, None, All}
+use Rattle.std.specs.Prelude.{◌≡◌, ℕ, Bool, false, ◌==◌, if◌then◌else◌, List, [], ◌∷◌, Option, Some, None}
 use Rattle.rams_model.specs.declared.channel.Channel.{Channel}
 use Rattle.rams_model.specs.declared.event.Event.{Event}
 use Rattle.rams_model.specs.declared.event.Event.TheVariants.{Live}
@@ -37,11 +37,6 @@ as_it_came s (event ∷ events) n = as_it_came s events n
 -- The packet of the source with this number, where it has one, as it came.
 abbrev pub packet_of_source : Served → ℕ → Option (List ℕ)
 packet_of_source c n = if has_number n (source_of c) then as_it_came c.settings c.events n else None
-
--- what came are bytes, where it is a live packet
-abbrev pub HasBytes : Event → Type 0
-HasBytes (Live bytes) = All (λ b. b < 256) bytes
-HasBytes _ = Unit {0}
 
 -- a receiver has the media source and the payload types of the channel
 pub record IsTunedTo (c : Channel) (t : Tuned) : Type 0 where
