@@ -1,4 +1,4 @@
-use Rattle.std.proofs.Common.{◌+◌, ◌++◌, replicate, refl, sym, subst, arith}
+use Rattle.std.proofs.Common.{◌++◌, replicate, refl, sym, subst, arith}
 use Rattle.std.proofs.lemmas.Result.{err_from_is_err_and}
 use Rattle.server_hub.specs.declared.event.HubEvent.TheVariants.{Tick}
 use Rattle.trace_loop.specs.journal_book.{event_line, event_lines}
