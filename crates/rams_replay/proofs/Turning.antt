@@ -1,16 +1,14 @@
 -- The turns of lines.
-use Rattle.std.proofs.Common.{◌≡◌, ℕ, ◌+◌, ◌<◌, Bool, true, false, cond, List, [], ◌∷◌, map, Option, None, Some, Result, Ok, Err, is_some, refl, sym, subst, ap, ◌∙◌, arith, eqb, ltb, length, ◌⊎◌, inl, inr}
+use Rattle.std.proofs.Common.{◌≡◌, ℕ, ◌+◌, ◌<◌, true, List, [], Option, None, Some, Result, Ok, Err, is_some, refl, sym, subst, ap, ◌∙◌, arith, ◌⊎◌, inl, inr}
 use Rattle.std.proofs.lemmas.Bool.{and_parts, lt-ltb}
 use Rattle.rams_model.specs.declared.channel.Channel.{Channel}
-use Rattle.rams_model.specs.declared.event.Event.{Event}
 use Rattle.rams_model.specs.declared.fault.LineFault.{LineFault}
 use Rattle.rams_model.specs.declared.mode.LineKind.{LineKind}
-use Rattle.rams_model.specs.Texts.{TraceLine, Claim, Head, Reached, accepted, has_channel, judged, judged_line, kind_of, kind_may_come, with_line, with_reached}
+use Rattle.rams_model.specs.Texts.{TraceLine, Head, Reached, accepted, has_channel, judged, judged_line, kind_of, kind_may_come, with_line, with_reached}
 use Rattle.rams_model.specs.declared.mode.LineKind.TheVariants as kind
 use Rattle.server_hub.specs.declared.event.HubAnswer.{HubAnswer}
 use Rattle.server_hub.specs.declared.event.HubEvent.{HubEvent}
-use Rattle.server_hub.specs.{StandsFor, id_of, with_event, after_event, after_event_of, after_tick}
-use Rattle.server_hub.specs.declared.event.HubEvent.TheVariants.{Live, Feedback, Tick}
+use Rattle.server_hub.specs.{StandsFor, after_event}
 use Rattle.server_hub.specs.Seen.{Seen}
 use Rattle.server_hub.specs.Served.{Served}
 use Rattle.trace_loop.proofs.trace_book.trace_serving.Judged.{accepted_so}
@@ -19,10 +17,12 @@ use Rattle.trace_loop.specs.trace_book.trace_serving.Text as text
 use Rattle.trace_loop.specs.declared.turn.Turn.{Turn}
 use Rattle.trace_loop.specs.declared.turn.Turn.TheVariants.{GoesOn, Said, Refused}
 use Rattle.trace_loop.specs.trace_book.{run, most_events, event_text}
-use Rattle.rams_replay.specs.{Comes, HubServes, Stands, CountsOne, Tells, Took, claim_of}
+use Rattle.trace_loop.proofs.head_loop.Claims.{claims_kept, no_channel}
+use Rattle.rams_replay.specs.{Comes, Stands, CountsOne, Tells, Took}
 use Rattle.trace_text.specs.declared.line.Line.{Line}
 use Rattle.trace_text.specs.{shown, IsOther}
 use Rattle.trace_text.specs.declared.line.Line.TheVariants.{Channel as ChannelLine, Tune, Give, Mcast, Ask, Drop}
+use Rattle.serve_loop.specs.standby.{HubServes}
 
 -- what is judged well was accepted
 accepts : (line : TraceLine) (o : Result Reached LineFault) (read : TraceLine) (later : Reached) → with_reached line o ≡ Ok (read, later) → (line ≡ read) × (o ≡ Ok later)
@@ -68,25 +68,6 @@ unfolding turn
 refused_turn stage number bytes fault hub events reached h =
     subst (λ (o : Result (TraceLine × Reached) LineFault). Took (after_judging run stage number o) hub events reached number (Refused fault)) (sym h) (refl, refl)
 
--- an event changes no channel's number and share
-claim_kept : (b : Bool) (e : Event) (c : Served) → claim_of (cond b (with_event e c) c) ≡ claim_of c
-claim_kept true e c = refl
-claim_kept false e c = refl
-
-one_kept : (id : ℕ) (e : Event) (channels : List Served) → map claim_of (after_event_of id e channels) ≡ map claim_of channels
-one_kept id e [] = refl
-one_kept id e (c ∷ channels) =
-    ap (λ x. x ∷ map claim_of (after_event_of id e channels)) (claim_kept (eqb (id_of c) id) e c) ∙ ap (λ l. claim_of c ∷ l) (one_kept id e channels)
-
-tick_kept : (channels : List Served) → map claim_of (after_tick channels) ≡ map claim_of channels
-tick_kept [] = refl
-tick_kept (c ∷ channels) = ap (λ l. claim_of c ∷ l) (tick_kept channels)
-
-claims_kept : (e : HubEvent) (channels : List Served) → map claim_of (after_event e channels) ≡ map claim_of channels
-claims_kept (Live id bytes) channels = one_kept id _ channels
-claims_kept (Feedback id client bytes) channels = one_kept id _ channels
-claims_kept Tick channels = tick_kept channels
-
 -- an event line begins the events
 abbrev pub begun : Reached → Reached
 begun r = record r { begun = true }
@@ -131,10 +112,6 @@ module _ (hub : Option Seen) (events number : ℕ) (later : Reached) (stage : St
   receiver_turn other (inr (inr (inr (inl p)))) = as_line (Ask p.0 p.1) p.2 refl refl
   receiver_turn other (inr (inr (inr (inr (inl p))))) = as_line (Drop p.0 p.1) p.2 refl refl
   receiver_turn other (inr (inr (inr (inr (inr p))))) = absurd (subst IsOther p.2 other)
-
--- an event comes behind a channel line, so there is a hub
-no_channel : (r : Reached) (channels : List Served) → r.channels ≡ map claim_of channels → channels ≡ [] → has_channel r ≡ false
-no_channel r channels claims none = ap (λ (l : List Claim). ltb 0 (length l)) (claims ∙ ap (map claim_of) none)
 
 pub has_hub : (hub : Option Seen) (events : ℕ) (r : Reached) (stage : Stage (List Served)) → Stands hub events r stage → has_channel stage.reached ≡ true → is_some hub ≡ true
 has_hub hub events r stage stands has = by hub stage.reached.head stands.served

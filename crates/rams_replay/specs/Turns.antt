@@ -1,14 +1,13 @@
 -- What a line of a trace does, as code has it.
-use Rattle.std.specs.Prelude.{◌≡◌, ℕ, ◌+◌, ◌==◌, List, [], ◌∷◌, ◌++◌, map, find, Option, Some, None, Ok, All}
+use Rattle.std.specs.Prelude.{◌≡◌, ℕ, ◌+◌, ◌==◌, List, [], map, find, Option, Some, None, Ok, All}
 use Rattle.std.specs.List.{flat_map}
 use Rattle.rams_model.specs.Service.{Answered, Settings}
-use Rattle.rams_model.specs.Texts.{answer_text, TraceLine, Claim, Head, Reached, accepted}
+use Rattle.rams_model.specs.Texts.{answer_text, TraceLine, Reached, accepted}
 use Rattle.book_text.specs.{no_channel_line}
-use Rattle.book_text.specs.order_datagrams.{Renders}
 use Rattle.server_hub.specs.declared.event.At.{At}
 use Rattle.server_hub.specs.declared.event.HubEvent.{HubEvent}
 use Rattle.server_hub.specs.declared.event.HubAnswer.{HubAnswer}
-use Rattle.server_hub.specs.{StandsFor, Told, no_channel, says, told, answers_said, settings_of, refused as refused_add, served, after_event}
+use Rattle.server_hub.specs.{StandsFor, Told, no_channel, says, told, answers_said, settings_of, after_event}
 use Rattle.server_hub.specs.Seen.{Seen}
 use Rattle.server_hub.specs.Served.{Served}
 use Rattle.trace_loop.specs.trace_book.trace_serving.{Stage}
@@ -16,23 +15,9 @@ use Rattle.trace_loop.specs.trace_book.trace_serving.Text as text
 use Rattle.trace_loop.specs.declared.turn.Turn.{Turn}
 use Rattle.trace_loop.specs.{ending, written, Took as TookSo}
 use Rattle.trace_loop.specs.trace_book.{event_text}
-
--- what a trace's lines keep of a channel
-abbrev pub claim_of : Served → Claim
-claim_of c = record { id = c.settings.channel.id; share = c.settings.channel.share }
-
--- The hub of this head line stands for the channels, and counts their events.
-pub record Serves (v : Seen) (head : Head) (channels : List Served) (events : ℕ) : Type 0 where
-  pub stands : StandsFor v channels
-  pub tick : v.tick ≡ head.tick
-  pub link : v.link ≡ head.link
-  pub calls : v.calls ≡ events
-
--- there is a hub exactly where a head line came
-abbrev pub HubServes : Option Seen → Option Head → List Served → ℕ → Type 0
-HubServes None None channels events = (channels ≡ []) × (events ≡ 0)
-HubServes (Some v) (Some head) channels events = Serves v head channels events
-HubServes _ _ channels events = ⊥
+use Rattle.trace_loop.specs.head_loop.{claim_of}
+use Rattle.trace_loop.specs.journal_book.{AllRender}
+use Rattle.serve_loop.specs.standby.{HubServes}
 
 -- What stands before a line: a hub for the channels, so many events, and these lines.
 pub record Stands (hub : Option Seen) (events : ℕ) (reached : Reached) (stage : Stage (List Served)) : Type 0 where
@@ -56,10 +41,6 @@ abbrev pub told_text : Option Seen → ℕ → Told → List ℕ
 told_text hub event (no_channel id) = no_channel_line event id
 told_text hub event (says all) = flat_map (at_text hub event) all
 
--- the orders of an answer can be rendered
-abbrev pub AllRender : At → Type 0
-AllRender at = All Renders at.answer.orders
-
 -- those of all that is said can be
 abbrev pub SaidRender : HubAnswer → Type 0
 SaidRender a = All AllRender (answers_said (told a))
@@ -75,23 +56,6 @@ pub record CountsOne (old new : Seen) : Type 0 where
   pub tick : new.tick ≡ old.tick
   pub link : new.link ≡ old.link
   pub calls : new.calls ≡ old.calls + 1
-
--- a channel with these settings can be opened: they are of the hub's tick, and it fits the link beside the others
-pub record CanOpen (v : Seen) (s : Settings) : Type 0 where
-  pub tick : s.tick ≡ v.tick
-  pub fits : refused_add v s ≡ None
-
--- the channel was opened, beside the others
-pub record Opens (s : Settings) (old new : Seen) : Type 0 where
-  pub stands : (channels : List Served) → StandsFor old channels → StandsFor new (channels ++ served s [] ∷ [])
-  pub tick : new.tick ≡ old.tick
-  pub link : new.link ≡ old.link
-  pub calls : new.calls ≡ old.calls
-
--- the same of a hub that is there
-abbrev pub OpensIn : Settings → Option Seen → Option Seen → Type 0
-OpensIn s (Some old) (Some new) = Opens s old new
-OpensIn s _ _ = ⊥
 
 -- this line was accepted behind those of the stage
 pub record Comes (hub : Option Seen) (events : ℕ) (reached : Reached) (line : TraceLine) (stage : Stage (List Served)) : Type 0 where

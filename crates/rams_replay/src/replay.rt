@@ -9,7 +9,8 @@ ghost use Rattle.trace_loop.specs.trace_book.trace_serving.{Stage, opening, turn
 ghost use Rattle.trace_loop.specs.{StandsSomewhere, CanWrite, ending};
 ghost use Rattle.trace_loop.specs.declared.turn.Turn.TheVariants.{GoesOn};
 ghost use Rattle.trace_loop.specs.trace_book.{run};
-ghost use Rattle.rams_replay.specs.{Stands, Comes, CanOpen, OpensIn, CountsOne, Tells, Took, SaidRender, told_text};
+ghost use Rattle.trace_loop.specs.head_loop.{CanOpen, OpensIn};
+ghost use Rattle.rams_replay.specs.{Stands, Comes, CountsOne, Tells, Took, SaidRender, told_text};
 
 use crate::writer::write_said;
 use channel_config::Config;
@@ -17,11 +18,8 @@ use ram_io::{NoMemory, Sink};
 use rams_model::LineFault;
 use server_hub::{Heard, Hub, HubAnswer};
 use std::alloc::Global;
-use trace_loop::{Stop, TraceServer, Writer};
+use trace_loop::{MOST_EVENTS, Stop, TraceServer, Writer};
 use trace_text::{Judged, Line, Mode, State, decode_to};
-
-/// Most events of a trace.
-const MOST_EVENTS: u64 = 1_000_000;
 
 /// What a line of a trace for `run` does.
 type Turn = trace_loop::Turn<HubAnswer>;

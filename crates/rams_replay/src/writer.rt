@@ -8,7 +8,8 @@ ghost use Rattle.server_hub.specs.{told};
 ghost use Rattle.book_text.specs.{no_channel_line};
 ghost use Rattle.trace_loop.specs.{IsStoppedByWrite, OnlyMemoryStops, StopsIn};
 ghost use Rattle.book_text.specs.answer_text.{entry_text};
-ghost use Rattle.rams_replay.specs.{told_text, at_text, AllRender, SaidRender};
+ghost use Rattle.trace_loop.specs.journal_book.{AllRender};
+ghost use Rattle.rams_replay.specs.{told_text, at_text, SaidRender};
 
 use book_text::answer_text::{after, append_entry};
 use book_text::append_no_channel;

@@ -3,7 +3,8 @@ use Rattle.std.proofs.lemmas.List.Elements.{All-head}
 use Rattle.server_hub.specs.declared.event.HubAnswer.{HubAnswer}
 use Rattle.server_hub.specs.{told}
 use Rattle.trace_loop.specs.{StopsIn}
-use Rattle.rams_replay.specs.{AllRender, SaidRender, told_text}
+use Rattle.trace_loop.specs.journal_book.{AllRender}
+use Rattle.rams_replay.specs.{SaidRender, told_text}
 use Rattle.rams_replay.proofs.Telling.{one_is_told}
 use Rattle.rams_replay.proofs.writer.write_said.Goals as goal
 
