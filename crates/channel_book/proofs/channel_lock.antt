@@ -1,5 +1,7 @@
 pub mod Lists
 pub mod Beginnings
+pub mod Numbers
+pub mod Views
 pub mod Sums
 pub mod Drawing
 pub mod Serving

@@ -16,9 +16,6 @@ starts_empty log = record { rest = log; is = refl }
 pub starts_more : (log front more : List Entry) → StartsWith log front → StartsWith (log ++ more) front
 starts_more log front more st = record { rest = st.rest ++ more; is = ap (λ l. l ++ more) st.is ∙ append_assoc front st.rest more }
 
-pub starts_front : (front more : List Entry) → StartsWith (front ++ more) front
-starts_front front more = record { rest = more; is = refl }
-
 pub length_starts : (log front : List Entry) → StartsWith log front → length front ≤ length log
 length_starts log front st = omega (arith, ap length st.is, length-append front st.rest)
 
@@ -41,12 +38,6 @@ starts_shorter log a b sa sb le = shorter a b sa.rest sb.rest (sym sa.is ∙ sb.
 no_rest : (xs : List Entry) → length xs ≤ 0 → xs ≡ []
 no_rest [] h = refl
 no_rest (x ∷ xs) h = absurd (omega (arith, h))
-
--- a beginning that is as long is the whole
-pub starts_whole : (log front : List Entry) → StartsWith log front → length log ≤ length front → log ≡ front
-starts_whole log front st le =
-    let none : st.rest ≡ [] = no_rest st.rest (omega (arith, ap length st.is, length-append front st.rest, le)) in
-    st.is ∙ ap (λ r. front ++ r) none ∙ append-nil front
 
 -- ---- the calls of one list
 

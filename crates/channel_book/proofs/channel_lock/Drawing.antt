@@ -5,10 +5,11 @@ use mathlib.Core.Option.{none}
 use Rattle.atomic_table.specs.Table.{Allows, step, keeps}
 use Rattle.rams_model.specs.Service.{Settings}
 use Rattle.channel_book.specs.declared.channel_lock.turns.View.{View}
-use Rattle.channel_book.specs.channel_lock.Turns.{total, has_list, lists_of, calls_left, is_taken, among, has_ticket, waits, Turns}
+use Rattle.channel_book.specs.channel_lock.Turns.{has_list, lists_of, calls_left, is_taken, among, has_ticket, waits, Turns, Fits}
 use Rattle.channel_book.specs.channel_lock.Steps.{Mine, Drawn}
 use Rattle.channel_book.proofs.channel_lock.Lists.{total_set, term_le}
-use Rattle.channel_book.proofs.channel_lock.Sums.{fits_set}
+use Rattle.channel_book.specs.channel_lock.{total}
+use Rattle.channel_book.proofs.channel_lock.Views.{fits_set}
 
 drawn_tickets : (before after mine held serving ticket size n : ℕ) → mine ≡ 0 → held ≡ 0 → serving ≤ ticket → before ≡ waits serving ticket n
     → after + among mine held n ≡ before + among (ticket + 1) size n → after ≡ waits serving (ticket + size) n
@@ -43,7 +44,7 @@ draws s passes slots id size m no_ticket no_size free left owner st o count at f
         once = λ list. omega (arith, total_set (has_list list) st.views id v w at, o.once list);
         all = omega (arith, total_set lists_of st.views id v w at, o.all);
         others = λ list none. o.others list (omega (arith, total_set (has_list list) st.views id v w at, none));
-        fits = fits_set s o.log o.serving st.views id w (λ j u apart e. o.fits j u e) (record {
+        fits = fits_set (Fits s o.log o.serving) st.views id w (λ j u apart e. o.fits j u e) (record {
           settings = f.settings;
           seen = f.seen;
           told = f.told;

@@ -1,5 +1,5 @@
 -- The passes are given back, and the lock is closed.
-use Rattle.std.proofs.Common.{◌≡◌, ◌≢◌, ℕ, suc, ◌+◌, ◌<◌, ◌≤◌, List, [], ◌∷◌, ◌++◌, map, length, set, Option, refl, sym, ap, ◌∙◌, arith}
+use Rattle.std.proofs.Common.{◌≡◌, ◌≢◌, ℕ, suc, ◌+◌, ◌≤◌, List, [], ◌∷◌, ◌++◌, map, length, set, Option, refl, sym, ap, ◌∙◌, arith}
 use Rattle.std.specs.List.{AllByRecursion as Each}
 use Rattle.std.proofs.lemmas.Bool.Decides.{nat_tests}
 use Rattle.std.proofs.lemmas.List.{length-append}
@@ -12,18 +12,20 @@ use Rattle.rams_model.specs.Service.{Settings}
 use Rattle.channel_book.specs.declared.entry.Entry.{Entry}
 use Rattle.channel_book.specs.{IsLegal, calls_by, Kept}
 use Rattle.channel_book.specs.declared.channel_lock.turns.View.{View}
-use Rattle.channel_book.specs.channel_lock.Turns.{total, times, view, blank, gathering, has_list, lists_past, lists_of, is_taken, kept, IsPast, Turns}
+use Rattle.channel_book.specs.channel_lock.Turns.{view, blank, gathering, has_list, lists_past, lists_of, is_taken, kept, IsPast, Turns, Fits}
 use Rattle.channel_book.specs.channel_lock.Steps.{with_pass, Sat}
-use Rattle.channel_book.proofs.channel_lock.Lists.{times_append, two_le, all_zero}
-use Rattle.channel_book.proofs.channel_lock.Sums.{Count, of_calls, of_ticket, of_taken, of_list, of_lists, weight, stays, sums_snoc, sums_join, fits_set, fits_snoc, at_other}
+use Rattle.channel_book.proofs.channel_lock.Lists.{times_append, two_le, all_zero, no_times, stands_first}
+use Rattle.channel_book.proofs.channel_lock.Sums.{Count, of_calls, of_ticket, of_taken, of_list, of_lists, weight, stays}
 use Rattle.channel_book.proofs.channel_lock.Meeting.{fits_blank, weight_note}
+use Rattle.channel_book.specs.channel_lock.{total, times}
+use Rattle.channel_book.proofs.channel_lock.Views.{fits_set, fits_snoc, sums_join, sums_snoc, at_other}
 
 -- one comes who knows nothing
 pub sits : (s : Settings) (passes slots : ℕ) (first : View) → Enters (Turns s passes) slots 0 (λ n w. Sat (step slots 0 0 0 none) (first, []) n (w, []))
 sits s passes slots first st o count fit = (
   blank,
-  stays s passes st o st.words (st.views ++ blank ∷ []) o.words (sums_snoc st.views blank (λ k. weight_note k _ []))
-      (fits_snoc s o.log o.serving st.views blank o.fits (fits_blank s o.log o.serving)),
+  stays s passes st o st.words (st.views ++ blank ∷ []) o.words (sums_snoc weight st.views blank (λ k. weight_note k _ []))
+      (fits_snoc (Fits s o.log o.serving) st.views blank o.fits (fits_blank s o.log o.serving)),
   refl,
 )
 
@@ -47,9 +49,6 @@ weight_given past left config list log more (of_list l) =
     omega (arith, ap (times l) (map_past past (list, log)), times_append l (map (λ (q : ℕ × List Entry). q.0) past) (list ∷ []))
 weight_given past left config list log more of_lists = omega (arith, length-append past ((list, log) ∷ []))
 
-pub stands_alone : (list : ℕ) → 0 < times list (list ∷ [])
-stands_alone list = grind (arith, nat_tests)
-
 -- a pass is given back
 pub gives_back : (s : Settings) (passes id other : ℕ) (past : List (ℕ × List Entry)) (left : ℕ) (config : Option Settings) (list : ℕ) (log : List Entry) (more : ℕ)
     → Joins (Turns s passes) id (gathering past left) other (given config list log more) (with_pass (gathering past left) (given config list log more)) blank
@@ -60,24 +59,20 @@ gives_back s passes id other past left config list log more st o at apart there 
     let f = o.fits id v at in
     let g = o.fits other w (at_other st.views id other both w apart there) in
     stays s passes st o st.words (set (set st.views id both) other blank) o.words
-    (sums_join st.views id other v w both blank at there (weight_given past left config list log more))
-    (fits_set s o.log o.serving (set st.views id both) other blank
-    (λ j u other' e. fits_set s o.log o.serving st.views id both (λ i x apart' e'. o.fits i x e') (record {
+    (sums_join weight st.views id other v w both blank at there (weight_given past left config list log more))
+    (fits_set (Fits s o.log o.serving) (set st.views id both) other blank
+    (λ j u other' e. fits_set (Fits s o.log o.serving) st.views id both (λ i x apart' e'. o.fits i x e') (record {
       settings = f.settings;
       seen = f.seen;
       told = f.told;
       own = λ l some. absurd (omega (arith, some));
-      past = each_snoc o.log past (list, log) f.past (record { starts = g.seen; own = g.own list (stands_alone list) });
+      past = each_snoc o.log past (list, log) f.past (record { starts = g.seen; own = g.own list (stands_first list []) });
       turn = λ t. absurd (omega (arith, t));
       idle = λ e. (refl, refl);
     }) j u e)
     (fits_blank s o.log o.serving))
 
 -- ---- the end
-
-no_times : (list : ℕ) (xs : List ℕ) → length xs ≡ 0 → times list xs ≡ 0
-no_times list [] e = refl
-no_times list (x ∷ xs) e = absurd (omega (arith, e))
 
 length_past : (past : List (ℕ × List Entry)) → length (map (λ (q : ℕ × List Entry). q.0) past) ≡ length past
 length_past [] = refl

@@ -1,8 +1,9 @@
 -- Sums over views, and how often a number stands in a list.
-use Rattle.std.proofs.Common.{◌≡◌, ◌≢◌, ℕ, zero, suc, ◌+◌, ◌<◌, ◌≤◌, List, [], ◌∷◌, ◌++◌, set, ap, sym, arith, refl}
+use Rattle.std.proofs.Common.{◌≡◌, ◌≢◌, ℕ, zero, suc, ◌+◌, ◌<◌, ◌≤◌, List, [], ◌∷◌, ◌++◌, length, set, ap, sym, arith, refl}
+use Rattle.std.proofs.lemmas.Bool.Decides.{nat_tests}
 use mathlib.Core.Option.{some, some-injective, some-ne-none}
 use lib.ListN.{get_elem?}
-use Rattle.channel_book.specs.channel_lock.Turns.{total, times}
+use Rattle.channel_book.specs.channel_lock.{total, times}
 
 module _ {A : Type 0} (f : A → ℕ) where
   pub total_set : (xs : List A) (i : ℕ) (a b : A) → get_elem? xs i ≡ some a → total f (set xs i b) + f a ≡ total f xs + f b
@@ -31,6 +32,13 @@ module _ {A : Type 0} (f : A → ℕ) where
   all_zero [] none = refl
   all_zero (x ∷ xs) none = omega (arith, none 0 x refl, all_zero xs (λ i a at. none (suc i) a at))
 
+  -- where all others count nothing
+  pub only_one : (xs : List A) (i : ℕ) (a : A) → get_elem? xs i ≡ some a → ((j : ℕ) (b : A) → j ≢ i → get_elem? xs j ≡ some b → f b ≡ 0) → total f xs ≡ f a
+  only_one [] i a at none = absurd (some-ne-none a (sym at))
+  only_one (x ∷ xs) zero a at none = omega (arith, ap f (some-injective x a at), all_zero xs (λ j b there. none (suc j) b (λ e. absurd (omega (arith, e))) there))
+  only_one (x ∷ xs) (suc i) a at none =
+      omega (arith, none 0 x (λ e. absurd (omega (arith, e))) refl, only_one xs i a at (λ j b apart there. none (suc j) b (λ e. apart (omega (arith, e))) there))
+
 module _ {A : Type 0} (f g : A → ℕ) where
   pub total_le : (xs : List A) → ((i : ℕ) (a : A) → get_elem? xs i ≡ some a → f a ≤ g a) → total f xs ≤ total g xs
   total_le [] each = omega arith
@@ -46,3 +54,10 @@ module _ {A : Type 0} (f g : A → ℕ) where
 pub times_append : (n : ℕ) (xs ys : List ℕ) → times n (xs ++ ys) ≡ times n xs + times n ys
 times_append n [] ys = omega arith
 times_append n (x ∷ xs) ys = omega (arith, times_append n xs ys)
+
+pub no_times : (n : ℕ) (xs : List ℕ) → length xs ≡ 0 → times n xs ≡ 0
+no_times n [] e = refl
+no_times n (x ∷ xs) e = absurd (omega (arith, e))
+
+pub stands_first : (n : ℕ) (xs : List ℕ) → 0 < times n (n ∷ xs)
+stands_first n xs = grind (arith, nat_tests)

@@ -9,10 +9,12 @@ use Rattle.rams_model.specs.Service.{Settings}
 use Rattle.channel_book.specs.declared.entry.Entry.{Entry}
 use Rattle.channel_book.specs.{IsLegal, calls_by, StartsWith, Kept}
 use Rattle.channel_book.specs.declared.channel_lock.turns.View.{View}
-use Rattle.channel_book.specs.channel_lock.Turns.{view, blank, times, Fits, Turns}
+use Rattle.channel_book.specs.channel_lock.Turns.{view, blank, Fits, Turns}
 use Rattle.channel_book.specs.channel_lock.Steps.{Mine, note_of, told, Learnt}
 use Rattle.channel_book.proofs.channel_lock.Beginnings.{starts_same, starts_empty, starts_shorter, legal_starts, calls_between}
-use Rattle.channel_book.proofs.channel_lock.Sums.{Count, of_calls, of_ticket, of_taken, of_list, of_lists, weight, stays, sums_set, sums_cut, sums_join, fits_set, fits_snoc, at_other}
+use Rattle.channel_book.proofs.channel_lock.Sums.{Count, of_calls, of_ticket, of_taken, of_list, of_lists, weight, stays}
+use Rattle.channel_book.specs.channel_lock.{times}
+use Rattle.channel_book.proofs.channel_lock.Views.{fits_set, fits_snoc, sums_set, sums_cut, sums_join, at_other}
 
 no_settings : (t : Settings) → None ≡ Some t → ⊥
 no_settings t e = cc
@@ -44,8 +46,8 @@ pub notes : (s : Settings) (passes id : ℕ) (v : View) → Splits (Turns s pass
 notes s passes id v st o at =
     let f = o.fits id v at in
     stays s passes st o st.words (set st.views id v ++ note_of v ∷ []) o.words
-    (sums_cut st.views id v v (note_of v) at (λ k. omega (arith, weight_note k v.config v.log)))
-    (fits_snoc s o.log o.serving (set st.views id v) (note_of v) (fits_set s o.log o.serving st.views id v (λ j u apart e. o.fits j u e) f) (record {
+    (sums_cut weight st.views id v v (note_of v) at (λ k. omega (arith, weight_note k v.config v.log)))
+    (fits_snoc (Fits s o.log o.serving) (set st.views id v) (note_of v) (fits_set (Fits s o.log o.serving) st.views id v (λ j u apart e. o.fits j u e) f) (record {
       settings = f.settings;
       seen = f.seen;
       told = starts_empty o.log;
@@ -70,9 +72,9 @@ tells s passes id other v config log st o at apart there =
     let both : View = told v (note config log) in
     let g = o.fits other (note config log) (at_other st.views id other both (note config log) apart there) in
     stays s passes st o st.words (set (set st.views id both) other blank) o.words
-    (sums_join st.views id other v (note config log) both blank at there (λ k. omega (arith, weight_told k v (note config log), weight_note k config log, weight_note k None [])))
-    (fits_set s o.log o.serving (set st.views id both) other blank
-    (λ j u other' e. fits_set s o.log o.serving st.views id both (λ i x apart' e'. o.fits i x e') (record {
+    (sums_join weight st.views id other v (note config log) both blank at there (λ k. omega (arith, weight_told k v (note config log), weight_note k config log, weight_note k None [])))
+    (fits_set (Fits s o.log o.serving) (set st.views id both) other blank
+    (λ j u other' e. fits_set (Fits s o.log o.serving) st.views id both (λ i x apart' e'. o.fits i x e') (record {
       settings = f.settings;
       seen = f.seen;
       told = g.seen;
@@ -106,7 +108,7 @@ knows s passes slots id m free st o at log whole starts other one =
       keeps,
       tt,
       stays s passes st o (set st.words 0 (get_or st.words 0 0)) (set st.views id w) (ap (λ (ws : List ℕ). set ws 0 (get_or ws 0 0)) o.words)
-          (sums_set st.views id v w at (weight_learnt v log)) (fits_set s o.log o.serving st.views id w (λ j u apart e. o.fits j u e) (record {
+          (sums_set weight st.views id v w at (weight_learnt v log)) (fits_set (Fits s o.log o.serving) st.views id w (λ j u apart e. o.fits j u e) (record {
             settings = f.settings;
             seen = whole;
             told = starts_empty o.log;

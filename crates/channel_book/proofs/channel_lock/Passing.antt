@@ -10,18 +10,16 @@ use Rattle.rams_model.specs.Service.{Settings}
 use Rattle.channel_book.specs.declared.entry.Entry.{Entry}
 use Rattle.channel_book.specs.{IsLegal, calls_by, StartsWith, Kept}
 use Rattle.channel_book.specs.declared.channel_lock.turns.View.{View}
-use Rattle.channel_book.specs.channel_lock.Turns.{total, times, has_list, lists_of, calls_left, is_taken, among, has_ticket, waits, kept, IsPast, Fits, Turns}
+use Rattle.channel_book.specs.channel_lock.Turns.{has_list, lists_of, calls_left, is_taken, among, has_ticket, waits, kept, IsPast, Fits, Turns}
 use Rattle.channel_book.specs.channel_lock.Steps.{Mine, Grew, PassedOn}
-use Rattle.channel_book.proofs.channel_lock.Lists.{total_set, term_le, two_le}
+use Rattle.channel_book.proofs.channel_lock.Lists.{total_set, term_le, two_le, stands_first}
 use Rattle.channel_book.proofs.channel_lock.Beginnings.{starts_same}
-use Rattle.channel_book.proofs.channel_lock.Sums.{fits_set}
 use Rattle.channel_book.proofs.channel_lock.Serving.{was_drawn}
+use Rattle.channel_book.specs.channel_lock.{total, times}
+use Rattle.channel_book.proofs.channel_lock.Views.{fits_set}
 
 starts_grown : (log new more front : List Entry) → new ≡ log ++ more → StartsWith log front → StartsWith new front
 starts_grown log new more front is st = record { rest = st.rest ++ more; is = is ∙ ap (λ (l : List Entry). l ++ more) st.is ∙ append_assoc front st.rest more }
-
-stands_first : (list : ℕ) (xs : List ℕ) → 0 < times list (list ∷ xs)
-stands_first list xs = grind (arith, nat_tests)
 
 -- no pass that was given back made the call
 past_grown : (log new more : List Entry) → new ≡ log ++ more → (ps : List (ℕ × List Entry))
@@ -93,7 +91,7 @@ passes_on s passes id v book taken grew st o count at fit =
         others = λ list none.
             let before : total (has_list list) st.views ≡ 0 = omega (arith, total_set (has_list list) st.views id v w at, none) in
             own list (omega (arith, term_le (has_list list) st.views id v at, before)) ∙ o.others list before;
-        fits = fits_set s book.entries (o.serving + v.size) st.views id w
+        fits = fits_set (Fits s book.entries (o.serving + v.size)) st.views id w
             (λ j u apart there. fits_grown s o.log book.entries grew.more o.serving (o.serving + v.size) u is
             (omega (arith, two_le is_taken st.views j id u v apart there at, o.out, taken))
             (λ list some. own list (omega (arith, two_le (has_list list) st.views j id u v apart there at, o.once list, some)))

@@ -4,12 +4,12 @@ use Rattle.rams_model.specs.Service.{Answered, Settings}
 use Rattle.rams_model.specs.declared.event.Event.{Event}
 use Rattle.channel_book.specs.declared.entry.Entry.{Entry}
 use Rattle.channel_book.specs.{IsLegal, StartsWith, calls_by, HasTaken, HasTakenFront, HasAnsweredAll, HasAnsweredFront}
-use Rattle.channel_book.specs.channel_lock.Turns.{times}
 use Rattle.channel_book.specs.channel_lock.Steps.{IsServed, Mine, rested}
 use Rattle.channel_book.specs.channel_lock.Passes.{IsAtRest, waiting}
 use Rattle.channel_book.proofs.channel_lock.Calling.{at_rest}
-use Rattle.channel_book.proofs.channel_lock.Gathering.{stands_alone}
 use Rattle.channel_book.proofs.channel_lock.Taking.{told_all, told_front}
+use Rattle.channel_book.specs.channel_lock.{times}
+use Rattle.channel_book.proofs.channel_lock.Lists.{stands_first}
 
 module _ (s : Settings) (list seen ticket size : ℕ) (me drawn served done : Mine) (r : IsAtRest s list seen me) (d : drawn ≡ (record me.0 { left = me.0.left - size; ticket = ticket; size = size }, me.1))
     (v : IsServed s drawn served) (w : done ≡ (rested served.0 done.0.log, [])) where
@@ -32,7 +32,7 @@ module _ (s : Settings) (list seen ticket size : ℕ) (me drawn served done : Mi
 
   own : calls_by list served.0.log ≡ calls_by list me.0.log
   own =
-      let has : 0 < times list drawn.0.owns = subst (λ (xs : List ℕ). 0 < times list xs) (sym (ap (λ (m : Mine). m.0.owns) drawn_is)) (stands_alone list) in
+      let has : 0 < times list drawn.0.owns = subst (λ (xs : List ℕ). 0 < times list xs) (sym (ap (λ (m : Mine). m.0.owns) drawn_is)) (stands_first list []) in
       ap (calls_by list) served_log ∙ (v.own list has ∙ ap (λ (m : Mine). calls_by list m.0.log) drawn_is)
 
   pub told_whole : (events : List Event) (place : ℕ) (answers : List Answered) → place ≡ length served.0.log → HasTaken list events served.0.log answers done.0.log → HasAnsweredAll list events me.0.log place answers done.0.log

@@ -8,11 +8,13 @@ use Rattle.atomic_table.specs.Table.{State, Act, Valid, Allows, step, stepped, c
 use Rattle.rams_model.specs.Service.{Settings}
 use Rattle.channel_book.specs.{IsLegal, Kept}
 use Rattle.channel_book.specs.declared.channel_lock.turns.View.{View}
-use Rattle.channel_book.specs.channel_lock.Turns.{total, has_list, lists_of, calls_left, is_taken, among, has_ticket, waits, kept, Turns}
+use Rattle.channel_book.specs.channel_lock.Turns.{has_list, lists_of, calls_left, is_taken, among, has_ticket, waits, kept, Turns, Fits}
 use Rattle.channel_book.specs.channel_lock.Steps.{Mine, IsServed, Looked}
 use Rattle.channel_book.proofs.channel_lock.Lists.{total_set, term_le, total_less}
 use Rattle.channel_book.proofs.channel_lock.Beginnings.{starts_same}
-use Rattle.channel_book.proofs.channel_lock.Sums.{stays, sums_set, fits_set}
+use Rattle.channel_book.proofs.channel_lock.Sums.{stays, weight}
+use Rattle.channel_book.specs.channel_lock.{total}
+use Rattle.channel_book.proofs.channel_lock.Views.{fits_set, sums_set}
 
 first_among : (ticket size serving : ℕ) → ticket ≡ serving + 1 → 0 < size → among ticket size serving ≡ 1
 first_among ticket size serving is filled = grind (arith, nat_tests)
@@ -82,7 +84,7 @@ serves s passes slots id m st o at mine some_tickets free room =
         once = λ list. omega (arith, total_set (has_list list) st.views id v w at, o.once list);
         all = omega (arith, total_set lists_of st.views id v w at, o.all);
         others = λ list none. o.others list (omega (arith, total_set (has_list list) st.views id v w at, none));
-        fits = fits_set s o.log o.serving st.views id w (λ j u apart e. o.fits j u e) (record {
+        fits = fits_set (Fits s o.log o.serving) st.views id w (λ j u apart e. o.fits j u e) (record {
           settings = f.settings;
           seen = starts_same o.log;
           told = f.told;
@@ -117,7 +119,7 @@ looks_at s passes slots id m some_tickets free some_slot st o count at false is 
   keeps,
   tt,
   stays s passes st o (set st.words 1 (get_or st.words 1 0)) (set st.views id m.0) (ap (λ (ws : List ℕ). set ws 1 (get_or ws 1 0)) o.words)
-      (sums_set st.views id m.0 m.0 at (λ k. refl)) (fits_set s o.log o.serving st.views id m.0 (λ j u apart e. o.fits j u e) (o.fits id m.0 at)),
+      (sums_set weight st.views id m.0 m.0 at (λ k. refl)) (fits_set (Fits s o.log o.serving) st.views id m.0 (λ j u apart e. o.fits j u e) (o.fits id m.0 at)),
   λ x known. subst (λ (b : Bool). MatchBool b (IsServed x m m) (m ≡ m)) (sym is) refl,
 )
 

@@ -8,9 +8,9 @@ use Rattle.rams_model.specs.Service.{Answered}
 use Rattle.channel_book.specs.declared.entry.Entry.{Entry}
 use Rattle.channel_book.specs.{IsLegal, calls_by, Kept, StartsWith, HasTaken, HasTakenFront, HasAnsweredAll, HasAnsweredFront}
 use Rattle.channel_book.specs.declared.channel_lock.turns.View.{View}
-use Rattle.channel_book.specs.channel_lock.Turns.{times}
 use Rattle.channel_book.specs.channel_lock.Steps.{Grew}
-use Rattle.channel_book.proofs.channel_lock.Beginnings.{calls_append, starts_same, starts_more}
+use Rattle.channel_book.proofs.channel_lock.Beginnings.{calls_append, starts_more}
+use Rattle.channel_book.specs.channel_lock.{times}
 
 calls_le : (list : ℕ) (xs : List Entry) → length (calls_by list xs) ≤ length xs
 calls_le list [] = omega arith
@@ -103,12 +103,3 @@ module _ (list : ℕ) (events : List Event) (seen log new : List Entry) (st : St
     own = grown_calls t.made t.own t.history;
     starts = subst (λ (l : List Entry). StartsWith l seen) (sym t.history) (starts_more log seen t.made st);
   }
-
-pub told_none : (list : ℕ) (events : List Event) (seen : List Entry) → HasAnsweredFront list events seen seen
-told_none list events seen = record {
-  made = [];
-  rest = events;
-  front = refl;
-  own = sym (append-nil (calls_by list seen));
-  starts = starts_same seen;
-}

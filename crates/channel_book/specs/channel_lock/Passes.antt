@@ -5,8 +5,9 @@ use Rattle.rams_model.specs.Service.{Settings}
 use Rattle.channel_book.specs.declared.entry.Entry.{Entry}
 use Rattle.channel_book.specs.{IsLegal, calls_by, StartsWith}
 use Rattle.channel_book.specs.declared.channel_lock.turns.View.{View}
-use Rattle.channel_book.specs.channel_lock.Turns.{view, numbers}
+use Rattle.channel_book.specs.channel_lock.Turns.{view}
 use Rattle.channel_book.specs.channel_lock.Steps.{Mine}
+use Rattle.channel_book.specs.channel_lock.Counts.{numbers}
 
 -- what is known of a pass
 pub record Known : Type 0 where

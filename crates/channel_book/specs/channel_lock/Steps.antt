@@ -6,7 +6,8 @@ use Rattle.rams_model.specs.Service.{Settings}
 use Rattle.channel_book.specs.declared.entry.Entry.{Entry}
 use Rattle.channel_book.specs.{IsLegal, calls_by, StartsWith, Kept}
 use Rattle.channel_book.specs.declared.channel_lock.turns.View.{View}
-use Rattle.channel_book.specs.channel_lock.Turns.{view, blank, times, kept}
+use Rattle.channel_book.specs.channel_lock.Turns.{view, blank, kept}
+use Rattle.channel_book.specs.channel_lock.Counts.{times}
 
 abbrev pub Mine : Type 0
 Mine = Me Kept View

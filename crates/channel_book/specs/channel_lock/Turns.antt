@@ -1,5 +1,5 @@
 -- What each caller of a lock knows, and what holds of all of it between any two steps.
-use Rattle.std.specs.Prelude.{◌≡◌, ℕ, zero, suc, ◌+◌, ◌^◌, ◌<◌, ◌≤◌, ◌==◌, nat_lt, if◌then◌else◌, List, [], ◌∷◌, map, length, Option, Some, None}
+use Rattle.std.specs.Prelude.{◌≡◌, ℕ, ◌+◌, ◌^◌, ◌<◌, ◌≤◌, nat_lt, if◌then◌else◌, List, [], ◌∷◌, map, length, Option, Some, None}
 use Rattle.std.specs.List.{AllByRecursion as Each}
 use mathlib.Core.Option.{some}
 use lib.ListN.{get_elem?}
@@ -8,18 +8,7 @@ use Rattle.rams_model.specs.Service.{Settings}
 use Rattle.channel_book.specs.declared.entry.Entry.{Entry}
 use Rattle.channel_book.specs.{IsLegal, calls_by, StartsWith, Kept}
 use Rattle.channel_book.specs.declared.channel_lock.turns.View.{View}
-
--- ---- sums
-
--- what f is of each, added up
-abbrev pub total : {A : Type 0} → (A → ℕ) → List A → ℕ
-total f [] = 0
-total f (x ∷ xs) = f x + total f xs
-
--- how often a number stands in a list
-abbrev pub times : ℕ → List ℕ → ℕ
-times n [] = 0
-times n (x ∷ xs) = (if x == n then 1 else 0) + times n xs
+use Rattle.channel_book.specs.channel_lock.Counts.{total, times, numbers}
 
 -- ---- views
 
@@ -39,11 +28,6 @@ view config log told owns past left ticket size taken = record {
 -- the view of one that knows nothing
 abbrev pub blank : View
 blank = view None [] [] [] [] 0 0 0 0
-
--- so many numbers from the first on
-abbrev pub numbers : ℕ → ℕ → List ℕ
-numbers first zero = []
-numbers first (suc n) = first ∷ numbers (first + 1) n
 
 -- the view of one from whom the passes of these lists are still to be cut off
 abbrev pub dealing : Settings → List ℕ → ℕ → View

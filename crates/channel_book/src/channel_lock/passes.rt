@@ -1,7 +1,7 @@
 //! The passes of a lock, as they are made and given back.
 ghost use Rattle.std.specs.Prelude.{◌≡◌, ℕ, ◌^◌, ◌<◌, ◌≤◌, [], All, vec_len, vec_capacity};
-ghost use Rattle.channel_book.specs.channel_lock.{fresh};
-ghost use Rattle.channel_book.specs.channel_lock.Turns.{numbers, dealing, gathering};
+ghost use Rattle.channel_book.specs.channel_lock.{fresh, numbers};
+ghost use Rattle.channel_book.specs.channel_lock.Turns.{dealing, gathering};
 ghost use Rattle.channel_book.specs.channel_lock.Passes.{pasts_of};
 
 use crate::Config;

@@ -14,13 +14,14 @@ use Rattle.atomic_table.specs.Table.{Final, Seen}
 use Rattle.pool.specs.declared.link_pool.claim.Claim.{Claim}
 use Rattle.pool.specs.declared.link_pool.link.View.{View}
 use Rattle.pool.specs.link_pool.Claims.{claims_of, claimed, Adjoin, Fill, PaidWithin}
-use Rattle.pool.specs.link_pool.Sharing.{total, times, granting, takers_of, has_taker, Fair}
+use Rattle.pool.specs.link_pool.Sharing.{granting, takers_of, has_taker, Fair}
 use Rattle.pool.specs.link_pool.Steps.{Mine}
 use Rattle.pool.specs.link_pool.Parties.{Claimer, claims_given, numbers_given, NotAmong, Carry, Carries, HasGathered}
-use Rattle.pool.proofs.link_pool.Lists.{two_le, only_one}
 use Rattle.pool.proofs.link_pool.Filling.{fill_from, paid_within, none_before, none_behind}
 use Rattle.pool.proofs.link_pool.Ordering.{many_same, many_permuted, rising_from, one_order}
 use Rattle.pool.proofs.link_pool.Granting.{granted_alone}
+use Rattle.channel_book.specs.channel_lock.{total, times}
+use Rattle.channel_book.proofs.channel_lock.Lists.{two_le, only_one, no_times, stands_first}
 
 -- ---- the claims of one taker among those of several
 
@@ -46,9 +47,6 @@ none_given number (t ∷ takers) each none =
     none_before number t.claims (claims_given takers) (keeps_none number t.number t.claims each.0 (here number t.number (numbers_given takers) none))
     ∙ none_given number takers each.1 (omega (arith, none))
 
-first_here : (n : ℕ) (later : List ℕ) → 0 < times n (n ∷ later)
-first_here n later = grind (arith, nat_tests)
-
 not_later : (n : ℕ) (later : List ℕ) → times n (n ∷ later) ≤ 1 → times n later ≡ 0
 not_later n later once = grind (arith, nat_tests)
 
@@ -61,7 +59,7 @@ own_from : (before : List Claim) (takers : List Claimer) → Each Carries takers
 own_from before [] each once none = tt
 own_from before (t ∷ takers) each once none =
     let later = numbers_given takers in (
-      none_before t.number before (t.claims ++ claims_given takers) (none t.number (first_here t.number later))
+      none_before t.number before (t.claims ++ claims_given takers) (none t.number (stands_first t.number later))
           ∙ (none_behind t.number t.claims (claims_given takers) (none_given t.number takers each.1 (not_later t.number later (once t.number))) ∙ keeps_own t.number t.claims each.0),
       subst (λ (l : List Claim). Each (λ (u : Claimer). claims_of u.number l ≡ u.claims) takers) (append_assoc before t.claims (claims_given takers))
           (own_from (before ++ t.claims) takers each.1 (λ n. omega (arith, once n))
@@ -86,10 +84,6 @@ record IsWhole (granted : ℕ) (owns : List ℕ) (claims : List Claim) (words : 
   pub most : claimed drawn ≤ 2 ^ 54
   pub each : (number : ℕ) → claims_of number claims ≡ claims_of number drawn
   pub once : (number : ℕ) → times number owns ≤ 1
-
-no_times : (number : ℕ) (xs : List ℕ) → length xs ≡ 0 → times number xs ≡ 0
-no_times number [] e = refl
-no_times number (x ∷ xs) e = absurd (omega (arith, e))
 
 whole : (takers id granted : ℕ) (owns : List ℕ) (claims : List Claim) (left : ℕ) (words : List ℕ) (slots : List (Unit {0})) → takers ≤ length owns
     → Final (Seen (Fair takers) id (granting granted owns claims left)) words slots → IsWhole granted owns claims words

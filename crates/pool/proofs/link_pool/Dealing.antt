@@ -1,6 +1,5 @@
 -- A link begins, and its takers are cut off.
-use Rattle.std.proofs.Common.{◌≡◌, ℕ, zero, suc, ◌+◌, ◌-◌, ◌^◌, ◌<◌, ◌≤◌, List, [], ◌∷◌, ◌++◌, map, length, set, refl, sym, ap, ◌∙◌, subst, arith}
-use Rattle.std.proofs.lemmas.Bool.Decides.{nat_tests}
+use Rattle.std.proofs.Common.{◌≡◌, ℕ, zero, suc, ◌+◌, ◌-◌, ◌^◌, ◌≤◌, List, [], ◌∷◌, ◌++◌, map, set, refl, sym, ap, ◌∙◌, subst, arith}
 use Rattle.std.proofs.lemmas.List.{map-append}
 use mathlib.Core.Option.{some, some-injective, some-ne-none}
 use lib.ListN.{get_elem?}
@@ -8,37 +7,13 @@ use Rattle.atomic_table.specs.Seated.{TableId}
 use Rattle.atomic_table.specs.Table.{opening, Splits}
 use Rattle.pool.specs.declared.link_pool.claim.Claim.{Claim}
 use Rattle.pool.specs.declared.link_pool.link.View.{View}
-use Rattle.pool.specs.link_pool.Sharing.{times, numbers, granting, taking, first_view, Fits, Fair}
+use Rattle.pool.specs.link_pool.Sharing.{granting, taking, first_view, Fits, Fair}
 use Rattle.pool.specs.link_pool.Steps.{Mine, undealt, dealt}
 use Rattle.pool.specs.link_pool.Parties.{Claimer, claimer, fresh_takers, IsTaker}
-use Rattle.pool.proofs.link_pool.Sums.{Count, of_ticker, of_grants, of_left, of_taker, of_takers, weight, stays, sums_cut, fits_set, fits_snoc}
-
--- ---- the numbers from one on
-
-length_numbers : (first n : ℕ) → length (numbers first n) ≡ n
-length_numbers first zero = refl
-length_numbers first (suc n) = ap suc (length_numbers (first + 1) n)
-
-none_below : (number first n : ℕ) → number < first → times number (numbers first n) ≡ 0
-none_below number first zero below = refl
-none_below number first (suc n) below = let later = none_below number (first + 1) n (omega (arith, below)) in grind (arith, nat_tests)
-
-not_again : (number first n : ℕ) → number ≡ first → times number (numbers (first + 1) n) ≡ 0
-not_again number first n is = none_below number (first + 1) n (omega (arith, is))
-
-stands_once : (number first n : ℕ) → times number (numbers first n) ≤ 1
-stands_once number first zero = omega arith
-stands_once number first (suc n) = let later = stands_once number (first + 1) n in let here = not_again number first n in grind (arith, nat_tests)
-
-pub numbers_next : (number count : ℕ) → number < count → numbers number (count - number) ≡ number ∷ numbers (number + 1) (count - (number + 1))
-numbers_next number count less = let e : count - number ≡ suc (count - (number + 1)) = omega (arith, less) in ap (numbers number) e
-
-numbers_snoc : (first n : ℕ) → numbers first (n + 1) ≡ numbers first n ++ (first + n) ∷ []
-numbers_snoc first zero = ap (λ (k : ℕ). k ∷ []) (omega arith)
-numbers_snoc first (suc n) =
-    let e : first + 1 + n ≡ first + suc n = omega arith in
-    let more : suc n + 1 ≡ suc (n + 1) = omega arith in
-    ap (numbers first) more ∙ ap (λ (l : List ℕ). first ∷ l) (numbers_snoc (first + 1) n ∙ ap (λ (k : ℕ). numbers (first + 1) n ++ k ∷ []) e)
+use Rattle.pool.proofs.link_pool.Sums.{Count, of_ticker, of_grants, of_left, of_taker, of_takers, weight, stays}
+use Rattle.channel_book.specs.channel_lock.{numbers}
+use Rattle.channel_book.proofs.channel_lock.Numbers.{length_numbers, stands_once, numbers_snoc}
+use Rattle.channel_book.proofs.channel_lock.Views.{fits_set, fits_snoc, sums_cut}
 
 pub fresh_snoc : (pool : TableId) (n : ℕ) → fresh_takers pool (n + 1) ≡ fresh_takers pool n ++ claimer pool n [] ∷ []
 fresh_snoc pool n =
@@ -87,8 +62,8 @@ deals takers id number owns left enough st o at =
     let f = o.fits id v at in
     let rest : View = undealt v in
     let new : View = dealt v in
-    stays takers st o (set st.views id rest ++ new ∷ []) (sums_cut st.views id v rest new at (weight_dealt number owns left enough))
-    (fits_snoc o.drawn (set st.views id rest) new (fits_set o.drawn st.views id rest (λ j u apart e. o.fits j u e) (record {
+    stays takers st o (set st.views id rest ++ new ∷ []) (sums_cut weight st.views id v rest new at (weight_dealt number owns left enough))
+    (fits_snoc (Fits o.drawn) (set st.views id rest) new (fits_set (Fits o.drawn) st.views id rest (λ j u apart e. o.fits j u e) (record {
       own = λ n some. f.own n (omega (arith, some));
       alone = λ n none. refl;
       idle = λ e. refl;

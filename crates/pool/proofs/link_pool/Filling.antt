@@ -7,8 +7,8 @@ use Rattle.std.proofs.lemmas.List.Sums.{sum_by-cons}
 use Rattle.std.proofs.lemmas.List.Elements.{filter-append}
 use Rattle.pool.specs.declared.link_pool.claim.Claim.{Claim}
 use Rattle.pool.specs.link_pool.Claims.{claim, is_of, claims_of, bytes_of, claimed, Adjoin, has_byte, Fill, is_paid, PaidWithin}
-use Rattle.pool.specs.link_pool.Sharing.{total, times}
-use Rattle.pool.proofs.link_pool.Lists.{sum_total}
+use Rattle.channel_book.specs.channel_lock.{total, times}
+use Rattle.pool.proofs.link_pool.Sums.{sum_total}
 
 -- ---- claims that adjoin
 
@@ -24,9 +24,6 @@ adjoin_snoc first taker from bytes (x ∷ xs) is some adjoin = (
 byte_once : (byte first from bytes later count : ℕ) → from ≡ first → count ≡ (if nat_le (first + bytes) byte && nat_lt byte (first + bytes + later) then 1 else 0)
     → (if nat_le from byte && nat_lt byte (from + bytes) then 1 else 0) + count ≡ (if nat_le first byte && nat_lt byte (first + (bytes + later)) then 1 else 0)
 byte_once byte first from bytes later count is rest = grind (arith, nat_tests)
-
-hit : ℕ → Claim → ℕ
-hit byte c = cond (has_byte byte c) 1 0
 
 once_from : (byte first : ℕ) (xs : List Claim) → Adjoin first xs → total (λ (c : Claim). cond (has_byte byte c) 1 0) xs ≡ (if nat_le first byte && nat_lt byte (first + total bytes_of xs) then 1 else 0)
 once_from byte first [] adjoin = grind (arith, nat_tests)

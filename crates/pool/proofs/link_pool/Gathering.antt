@@ -8,12 +8,14 @@ use native.Mathlib.Decide.{ℕ_discrete}
 use Rattle.atomic_table.specs.Table.{Joins}
 use Rattle.pool.specs.declared.link_pool.claim.Claim.{Claim}
 use Rattle.pool.specs.declared.link_pool.link.View.{View}
-use Rattle.pool.specs.link_pool.Sharing.{times, blank, granting, taking, has_taker, Fits, Fair}
+use Rattle.pool.specs.link_pool.Sharing.{blank, granting, taking, has_taker, Fits, Fair}
 use Rattle.pool.specs.link_pool.Steps.{Mine, with_taker}
 use Rattle.pool.specs.link_pool.Parties.{Claimer, claims_given, numbers_given, Carries, IsTaker, HasGathered}
-use Rattle.pool.proofs.link_pool.Lists.{times_append, two_le}
 use Rattle.pool.proofs.link_pool.Filling.{none_before, none_behind}
-use Rattle.pool.proofs.link_pool.Sums.{Count, of_ticker, of_grants, of_left, of_taker, of_takers, weight, stays, sums_join, fits_set, at_other}
+use Rattle.pool.proofs.link_pool.Sums.{Count, of_ticker, of_grants, of_left, of_taker, of_takers, weight, stays}
+use Rattle.channel_book.specs.channel_lock.{times, numbers}
+use Rattle.channel_book.proofs.channel_lock.Lists.{two_le, times_append}
+use Rattle.channel_book.proofs.channel_lock.Views.{fits_set, sums_join, at_other}
 
 weight_given : (granted : ℕ) (owns : List ℕ) (claims : List Claim) (left number : ℕ) (own : List Claim) (more : ℕ) (k : Count)
     → weight k (with_taker (granting granted owns claims left) (taking number own more)) + weight k blank ≡ weight k (granting granted owns claims left) + weight k (taking number own more)
@@ -51,9 +53,9 @@ gives_back takers id other granted owns claims left number own more st o at apar
     let was = at_other st.views id other both w apart there in
     let f = o.fits id v at in
     let g = o.fits other w was in
-    stays takers st o (set (set st.views id both) other blank) (sums_join st.views id other v w both blank at there (weight_given granted owns claims left number own more))
-    (fits_set o.drawn (set st.views id both) other blank
-    (λ j u other' e. fits_set o.drawn st.views id both (λ i x apart' e'. o.fits i x e')
+    stays takers st o (set (set st.views id both) other blank) (sums_join weight st.views id other v w both blank at there (weight_given granted owns claims left number own more))
+    (fits_set (Fits o.drawn) (set st.views id both) other blank
+    (λ j u other' e. fits_set (Fits o.drawn) st.views id both (λ i x apart' e'. o.fits i x e')
     (fits_both o.drawn v w (λ n. omega (arith, two_le (has_taker n) st.views other id w v apart was at, o.once n)) f.idle f g) j u e)
     (fits_blank o.drawn))
 

@@ -5,10 +5,11 @@ use lib.ListN.{get_elem?}
 use Rattle.atomic_table.specs.Table.{State, Allows, step, keeps}
 use Rattle.pool.specs.declared.link_pool.link.View.{View}
 use Rattle.pool.specs.link_pool.Claims.{claimed}
-use Rattle.pool.specs.link_pool.Sharing.{total, is_ticker, granted_by, bytes_left, has_taker, takers_of, Fair}
+use Rattle.pool.specs.link_pool.Sharing.{is_ticker, granted_by, bytes_left, has_taker, takers_of, Fair, Fits}
 use Rattle.pool.specs.link_pool.Steps.{Mine, with_grant, Granted}
-use Rattle.pool.proofs.link_pool.Lists.{total_set, two_le, only_one}
-use Rattle.pool.proofs.link_pool.Sums.{fits_set}
+use Rattle.channel_book.specs.channel_lock.{total}
+use Rattle.channel_book.proofs.channel_lock.Lists.{total_set, two_le, only_one}
+use Rattle.channel_book.proofs.channel_lock.Views.{fits_set}
 
 -- what was granted is what the ticker granted
 pub granted_alone : (takers : ℕ) (st : State (Unit {0}) View) (o : Fair takers st) (id : ℕ) (v : View) → get_elem? st.views id ≡ some v → v.grants ≡ 1 → o.granted ≡ v.granted
@@ -38,7 +39,7 @@ grants takers slots id bytes m one most st o count at fit =
         once = λ number. omega (arith, total_set (has_taker number) st.views id v w at, o.once number);
         all = omega (arith, total_set takers_of st.views id v w at, o.all);
         others = λ number unheld. o.others number (omega (arith, total_set (has_taker number) st.views id v w at, unheld));
-        fits = fits_set o.drawn st.views id w (λ j u apart e. o.fits j u e) (record {
+        fits = fits_set (Fits o.drawn) st.views id w (λ j u apart e. o.fits j u e) (record {
           own = f.own;
           alone = f.alone;
           idle = λ e. absurd (omega (arith, one, e));

@@ -9,8 +9,8 @@ use mathlib.Core.Logic.{dite}
 use native.Mathlib.Decide.{ℕ_discrete}
 use Rattle.pool.specs.declared.link_pool.claim.Claim.{Claim}
 use Rattle.pool.specs.link_pool.Claims.{claim, claims_of, Adjoin}
-use Rattle.pool.specs.link_pool.Sharing.{total}
-use Rattle.pool.proofs.link_pool.Lists.{sum_total}
+use Rattle.channel_book.specs.channel_lock.{total}
+use Rattle.pool.proofs.link_pool.Sums.{sum_total}
 
 -- ---- how often a claim stands in a list
 

@@ -7,11 +7,12 @@ use Rattle.atomic_table.specs.Table.{Allows, step, keeps}
 use Rattle.pool.specs.declared.link_pool.claim.Claim.{Claim}
 use Rattle.pool.specs.declared.link_pool.link.View.{View}
 use Rattle.pool.specs.link_pool.Claims.{claim, claims_of, bytes_of, claimed}
-use Rattle.pool.specs.link_pool.Sharing.{total, times, is_ticker, granted_by, bytes_left, has_taker, takers_of, Fits, Fair}
+use Rattle.pool.specs.link_pool.Sharing.{is_ticker, granted_by, bytes_left, has_taker, takers_of, Fits, Fair}
 use Rattle.pool.specs.link_pool.Steps.{Mine, with_claim, Taken}
-use Rattle.pool.proofs.link_pool.Lists.{total_set, term_le, two_le}
 use Rattle.pool.proofs.link_pool.Filling.{adjoin_snoc, claims_snoc, not_of, none_behind}
-use Rattle.pool.proofs.link_pool.Sums.{fits_set}
+use Rattle.channel_book.specs.channel_lock.{total, times}
+use Rattle.channel_book.proofs.channel_lock.Lists.{total_set, term_le, two_le}
+use Rattle.channel_book.proofs.channel_lock.Views.{fits_set}
 
 -- a view that has not the taker
 fits_drawn : (drawn : List Claim) (c : Claim) (u : View) → ((number : ℕ) → 0 < times number u.owns → times number (c.taker ∷ []) ≡ 0) → Fits drawn u → Fits (drawn ++ c ∷ []) u
@@ -64,7 +65,7 @@ takes takers slots id bytes taker m owns some enough st o count at fit =
             let before : total (has_taker number) st.views ≡ 0 = omega (arith, total_set (has_taker number) st.views id v w at, unheld) in
             let other : times number v.owns ≡ 0 = omega (arith, term_le (has_taker number) st.views id v at, before) in
             none_behind number o.drawn (c ∷ []) (not_of number c (sym (mine number) ∙ other)) ∙ o.others number before;
-        fits = fits_set (o.drawn ++ c ∷ []) st.views id w
+        fits = fits_set (Fits (o.drawn ++ c ∷ [])) st.views id w
             (λ j u apart there. fits_drawn o.drawn c u
             (λ number held. sym (mine number) ∙ omega (arith, two_le (has_taker number) st.views j id u v apart there at, o.once number, held))
             (o.fits j u there))

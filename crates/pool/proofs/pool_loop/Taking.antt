@@ -10,9 +10,8 @@ use Rattle.rams_model.specs.Texts.{TraceLine, head_line, channel_line, end_line,
 use Rattle.server_hub.specs.declared.event.HubEvent.{HubEvent}
 use Rattle.server_hub.specs.{served, id_of, ids_of, after_event}
 use Rattle.server_hub.specs.Served.{Served}
-use Rattle.trace_loop.specs.trace_book.trace_serving.{Stage, goes_on, after_line, brought, Stand, opening, claim_of}
+use Rattle.trace_loop.specs.trace_book.trace_serving.{Stage, goes_on, after_line, brought, Stand, claim_of}
 use Rattle.trace_loop.proofs.trace_book.trace_serving.Judged.{judged_so}
-use Rattle.trace_loop.proofs.trace_book.trace_serving.Steps.{opening_stage}
 use Rattle.trace_loop.specs.trace_book.{run, settings_of}
 use Rattle.trace_text.specs.declared.line.Line.{Line}
 use Rattle.trace_text.specs.{shown, IsOther}
@@ -43,16 +42,6 @@ once_dealt d came stage h =
 -- as many routes as events
 pub as_many : (d : Dealt) (came : List HubEvent) (stage : Stage (List Served)) → HasDealt d came stage → length d.routes.items ≡ stage.events
 as_many d came stage h = ap length h.routes ∙ length-map (reverse came) route_of ∙ length-reverse came ∙ sym h.counted
-
-pub nothing_dealt : (d : Dealt) → d.channels.items ≡ [] → d.routes.items ≡ [] → HasDealt d [] (opening pool)
-nothing_dealt d channels routes = record {
-  kept = opening_stage run;
-  channels = sym (ap all_served channels);
-  routes = routes;
-  counted = refl;
-  few = omega arith;
-  short = tt;
-}
 
 -- the lines so far are no part of what is left
 pub with_state : (d new : Dealt) (came : List HubEvent) (stage : Stage (List Served)) → HasDealt d came stage → new.channels ≡ d.channels → new.routes ≡ d.routes → HasDealt new came stage

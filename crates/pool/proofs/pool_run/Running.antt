@@ -7,12 +7,12 @@ use Rattle.ram_io.specs.declared.failed.NoMemory.{NoMemory}
 use Rattle.channel_book.specs.{Kept}
 use Rattle.pool.specs.declared.link_pool.claim.Claim.{Claim}
 use Rattle.pool.specs.link_pool.{Divided, Claimer, fresh_takers, bytes_of, claims_of, NotAmong}
-use Rattle.pool.specs.link_pool.Sharing.{numbers}
 use Rattle.pool.specs.link_pool.Parties.{claimer}
 use Rattle.pool.specs.declared.pool_run.lane.Lane.{Lane}
 use Rattle.pool.specs.declared.pool_run.lane.Job.{Job}
 use Rattle.pool.specs.declared.pool_run.lane.Ran.{Ran}
 use Rattle.pool.specs.pool_run.{job, pairs, ran_of, IsFresh, CanRun, HasRun, HaveRun, ArePulled, AreBooks, ClaimsAreSizes, NoOthersClaim}
+use Rattle.channel_book.specs.channel_lock.{numbers}
 
 -- ---- before the threads
 

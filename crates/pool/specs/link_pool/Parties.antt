@@ -4,8 +4,9 @@ use Rattle.std.specs.List.{AllByRecursion as Each}
 use Rattle.atomic_table.specs.Seated.{TableId}
 use Rattle.pool.specs.declared.link_pool.claim.Claim.{Claim}
 use Rattle.pool.specs.link_pool.Claims.{claimed}
-use Rattle.pool.specs.link_pool.Sharing.{numbers, granting, taking}
+use Rattle.pool.specs.link_pool.Sharing.{granting, taking}
 use Rattle.pool.specs.link_pool.Steps.{Mine}
+use Rattle.channel_book.specs.channel_lock.{numbers}
 
 -- what is known of a pool
 pub record Divided : Type 0 where

@@ -1,23 +1,12 @@
 -- What each of those who share a link knows, and what holds of all of it between any two steps.
-use Rattle.std.specs.Prelude.{◌≡◌, ℕ, zero, suc, ◌+◌, ◌^◌, ◌<◌, ◌≤◌, ◌==◌, if◌then◌else◌, List, [], ◌∷◌, length}
+use Rattle.std.specs.Prelude.{◌≡◌, ℕ, ◌+◌, ◌^◌, ◌<◌, ◌≤◌, List, [], ◌∷◌, length}
 use mathlib.Core.Option.{some}
 use lib.ListN.{get_elem?}
 use Rattle.atomic_table.specs.Table.{State}
 use Rattle.pool.specs.declared.link_pool.claim.Claim.{Claim}
 use Rattle.pool.specs.declared.link_pool.link.View.{View}
 use Rattle.pool.specs.link_pool.Claims.{claims_of, claimed, Adjoin}
-
--- ---- sums
-
--- what f is of each, added up
-abbrev pub total : {A : Type 0} → (A → ℕ) → List A → ℕ
-total f [] = 0
-total f (x ∷ xs) = f x + total f xs
-
--- how often a number stands in a list
-abbrev pub times : ℕ → List ℕ → ℕ
-times n [] = 0
-times n (x ∷ xs) = (if x == n then 1 else 0) + times n xs
+use Rattle.channel_book.specs.channel_lock.{total, times, numbers}
 
 -- ---- views
 
@@ -27,11 +16,6 @@ view grants granted owns claims left = record { grants = grants; granted = grant
 -- the view of one that knows nothing
 abbrev pub blank : View
 blank = view 0 0 [] [] 0
-
--- so many numbers from the first on
-abbrev pub numbers : ℕ → ℕ → List ℕ
-numbers first zero = []
-numbers first (suc n) = first ∷ numbers (first + 1) n
 
 -- the view of the ticker, with takers that aren't cut off from it or were given back to it
 abbrev pub granting : ℕ → List ℕ → List Claim → ℕ → View

@@ -1,8 +1,9 @@
 //! The takers of a pool, as they are made and given back.
 ghost use Rattle.std.specs.Prelude.{◌≡◌, ℕ, ◌-◌, ◌*◌, ◌^◌, ◌<◌, ◌≤◌, [], All, vec_len, vec_capacity};
 ghost use Rattle.pool.specs.link_pool.{fresh_takers};
-ghost use Rattle.pool.specs.link_pool.Sharing.{numbers, granting};
+ghost use Rattle.pool.specs.link_pool.Sharing.{granting};
 ghost use Rattle.pool.specs.link_pool.Parties.{IsTicker, HasGathered, Carries};
+ghost use Rattle.channel_book.specs.channel_lock.{numbers};
 
 use crate::link_pool::link::{Chair, Deal, GiveBack, Link};
 use crate::link_pool::taker::Taker;

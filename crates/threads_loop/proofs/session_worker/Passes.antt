@@ -3,11 +3,10 @@ use Rattle.std.proofs.Common.{◌≡◌, ℕ, zero, suc, ◌+◌, ◌^◌, ◌<�
 use Rattle.std.proofs.lemmas.List.{get_or-map, length-map}
 use Rattle.atomic_table.specs.Seated.{TableId}
 use Rattle.rams_model.specs.Service.{Settings}
-use Rattle.channel_book.specs.channel_lock.{Known, known, fresh}
-use Rattle.channel_book.specs.channel_lock.Turns.{numbers}
-use Rattle.channel_book.proofs.channel_lock.Dealing.{length_numbers}
+use Rattle.channel_book.specs.channel_lock.{Known, known, fresh, numbers}
 use Rattle.threads_loop.specs.declared.session_worker.worker.Worker.{Worker}
 use Rattle.threads_loop.specs.session_worker.{AreReady}
+use Rattle.channel_book.proofs.channel_lock.Numbers.{length_numbers}
 
 numbers_at : (first n i d : ℕ) → i < n → get_or (numbers first n) i d ≡ first + i
 numbers_at first zero i d lt = absurd (omega (arith, lt))

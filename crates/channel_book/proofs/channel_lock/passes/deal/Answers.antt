@@ -1,11 +1,12 @@
 use Rattle.std.proofs.Common.{◌≡◌, ℕ, ◌+◌, ◌-◌, ◌*◌, ◌^◌, List, [], ◌∷◌, ◌++◌, refl, sym, ap, ◌∙◌, subst, arith}
 use Rattle.atomic_table.specs.Table.{Splits}
-use Rattle.channel_book.specs.channel_lock.{known}
-use Rattle.channel_book.specs.channel_lock.Turns.{numbers, dealing, Turns}
+use Rattle.channel_book.specs.channel_lock.{known, numbers}
+use Rattle.channel_book.specs.channel_lock.Turns.{dealing, Turns}
 use Rattle.channel_book.specs.channel_lock.Steps.{Mine, undealt, dealt}
 use Rattle.channel_book.proofs.channel_lock.Dealing.{deals}
-use Rattle.channel_book.proofs.channel_lock.Calling.{at_rest, numbers_next, fresh_snoc}
+use Rattle.channel_book.proofs.channel_lock.Calling.{at_rest, fresh_snoc}
 use Rattle.channel_book.proofs.channel_lock.passes.deal.Goals as goal
+use Rattle.channel_book.proofs.channel_lock.Numbers.{numbers_next}
 
 pub split_seat-own-requires : goal.split_seat-own-requires
 split_seat-own-requires c =

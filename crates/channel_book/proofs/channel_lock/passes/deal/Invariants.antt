@@ -1,6 +1,6 @@
 use Rattle.std.proofs.Common.{◌≡◌, ◌-◌, ◌*◌, ◌^◌, [], vec_len, vec_capacity}
-use Rattle.channel_book.specs.channel_lock.{fresh}
-use Rattle.channel_book.specs.channel_lock.Turns.{numbers, dealing}
+use Rattle.channel_book.specs.channel_lock.{fresh, numbers}
+use Rattle.channel_book.specs.channel_lock.Turns.{dealing}
 use Rattle.channel_book.proofs.channel_lock.passes.deal.Given as goal
 
 abbrev pub invariant-loop-list : goal.invariant-loop-list

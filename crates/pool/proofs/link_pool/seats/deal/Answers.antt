@@ -1,10 +1,12 @@
 use Rattle.std.proofs.Common.{◌≡◌, ℕ, ◌+◌, ◌-◌, ◌*◌, ◌^◌, List, [], ◌∷◌, ◌++◌, sym, ap, ◌∙◌, subst, arith}
 use Rattle.atomic_table.specs.Table.{Splits}
-use Rattle.pool.specs.link_pool.Sharing.{numbers, granting, Fair}
+use Rattle.pool.specs.link_pool.Sharing.{granting, Fair}
 use Rattle.pool.specs.link_pool.Steps.{Mine, undealt, dealt}
 use Rattle.pool.specs.link_pool.Parties.{claimer}
-use Rattle.pool.proofs.link_pool.Dealing.{deals, numbers_next, fresh_snoc, new_taker}
+use Rattle.pool.proofs.link_pool.Dealing.{deals, fresh_snoc, new_taker}
 use Rattle.pool.proofs.link_pool.seats.deal.Goals as goal
+use Rattle.channel_book.specs.channel_lock.{numbers}
+use Rattle.channel_book.proofs.channel_lock.Numbers.{numbers_next}
 
 pub split_seat-own-requires : goal.split_seat-own-requires
 split_seat-own-requires c =

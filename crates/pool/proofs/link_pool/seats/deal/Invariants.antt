@@ -1,7 +1,8 @@
 use Rattle.std.proofs.Common.{◌≡◌, ◌-◌, ◌*◌, ◌^◌, [], vec_len, vec_capacity}
 use Rattle.pool.specs.link_pool.{fresh_takers}
-use Rattle.pool.specs.link_pool.Sharing.{numbers, granting}
+use Rattle.pool.specs.link_pool.Sharing.{granting}
 use Rattle.pool.proofs.link_pool.seats.deal.Given as goal
+use Rattle.channel_book.specs.channel_lock.{numbers}
 
 abbrev pub invariant-loop-number : goal.invariant-loop-number
 invariant-loop-number l = record {
