@@ -21,6 +21,7 @@ use Rattle.trace_loop.specs.trace_book.{run, new_channels}
 use Rattle.trace_loop.proofs.journal_book.Modes.{accepts, judges}
 use Rattle.threads_loop.specs.{threads}
 use Rattle.threads_loop.proofs.Accepted.{IsTaken, taken_so}
+use Rattle.trace_loop.proofs.journal_book.Modes.{refused_event}
 
 -- what a server has reached by the same head
 abbrev pub serve_of : Reached → Reached
@@ -66,19 +67,9 @@ went_to stage later next text more e = ap (λ (t : Turn (List Served)). stage_in
     stage_in (goes_on s t) = s
     stage_in (ends o) = stage
 
-both_false : (a b : Bool) → ((a && (b && false)) && true) ≡ true → ⊥
-both_false a b h =
-    let outer = and_parts (a && (b && false)) true h in
-    let inner = and_parts a (b && false) outer.0 in
-    never b inner.1
-  where
-    never : (b : Bool) → (b && false) ≡ true → ⊥
-    never true e = absurd cc
-    never false e = absurd cc
-
 -- no line of a receiver may come
 pub no_receiver : (r : Reached) → r.mode ≡ Threads → ((not r.ended && (has_channel r && has_receivers r.mode)) && true) ≡ true → ⊥
-no_receiver r mode may = both_false (not r.ended) (has_channel r) (subst (λ (m : Mode). ((not r.ended && (has_channel r && has_receivers m)) && true) ≡ true) mode may)
+no_receiver r mode may = refused_event (not r.ended) (has_channel r) (subst (λ (m : Mode). ((not r.ended && (has_channel r && has_receivers m)) && true) ≡ true) mode may)
 
 module _ (stage later : Stage (List Served)) (bytes : List ℕ) (reached : Reached) where
   -- the line of the head

@@ -157,7 +157,8 @@ one_text s before number (event.Live bytes) = rw (eq-eqb s.channel.id s.channel.
 one_text s before number (event.Feedback client bytes) = rw (eq-eqb s.channel.id s.channel.id refl) refl
 one_text s before number event.Tick = append-nil (answer_text s number (answer s before event.Tick))
 
-one_after : (s : Settings) (before : List Event) (e : Event) → after_event (hub_event s.channel.id e) (served s before ∷ []) ≡ served s (e ∷ before) ∷ []
+-- an event of the one channel comes to it
+pub one_after : (s : Settings) (before : List Event) (e : Event) → after_event (hub_event s.channel.id e) (served s before ∷ []) ≡ served s (e ∷ before) ∷ []
 one_after s before (event.Live bytes) = rw (eq-eqb s.channel.id s.channel.id refl) refl
 one_after s before (event.Feedback client bytes) = rw (eq-eqb s.channel.id s.channel.id refl) refl
 one_after s before event.Tick = refl

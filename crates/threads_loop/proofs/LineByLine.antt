@@ -1,38 +1,30 @@
 -- How the lines of a trace for threads are read, one after another.
-use Rattle.std.proofs.Common.{◌≡◌, ℕ, ◌+◌, ◌<◌, List, [], ◌∷◌, ◌++◌, length, take, true, Option, None, Some, is_some, Result, Ok, Err, refl, sym, ap, ◌∙◌, subst, arith, length-take, append_assoc, append-nil, inl, inr}
+use Rattle.std.proofs.Common.{◌≡◌, ℕ, ◌+◌, ◌<◌, List, [], ◌∷◌, ◌++◌, length, take, true, Option, None, Some, is_some, Result, Ok, refl, sym, ap, ◌∙◌, subst, arith, length-take, append_assoc, append-nil, inl, inr}
 use Rattle.std.specs.Prelude.{◌⊎◌, option_and_then}
 use Rattle.std.specs.Io.KnownBytes.{prepend_known}
 use Rattle.std.specs.List.{flat_map}
-use Rattle.std.proofs.lemmas.Bool.{and_parts, lt-ltb}
+use Rattle.std.proofs.lemmas.Bool.{and_parts}
 use Rattle.line_io.specs.{HasNoFeed, TakesNext}
-use Rattle.line_io.specs.declared.reader.Next.TheVariants.{Line, Long, End}
+use Rattle.line_io.specs.declared.reader.Next.TheVariants.{Line, Long}
 use Rattle.rams_model.specs.declared.fault.LineFault.{LineFault}
-use Rattle.rams_model.specs.declared.fault.LineFault.TheVariants.{Form, Order}
+use Rattle.rams_model.specs.declared.fault.LineFault.TheVariants.{Form}
 use Rattle.rams_model.specs.declared.mode.Mode.TheVariants.{Serve}
-use Rattle.rams_model.specs.declared.status.Status.TheVariants.{Done, BadTrace, TooLong as LongTrace}
 use Rattle.rams_model.specs.Texts.{TraceLine, Reached, judged, lines_of, may_come, end_line}
 use Rattle.server_hub.specs.declared.event.HubEvent.{HubEvent}
 use Rattle.server_hub.specs.Served.{Served}
-use Rattle.trace_loop.specs.trace_book.trace_serving.{Stage, Outcome, Turn, goes_on, ends, opening, done, refused, too_long, turn, after_line, after_judging, after_turn, text_from, served_text, stage_after, stage_from, last_stage, taken_with, taken_from, brought, event_at}
+use Rattle.trace_loop.specs.trace_book.trace_serving.{Stage, Outcome, Turn, goes_on, ends, opening, done, refused, too_long, turn, after_line, after_judging, text_from, served_text, stage_from, last_stage, taken_from, brought, event_at}
 use Rattle.trace_loop.specs.trace_book.{run, new_channels}
 use Rattle.trace_loop.specs.journal_book.{Leads, line as leads_on, nothing, starting}
 use Rattle.trace_loop.specs.{IfTold, IfBothTold}
+use Rattle.trace_loop.proofs.EndedTurns.{same_end, never_goes_on, never_done, never_long, long_refused, text_ends, stage_stays, takes_none, text_goes_on, stage_goes_on, takes_line}
 use Rattle.threads_loop.specs.declared.dealing.Dealt.{Dealt}
-use Rattle.threads_loop.specs.declared.dealing.Does.{Does}
-use Rattle.threads_loop.specs.declared.dealing.Does.TheVariants.{GoesOn, Ends, Refused, TooLong}
-use Rattle.threads_loop.specs.{threads, with_feed, part_of, head_part, head_lines, HasDealt, HasDealtBy, Took, Grows, StandsAfter, GoesOnAfter, EndsAt, IsFirstLine, IsReadOf}
+use Rattle.trace_loop.specs.declared.whole_trace.Does.{Does}
+use Rattle.trace_loop.specs.declared.whole_trace.Does.TheVariants.{GoesOn, Ends, Refused, TooLong}
+use Rattle.trace_loop.specs.head_loop.{with_feed}
+use Rattle.threads_loop.specs.{threads, part_of, head_part, head_lines, HasDealt, HasDealtBy, Took, Grows, StandsAfter, GoesOnAfter, EndsAt, IsFirstLine, IsReadOf}
 use Rattle.threads_loop.proofs.Accepted.{taken_so}
 use Rattle.threads_loop.proofs.Heads.{head_of, head_step}
 use Rattle.threads_loop.proofs.Taking.{is_known}
-
--- a line that is too long has no form
-judged_by : (r : Reached) (bytes : List ℕ) → 4096 < length bytes → judged r bytes ≡ Err Form
-unfolding judged
-judged_by r bytes long = rw (lt-ltb 4096 (length bytes) long) refl
-
-long_refused : (stage : Stage (List Served)) (number : ℕ) (bytes : List ℕ) → 4096 < length bytes → turn threads stage number bytes ≡ ends (refused number Form)
-unfolding turn
-long_refused stage number bytes long = ap (after_judging threads stage number) (judged_by stage.reached bytes long)
 
 -- the turn of a line that was judged
 pub judged_turn : (d : Dealt) (stage : Stage (List Served)) (number : ℕ) (bytes : List ℕ) (read : TraceLine) (later : Reached) (does : Does) → judged stage.reached bytes ≡ Ok (read, later)
@@ -45,10 +37,6 @@ judged_turn d stage number bytes read later does h took =
 pub brings_so : (r later : Reached) (bytes : List ℕ) (read : TraceLine) → judged r bytes ≡ Ok (read, later) → event_at threads bytes ≡ brought threads read
 brings_so r later bytes read j = ap (option_and_then (brought threads)) (taken_so r bytes read later j).reads
 
-pub refused_turn : (stage : Stage (List Served)) (number : ℕ) (bytes : List ℕ) (fault : LineFault) → judged stage.reached bytes ≡ Err fault → turn threads stage number bytes ≡ ends (refused number fault)
-unfolding turn
-refused_turn stage number bytes fault h = ap (after_judging threads stage number) h
-
 -- whatever the turn was, something stands there
 pub took_stands : (d : Dealt) (stage : Stage (List Served)) (was : Turn (List Served)) (number : ℕ) (does : Does) → Took d stage was number does → StandsAfter does d
 took_stands d stage was number GoesOn took = (took.0, took.2)
@@ -56,64 +44,37 @@ took_stands d stage was number Ends took = (stage, took.1, took.2)
 took_stands d stage was number (Refused fault) took = tt
 took_stands d stage was number TooLong took = tt
 
--- a line that is refused for its form does nothing else
-same_end : (o p : Outcome) → ◌≡◌ {A = Turn (List Served)} (ends o) (ends p) → o ≡ p
-same_end o p e = cc
-
-other_status : (o p : Outcome) → o.status ≡ BadTrace → p.status ≡ Done → ◌≡◌ {A = Turn (List Served)} (ends o) (ends p) → ⊥
-other_status o p bad good e = differ (sym bad ∙ ap (λ (x : Outcome). x.status) (same_end o p e) ∙ good)
-  where
-    differ : BadTrace ≡ Done → ⊥
-    differ h = cc
-
-never_long : (o p : Outcome) → o.status ≡ BadTrace → p.status ≡ LongTrace → ◌≡◌ {A = Turn (List Served)} (ends o) (ends p) → ⊥
-never_long o p bad long e = differ (sym bad ∙ ap (λ (x : Outcome). x.status) (same_end o p e) ∙ long)
-  where
-    differ : BadTrace ≡ LongTrace → ⊥
-    differ h = cc
-
-never_goes_on : (o : Outcome) (stage : Stage (List Served)) → ends o ≡ goes_on stage [] → ⊥
-never_goes_on o stage e = absurd cc
-
 module _ (old new : Dealt) (stage : Stage (List Served)) (number : ℕ) (xs ys : List ℕ) where
   -- the first line of xs is this one
   one_line : (line : List ℕ) (does : Does) → lines_of xs ≡ line ∷ lines_of ys → HasNoFeed line → Took new stage (turn threads stage number line) number does
       → Grows does old.head.items new.head.items line (event_at threads line) → IsFirstLine old new stage number xs does ys
-  unfolding text_from stage_from taken_from
   one_line line GoesOn e clean took grows = record { line = line; clean = clean; lines = e; later = took.0; does = took.1; dealt = took.2; head_is = grows }
   one_line line Ends e clean took grows = record {
-    end = ap (text_from threads stage number) e ∙ ap (λ (was : Turn (List Served)). after_turn was (λ later. text_from threads later (number + 1) (lines_of ys))) took.0;
-    reaches = ap (stage_from threads stage number) e ∙ ap (λ (was : Turn (List Served)). stage_after stage was (λ later. stage_from threads later (number + 1) (lines_of ys))) took.0;
-    takes = ap (taken_from threads stage number) e ∙ ap (λ (was : Turn (List Served)). taken_with line was (λ later. taken_from threads later (number + 1) (lines_of ys))) took.0;
+    end = text_ends threads stage number (lines_of xs) line (lines_of ys) (done stage.events) e took.0;
+    reaches = stage_stays threads stage number (lines_of xs) line (lines_of ys) (done stage.events) e took.0;
+    takes = takes_none threads stage number (lines_of xs) line (lines_of ys) (done stage.events) e took.0;
     dealt = took.1;
     may = took.2;
     head_is = grows;
   }
-  one_line line (Refused fault) e clean took grows =
-      ap (text_from threads stage number) e ∙ ap (λ (was : Turn (List Served)). after_turn was (λ later. text_from threads later (number + 1) (lines_of ys))) took
-  one_line line TooLong e clean took grows =
-      ap (text_from threads stage number) e ∙ ap (λ (was : Turn (List Served)). after_turn was (λ later. text_from threads later (number + 1) (lines_of ys))) took
+  one_line line (Refused fault) e clean took grows = text_ends threads stage number (lines_of xs) line (lines_of ys) (refused number fault) e took
+  one_line line TooLong e clean took grows = text_ends threads stage number (lines_of xs) line (lines_of ys) too_long e took
 
   -- the first line of xs is too long, and this is the front of it
   long_line : (first line : List ℕ) (rest : List (List ℕ)) (does : Does) → lines_of xs ≡ first ∷ rest → 4096 < length first → line ≡ take 4097 first
       → Took new stage (turn threads stage number line) number does → IsFirstLine old new stage number xs does ys
-  unfolding text_from
   long_line first line rest does e long front took = by does took
     where
       short : turn threads stage number line ≡ ends (refused number Form)
-      short = ap (turn threads stage number) front ∙ long_refused stage number (take 4097 first) (omega (arith, length-take 4097 first, long))
+      short = ap (turn threads stage number) front ∙ long_refused threads stage number (take 4097 first) (omega (arith, length-take 4097 first, long))
 
       by : (d : Does) → Took new stage (turn threads stage number line) number d → IsFirstLine old new stage number xs d ys
-      by GoesOn took = absurd (never_goes_on (refused number Form) took.0 (sym short ∙ took.1))
-      by Ends took = absurd (other_status (refused number Form) (done stage.events) refl refl (sym short ∙ took.0))
+      by GoesOn took = absurd (never_goes_on (refused number Form) took.0 [] (sym short ∙ took.1))
+      by Ends took = absurd (never_done (refused number Form) (done stage.events) refl refl (sym short ∙ took.0))
       by TooLong took = absurd (never_long (refused number Form) too_long refl refl (sym short ∙ took))
       by (Refused fault) took =
           let outcome = same_end (refused number Form) (refused number fault) (sym short ∙ took) in
-          ap (text_from threads stage number) e ∙ ap (λ (was : Turn (List Served)). after_turn was (λ later. text_from threads later (number + 1) rest)) (long_refused stage number first long) ∙ outcome
-
-no_line : (stage : Stage (List Served)) (number : ℕ) (xs : List ℕ) → lines_of xs ≡ [] → text_from threads stage number (lines_of xs) ≡ refused number Order
-unfolding text_from
-no_line stage number xs e = ap (text_from threads stage number) e
+          text_ends threads stage number (lines_of xs) first rest (refused number Form) e (long_refused threads stage number first long) ∙ outcome
 
 -- the same, where what is left is told
 pub line_is_told : (old new : Dealt) (left leaves : Option (List ℕ)) (line : List ℕ) (stage : Stage (List Served)) (number : ℕ) (does : Does) → TakesNext left leaves line Line
@@ -127,12 +88,6 @@ pub long_is_told : (old new : Dealt) (left leaves : Option (List ℕ)) (line : L
 long_is_told old new None leaves line stage number does next took = tt
 long_is_told old new (Some xs) None line stage number does next took = next
 long_is_told old new (Some xs) (Some ys) line stage number does next took = long_line old new stage number xs ys next.0 line next.1 does next.2 next.3 next.4 took
-
-pub end_is_told : (left leaves : Option (List ℕ)) (line : List ℕ) (stage : Stage (List Served)) (number : ℕ) → TakesNext left leaves line End
-    → IfBothTold left leaves (λ xs ys. text_from threads stage number (lines_of xs) ≡ refused number Order)
-end_is_told None leaves line stage number next = tt
-end_is_told (Some xs) None line stage number next = next
-end_is_told (Some xs) (Some ys) line stage number next = no_line stage number xs next
 
 -- ---- line by line
 
@@ -175,7 +130,6 @@ leads_past old new stage number xs ys h leads g = by (head_step stage g.later nu
 
 -- A line goes on.
 goes_past : (workers : ℕ) (old new : Dealt) (number : ℕ) (xs ys zs : List ℕ) → new.workers ≡ old.workers → (r : IsReading workers old number xs ys) → GoesOnAfter old new r.stage number ys zs → IsReading workers new (number + 1) xs zs
-unfolding text_from stage_from taken_from
 goes_past workers old new number xs ys zs same r g =
     let more = taken_from threads g.later (number + 1) (lines_of zs) in
     record {
@@ -183,12 +137,12 @@ goes_past workers old new number xs ys zs same r g =
       dealt = g.dealt;
       workers_are = same ∙ r.workers_are;
       leads = leads_past old new r.stage number ys zs r.dealt.1 r.leads g;
-      ends = r.ends ∙ ap (text_from threads r.stage number) g.lines ∙ ap (λ (was : Turn (List Served)). after_turn was (λ later. text_from threads later (number + 1) (lines_of zs))) g.does;
-      reaches = r.reaches ∙ ap (stage_from threads r.stage number) g.lines ∙ ap (λ (was : Turn (List Served)). stage_after r.stage was (λ later. stage_from threads later (number + 1) (lines_of zs))) g.does;
+      ends = r.ends ∙ text_goes_on threads r.stage g.later number (lines_of ys) g.line [] (lines_of zs) g.lines g.does;
+      reaches = r.reaches ∙ stage_goes_on threads r.stage g.later number (lines_of ys) g.line [] (lines_of zs) g.lines g.does;
       head_is =
           r.head_is
           ∙ ap (λ (ls : List (List ℕ)). old.head.items ++ flat_map head_part ls)
-          (ap (taken_from threads r.stage number) g.lines ∙ ap (λ (was : Turn (List Served)). taken_with g.line was (λ later. taken_from threads later (number + 1) (lines_of zs))) g.does)
+          (takes_line threads r.stage g.later number (lines_of ys) g.line [] (lines_of zs) g.lines g.does)
           ∙ sym (append_assoc old.head.items (head_part g.line) (flat_map head_part more))
           ∙ ap (λ (t : List ℕ). t ++ flat_map head_part more) (sym g.head_is);
     }

@@ -1,5 +1,5 @@
 -- An event at the end of its list.
-use Rattle.std.proofs.Common.{◌≡◌, ◌≢◌, ℕ, zero, suc, ◌<◌, true, false, List, [], ◌∷◌, ◌++◌, get_or, set, map, length, refl, sym, ap, ◌∙◌, inl, inr, arith}
+use Rattle.std.proofs.Common.{◌≡◌, ◌≢◌, ℕ, ◌<◌, true, false, List, [], ◌∷◌, ◌++◌, get_or, set, map, length, sym, ap, ◌∙◌, inl, inr, arith}
 use Rattle.std.specs.Prelude.{◌⊎◌, ◌==◌, if◌then◌else◌}
 use Rattle.std.specs.Global.{Vec}
 use Rattle.std.proofs.lemmas.Bool.Decides.{eqb_tells}
@@ -21,10 +21,3 @@ list_put lists i old new e list inside is = by (eqb_tells i list)
         rw same.0 (ap (λ n. get_or (map events_in (set lists i new)) n []) (sym same.1) ∙ own ∙ ap (λ n. get_or (map events_in lists) n [] ++ e ∷ []) same.1)
     by (inr apart) =
         rw apart.0 (ap (λ l. get_or l list []) (map-set events_in lists i new) ∙ get_or-set_other (map events_in lists) i list new.items [] (λ x. apart.1 (sym x)) ∙ sym (append-nil (get_or (map events_in lists) list [])))
-
--- one empty list more
-pub empty_more : (lists : List (Vec Event)) (v : Vec Event) → ((list : ℕ) → get_or (map events_in lists) list [] ≡ []) → v.items ≡ [] → (list : ℕ) → get_or (map events_in (lists ++ v ∷ [])) list [] ≡ []
-empty_more [] v empty bare zero = bare
-empty_more [] v empty bare (suc list) = refl
-empty_more (x ∷ lists) v empty bare zero = empty 0
-empty_more (x ∷ lists) v empty bare (suc list) = empty_more lists v (λ n. empty (suc n)) bare list

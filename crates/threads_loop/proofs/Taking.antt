@@ -1,7 +1,7 @@
 -- What is left of a line that threads take.
 use Rattle.std.proofs.Common.{◌≡◌, ℕ, ◌+◌, ◌<◌, Bool, true, false, not, ◌&&◌, ltb, List, [], ◌∷◌, ◌++◌, map, length, reverse, nat_lt, Option, Some, None, Result, Ok, refl, sym, ap, subst, ◌∙◌, arith}
 use Rattle.std.specs.Prelude.{◌==◌, if◌then◌else◌, slice_index_or}
-use Rattle.std.proofs.lemmas.Bool.{and_parts, lt-ltb, le-ltb, eq-eqb}
+use Rattle.std.proofs.lemmas.Bool.{and_parts, lt-ltb, le-ltb}
 use Rattle.std.proofs.lemmas.List.{reverse-append}
 use Rattle.std.proofs.lemmas.List.Elements.{filter-append}
 use Rattle.rams_model.specs.declared.channel.Channel.{Channel}
@@ -23,11 +23,12 @@ use Rattle.trace_text.specs.{shown, IsOther}
 use Rattle.trace_text.specs.declared.line.Line.TheVariants as line
 use Rattle.trace_loop.specs.journal_book.{HasLine}
 use Rattle.threads_loop.specs.declared.dealing.Dealt.{Dealt}
-use Rattle.threads_loop.specs.declared.dealing.Does.{Does}
-use Rattle.threads_loop.specs.declared.dealing.Does.TheVariants.{GoesOn, Ends, Refused, TooLong}
+use Rattle.trace_loop.specs.declared.whole_trace.Does.{Does}
+use Rattle.trace_loop.specs.declared.whole_trace.Does.TheVariants.{GoesOn, Ends, Refused, TooLong}
 use Rattle.threads_loop.specs.{threads, list_of, dealt, hub_event, holding, HaveLines, HasDealt, HasTaken, IsDealt, Comes, Took}
 use Rattle.threads_loop.proofs.Accepted.{IsTaken, taken_so, none_served, served_id, no_channel}
 use Rattle.threads_loop.proofs.Heads.{no_receiver}
+use Rattle.threads_loop.proofs.Histories.{one_after}
 use Rattle.threads_loop.proofs.Hexes.{hex_back}
 
 -- ---- an event's list
@@ -63,12 +64,6 @@ feedback_is s id client hex own digits spelled = record {
   has_line = subst (λ (n : ℕ). is_spelled (feedback_line n client (hex_word (bytes_in hex))) ≡ true) (sym own)
       (subst (λ (w : List ℕ). is_spelled (feedback_line id client w) ≡ true) (sym (hex_back hex digits)) spelled);
 }
-
--- an event of the one channel comes to it
-comes_to : (s : Settings) (came : List Event) (e : Event) → after_event (hub_event s.channel.id e) (served s came ∷ []) ≡ served s (e ∷ came) ∷ []
-comes_to s came (event.Live bytes) = rw (eq-eqb s.channel.id s.channel.id refl) refl
-comes_to s came (event.Feedback client bytes) = rw (eq-eqb s.channel.id s.channel.id refl) refl
-comes_to s came event.Tick = refl
 
 module _ (d : Dealt) (stage : Stage (List Served)) (h : HasDealt d stage) where
   -- what is left where the channel is known
@@ -121,7 +116,7 @@ module _ (d new : Dealt) (stage : Stage (List Served)) (e : Event) (s : Settings
   channel = h.state ∙ ap (λ (o : Option Settings). holding o h.came) known
 
   behind : later.state ≡ served s (e ∷ h.came) ∷ []
-  behind = ap (after_event (hub_event s.channel.id e)) channel ∙ comes_to s h.came e
+  behind = ap (after_event (hub_event s.channel.id e)) channel ∙ one_after s h.came e
 
   dealt_on : d.events < 200000 → HasTaken e d new → HasDealt new later
   dealt_on below t =

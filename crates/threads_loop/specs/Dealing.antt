@@ -1,5 +1,5 @@
 -- What a trace for threads brings, and the lists into which its events are dealt.
-use Rattle.std.specs.Prelude.{◌≡◌, ℕ, ◌+◌, ◌%◌, ◌==◌, Bool, List, [], ◌∷◌, ◌++◌, filter, Option, None, Some, codes}
+use Rattle.std.specs.Prelude.{◌≡◌, ℕ, ◌+◌, ◌%◌, ◌==◌, Bool, List, [], ◌∷◌, ◌++◌, filter, Option, None, Some}
 use Rattle.std.specs.List.{flat_map}
 use Rattle.rams_model.specs.declared.event.Event.{Event}
 use Rattle.rams_model.specs.declared.event.Event.TheVariants as event
@@ -10,6 +10,7 @@ use Rattle.server_hub.specs.{served, after_event}
 use Rattle.server_hub.specs.Served.{Served}
 use Rattle.trace_loop.specs.trace_book.trace_serving.{Serving, event_at, taken}
 use Rattle.trace_loop.specs.trace_book.{event_of}
+use Rattle.trace_loop.specs.head_loop.{with_feed}
 
 -- A trace for threads is served as by `run`, but it is of one channel, it has 200,000 events at most, and nothing is written for an event while it is read.
 abbrev pub threads : Serving (List Served) HubEvent
@@ -44,10 +45,6 @@ abbrev pub hub_event : ℕ → Event → HubEvent
 hub_event id (event.Live bytes) = Live id bytes
 hub_event id (event.Feedback client bytes) = Feedback id client bytes
 hub_event id event.Tick = Tick
-
--- a line with its line feed
-abbrev pub with_feed : List ℕ → List ℕ
-with_feed line = line ++ codes "\n"
 
 -- a line that brings no event
 abbrev pub part_of : Option HubEvent → List ℕ → List ℕ

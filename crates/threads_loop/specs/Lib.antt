@@ -4,7 +4,7 @@ pub mod Coming
 pub mod Lines
 pub mod Reading
 pub mod Writing
-unfoldable pub use Rattle.threads_loop.specs.Dealing.{threads, list_of, dealt, hub_event, with_feed, part_of, head_part, head_lines}
+unfoldable pub use Rattle.threads_loop.specs.Dealing.{threads, list_of, dealt, hub_event, part_of, head_part, head_lines}
 pub use Rattle.threads_loop.specs.Dealing.{Interleaves}
 unfoldable pub use Rattle.threads_loop.specs.Coming.{MayWrite, HasEnded, HasStopped, HasRoomFor}
 pub use Rattle.threads_loop.specs.Coming.{MayCome}

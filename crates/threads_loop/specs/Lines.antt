@@ -12,8 +12,8 @@ use Rattle.trace_loop.specs.trace_book.trace_serving.{Stage, Turn, goes_on, ends
 use Rattle.trace_loop.specs.trace_book.{settings_of}
 use Rattle.trace_loop.specs.journal_book.{HasLine}
 use Rattle.threads_loop.specs.declared.dealing.Dealt.{Dealt}
-use Rattle.threads_loop.specs.declared.dealing.Does.{Does}
-use Rattle.threads_loop.specs.declared.dealing.Does.TheVariants.{GoesOn, Ends, Refused, TooLong}
+use Rattle.trace_loop.specs.declared.whole_trace.Does.{Does}
+use Rattle.trace_loop.specs.declared.whole_trace.Does.TheVariants.{GoesOn, Ends, Refused, TooLong}
 use Rattle.threads_loop.specs.Dealing.{list_of, dealt, hub_event, part_of}
 
 abbrev pub lists_in : Dealt → List (List Event)

@@ -4,27 +4,15 @@ ghost use Rattle.rams_model.specs.Texts.{tick_of};
 ghost use Rattle.server_hub.specs.Served.{Served};
 ghost use Rattle.trace_text.specs.{told, shown, HasDigits, IsOther, IsSettled};
 ghost use Rattle.trace_loop.specs.trace_book.trace_serving.{Stage, opening, turn, after_line, brought, event_at};
-ghost use Rattle.threads_loop.specs.{threads, list_of, with_feed, Comes, Grows, HasDealtBy, HasDealtSome, IsDealt, Took};
+ghost use Rattle.trace_loop.specs.head_loop.{with_feed};
+ghost use Rattle.threads_loop.specs.{threads, list_of, Comes, Grows, HasDealtBy, HasDealtSome, IsDealt, Took};
 
 use channel_config::Config;
 use ram_io::NoMemory;
 use rams_model::{Event, LineFault, Octets};
 use std::alloc::Global;
+use trace_loop::whole_trace::{Does, MOST_DEALT_EVENTS};
 use trace_text::{Judged, Line, Mode, State, decode};
-
-/// Most events of a trace.
-const MOST_EVENTS: u64 = 200_000;
-
-/// What a line of a trace does.
-#[derive(Clone, Copy, PartialEq, Eq)]
-pub enum Does {
-    GoesOn,
-    /// It is `end`.
-    Ends,
-    Refused(LineFault),
-    /// Its event is one too many.
-    TooLong,
-}
 
 /// What the lines so far gave.
 #[derive(Drop)]
@@ -89,7 +77,7 @@ fn deal(dealt: &mut Dealt, event: Event) -> Result<Does, NoMemory>
     ensures head { dealt.new.head ≡ dealt.old.head }
     ensures workers { dealt.new.workers ≡ dealt.old.workers }
 {
-    if dealt.events >= MOST_EVENTS {
+    if dealt.events >= MOST_DEALT_EVENTS {
         return Ok(Does::TooLong);
     }
     let list = list_of(dealt.workers, &event);

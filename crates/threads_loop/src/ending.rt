@@ -1,9 +1,6 @@
 //! The command for threads, from the source's bytes to the sink's.
-ghost use Rattle.std.specs.Prelude.{◌≡◌, ◌⊎◌, ◌<◌, ◌≤◌, ℕ, List, Err, IfErr, IfOk, OnOk, codes, is_some, length, true};
-ghost use Rattle.std.specs.Io.KnownBytes.{Appends};
-ghost use Rattle.line_io.specs.Passes.{Passes};
-ghost use Rattle.rams_model.specs.declared.status.Status.TheVariants.{BadTrace, Done, TooLong};
-ghost use Rattle.rams_model.specs.Texts.{refused_line};
+ghost use Rattle.std.specs.Prelude.{◌≡◌, ◌⊎◌, ◌<◌, ◌≤◌, ℕ, List, Err, IfErr, IfOk, OnOk, is_some, true};
+ghost use Rattle.rams_model.specs.declared.status.Status.TheVariants.{Done};
 ghost use Rattle.server_hub.specs.Served.{Served};
 ghost use Rattle.trace_loop.specs.trace_book.trace_serving.{Stage};
 ghost use Rattle.trace_loop.specs.declared.stop.Stop.TheVariants.{Read};
@@ -14,10 +11,8 @@ use crate::dealing::Dealt;
 use crate::reading::{ReadTrace, read_trace};
 use crate::session_worker::run_lists;
 use crate::writing::write_worked;
-use book_text::append_refused;
-use line_io::put_all;
 use ram_io::{Gate, Sink, Source};
-use rams_model::{LineFault, Status};
+use rams_model::Status;
 use server_hub::session_core::Core;
 use std::alloc::Global;
 use std::mem;
@@ -25,45 +20,7 @@ use std::sync::Wait;
 use std::thread::Threads;
 use trace_loop::Stop;
 use trace_loop::journal_book::laws::{journals_replay, runs_of_journals};
-
-/// Writes one line.
-fn write_alone<K: Sink>(sink: &mut K, line: &[u8]) -> Result<(), Stop>
-    ensures all { OnOk result (Appends (K.held sink.old) (K.held sink.new) line.now) }
-    ensures front { (rest : List ℕ) × Passes (K.held sink.old) (K.held sink.new) line.now rest }
-    ensures cause { IsStoppedByWrite (K.faults sink.old) (K.faults sink.new) result }
-    ensures steady { K.is_steady sink.old (length line.now) → OnlyMemoryStops result (Unit {0}) }
-{
-    match put_all(sink, line) {
-        Ok(()) => Ok(()),
-        Err(_) => Err(Stop::Write),
-    }
-}
-
-/// Writes that a line is refused.
-fn refuse<K: Sink>(alloc: Global, sink: &mut K, line: u64, fault: LineFault) -> Result<Status, Stop>
-    ensures status { IfOk result (λ status. status ≡ BadTrace) }
-    ensures text { OnOk result (Appends (K.held sink.old) (K.held sink.new) (refused_line line fault)) }
-    ensures front { (rest : List ℕ) × Passes (K.held sink.old) (K.held sink.new) (refused_line line fault) rest }
-    ensures cause { IsStoppedByWrite (K.faults sink.old) (K.faults sink.new) result }
-    ensures steady { K.is_steady sink.old (length (refused_line line fault)) → OnlyMemoryStops result (Unit {0}) }
-{
-    let mut text = Vec::new(alloc);
-    append_refused(&mut text, line, fault)?;
-    write_alone(sink, &text)?;
-    Ok(Status::BadTrace)
-}
-
-/// Writes that an event is one too many.
-fn refuse_more<K: Sink>(sink: &mut K) -> Result<Status, Stop>
-    ensures status { IfOk result (λ status. status ≡ TooLong) }
-    ensures text { OnOk result (Appends (K.held sink.old) (K.held sink.new) (codes "too-long\n")) }
-    ensures front { (rest : List ℕ) × Passes (K.held sink.old) (K.held sink.new) (codes "too-long\n") rest }
-    ensures cause { IsStoppedByWrite (K.faults sink.old) (K.faults sink.new) result }
-    ensures steady { K.is_steady sink.old (length (codes "too-long\n")) → OnlyMemoryStops result (Unit {0}) }
-{
-    write_alone(sink, b"too-long\n")?;
-    Ok(Status::TooLong)
-}
+use trace_loop::whole_trace::{refuse, refuse_more};
 
 /// Runs the lists, and writes what came of them.
 fn work_and_write<R: Threads + Wait + Sync, K: Sink, G: Gate + Sync>(

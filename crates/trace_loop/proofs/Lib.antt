@@ -1,5 +1,6 @@
 pub mod Writing
 pub mod LongLines
+pub mod EndedTurns
 pub mod FirstTurn
 pub mod Reading
 pub mod Running

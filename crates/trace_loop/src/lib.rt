@@ -9,6 +9,7 @@ mod stop;
 mod text;
 pub mod trace_book;
 mod turn;
+pub mod whole_trace;
 mod writer;
 
 pub use line_io::Gather;
@@ -18,4 +19,4 @@ pub use server::TraceServer;
 pub use stop::Stop;
 pub use text::{close, write_text};
 pub use turn::{MOST_EVENTS, Turn};
-pub use writer::{Writer, flush, put, settle};
+pub use writer::{Writer, flush, new_writer, put, settle};

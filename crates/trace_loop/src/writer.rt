@@ -21,7 +21,7 @@ pub struct Writer {
 }
 
 /// A writer with which nothing waits.
-pub(crate) fn new_writer(alloc: Global) -> Result<Writer, NoMemory>
+pub fn new_writer(alloc: Global) -> Result<Writer, NoMemory>
     ensures { IfOk result (λ writer. writer.gather ≡ []) }
 {
     Ok(Writer {

@@ -28,7 +28,7 @@ both_false true e = absurd cc
 both_false false e = absurd cc
 
 -- no event may come in a head
-refused_event : (a b : Bool) → ((a && (b && false)) && true) ≡ true → ⊥
+pub refused_event : (a b : Bool) → ((a && (b && false)) && true) ≡ true → ⊥
 refused_event a b h =
     let outer = and_parts (a && (b && false)) true h in
     let inner = and_parts a (b && false) outer.0 in both_false b inner.1

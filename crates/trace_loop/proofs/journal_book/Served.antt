@@ -102,7 +102,7 @@ one_sent port (e ∷ events) event channels =
     ap (λ (os : List Outgoing). datagrams_of port e channels ++ os) (one_sent port events event (after_event e channels))
     ∙ sym (append_assoc (datagrams_of port e channels) (sent_for port (after_event e channels) events) (datagrams_of port event (behind events (after_event e channels))))
 
-one_behind : (events : List HubEvent) (event : HubEvent) (channels : List Served) → behind (events ++ event ∷ []) channels ≡ after_event event (behind events channels)
+pub one_behind : (events : List HubEvent) (event : HubEvent) (channels : List Served) → behind (events ++ event ∷ []) channels ≡ after_event event (behind events channels)
 unfolding behind
 one_behind [] event channels = refl
 one_behind (e ∷ events) event channels = one_behind events event (after_event e channels)

@@ -4,7 +4,7 @@ use Rattle.std.proofs.lemmas.Result.{IfOk-weaker}
 use Rattle.trace_loop.specs.trace_book.trace_serving.{after_line, brought}
 use Rattle.trace_text.specs.declared.line.Line.{Line}
 use Rattle.trace_text.specs.{shown, HasDigits}
-use Rattle.threads_loop.specs.declared.dealing.Does.TheVariants.{GoesOn, Ends}
+use Rattle.trace_loop.specs.declared.whole_trace.Does.TheVariants.{GoesOn, Ends}
 use Rattle.threads_loop.specs.{threads, Comes, IsDealt, Took}
 use Rattle.threads_loop.proofs.Taking.{takes_head, takes_end, takes_tick, takes_live, takes_feedback, no_other}
 use Rattle.threads_loop.proofs.dealing.after_other.Goals as goal

@@ -11,7 +11,7 @@ returns-clause-dealt c =
     let queue = c.index_mut.result.now in
     let inside : i < length d.lists.items = omega (arith, c.list_of-list.ensures.within, c.requires.lists) in
     let is = c.in_ok-push.ensures.items ∙ ap (λ v. events_in v ++ c.args.event ∷ []) c.index_mut.ensures.value in (
-      omega (arith, c.if-dealt-ge-MOST_EVENTS.false),
+      omega (arith, c.if-dealt-ge-MOST_DEALT_EVENTS.false),
       record {
         config = refl;
         state = refl;

@@ -3,8 +3,9 @@ use Rattle.std.proofs.lemmas.Result.{IfOk-weaker}
 use Rattle.rams_model.specs.Texts.{Reached, judged}
 use Rattle.trace_text.specs.{told}
 use Rattle.server_hub.specs.declared.event.HubEvent.{HubEvent}
-use Rattle.threads_loop.specs.{Grows}
-use Rattle.threads_loop.proofs.LineByLine.{judged_turn, refused_turn, brings_so}
+use Rattle.threads_loop.specs.{threads, Grows}
+use Rattle.trace_loop.proofs.EndedTurns.{refused_turn}
+use Rattle.threads_loop.proofs.LineByLine.{judged_turn, brings_so}
 use Rattle.threads_loop.proofs.Taking.{with_state}
 use Rattle.threads_loop.proofs.dealing.take_line.Goals as goal
 
@@ -27,4 +28,4 @@ returns-in-Ok-clause-head c =
 
 pub returns-in-Err-clause-took : goal.returns-in-Err-clause-took
 returns-in-Err-clause-took c = λ stage number dealt.
-    refused_turn stage number c.args.line.now c.in-Err.fault (subst (λ (r : Reached). judged r c.args.line.now ≡ Err c.in-Err.fault) dealt.0 c.in-Err.ensures.err)
+    refused_turn threads stage number c.args.line.now c.in-Err.fault (subst (λ (r : Reached). judged r c.args.line.now ≡ Err c.in-Err.fault) dealt.0 c.in-Err.ensures.err)

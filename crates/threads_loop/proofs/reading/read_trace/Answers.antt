@@ -2,7 +2,7 @@ use Rattle.std.proofs.Common.{ℕ, ◌∙◌, subst, arith}
 use Rattle.std.specs.Io.KnownBytes.{prepend_known}
 use Rattle.trace_loop.specs.{IfBothTold}
 use Rattle.trace_loop.specs.trace_book.trace_serving.{opening}
-use Rattle.threads_loop.specs.declared.dealing.Does.{Does}
+use Rattle.trace_loop.specs.declared.whole_trace.Does.{Does}
 use Rattle.threads_loop.specs.{threads, StandsAfter}
 use Rattle.threads_loop.proofs.LineByLine.{IsReading, TakesLine, reading_begins, reading_ends, reading_goes_on, reading_refuses, reading_breaks, ends_known}
 use Rattle.threads_loop.proofs.reading.read_trace.Goals as goal

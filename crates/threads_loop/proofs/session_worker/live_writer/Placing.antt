@@ -1,14 +1,16 @@
 -- Calls of a list, piece by piece, and their places.
-use Rattle.std.proofs.Common.{◌≡◌, ℕ, zero, suc, ◌+◌, ◌≤◌, ◌==◌, Bool, true, false, List, [], ◌∷◌, ◌++◌, map, length, refl, sym, ap, ◌∙◌, subst, arith, append_assoc}
+use Rattle.std.proofs.Common.{◌≡◌, ℕ, ◌+◌, ◌≤◌, ◌==◌, Bool, true, false, List, [], ◌∷◌, ◌++◌, map, length, refl, sym, ap, ◌∙◌, subst, arith, append_assoc}
 use Rattle.std.specs.Prelude.{if◌then◌else◌, Result, Ok, Err, OnOk, MatchResult}
 use Rattle.std.proofs.lemmas.List.{append-nil, length-append, length-map, map-append}
 use Rattle.std.proofs.lemmas.List.Elements.{filter-append}
 use Rattle.rams_model.specs.declared.event.Event.{Event}
 use Rattle.rams_model.specs.Service.{Settings, Answered}
 use Rattle.channel_book.specs.declared.entry.Entry.{Entry}
-use Rattle.channel_book.specs.{is_of, calls_by, StartsWith, HasAnsweredAll}
+use Rattle.channel_book.specs.{is_of, calls_by, StartsWith, HasAnsweredAll, HasAnsweredFront}
 use Rattle.threads_loop.specs.declared.session_worker.live_writer.writer.Placed.{Placed}
-use Rattle.threads_loop.specs.session_worker.live_writer.{places_from, places_by, datagrams_of, numbers_from, HasDrawn, HasWritten, HasWrittenFront, HasWrittenPiece}
+use Rattle.threads_loop.specs.session_worker.live_writer.{places_from, places_by, datagrams_of, HasDrawn, HasWritten, HasWrittenPiece}
+use Rattle.channel_book.specs.channel_lock.{numbers}
+use Rattle.channel_book.proofs.channel_lock.Numbers.{numbers_snoc}
 
 -- ---- beginnings
 
@@ -52,12 +54,12 @@ module _ (list : ℕ) where
       go false h = omega (arith, h)
 
   -- where all calls are of the list, each has a place
-  all_places : (first : ℕ) (xs : List Entry) → calls_by list xs ≡ xs → places_from list first xs ≡ numbers_from first (length xs)
+  all_places : (first : ℕ) (xs : List Entry) → calls_by list xs ≡ xs → places_from list first xs ≡ numbers first (length xs)
   all_places first [] own = refl
   all_places first (x ∷ xs) own = go (x.list == list) (all_places (first + 1) xs) own
     where
-      go : (b : Bool) → (calls_by list xs ≡ xs → places_from list (first + 1) xs ≡ numbers_from (first + 1) (length xs)) → (if b then x ∷ calls_by list xs else calls_by list xs) ≡ x ∷ xs
-          → (if b then first ∷ places_from list (first + 1) xs else places_from list (first + 1) xs) ≡ numbers_from first (length (x ∷ xs))
+      go : (b : Bool) → (calls_by list xs ≡ xs → places_from list (first + 1) xs ≡ numbers (first + 1) (length xs)) → (if b then x ∷ calls_by list xs else calls_by list xs) ≡ x ∷ xs
+          → (if b then first ∷ places_from list (first + 1) xs else places_from list (first + 1) xs) ≡ numbers first (length (x ∷ xs))
       go true later e = let tails : calls_by list xs ≡ xs = cc in ap (λ (l : List ℕ). first ∷ l) (later tails)
       go false later e = absurd (omega (arith, ap length e, calls_le xs))
 
@@ -70,7 +72,7 @@ no_more (x ∷ xs) e = absurd (omega (arith, e))
 
 -- the places of the calls of a turn are those behind what was seen
 placed_last : (list : ℕ) (events : List Event) (old : List Entry) (place : ℕ) (answers : List Answered) (new : List Entry) → HasAnsweredAll list events old place answers new
-    → places_by list new ≡ places_by list old ++ numbers_from place (length answers)
+    → places_by list new ≡ places_by list old ++ numbers place (length answers)
 placed_last list events old place answers new h =
     let calls : calls_by list new ≡ (calls_by list old ++ calls_by list h.between) ++ h.made =
     ap (calls_by list) h.history ∙ filter-append (is_of list) (old ++ h.between) h.made
@@ -82,8 +84,8 @@ placed_last list events old place answers new h =
     places_append list 0 old h.between ∙ ap (λ (l : List ℕ). places_by list old ++ l) (no_places list (0 + length old) h.between none) ∙ append-nil (places_by list old) in
     let first : 0 + length (old ++ h.between) ≡ place = zero_more (length (old ++ h.between)) ∙ sym h.place_is in
     let count : length h.made ≡ length answers = sym (length-map h.made (λ (e : Entry). e.answer)) ∙ ap length h.calls.answers_are in
-    let last : places_from list (0 + length (old ++ h.between)) h.made ≡ numbers_from place (length answers) =
-    ap (λ (n : ℕ). places_from list n h.made) first ∙ (all_places list place h.made h.calls.own ∙ ap (numbers_from place) count) in
+    let last : places_from list (0 + length (old ++ h.between)) h.made ≡ numbers place (length answers) =
+    ap (λ (n : ℕ). places_from list n h.made) first ∙ (all_places list place h.made h.calls.own ∙ ap (numbers place) count) in
     ap (places_by list) h.history ∙ places_append list 0 (old ++ h.between) h.made ∙ ap (λ (l : List ℕ). l ++ places_from list (0 + length (old ++ h.between)) h.made) front
     ∙ ap (λ (l : List ℕ). places_by list old ++ l) last
 
@@ -95,30 +97,15 @@ starts_answered list events old place answers new h = record {
 
 -- ---- what is drawn
 
-numbers_snoc : (first n : ℕ) → numbers_from first (n + 1) ≡ numbers_from first n ++ (first + n) ∷ []
-numbers_snoc first zero = ap (λ (k : ℕ). k ∷ []) (omega arith)
-numbers_snoc first (suc n) =
-    let e : first + 1 + n ≡ first + suc n = omega arith in
-    let more : suc n + 1 ≡ suc (n + 1) = omega arith in
-    ap (numbers_from first) more ∙ ap (λ (l : List ℕ). first ∷ l) (numbers_snoc (first + 1) n ∙ ap (λ (k : ℕ). numbers_from (first + 1) n ++ k ∷ []) e)
-
-pub nothing_drawn : (place : ℕ) (old : List Placed) → HasDrawn place [] old old
-nothing_drawn place old = record {
-  placed = [];
-  items = sym (append-nil old);
-  places_are = refl;
-  drawn_are = refl;
-}
-
 pub draws_on : (place : ℕ) (drawn : List (List (List ℕ))) (old all : List Placed) (p : Placed) → HasDrawn place drawn old all → p.place ≡ place + length drawn
     → HasDrawn place (drawn ++ p.datagrams.items ∷ []) old (all ++ p ∷ [])
 draws_on place drawn old all p h at = record {
   placed = h.placed ++ p ∷ [];
   items = ap (λ (l : List Placed). l ++ p ∷ []) h.items ∙ append_assoc old h.placed (p ∷ []);
   places_are = map-append (λ (x : Placed). x.place) h.placed (p ∷ []) ∙ ap (λ (l : List ℕ). l ++ p.place ∷ []) h.places_are
-      ∙ ap (λ (k : ℕ). numbers_from place (length drawn) ++ k ∷ []) at
+      ∙ ap (λ (k : ℕ). numbers place (length drawn) ++ k ∷ []) at
       ∙ sym (numbers_snoc place (length drawn))
-      ∙ ap (numbers_from place) (sym (length-append drawn (p.datagrams.items ∷ [])));
+      ∙ ap (numbers place) (sym (length-append drawn (p.datagrams.items ∷ [])));
   drawn_are = map-append (λ (x : Placed). x.datagrams.items) h.placed (p ∷ []) ∙ ap (λ (l : List (List (List ℕ))). l ++ p.datagrams.items ∷ []) h.drawn_are;
 }
 
@@ -140,14 +127,14 @@ writes_piece list s events old place answers new before after h d = record {
     own = h.own;
     starts = starts_answered list events old place answers new h;
     places = placed_last list events old place answers new h
-        ∙ ap (λ (l : List ℕ). places_by list old ++ l) (ap (numbers_from place) (sym (length-map answers (datagrams_of s))) ∙ sym d.places_are);
+        ∙ ap (λ (l : List ℕ). places_by list old ++ l) (ap (numbers place) (sym (length-map answers (datagrams_of s))) ∙ sym d.places_are);
     drawn = d.drawn_are ∙ (ap (map (datagrams_of s)) (sym h.calls.answers_are) ∙ drawn_entries s h.made);
   };
 }
 
 -- its calls were answered, and not all was drawn
 answers_front : (list : ℕ) (events : List Event) (old : List Entry) (place : ℕ) (answers : List Answered) (new : List Entry) → HasAnsweredAll list events old place answers new
-    → HasWrittenFront list events old new
+    → HasAnsweredFront list events old new
 answers_front list events old place answers new h = record {
   made = h.made;
   rest = [];
@@ -164,7 +151,7 @@ length_answers list events old place answers new h =
 -- what a piece tells, by whether all was drawn
 pub piece_told : {A E : Type 0} (list : ℕ) (s : Settings) (events : List Event) (old : List Entry) (place : ℕ) (answers : List Answered) (new : List Entry) (before after : List Placed) (r : Result A E)
     → HasAnsweredAll list events old place answers new → OnOk r (HasDrawn place (map (datagrams_of s) answers) before after)
-    → MatchResult r (λ _. HasWrittenPiece list s events old before after new) (λ _. HasWrittenFront list events old new)
+    → MatchResult r (λ _. HasWrittenPiece list s events old before after new) (λ _. HasAnsweredFront list events old new)
 piece_told list s events old place answers new before after (Ok x) h drawn = writes_piece list s events old place answers new before after h drawn
 piece_told list s events old place answers new before after (Err e) h drawn = answers_front list events old place answers new h
 
@@ -197,7 +184,7 @@ writes_on list s events more old all after middle new w piece =
           ∙ ap (λ (l : List (List (List ℕ))). map (λ (x : Entry). datagrams_of s x.answer) w.made ++ l) h.drawn ∙ sym (map-append (λ (x : Entry). datagrams_of s x.answer) w.made h.made);
     })
 
-pub no_front : (list : ℕ) (events : List Event) (old : List Entry) → HasWrittenFront list events old old
+pub no_front : (list : ℕ) (events : List Event) (old : List Entry) → HasAnsweredFront list events old old
 no_front list events old = record {
   made = [];
   rest = events;
@@ -208,7 +195,7 @@ no_front list events old = record {
 
 -- the next piece, of which a front was taken
 pub tries_on : (list : ℕ) (s : Settings) (events piece later : List Event) (old : List Entry) (all : List Placed) (middle new : List Entry) → HasWritten list s events old all middle
-    → HasWrittenFront list piece middle new → HasWrittenFront list (events ++ (piece ++ later)) old new
+    → HasAnsweredFront list piece middle new → HasAnsweredFront list (events ++ (piece ++ later)) old new
 tries_on list s events piece later old all middle new w h =
     let of : Entry → Event = λ (x : Entry). x.event in record {
       made = w.made ++ h.made;

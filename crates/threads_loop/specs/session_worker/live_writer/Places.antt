@@ -1,9 +1,7 @@
 -- Where the calls of a list stand in a history, and what is drawn of their answers.
-use Rattle.std.specs.Prelude.{◌≡◌, ℕ, ◌+◌, ◌==◌, if◌then◌else◌, List, [], ◌∷◌, ◌++◌, map}
-use Rattle.rams_model.specs.declared.event.Event.{Event}
+use Rattle.std.specs.Prelude.{ℕ, ◌+◌, ◌==◌, if◌then◌else◌, List, [], ◌∷◌, map}
 use Rattle.rams_model.specs.Service.{Settings, Answered, datagram}
 use Rattle.channel_book.specs.declared.entry.Entry.{Entry}
-use Rattle.channel_book.specs.{calls_by, StartsWith}
 
 -- the places of the calls of a list among some entries, the first of which has this place
 abbrev pub places_from : ℕ → ℕ → List Entry → List ℕ
@@ -17,11 +15,3 @@ places_by list entries = places_from list 0 entries
 -- the datagrams that an answer asks for, in the order of its orders
 abbrev pub datagrams_of : Settings → Answered → List (List ℕ)
 datagrams_of s a = map (datagram s) a.orders
-
--- A front of these events was taken as calls of the list, in order.
-pub record HasWrittenFront (list : ℕ) (events : List Event) (old new : List Entry) : Type 0 where
-  pub made : List Entry
-  pub rest : List Event
-  pub front : events ≡ map (λ (e : Entry). e.event) made ++ rest
-  pub own : calls_by list new ≡ calls_by list old ++ made
-  pub starts : StartsWith new old

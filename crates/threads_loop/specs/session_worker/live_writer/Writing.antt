@@ -1,9 +1,10 @@
 -- What the calls of a list leave.
-use Rattle.std.specs.Prelude.{◌≡◌, ℕ, zero, suc, ◌+◌, List, [], ◌∷◌, ◌++◌, map, length}
+use Rattle.std.specs.Prelude.{◌≡◌, ℕ, List, ◌++◌, map, length}
 use Rattle.rams_model.specs.declared.event.Event.{Event}
 use Rattle.rams_model.specs.Service.{Settings}
 use Rattle.channel_book.specs.declared.entry.Entry.{Entry}
 use Rattle.channel_book.specs.{calls_by, StartsWith}
+use Rattle.channel_book.specs.channel_lock.{numbers}
 use Rattle.threads_loop.specs.declared.session_worker.live_writer.writer.Placed.{Placed}
 use Rattle.threads_loop.specs.session_worker.live_writer.Places.{places_by, datagrams_of}
 
@@ -16,16 +17,11 @@ pub record HasWritten (list : ℕ) (s : Settings) (events : List Event) (old : L
   pub places : places_by list new ≡ places_by list old ++ map (λ (p : Placed). p.place) placed
   pub drawn : map (λ (p : Placed). p.datagrams.items) placed ≡ map (λ (e : Entry). datagrams_of s e.answer) made
 
--- so many numbers from the first on
-abbrev pub numbers_from : ℕ → ℕ → List ℕ
-numbers_from first zero = []
-numbers_from first (suc n) = first ∷ numbers_from (first + 1) n
-
 -- These datagrams of answers stand behind the others, side by side from this place on.
 pub record HasDrawn (place : ℕ) (drawn : List (List (List ℕ))) (old new : List Placed) : Type 0 where
   pub placed : List Placed
   pub items : new ≡ old ++ placed
-  pub places_are : map (λ (p : Placed). p.place) placed ≡ numbers_from place (length drawn)
+  pub places_are : map (λ (p : Placed). p.place) placed ≡ numbers place (length drawn)
   pub drawn_are : map (λ (p : Placed). p.datagrams.items) placed ≡ drawn
 
 -- All of these events were taken as calls of the list, in order, and what became of them stands behind what became of others.

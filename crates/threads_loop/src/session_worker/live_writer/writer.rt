@@ -1,7 +1,8 @@
 //! The calls of one list.
 ghost use Rattle.std.specs.Prelude.{◌≡◌, ◌+◌, ◌++◌, ◌^◌, ◌<◌, ◌≤◌, IfOk, length, map, min, OnOk, MatchResult};
 ghost use Rattle.std.specs.Vec.Iter.{into_iter_items};
-ghost use Rattle.threads_loop.specs.session_worker.live_writer.{datagrams_of, HasDrawn, HasWritten, HasWrittenFront, HasWrittenPiece};
+ghost use Rattle.threads_loop.specs.session_worker.live_writer.{datagrams_of, HasDrawn, HasWritten, HasWrittenPiece};
+ghost use Rattle.channel_book.specs.{HasAnsweredFront};
 
 use crate::session_worker::live_writer::rendering::{grow, render_each};
 use channel_book::{Answer, Config, Event, NoMemory, Shared};
@@ -126,7 +127,7 @@ fn write_piece<R: Threads + Wait + Sync, S: Shared, G: Gate>(
     ensures left { S.left pass.old ≤ S.left pass.new + length events.items }
     ensures told { MatchResult result
         (λ _. HasWrittenPiece (S.list pass.old) config.now events.items (S.seen pass.old) all.old.items all.new.items (S.seen pass.new))
-        (λ _. HasWrittenFront (S.list pass.old) events.items (S.seen pass.old) (S.seen pass.new)) }
+        (λ _. HasAnsweredFront (S.list pass.old) events.items (S.seen pass.old) (S.seen pass.new)) }
 {
     enter_all(gate, list, all.len(), events.len());
     grow(alloc, AT_HAND);
@@ -162,7 +163,7 @@ pub fn write_all<R: Threads + Wait + Sync, S: Shared, G: Gate>(
     ensures list { S.list pass.new ≡ S.list pass.old }
     ensures told { MatchResult result
         (λ placed. HasWritten (S.list pass.old) config.now events.items (S.seen pass.old) placed.items (S.seen pass.new))
-        (λ _. HasWrittenFront (S.list pass.old) events.items (S.seen pass.old) (S.seen pass.new)) }
+        (λ _. HasAnsweredFront (S.list pass.old) events.items (S.seen pass.old) (S.seen pass.new)) }
 {
     let mut all = Vec::with_capacity(alloc, events.len())?;
     let mut left = events.into_iter();

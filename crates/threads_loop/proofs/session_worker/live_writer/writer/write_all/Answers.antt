@@ -5,9 +5,10 @@ use Rattle.std.proofs.lemmas.List.{length-append}
 use Rattle.std.proofs.lemmas.Result.{err_from_is_err_and}
 use Rattle.rams_model.specs.declared.event.Event.{Event}
 use Rattle.threads_loop.specs.declared.session_worker.live_writer.writer.Placed.{Placed}
-use Rattle.threads_loop.specs.session_worker.live_writer.{HasWritten, HasWrittenFront, HasWrittenPiece}
+use Rattle.threads_loop.specs.session_worker.live_writer.{HasWritten, HasWrittenPiece}
 use Rattle.threads_loop.proofs.session_worker.live_writer.Placing.{nothing_written, writes_on, tries_on, no_front}
 use Rattle.threads_loop.proofs.session_worker.live_writer.writer.write_all.Goals as goal
+use Rattle.channel_book.specs.{HasAnsweredFront}
 
 pub returns-in_err-all-clause-told : goal.returns-in_err-all-clause-told
 returns-in_err-all-clause-told g c =
@@ -40,9 +41,9 @@ returns-in_err-write_piece-clause-told g c =
     let new = s.seen c.write_piece.new.pass in
     let front = l.invariant.written.0 in
     let whole : front ++ (piece ++ later) ≡ c.args.events.items = ap (λ (es : List Event). front ++ es) c.in_ok-piece.ensures.cut ∙ l.invariant.written.1 in
-    let tried = subst (λ n. HasWrittenFront n piece middle new) l.invariant.list c.in_err-write_piece.ensures.told in
+    let tried = subst (λ n. HasAnsweredFront n piece middle new) l.invariant.list c.in_err-write_piece.ensures.told in
     let p = err_from_is_err_and c.from_residual-in_err-write_piece.result c.from_residual-in_err-write_piece.ensures.1 in
-    rw p.1 (subst (λ (es : List Event). HasWrittenFront list es old new) whole
+    rw p.1 (subst (λ (es : List Event). HasAnsweredFront list es old new) whole
     (tries_on list c.args.config.now front piece later old l.all.items middle new l.invariant.written.2 tried))
 
 pub loop-alloc-preserved : goal.loop-alloc-preserved

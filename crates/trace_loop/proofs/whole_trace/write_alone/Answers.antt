@@ -1,6 +1,6 @@
 use Rattle.std.proofs.Common.{◌≡◌, ◌+◌, length, subst, arith}
 use Rattle.std.specs.Prelude.{IsOkAnd}
-use Rattle.threads_loop.proofs.ending.write_alone.Goals as goal
+use Rattle.trace_loop.proofs.whole_trace.write_alone.Goals as goal
 
 pub returns-in-Err-clause-steady : goal.returns-in-Err-clause-steady
 returns-in-Err-clause-steady g c = λ h.
