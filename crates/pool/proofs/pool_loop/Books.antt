@@ -28,6 +28,8 @@ use Rattle.pool.specs.declared.pool_loop.dealing.Coming.{Coming}
 use Rattle.pool.specs.declared.pool_loop.routes.Route.{Route}
 use Rattle.pool.specs.pool_loop.{route_of, is_for_all, served_so, all_served, HaveAtMost, numbers_of, AllCanRender, ClaimsOf, IsLaneOf}
 use Rattle.pool.proofs.pool_loop.Walked.{event_in, IsPending, ArePending}
+use Rattle.trace_loop.specs.journal_book.{behind}
+use Rattle.trace_loop.proofs.journal_book.Served.{one_behind}
 
 -- ---- pairs
 
@@ -144,20 +146,10 @@ are_pending came (c ∷ cs) (b ∷ bs) p got = (pending_one came c b p.0 got.0, 
 
 -- ---- the text of events that came, from the oldest on
 
--- the channels after these events, the oldest first
-behind : List HubEvent → List Served → List Served
-behind [] cs = cs
-behind (e ∷ later) cs = behind later (after_event e cs)
-
-behind_snoc : (xs : List HubEvent) (e : HubEvent) (cs : List Served) → behind (xs ++ e ∷ []) cs ≡ after_event e (behind xs cs)
-unfolding behind
-behind_snoc [] e cs = refl
-behind_snoc (x ∷ xs) e cs = behind_snoc xs e (after_event x cs)
-
 behind_is : (came : List HubEvent) (cs : List Served) → behind (reverse came) cs ≡ after_all run came cs
 unfolding behind after_all
 behind_is [] cs = refl
-behind_is (e ∷ came) cs = ap (λ (l : List HubEvent). behind l cs) (reverse-append (e ∷ []) came) ∙ behind_snoc (reverse came) e cs ∙ ap (after_event e) (behind_is came cs)
+behind_is (e ∷ came) cs = ap (λ (l : List HubEvent). behind l cs) (reverse-append (e ∷ []) came) ∙ one_behind (reverse came) e cs ∙ ap (after_event e) (behind_is came cs)
 
 text_snoc : (count : ℕ) (cs : List Served) (xs : List HubEvent) (e : HubEvent) → text_for count cs (xs ++ e ∷ []) ≡ text_for count cs xs ++ event_text (count + length xs + 1) e (behind xs cs)
 unfolding text_for behind

@@ -1,35 +1,27 @@
 -- How the lines of a trace for a pool are read, one after another.
-use Rattle.std.proofs.Common.{◌≡◌, ℕ, ◌+◌, ◌<◌, List, [], ◌∷◌, ◌++◌, length, take, reverse, Option, None, Some, Ok, Err, refl, sym, ap, ◌∙◌, subst, arith, length-take, append_assoc, append-nil}
+use Rattle.std.proofs.Common.{◌≡◌, ℕ, ◌+◌, ◌<◌, List, [], ◌∷◌, ◌++◌, length, take, reverse, Option, None, Some, Ok, refl, sym, ap, ◌∙◌, subst, arith, length-take, append_assoc, append-nil}
 use Rattle.std.specs.Prelude.{filter_map}
 use Rattle.std.specs.List.{cons_option}
 use Rattle.std.specs.Io.KnownBytes.{prepend_known}
-use Rattle.std.proofs.lemmas.Bool.{lt-ltb}
 use Rattle.std.proofs.lemmas.List.{reverse-append, reverse-reverse}
 use Rattle.line_io.specs.{TakesNext}
-use Rattle.line_io.specs.declared.reader.Next.TheVariants.{Line, Long, End}
+use Rattle.line_io.specs.declared.reader.Next.TheVariants.{Line, Long}
 use Rattle.rams_model.specs.declared.fault.LineFault.{LineFault}
-use Rattle.rams_model.specs.declared.fault.LineFault.TheVariants.{Form, Order}
+use Rattle.rams_model.specs.declared.fault.LineFault.TheVariants.{Form}
 use Rattle.rams_model.specs.declared.status.Status.{Status}
-use Rattle.rams_model.specs.declared.status.Status.TheVariants.{Done, BadTrace, TooLong as LongTrace}
+use Rattle.rams_model.specs.declared.status.Status.TheVariants.{Done}
 use Rattle.rams_model.specs.Texts.{TraceLine, Reached, judged, lines_of}
 use Rattle.server_hub.specs.declared.event.HubEvent.{HubEvent}
 use Rattle.server_hub.specs.Served.{Served}
-use Rattle.trace_loop.specs.trace_book.trace_serving.{Stage, Outcome, Turn, goes_on, ends, opening, done, refused, too_long, turn, after_line, brought, after_turn, text_from, served_text, stage_after, stage_from, last_stage, taken_with, taken_from}
+use Rattle.trace_loop.specs.trace_book.trace_serving.{Stage, Outcome, Turn, ends, opening, done, refused, too_long, turn, after_line, brought, text_from, served_text, stage_from, last_stage, taken_from}
 use Rattle.trace_loop.specs.trace_book.{run, trace_text, taken, event_at, came as came_in}
 use Rattle.trace_loop.specs.{IfTold, IfBothTold}
+use Rattle.trace_loop.proofs.EndedTurns.{same_end, never_goes_on, never_done, never_long, long_refused, text_ends, stage_stays, takes_none, text_goes_on, stage_goes_on, takes_line}
 use Rattle.pool.specs.declared.pool_loop.dealing.Dealt.{Dealt}
-use Rattle.pool.specs.declared.pool_loop.dealing.Does.{Does}
-use Rattle.pool.specs.declared.pool_loop.dealing.Does.TheVariants.{GoesOn, Ends, Refused, TooLong}
+use Rattle.trace_loop.specs.declared.whole_trace.Does.{Does}
+use Rattle.trace_loop.specs.declared.whole_trace.Does.TheVariants.{GoesOn, Ends, Refused, TooLong}
 use Rattle.pool.specs.pool_loop.{pool, came_with, HasDealt, HasDealtBy, Took, StandsAfter, GoesOnAfter, EndsAt, IsFirstLine, IsReadOf}
-use Rattle.pool.proofs.pool_loop.Turns.{GoesOnTo, turn_so, refused_turn, run_goes_on, run_ends, brings_so}
-
--- a line that is too long has no form
-judged_by : (r : Reached) (bytes : List ℕ) → 4096 < length bytes → judged r bytes ≡ Err Form
-unfolding judged
-judged_by r bytes long = rw (lt-ltb 4096 (length bytes) long) refl
-
-long_refused : (stage : Stage (List Served)) (number : ℕ) (bytes : List ℕ) → 4096 < length bytes → turn pool stage number bytes ≡ ends (refused number Form)
-long_refused stage number bytes long = refused_turn stage number bytes Form (judged_by stage.reached bytes long)
+use Rattle.pool.proofs.pool_loop.Turns.{GoesOnTo, turn_so, run_goes_on, run_ends, brings_so}
 
 -- the turn of a line that was judged
 pub judged_turn : (d : Dealt) (came : List HubEvent) (stage : Stage (List Served)) (number : ℕ) (bytes : List ℕ) (read : TraceLine) (later : Reached) (does : Does) → judged stage.reached bytes ≡ Ok (read, later)
@@ -45,56 +37,29 @@ took_stands d came event stage was number Ends took = (came, stage, took.1, took
 took_stands d came event stage was number (Refused fault) took = tt
 took_stands d came event stage was number TooLong took = tt
 
--- a line that is refused for its form does nothing else
-same_end : (o p : Outcome) → ◌≡◌ {A = Turn (List Served)} (ends o) (ends p) → o ≡ p
-same_end o p e = cc
-
-other_status : (o p : Outcome) → o.status ≡ BadTrace → p.status ≡ Done → ◌≡◌ {A = Turn (List Served)} (ends o) (ends p) → ⊥
-other_status o p bad good e = differ (sym bad ∙ ap (λ (x : Outcome). x.status) (same_end o p e) ∙ good)
-  where
-    differ : BadTrace ≡ Done → ⊥
-    differ h = cc
-
-never_long : (o p : Outcome) → o.status ≡ BadTrace → p.status ≡ LongTrace → ◌≡◌ {A = Turn (List Served)} (ends o) (ends p) → ⊥
-never_long o p bad long e = differ (sym bad ∙ ap (λ (x : Outcome). x.status) (same_end o p e) ∙ long)
-  where
-    differ : BadTrace ≡ LongTrace → ⊥
-    differ h = cc
-
-never_goes_on : (o : Outcome) (stage : Stage (List Served)) → ends o ≡ goes_on stage [] → ⊥
-never_goes_on o stage e = absurd cc
-
 module _ (new : Dealt) (came : List HubEvent) (stage : Stage (List Served)) (number : ℕ) (xs ys : List ℕ) where
   -- the first line of xs is this one
   one_line : (line : List ℕ) (does : Does) → lines_of xs ≡ line ∷ lines_of ys → Took new came (event_at line) stage (turn pool stage number line) number does → IsFirstLine new came stage number xs does ys
-  unfolding text_from
   one_line line GoesOn e took = record { line = line; lines = e; later = took.0; does = took.1; dealt = took.2 }
   one_line line Ends e took = record { line = line; later = lines_of ys; lines = e; does = took.0; dealt = took.1; may = took.2 }
-  one_line line (Refused fault) e took =
-      ap (text_from pool stage number) e ∙ ap (λ (was : Turn (List Served)). after_turn was (λ later. text_from pool later (number + 1) (lines_of ys))) took
-  one_line line TooLong e took =
-      ap (text_from pool stage number) e ∙ ap (λ (was : Turn (List Served)). after_turn was (λ later. text_from pool later (number + 1) (lines_of ys))) took
+  one_line line (Refused fault) e took = text_ends pool stage number (lines_of xs) line (lines_of ys) (refused number fault) e took
+  one_line line TooLong e took = text_ends pool stage number (lines_of xs) line (lines_of ys) too_long e took
 
   -- the first line of xs is too long, and this is the front of it
   long_line : (first line : List ℕ) (rest : List (List ℕ)) (does : Does) → lines_of xs ≡ first ∷ rest → 4096 < length first → line ≡ take 4097 first
       → Took new came (event_at line) stage (turn pool stage number line) number does → IsFirstLine new came stage number xs does ys
-  unfolding text_from
   long_line first line rest does e long front took = by does took
     where
       short : turn pool stage number line ≡ ends (refused number Form)
-      short = ap (turn pool stage number) front ∙ long_refused stage number (take 4097 first) (omega (arith, length-take 4097 first, long))
+      short = ap (turn pool stage number) front ∙ long_refused pool stage number (take 4097 first) (omega (arith, length-take 4097 first, long))
 
       by : (d : Does) → Took new came (event_at line) stage (turn pool stage number line) number d → IsFirstLine new came stage number xs d ys
-      by GoesOn took = absurd (never_goes_on (refused number Form) took.0 (sym short ∙ took.1))
-      by Ends took = absurd (other_status (refused number Form) (done stage.events) refl refl (sym short ∙ took.0))
+      by GoesOn took = absurd (never_goes_on (refused number Form) took.0 [] (sym short ∙ took.1))
+      by Ends took = absurd (never_done (refused number Form) (done stage.events) refl refl (sym short ∙ took.0))
       by TooLong took = absurd (never_long (refused number Form) too_long refl refl (sym short ∙ took))
       by (Refused fault) took =
           let outcome = same_end (refused number Form) (refused number fault) (sym short ∙ took) in
-          ap (text_from pool stage number) e ∙ ap (λ (was : Turn (List Served)). after_turn was (λ later. text_from pool later (number + 1) rest)) (long_refused stage number first long) ∙ outcome
-
-no_line : (stage : Stage (List Served)) (number : ℕ) (xs : List ℕ) → lines_of xs ≡ [] → text_from pool stage number (lines_of xs) ≡ refused number Order
-unfolding text_from
-no_line stage number xs e = ap (text_from pool stage number) e
+          text_ends pool stage number (lines_of xs) first rest (refused number Form) e (long_refused pool stage number first long) ∙ outcome
 
 -- the same, where what is left is told
 pub line_is_told : (new : Dealt) (left leaves : Option (List ℕ)) (line : List ℕ) (came : List HubEvent) (stage : Stage (List Served)) (number : ℕ) (does : Does) → TakesNext left leaves line Line
@@ -108,12 +73,6 @@ pub long_is_told : (new : Dealt) (left leaves : Option (List ℕ)) (line : List 
 long_is_told new None leaves line came stage number does next took = tt
 long_is_told new (Some xs) None line came stage number does next took = next
 long_is_told new (Some xs) (Some ys) line came stage number does next took = long_line new came stage number xs ys next.0 line next.1 does next.2 next.3 next.4 took
-
-pub end_is_told : (left leaves : Option (List ℕ)) (line : List ℕ) (stage : Stage (List Served)) (number : ℕ) → TakesNext left leaves line End
-    → IfBothTold left leaves (λ xs ys. text_from pool stage number (lines_of xs) ≡ refused number Order)
-end_is_told None leaves line stage number next = tt
-end_is_told (Some xs) None line stage number next = next
-end_is_told (Some xs) (Some ys) line stage number next = no_line stage number xs next
 
 -- ---- line by line
 
@@ -152,18 +111,17 @@ module _ (old new : Dealt) (number : ℕ) (xs ys zs : List ℕ) (r : IsReading o
   on = run_goes_on r.stage number g.line g.later g.does
 
   goes_past : IsReading new (number + 1) xs zs
-  unfolding text_from stage_from taken_from
   goes_past = record {
     came = came_with (event_at g.line) r.came;
     stage = g.later;
     dealt = g.dealt;
-    ends_so = r.ends_so ∙ ap (text_from pool r.stage number) g.lines ∙ ap (λ (was : Turn (List Served)). after_turn was (λ later. text_from pool later (number + 1) (lines_of zs))) g.does;
-    runs = r.runs ∙ ap (λ (ls : List (List ℕ)). (text_from run r.stage number ls).status) g.lines ∙ ap (λ (was : Turn (List Served)). (after_turn was (λ later. text_from run later (number + 1) (lines_of zs))).status) on.1;
-    reaches = r.reaches ∙ ap (stage_from run r.stage number) g.lines ∙ ap (λ (was : Turn (List Served)). stage_after r.stage was (λ later. stage_from run later (number + 1) (lines_of zs))) on.1;
+    ends_so = r.ends_so ∙ text_goes_on pool r.stage g.later number (lines_of ys) g.line [] (lines_of zs) g.lines g.does;
+    runs = r.runs ∙ ap (λ (o : Outcome). o.status) (text_goes_on run r.stage g.later number (lines_of ys) g.line on.0 (lines_of zs) g.lines on.1);
+    reaches = r.reaches ∙ stage_goes_on run r.stage g.later number (lines_of ys) g.line on.0 (lines_of zs) g.lines on.1;
     brings =
         r.brings
         ∙ ap (λ (ls : List (List ℕ)). reverse r.came ++ filter_map event_at ls)
-        (ap (taken_from run r.stage number) g.lines ∙ ap (λ (was : Turn (List Served)). taken_with g.line was (λ later. taken_from run later (number + 1) (lines_of zs))) on.1)
+        (takes_line run r.stage g.later number (lines_of ys) g.line on.0 (lines_of zs) g.lines on.1)
         ∙ one_brought (event_at g.line) r.came (filter_map event_at (taken_from run g.later (number + 1) (lines_of zs)));
   }
 
@@ -193,23 +151,19 @@ module _ (old new : Dealt) (number : ℕ) (xs ys : List ℕ) (r : IsReading old 
   ended = run_ends r.stage number e.line r.stage.events e.does
 
   is_end : text_from pool r.stage number (lines_of ys) ≡ done r.stage.events
-  unfolding text_from
-  is_end = ap (text_from pool r.stage number) e.lines ∙ ap (λ (was : Turn (List Served)). after_turn was (λ later. text_from pool later (number + 1) e.later)) e.does
+  is_end = text_ends pool r.stage number (lines_of ys) e.line e.later (done r.stage.events) e.lines e.does
 
   runs_so : (text_from run r.stage number (lines_of ys)).status ≡ Done
-  unfolding text_from
-  runs_so = ap (λ (ls : List (List ℕ)). (text_from run r.stage number ls).status) e.lines ∙ ap (λ (was : Turn (List Served)). (after_turn was (λ later. text_from run later (number + 1) e.later)).status) ended
+  runs_so = ap (λ (o : Outcome). o.status) (text_ends run r.stage number (lines_of ys) e.line e.later (done r.stage.events) e.lines ended)
 
   stays : stage_from run r.stage number (lines_of ys) ≡ r.stage
-  unfolding stage_from
-  stays = ap (stage_from run r.stage number) e.lines ∙ ap (λ (was : Turn (List Served)). stage_after r.stage was (λ later. stage_from run later (number + 1) e.later)) ended
+  stays = stage_stays run r.stage number (lines_of ys) e.line e.later (done r.stage.events) e.lines ended
 
-  takes_none : taken_from run r.stage number (lines_of ys) ≡ []
-  unfolding taken_from
-  takes_none = ap (taken_from run r.stage number) e.lines ∙ ap (λ (was : Turn (List Served)). taken_with e.line was (λ later. taken_from run later (number + 1) e.later)) ended
+  none_left : taken_from run r.stage number (lines_of ys) ≡ []
+  none_left = takes_none run r.stage number (lines_of ys) e.line e.later (done r.stage.events) e.lines ended
 
   all_came : came_in xs ≡ r.came
-  all_came = ap reverse (r.brings ∙ ap (λ (ls : List (List ℕ)). reverse r.came ++ filter_map event_at ls) takes_none ∙ append-nil (reverse r.came)) ∙ reverse-reverse r.came
+  all_came = ap reverse (r.brings ∙ ap (λ (ls : List (List ℕ)). reverse r.came ++ filter_map event_at ls) none_left ∙ append-nil (reverse r.came)) ∙ reverse-reverse r.came
 
   whole_read : IsReadOf xs new
   whole_read = record {

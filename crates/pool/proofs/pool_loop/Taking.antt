@@ -1,5 +1,5 @@
 -- What is left of a line of a trace for a pool.
-use Rattle.std.proofs.Common.{◌≡◌, ◌≢◌, ℕ, ◌+◌, ◌<◌, ◌≤◌, Bool, true, false, not, ◌&&◌, List, [], ◌∷◌, ◌++◌, map, length, reverse, nat_lt, Option, Some, None, refl, sym, ap, subst, ◌∙◌, arith}
+use Rattle.std.proofs.Common.{◌≡◌, ◌≢◌, ℕ, ◌+◌, ◌<◌, ◌≤◌, true, false, not, ◌&&◌, List, [], ◌∷◌, ◌++◌, map, length, reverse, nat_lt, Option, Some, None, refl, sym, ap, subst, ◌∙◌, arith}
 use Rattle.std.specs.Prelude.{AllPairs}
 use Rattle.std.proofs.lemmas.Bool.{and_parts, lt-ltb, le-ltb, ltb-true}
 use Rattle.std.proofs.lemmas.List.{reverse-append, length-reverse, length-map, map-append}
@@ -18,12 +18,13 @@ use Rattle.trace_text.specs.{shown, IsOther}
 use Rattle.trace_text.specs.declared.line.Line.TheVariants as line
 use Rattle.pool.specs.declared.pool_loop.dealing.Coming.{Coming}
 use Rattle.pool.specs.declared.pool_loop.dealing.Dealt.{Dealt}
-use Rattle.pool.specs.declared.pool_loop.dealing.Does.{Does}
-use Rattle.pool.specs.declared.pool_loop.dealing.Does.TheVariants.{GoesOn, Ends, Refused, TooLong}
+use Rattle.trace_loop.specs.declared.whole_trace.Does.{Does}
+use Rattle.trace_loop.specs.declared.whole_trace.Does.TheVariants.{GoesOn, Ends, Refused, TooLong}
 use Rattle.pool.specs.declared.pool_loop.routes.Route.{Route}
 use Rattle.pool.specs.pool_loop.{pool, route_of, served_so, all_served, came_with, HasDealt, HasTaken, IsDealt, Comes, Took}
 use Rattle.pool.proofs.pool_loop.Turns.{turn_so, stays_stage}
 use Rattle.pool.proofs.pool_loop.Changing.{same_numbers, few_after, few_opened}
+use Rattle.trace_loop.proofs.journal_book.Modes.{refused_event}
 
 -- ---- what holds of what is left
 
@@ -141,19 +142,9 @@ takes_channel d new came stage bytes version number s c comes tick config events
 
 -- ---- which lines may come
 
-both_false : (a b : Bool) → ((a && (b && false)) && true) ≡ true → ⊥
-both_false a b h =
-    let outer = and_parts (a && (b && false)) true h in
-    let inner = and_parts a (b && false) outer.0 in
-    never b inner.1
-  where
-    never : (b : Bool) → (b && false) ≡ true → ⊥
-    never true e = absurd cc
-    never false e = absurd cc
-
 -- no line of a receiver may come
 no_receiver : (r : Reached) → r.mode ≡ Run → ((not r.ended && (has_channel r && has_receivers r.mode)) && true) ≡ true → ⊥
-no_receiver r mode may = both_false (not r.ended) (has_channel r) (subst (λ (m : Mode). ((not r.ended && (has_channel r && has_receivers m)) && true) ≡ true) mode may)
+no_receiver r mode may = refused_event (not r.ended) (has_channel r) (subst (λ (m : Mode). ((not r.ended && (has_channel r && has_receivers m)) && true) ≡ true) mode may)
 
 -- a line that may come is one of these
 pub no_other : (d : Dealt) (came : List HubEvent) (stage : Stage (List Served)) (bytes : List ℕ) (l : Line) → Comes d came bytes (shown l) stage → IsOther l → (P : Type 0)

@@ -14,6 +14,7 @@ use Rattle.trace_loop.proofs.trace_book.trace_serving.Judged.{judged_so}
 use Rattle.trace_loop.proofs.trace_book.trace_serving.Runs.{stages_kept as serving_keeps}
 use Rattle.trace_loop.specs.trace_book.{run, event_at, event_text, IsStage}
 use Rattle.trace_loop.proofs.trace_book.Served.{stages_kept}
+use Rattle.trace_loop.proofs.EndedTurns.{same_end, never_goes_on}
 use Rattle.pool.specs.pool_loop.{pool}
 
 -- the event that the bytes of a line bring is that of the line
@@ -21,9 +22,6 @@ pub brings_so : (r later : Reached) (bytes : List ℕ) (read : TraceLine) → ju
 brings_so r later bytes read j = ap (option_and_then (brought run)) (judged_so r bytes read later j).reads
 
 -- ---- outcomes that differ
-
-same_end : (o p : Outcome) → ◌≡◌ {A = Turn (List Served)} (ends o) (ends p) → o ≡ p
-same_end o p e = cc
 
 not_done : (n : ℕ) → ◌≡◌ {A = Turn (List Served)} (ends too_long) (ends (done n)) → ⊥
 not_done n e = differ (ap (λ (x : Outcome). x.status) (same_end too_long (done n) e))
@@ -33,9 +31,6 @@ not_done n e = differ (ap (λ (x : Outcome). x.status) (same_end too_long (done 
 
 never_ends : (stage : Stage (List Served)) (text : List ℕ) (o : Outcome) → goes_on stage text ≡ ends o → ⊥
 never_ends stage text o e = absurd cc
-
-never_goes_on : (stage : Stage (List Served)) (text : List ℕ) (o : Outcome) → ◌≡◌ {A = Turn (List Served)} (ends o) (goes_on stage text) → ⊥
-never_goes_on stage text o e = absurd cc
 
 -- ---- one line
 
@@ -61,7 +56,7 @@ module _ (stage : Stage (List Served)) (reached : Reached) where
       (text, runs ∙ ap (λ (s : Stage (List Served)). goes_on s text) (went_to later next (sym on ∙ goes)))
   counted_on e later false many goes =
       let over : counted pool stage reached e ≡ ends too_long = rw many refl in
-      absurd (never_goes_on later [] too_long (sym over ∙ goes))
+      absurd (never_goes_on too_long later [] (sym over ∙ goes))
 
   counted_never : (e : HubEvent) (n : ℕ) (b : Bool) → nat_lt stage.events 200000 ≡ b → counted pool stage reached e ≡ ends (done n) → ⊥
   counted_never e n true few ended =
@@ -78,7 +73,7 @@ module _ (stage : Stage (List Served)) (reached : Reached) where
   line_on (live_line id hex) later goes = counted_on (Live id (bytes_in hex)) later (nat_lt stage.events 200000) refl goes
   line_on (feedback_line id client hex) later goes = counted_on (Feedback id client (bytes_in hex)) later (nat_lt stage.events 200000) refl goes
   line_on tick_line later goes = counted_on Tick later (nat_lt stage.events 200000) refl goes
-  line_on end_line later goes = absurd (never_goes_on later [] (done stage.events) goes)
+  line_on end_line later goes = absurd (never_goes_on (done stage.events) later [] goes)
   line_on (tune_line id client ssrc) later goes = ([], goes)
   line_on (give_line number) later goes = ([], goes)
   line_on (mcast_line id client n) later goes = ([], goes)
@@ -103,7 +98,7 @@ module _ (stage : Stage (List Served)) (reached : Reached) where
 module _ (stage : Stage (List Served)) (number : ℕ) (bytes : List ℕ) where
   judged_on : (o : Result (TraceLine × Reached) LineFault) (later : Stage (List Served)) → after_judging pool stage number o ≡ goes_on later [] → GoesOnTo (after_judging run stage number o) later
   judged_on (Ok read) later goes = line_on stage read.1 read.0 later goes
-  judged_on (Err fault) later goes = absurd (never_goes_on later [] (refused number fault) goes)
+  judged_on (Err fault) later goes = absurd (never_goes_on (refused number fault) later [] goes)
 
   judged_ends : (o : Result (TraceLine × Reached) LineFault) (n : ℕ) → after_judging pool stage number o ≡ ends (done n) → after_judging run stage number o ≡ ends (done n)
   judged_ends (Ok read) n ended = line_ends stage read.1 read.0 n ended
@@ -127,7 +122,3 @@ module _ (stage : Stage (List Served)) (number : ℕ) (bytes : List ℕ) where
   pub turn_so : (line : TraceLine) (reached : Reached) → judged stage.reached bytes ≡ Ok (line, reached) → turn pool stage number bytes ≡ after_line pool stage reached line (brought pool line)
   unfolding turn
   turn_so line reached j = ap (after_judging pool stage number) j
-
-  pub refused_turn : (fault : LineFault) → judged stage.reached bytes ≡ Err fault → turn pool stage number bytes ≡ ends (refused number fault)
-  unfolding turn
-  refused_turn fault j = ap (after_judging pool stage number) j

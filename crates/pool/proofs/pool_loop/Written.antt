@@ -1,5 +1,5 @@
 -- What is written of a trace that was read to its end is its book and the ledger of its channels.
-use Rattle.std.proofs.Common.{◌≡◌, ◌≢◌, ℕ, ◌*◌, ◌<◌, List, [], ◌∷◌, ◌++◌, map, length, reverse, filter, get_or, Option, Result, Ok, Err, IfErr, refl, sym, ap, subst, ◌∙◌, append_assoc, inr, arith}
+use Rattle.std.proofs.Common.{◌≡◌, ◌≢◌, ℕ, ◌*◌, ◌<◌, List, ◌++◌, map, length, reverse, filter, get_or, Option, Result, Ok, Err, IfErr, refl, sym, ap, subst, ◌∙◌, append_assoc, inr, arith}
 use Rattle.std.specs.Prelude.{◌⊎◌, AllPairs, OnOk}
 use Rattle.std.specs.List.{AllByRecursion as Each}
 use Rattle.std.specs.Io.KnownBytes.{Appends}
@@ -28,6 +28,7 @@ use Rattle.pool.specs.pool_loop.{pool, is_for_all, served_so, all_served, IsRead
 use Rattle.pool.proofs.pool_loop.Taking.{once_stage, as_many}
 use Rattle.pool.proofs.pool_loop.Walked.{StandOnce, walk}
 use Rattle.pool.proofs.pool_loop.Books.{IsBookFor, books_are, are_pending, text_in_turn, ticks_are, claims_own, numbers_are}
+use Rattle.trace_loop.proofs.trace_book.Links.{settings_new}
 
 -- what ends a trace as it should is `end`
 last_done : (stage : Stage (List Served)) (number : ℕ) (left : List (List ℕ)) (o : Outcome) → EndsWith run stage number left o → o.status ≡ Done → o ≡ done stage.events
@@ -35,10 +36,6 @@ last_done stage number _ _ is_missing good = absurd cc
 last_done stage number _ _ (is_refused bytes lines fault j) good = absurd cc
 last_done stage number _ _ (is_too_long bytes lines line reached e j brings much) good = absurd cc
 last_done stage number _ _ (is_done bytes lines reached j) good = refl
-
-new_settings : (cs : List Served) → settings_of (new_channels cs) ≡ settings_of cs
-new_settings [] = refl
-new_settings (c ∷ cs) = ap (λ (l : List Settings). c.settings ∷ l) (new_settings cs)
 
 module _ (d : Dealt) (xs : List ℕ) (r : IsReadOf xs d) (lanes : List Lane) (bs : List Kept) (are_lanes : Pairwise IsLaneOf d.channels.items lanes) (are_books : AreBooks lanes bs) (ends : EndsSo xs) (served : IsServed xs) where
   books : Pairwise IsBookFor d.channels.items bs
@@ -51,7 +48,7 @@ module _ (d : Dealt) (xs : List ℕ) (r : IsReadOf xs d) (lanes : List Lane) (bs
   got = subst (Each (λ (c : Served). c.events ≡ events_of (id_of c) (came xs))) channels (recursion_from_All (λ (c : Served). c.events ≡ events_of (id_of c) (came xs)) (served_by xs) served.got)
 
   once : StandOnce (new_channels (all_served d.channels.items))
-  once = subst (λ (all : List Settings). AllPairs (λ x y. x ≢ y) (ids_of all)) (sym (new_settings (all_served d.channels.items) ∙ ap settings_of (sym channels))) (once_stage d (came xs) (last_stage run xs) r.dealt)
+  once = subst (λ (all : List Settings). AllPairs (λ x y. x ≢ y) (ids_of all)) (sym (settings_new (all_served d.channels.items) ∙ ap settings_of (sym channels))) (once_stage d (came xs) (last_stage run xs) r.dealt)
 
   walked : walk_text 1 d.routes.items bs ≡ events_text (came xs) (new_channels (served_by xs))
   walked =

@@ -7,8 +7,8 @@ use Rattle.server_hub.specs.Served.{Served}
 use Rattle.trace_loop.specs.trace_book.trace_serving.{Stage, Turn, goes_on, ends, done, refused, too_long}
 use Rattle.trace_loop.specs.trace_book.{IsStage}
 use Rattle.pool.specs.declared.pool_loop.dealing.Dealt.{Dealt}
-use Rattle.pool.specs.declared.pool_loop.dealing.Does.{Does}
-use Rattle.pool.specs.declared.pool_loop.dealing.Does.TheVariants.{GoesOn, Ends, Refused, TooLong}
+use Rattle.trace_loop.specs.declared.whole_trace.Does.{Does}
+use Rattle.trace_loop.specs.declared.whole_trace.Does.TheVariants.{GoesOn, Ends, Refused, TooLong}
 use Rattle.pool.specs.declared.pool_loop.routes.Route.{Route}
 use Rattle.pool.specs.pool_loop.Routing.{route_of, all_served}
 

@@ -7,8 +7,8 @@ use Rattle.server_hub.specs.Served.{Served}
 use Rattle.trace_loop.specs.trace_book.trace_serving.{Stage, goes_on, ends, done, refused, too_long, turn, text_from, last_stage, served_text}
 use Rattle.trace_loop.specs.trace_book.{run, trace_text, came as came_in, event_at}
 use Rattle.pool.specs.declared.pool_loop.dealing.Dealt.{Dealt}
-use Rattle.pool.specs.declared.pool_loop.dealing.Does.{Does}
-use Rattle.pool.specs.declared.pool_loop.dealing.Does.TheVariants.{GoesOn, Ends, Refused, TooLong}
+use Rattle.trace_loop.specs.declared.whole_trace.Does.{Does}
+use Rattle.trace_loop.specs.declared.whole_trace.Does.TheVariants.{GoesOn, Ends, Refused, TooLong}
 use Rattle.pool.specs.declared.pool_loop.reading.ReadTrace.{ReadTrace}
 use Rattle.pool.specs.declared.pool_loop.reading.ReadTrace.TheVariants as read
 use Rattle.pool.specs.pool_loop.Routing.{pool}

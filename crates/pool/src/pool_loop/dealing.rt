@@ -16,21 +16,8 @@ use channel_config::Config;
 use ram_io::NoMemory;
 use rams_model::{Event, LineFault, Octets};
 use std::alloc::Global;
+use trace_loop::whole_trace::{Does, MOST_DEALT_EVENTS};
 use trace_text::{Judged, Line, Mode, State, decode};
-
-/// Most events of a trace.
-const MOST_EVENTS: usize = 200_000;
-
-/// What a line of a trace does.
-#[derive(Clone, Copy, PartialEq, Eq)]
-pub enum Does {
-    GoesOn,
-    /// It is `end`.
-    Ends,
-    Refused(LineFault),
-    /// Its event is one too many.
-    TooLong,
-}
 
 /// A channel, and its events in order.
 #[derive(Drop)]
@@ -97,7 +84,7 @@ fn deal_to(dealt: &mut Dealt, id: u16, event: Event) -> Result<Does, NoMemory>
     requires once { AllPairs (λ x y. x ≢ y) (map id_of (all_served dealt.old.channels.items)) }
     ensures { IfOk result (IsDealt (after_event_of id event) (To id) dealt.old dealt.new) }
 {
-    if dealt.routes.len() >= MOST_EVENTS {
+    if dealt.routes.len() as u64 >= MOST_DEALT_EVENTS {
         return Ok(Does::TooLong);
     }
     deal_one(&mut dealt.channels, id, event)?;
@@ -109,7 +96,7 @@ fn deal_to(dealt: &mut Dealt, id: u16, event: Event) -> Result<Does, NoMemory>
 fn deal_tick(dealt: &mut Dealt) -> Result<Does, NoMemory>
     ensures { IfOk result (IsDealt after_tick Everyone dealt.old dealt.new) }
 {
-    if dealt.routes.len() >= MOST_EVENTS {
+    if dealt.routes.len() as u64 >= MOST_DEALT_EVENTS {
         return Ok(Does::TooLong);
     }
     deal_all(&mut dealt.channels)?;

@@ -1,9 +1,6 @@
 //! The command for a pool, from the source's bytes to the sink's.
-ghost use Rattle.std.specs.Prelude.{◌≡◌, ◌⊎◌, ◌<◌, ◌≤◌, ℕ, List, Err, IfErr, IfOk, OnOk, codes, length};
-ghost use Rattle.std.specs.Io.KnownBytes.{Appends};
-ghost use Rattle.line_io.specs.Passes.{Passes};
-ghost use Rattle.rams_model.specs.declared.status.Status.TheVariants.{BadTrace, Done, TooLong};
-ghost use Rattle.rams_model.specs.Texts.{refused_line};
+ghost use Rattle.std.specs.Prelude.{◌≡◌, ◌⊎◌, ◌<◌, ◌≤◌, ℕ, List, Err, IfErr, IfOk, OnOk, length};
+ghost use Rattle.rams_model.specs.declared.status.Status.TheVariants.{Done};
 ghost use Rattle.server_hub.specs.declared.event.HubEvent.{HubEvent};
 ghost use Rattle.server_hub.specs.Served.{Served};
 ghost use Rattle.trace_loop.specs.trace_book.trace_serving.{Stage};
@@ -17,55 +14,15 @@ use crate::pool_loop::reading::{ReadTrace, read_trace};
 use crate::pool_loop::routes::ticks_among;
 use crate::pool_loop::writing::write_pooled;
 use crate::pool_run::run_pool;
-use book_text::append_refused;
 use book_text::order_datagrams::orders_of_answers_render;
-use line_io::put_all;
 use ram_io::{Gate, Sink, Source};
-use rams_model::{LineFault, Status};
+use rams_model::Status;
 use service_laws::book_laws::sendings::each_datagram_is_the_retransmission_of_a_source_packet;
 use std::alloc::Global;
 use std::thread::Threads;
 use trace_loop::Stop;
 use trace_loop::trace_book::laws::{traces_are_served_by_their_lines, traces_end_so};
-
-/// Writes one line.
-fn write_alone<K: Sink>(sink: &mut K, line: &[u8]) -> Result<(), Stop>
-    ensures all { OnOk result (Appends (K.held sink.old) (K.held sink.new) line.now) }
-    ensures front { (rest : List ℕ) × Passes (K.held sink.old) (K.held sink.new) line.now rest }
-    ensures cause { IsStoppedByWrite (K.faults sink.old) (K.faults sink.new) result }
-    ensures steady { K.is_steady sink.old (length line.now) → OnlyMemoryStops result (Unit {0}) }
-{
-    match put_all(sink, line) {
-        Ok(()) => Ok(()),
-        Err(_) => Err(Stop::Write),
-    }
-}
-
-/// Writes that a line is refused.
-fn refuse<K: Sink>(alloc: Global, sink: &mut K, line: u64, fault: LineFault) -> Result<Status, Stop>
-    ensures status { IfOk result (λ status. status ≡ BadTrace) }
-    ensures text { OnOk result (Appends (K.held sink.old) (K.held sink.new) (refused_line line fault)) }
-    ensures front { (rest : List ℕ) × Passes (K.held sink.old) (K.held sink.new) (refused_line line fault) rest }
-    ensures cause { IsStoppedByWrite (K.faults sink.old) (K.faults sink.new) result }
-    ensures steady { K.is_steady sink.old (length (refused_line line fault)) → OnlyMemoryStops result (Unit {0}) }
-{
-    let mut text = Vec::new(alloc);
-    append_refused(&mut text, line, fault)?;
-    write_alone(sink, &text)?;
-    Ok(Status::BadTrace)
-}
-
-/// Writes that an event is one too many.
-fn refuse_more<K: Sink>(sink: &mut K) -> Result<Status, Stop>
-    ensures status { IfOk result (λ status. status ≡ TooLong) }
-    ensures text { OnOk result (Appends (K.held sink.old) (K.held sink.new) (codes "too-long\n")) }
-    ensures front { (rest : List ℕ) × Passes (K.held sink.old) (K.held sink.new) (codes "too-long\n") rest }
-    ensures cause { IsStoppedByWrite (K.faults sink.old) (K.faults sink.new) result }
-    ensures steady { K.is_steady sink.old (length (codes "too-long\n")) → OnlyMemoryStops result (Unit {0}) }
-{
-    write_alone(sink, b"too-long\n")?;
-    Ok(Status::TooLong)
-}
+use trace_loop::whole_trace::{refuse, refuse_more};
 
 /// Runs the channels, and writes their book and their ledger.
 fn run_and_write<R: Threads + Sync, K: Sink, G: Gate + Sync>(

@@ -7,12 +7,13 @@ ghost use Rattle.trace_loop.specs.trace_book.trace_serving.{Stage};
 ghost use Rattle.trace_loop.specs.{IfTold, IfBothTold, IsStoppedByRead, OnlyMemoryStops};
 ghost use Rattle.pool.specs.pool_loop.{HasDealtBy, HasDealtSome, HasRead, IsFirstLine, IsWhole, StandsAfter};
 
-use crate::pool_loop::dealing::{Dealt, Does, new_dealt, take_line};
+use crate::pool_loop::dealing::{Dealt, new_dealt, take_line};
 use line_io::{LineReader, Next};
 use ram_io::Source;
 use rams_model::LineFault;
 use std::alloc::Global;
 use trace_loop::Stop;
+use trace_loop::whole_trace::Does;
 
 /// What was read of a trace.
 #[derive(Drop)]

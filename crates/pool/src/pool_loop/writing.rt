@@ -1,9 +1,8 @@
 //! The book of a trace and the ledger of its link, on their way to the sink.
-ghost use Rattle.std.specs.Prelude.{◌≡◌, ◌+◌, ◌^◌, ◌<◌, ◌++◌, ℕ, List, [], IfErr, IfOk, OnOk, length};
+ghost use Rattle.std.specs.Prelude.{◌≡◌, ◌+◌, ◌^◌, ◌<◌, ◌++◌, ℕ, List, IfErr, IfOk, OnOk, length};
 ghost use Rattle.std.specs.Io.KnownBytes.{Appends};
 ghost use Rattle.line_io.specs.Passes.{Passes};
 ghost use Rattle.rams_model.specs.declared.status.Status.TheVariants.{Done};
-ghost use Rattle.trace_loop.specs.trace_book.{first_line};
 ghost use Rattle.trace_loop.specs.{IsStoppedByWrite, OnlyMemoryStops, StopsIn};
 ghost use Rattle.pool.specs.link_pool.{claimed};
 ghost use Rattle.pool.specs.pool_loop.{AllCanRender, all_left, all_past, closing_text, numbers_of, pooled_text, route_text, walk_text};
@@ -12,32 +11,12 @@ use crate::ledger_text::append_ledger;
 use crate::pool_loop::routes::Route;
 use crate::pool_loop::walking::{Unwritten, append_event, whole_books};
 use crate::pool_run::{Ledger, Pooled};
-use book_text::{Pen, append_count};
+use book_text::append_count;
 use channel_book::Book;
-use line_io::Gather;
 use ram_io::{NoMemory, Sink};
 use rams_model::Status;
 use std::alloc::Global;
-use trace_loop::{Stop, flush, put, settle};
-
-/// The text that waits for the sink, what writes the lines of notes, and room for a datagram.
-#[derive(Drop)]
-struct Writer {
-    gather: Gather,
-    pen: Pen,
-    datagram: Vec<u8>,
-}
-
-/// A writer with which nothing waits.
-fn new_writer(alloc: Global) -> Result<Writer, NoMemory>
-    ensures { IfOk result (λ writer. writer.gather ≡ []) }
-{
-    Ok(Writer {
-        gather: Gather::new(alloc)?,
-        pen: Pen::new(),
-        datagram: Vec::new(alloc),
-    })
-}
+use trace_loop::{Stop, Writer, flush, new_writer, put, settle};
 
 /// Adds the lines of the event of this number, which goes there.
 fn write_event<K: Sink>(

@@ -8,7 +8,7 @@ use Rattle.trace_loop.specs.trace_book.{run}
 use Rattle.trace_loop.specs.trace_book.trace_serving.{after_line, brought}
 use Rattle.trace_text.specs.declared.line.Line.{Line}
 use Rattle.trace_text.specs.{shown}
-use Rattle.pool.specs.declared.pool_loop.dealing.Does.TheVariants.{GoesOn, Ends}
+use Rattle.trace_loop.specs.declared.whole_trace.Does.TheVariants.{GoesOn, Ends}
 use Rattle.pool.specs.declared.pool_loop.routes.Route.TheVariants.{To}
 use Rattle.pool.specs.pool_loop.{pool, Comes, IsDealt, Took}
 use Rattle.pool.proofs.pool_loop.Taking.{once_dealt, takes_head, takes_end, takes_event, no_other}

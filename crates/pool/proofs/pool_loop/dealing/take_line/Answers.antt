@@ -4,7 +4,8 @@ use Rattle.rams_model.specs.Texts.{Reached, judged}
 use Rattle.trace_text.specs.{told}
 use Rattle.pool.proofs.pool_loop.LineByLine.{judged_turn}
 use Rattle.pool.proofs.pool_loop.Taking.{with_state}
-use Rattle.pool.proofs.pool_loop.Turns.{refused_turn}
+use Rattle.trace_loop.proofs.EndedTurns.{refused_turn}
+use Rattle.pool.specs.pool_loop.{pool}
 use Rattle.pool.proofs.pool_loop.dealing.take_line.Goals as goal
 
 pub after_line-requires-clause-comes : goal.after_line-requires-clause-comes
@@ -28,4 +29,4 @@ returns-in-Ok c =
 
 pub returns-in-Err : goal.returns-in-Err
 returns-in-Err c = λ came stage number dealt.
-    refused_turn stage number c.args.line.now c.in-Err.fault (subst (λ (r : Reached). judged r c.args.line.now ≡ Err c.in-Err.fault) dealt.0 c.in-Err.ensures.err)
+    refused_turn pool stage number c.args.line.now c.in-Err.fault (subst (λ (r : Reached). judged r c.args.line.now ≡ Err c.in-Err.fault) dealt.0 c.in-Err.ensures.err)

@@ -5,7 +5,8 @@ use Rattle.line_io.specs.{TakesNext}
 use Rattle.trace_loop.specs.trace_book.{event_at}
 use Rattle.trace_loop.specs.trace_book.trace_serving.{turn}
 use Rattle.pool.specs.pool_loop.{pool, Took}
-use Rattle.pool.proofs.pool_loop.LineByLine.{line_is_told, long_is_told, end_is_told, took_stands}
+use Rattle.trace_loop.proofs.EndedTurns.{end_is_told}
+use Rattle.pool.proofs.pool_loop.LineByLine.{line_is_told, long_is_told, took_stands}
 use Rattle.pool.proofs.pool_loop.reading.next_line.Goals as goal
 
 pub returns-in_ok-take_line-in-Ok-Line-clause-line : goal.returns-in_ok-take_line-in-Ok-Line-clause-line
@@ -40,4 +41,4 @@ returns-in_ok-take_line-in-Ok-Long-clause-stands g c =
 pub returns-in-Ok-End-clause-line : goal.returns-in-Ok-End-clause-line
 returns-in-Ok-End-clause-line g c = λ came stage number dealt.
     let next = subst (λ (n : Next). TakesNext (prepend_known c.args.reader.now.kept (g.S.Source.left c.args.source.now)) (prepend_known c.advance.new.self.kept (g.S.Source.left c.advance.new.source)) c.advance.new.self.line n) c.in-Ok-End.field-0-is c.in-Ok-End.ensures.next in
-    end_is_told _ _ _ stage number next
+    end_is_told pool _ _ _ stage number next

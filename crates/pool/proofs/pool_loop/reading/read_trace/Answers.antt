@@ -1,7 +1,7 @@
 use Rattle.std.proofs.Common.{[], subst, arith}
 use Rattle.std.specs.Io.KnownBytes.{prepend_known}
 use Rattle.trace_loop.specs.trace_book.trace_serving.{opening}
-use Rattle.pool.specs.declared.pool_loop.dealing.Does.{Does}
+use Rattle.trace_loop.specs.declared.whole_trace.Does.{Does}
 use Rattle.pool.specs.pool_loop.{pool, StandsAfter}
 use Rattle.pool.proofs.pool_loop.LineByLine.{TakesLine, reading_begins, reading_ends, reading_goes_on, reading_refuses, reading_breaks}
 use Rattle.pool.proofs.pool_loop.Taking.{ends_with_channel}
