@@ -13,6 +13,7 @@ pub use dealing::{Coming, Dealt};
 pub use ending::write_pool;
 pub use ram_io::{Gate, NoMemory, Open, Sink, Source};
 pub use rams_model::Status;
-pub use reading::{ReadTrace, read_trace};
+pub use reading::read_trace;
 pub use routes::Route;
 pub use trace_loop::Stop;
+pub use trace_loop::whole_trace::ReadTrace;

@@ -1,15 +1,12 @@
 -- How a trace for threads ends, by what was read of it.
-use Rattle.std.proofs.Common.{◌≡◌, ℕ, List, length, Option, Some, None, Result, Ok, Err, IfErr, sym, ap, subst, inr}
+use Rattle.std.proofs.Common.{◌≡◌, ℕ, List, Option, Some, None, Result, Ok, Err, IfErr, sym, subst}
 use Rattle.std.specs.Prelude.{◌⊎◌, IfOk, OnOk}
-use Rattle.std.specs.Io.KnownBytes.{Appends}
-use Rattle.line_io.specs.Passes.{Passes}
 use Rattle.rams_model.specs.declared.status.Status.{Status}
 use Rattle.rams_model.specs.declared.status.Status.TheVariants.{Done}
-use Rattle.trace_loop.specs.trace_book.trace_serving.{Outcome, served_text}
 use Rattle.trace_loop.specs.declared.stop.Stop.{Stop}
 use Rattle.trace_loop.specs.{IfTold, OnlyMemoryStops}
 use Rattle.threads_loop.specs.declared.dealing.Dealt.{Dealt}
-use Rattle.threads_loop.specs.{threads, IsReadOf, MayWrite, HasEnded, HasStopped, HasRoomFor}
+use Rattle.threads_loop.specs.{IsReadOf, HasEnded, HasStopped, HasRoomFor}
 
 -- the trace was read to its end by as many workers
 own_read : (workers : ℕ) (xs : List ℕ) (d : Dealt) → IsReadOf workers xs d → IsReadOf d.workers xs d
@@ -33,26 +30,3 @@ module _ (workers : ℕ) (held holds : Option (List ℕ)) (steady : ℕ → Type
       → ((xs : List ℕ) → IsReadOf d.workers xs d → HasRoomFor d.workers xs steady → OnlyMemoryStops result (Unit {0})) → IfTold left (λ xs. HasRoomFor workers xs steady → OnlyMemoryStops result (Unit {0}))
   lawful_steady None result read calm = tt
   lawful_steady (Some xs) result read calm = λ room. calm xs (own_read workers xs d read) (subst (λ (n : ℕ). HasRoomFor n xs steady) (sym read.workers_are) room)
-
--- one line is written
-module _ (workers : ℕ) (held holds : Option (List ℕ)) (steady : ℕ → Type 0) (o : Outcome) (may : (xs text : List ℕ) → text ≡ (served_text threads xs).text → MayWrite workers xs o.status text) where
-  pub line_text : (left : Option (List ℕ)) (result : Result Status Stop) → IfTold left (λ xs. served_text threads xs ≡ o) → IfOk result (λ st. st ≡ o.status) → OnOk result (Appends held holds o.text)
-      → IfOk result (λ st. IfTold left (λ xs. HasEnded workers xs held holds st))
-  line_text None (Ok st) read is text = tt
-  line_text (Some xs) (Ok st) read is text =
-      subst (λ (s : Status). HasEnded workers xs held holds s) (sym is) (sym (ap (λ (x : Outcome). x.status) read), o.text, may xs o.text (sym (ap (λ (x : Outcome). x.text) read)), text)
-  line_text left (Err stop) read is text = tt
-
-  own_line : (xs : List ℕ) → served_text threads xs ≡ o → MayWrite workers xs (served_text threads xs).status o.text
-  own_line xs read = subst (λ (s : Status). MayWrite workers xs s o.text) (sym (ap (λ (x : Outcome). x.status) read)) (may xs o.text (sym (ap (λ (x : Outcome). x.text) read)))
-
-  pub line_front : (left : Option (List ℕ)) (result : Result Status Stop) → IfTold left (λ xs. served_text threads xs ≡ o) → (rest : List ℕ) × Passes held holds o.text rest
-      → IfErr result (λ _. IfTold left (λ xs. (holds ≡ held) ⊎ HasStopped workers xs held holds))
-  line_front left (Ok st) read front = tt
-  line_front None (Err stop) read front = tt
-  line_front (Some xs) (Err stop) read front = inr (o.text, front.0, own_line xs read, front.1)
-
-  pub line_steady : (left : Option (List ℕ)) (result : Result Status Stop) → IfTold left (λ xs. served_text threads xs ≡ o) → (steady (length o.text) → OnlyMemoryStops result (Unit {0}))
-      → IfTold left (λ xs. HasRoomFor workers xs steady → OnlyMemoryStops result (Unit {0}))
-  line_steady None result read calm = tt
-  line_steady (Some xs) result read calm = λ room. calm (room o.text (own_line xs read))

@@ -1,12 +1,11 @@
 -- What may come of a trace for threads.
-use Rattle.std.specs.Prelude.{◌≡◌, ℕ, List, [], ◌∷◌, ◌++◌, length, map, reverse, Option}
-use Rattle.std.specs.Io.KnownBytes.{Appends}
-use Rattle.line_io.specs.Passes.{Passes}
+use Rattle.std.specs.Prelude.{◌≡◌, ℕ, List, [], ◌∷◌, ◌++◌, map, reverse, Option}
 use Rattle.rams_model.specs.declared.event.Event.{Event}
 use Rattle.rams_model.specs.declared.status.Status.{Status}
 use Rattle.rams_model.specs.declared.status.Status.TheVariants.{Done}
 use Rattle.rams_model.specs.Service.{Settings}
 use Rattle.server_hub.specs.{served}
+use Rattle.trace_loop.specs.{HasEndedSo, HasStoppedSo, HasRoomSo}
 use Rattle.trace_loop.specs.trace_book.trace_serving.{served_text, last_stage}
 use Rattle.trace_loop.specs.trace_book.{trace_text}
 use Rattle.trace_loop.specs.journal_book.{journal_of}
@@ -29,12 +28,12 @@ MayWrite workers xs _ text = text ≡ (served_text threads xs).text
 
 -- it ended as xs does, and the sink got such a text
 abbrev pub HasEnded : ℕ → List ℕ → Option (List ℕ) → Option (List ℕ) → Status → Type 0
-HasEnded workers xs held holds status = (status ≡ (served_text threads xs).status) × (text : List ℕ) × MayWrite workers xs status text × Appends held holds text
+HasEnded workers xs held holds status = HasEndedSo threads (MayWrite workers) xs held holds status
 
 -- it was stopped, and the sink got a front of such a text
 abbrev pub HasStopped : ℕ → List ℕ → Option (List ℕ) → Option (List ℕ) → Type 0
-HasStopped workers xs held holds = (text : List ℕ) × (rest : List ℕ) × MayWrite workers xs (served_text threads xs).status text × Passes held holds text rest
+HasStopped workers xs held holds = HasStoppedSo threads (MayWrite workers) xs held holds
 
 -- a sink that is steady for so many bytes has room for each text that may be written
 abbrev pub HasRoomFor : ℕ → List ℕ → (ℕ → Type 0) → Type 0
-HasRoomFor workers xs room = (text : List ℕ) → MayWrite workers xs (served_text threads xs).status text → room (length text)
+HasRoomFor workers xs room = HasRoomSo threads (MayWrite workers) xs room

@@ -3,14 +3,15 @@ use Rattle.std.specs.Prelude.{◌≡◌, ℕ, List, [], ◌∷◌, ◌++◌, is_
 use Rattle.rams_model.specs.Texts.{end_line, lines_of, may_come}
 use Rattle.line_io.specs.{HasNoFeed}
 use Rattle.server_hub.specs.Served.{Served}
+use Rattle.trace_loop.specs.{HasReadSo}
 use Rattle.trace_loop.specs.trace_book.trace_serving.{Stage, goes_on, done, refused, too_long, turn, text_from, stage_from, taken_from, last_stage, served_text}
 use Rattle.trace_loop.specs.trace_book.{new_channels}
 use Rattle.trace_loop.specs.journal_book.{Opens}
 use Rattle.threads_loop.specs.declared.dealing.Dealt.{Dealt}
 use Rattle.trace_loop.specs.declared.whole_trace.Does.{Does}
 use Rattle.trace_loop.specs.declared.whole_trace.Does.TheVariants.{GoesOn, Ends, Refused, TooLong}
-use Rattle.threads_loop.specs.declared.reading.ReadTrace.{ReadTrace}
-use Rattle.threads_loop.specs.declared.reading.ReadTrace.TheVariants as read
+use Rattle.trace_loop.specs.declared.whole_trace.ReadTrace.{ReadTrace}
+use Rattle.trace_loop.specs.declared.whole_trace.ReadTrace.TheVariants as read
 use Rattle.threads_loop.specs.Dealing.{threads, head_part, head_lines}
 use Rattle.threads_loop.specs.Lines.{HasDealt, HasDealtBy}
 
@@ -48,13 +49,11 @@ pub record IsReadOf (workers : ℕ) (xs : List ℕ) (d : Dealt) : Type 0 where
   pub head_is : d.head.items ≡ head_lines xs
   pub opens : Opens d.head.items (new_channels (last_stage threads xs).state)
 
--- What was read of a trace: all of it, or up to the line that ends it otherwise.
-abbrev pub HasRead : ℕ → List ℕ → ReadTrace → Type 0
-HasRead workers xs (read.Lawful d) = IsReadOf workers xs d
-HasRead workers xs (read.Unlawful number fault) = served_text threads xs ≡ refused number fault
-HasRead workers xs read.TooLong = served_text threads xs ≡ too_long
+-- what was read of a trace
+abbrev pub HasRead : ℕ → List ℕ → ReadTrace Dealt → Type 0
+HasRead workers xs read = HasReadSo threads (IsReadOf workers) xs read
 
 -- what was read whole has a channel, and its events in lists
-abbrev pub IsWhole : ℕ → ReadTrace → Type 0
+abbrev pub IsWhole : ℕ → ReadTrace Dealt → Type 0
 IsWhole workers (read.Lawful d) = (stage : Stage (List Served)) × HasDealt d stage × (is_some d.config ≡ true)
 IsWhole workers _ = Unit {0}

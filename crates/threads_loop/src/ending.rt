@@ -8,7 +8,7 @@ ghost use Rattle.trace_loop.specs.{IfTold, IsEnd, IsStopped, IsStoppedByWrite, O
 ghost use Rattle.threads_loop.specs.{HasDealt, HasEnded, HasRoomFor, HasStopped, IsReadOf};
 
 use crate::dealing::Dealt;
-use crate::reading::{ReadTrace, read_trace};
+use crate::reading::read_trace;
 use crate::session_worker::run_lists;
 use crate::writing::write_worked;
 use ram_io::{Gate, Sink, Source};
@@ -20,7 +20,7 @@ use std::sync::Wait;
 use std::thread::Threads;
 use trace_loop::Stop;
 use trace_loop::journal_book::laws::{journals_replay, runs_of_journals};
-use trace_loop::whole_trace::{refuse, refuse_more};
+use trace_loop::whole_trace::{ReadTrace, refuse, refuse_more};
 
 /// Runs the lists, and writes what came of them.
 fn work_and_write<R: Threads + Wait + Sync, K: Sink, G: Gate + Sync>(

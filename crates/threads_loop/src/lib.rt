@@ -13,5 +13,6 @@ pub use dealing::Dealt;
 pub use ending::write_threads;
 pub use ram_io::{Gate, NoMemory, Open, Sink, Source};
 pub use rams_model::Status;
-pub use reading::{ReadTrace, read_trace};
+pub use reading::read_trace;
 pub use trace_loop::Stop;
+pub use trace_loop::whole_trace::ReadTrace;

@@ -12,18 +12,7 @@ use ram_io::Source;
 use rams_model::LineFault;
 use std::alloc::Global;
 use trace_loop::Stop;
-use trace_loop::whole_trace::Does;
-
-/// What was read of a trace.
-#[derive(Drop)]
-pub enum ReadTrace {
-    /// All of it, up to its `end`.
-    Lawful(Dealt),
-    /// The line of this number is refused.
-    Unlawful { line: u64, fault: LineFault },
-    /// It has an event too many.
-    TooLong,
-}
+use trace_loop::whole_trace::{Does, ReadTrace};
 
 /// What the next line does. Of a line that is too long the front tells; one that is missing is out of
 /// order.
@@ -52,7 +41,11 @@ fn next_line<S: Source>(
 
 /// Reads a trace up to its `end`, or up to the first line that ends it otherwise; what follows isn't
 /// looked at. Its events are dealt into lists.
-pub fn read_trace<S: Source>(alloc: Global, workers: u32, source: &mut S) -> Result<ReadTrace, Stop>
+pub fn read_trace<S: Source>(
+    alloc: Global,
+    workers: u32,
+    source: &mut S,
+) -> Result<ReadTrace<Dealt>, Stop>
     requires { (0 < workers) × (workers ≤ 16) }
     ensures read { IfOk result (λ read. IfTold (S.left source.old) (λ xs. HasRead workers xs read)) }
     ensures whole { IfOk result (IsWhole workers) }

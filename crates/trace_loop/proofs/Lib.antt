@@ -6,3 +6,4 @@ pub mod Reading
 pub mod Running
 pub mod Whole
 pub mod Stopping
+pub mod WholeTrace

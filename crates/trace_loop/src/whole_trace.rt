@@ -27,6 +27,17 @@ pub enum Does {
     TooLong,
 }
 
+/// What was read of a trace.
+#[derive(Drop)]
+pub enum ReadTrace<D> {
+    /// All of it, up to its `end`.
+    Lawful(D),
+    /// The line of this number is refused.
+    Unlawful { line: u64, fault: LineFault },
+    /// It has an event too many.
+    TooLong,
+}
+
 /// Writes one line.
 fn write_alone<K: Sink>(sink: &mut K, line: &[u8]) -> Result<(), Stop>
     ensures all { OnOk result (Appends (K.held sink.old) (K.held sink.new) line.now) }

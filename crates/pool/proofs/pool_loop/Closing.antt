@@ -1,15 +1,12 @@
 -- How a trace for a pool ends, by what was read of it.
-use Rattle.std.proofs.Common.{◌≡◌, ℕ, List, length, Option, Some, None, Result, Ok, Err, IfErr, sym, ap, subst, inr}
+use Rattle.std.proofs.Common.{◌≡◌, ℕ, List, Option, Some, None, Result, Ok, Err, IfErr, sym, subst}
 use Rattle.std.specs.Prelude.{◌⊎◌, IfOk, OnOk}
-use Rattle.std.specs.Io.KnownBytes.{Appends}
-use Rattle.line_io.specs.Passes.{Passes}
 use Rattle.rams_model.specs.declared.status.Status.{Status}
 use Rattle.rams_model.specs.declared.status.Status.TheVariants.{Done}
-use Rattle.trace_loop.specs.trace_book.trace_serving.{Outcome, served_text}
 use Rattle.trace_loop.specs.declared.stop.Stop.{Stop}
 use Rattle.trace_loop.specs.{IfTold, OnlyMemoryStops}
 use Rattle.pool.specs.declared.pool_loop.dealing.Dealt.{Dealt}
-use Rattle.pool.specs.pool_loop.{pool, IsReadOf, MayWrite, HasEnded, HasStopped, HasRoomFor}
+use Rattle.pool.specs.pool_loop.{IsReadOf, HasEnded, HasStopped, HasRoomFor}
 
 module _ (rate : ℕ) (held holds : Option (List ℕ)) (steady : ℕ → Type 0) (d : Dealt) where
   pub lawful_text : (left : Option (List ℕ)) (result : Result Status Stop) → IfTold left (λ xs. IsReadOf xs d) → IfOk result (λ st. st ≡ Done)
@@ -28,26 +25,3 @@ module _ (rate : ℕ) (held holds : Option (List ℕ)) (steady : ℕ → Type 0)
       → ((xs : List ℕ) → IsReadOf xs d → HasRoomFor rate xs steady → OnlyMemoryStops result (Unit {0})) → IfTold left (λ xs. HasRoomFor rate xs steady → OnlyMemoryStops result (Unit {0}))
   lawful_steady None result read calm = tt
   lawful_steady (Some xs) result read calm = calm xs read
-
--- one line is written
-module _ (rate : ℕ) (held holds : Option (List ℕ)) (steady : ℕ → Type 0) (o : Outcome) (may : (xs text : List ℕ) → text ≡ (served_text pool xs).text → MayWrite rate xs o.status text) where
-  pub line_text : (left : Option (List ℕ)) (result : Result Status Stop) → IfTold left (λ xs. served_text pool xs ≡ o) → IfOk result (λ st. st ≡ o.status) → OnOk result (Appends held holds o.text)
-      → IfOk result (λ st. IfTold left (λ xs. HasEnded rate xs held holds st))
-  line_text None (Ok st) read is text = tt
-  line_text (Some xs) (Ok st) read is text =
-      subst (λ (s : Status). HasEnded rate xs held holds s) (sym is) (sym (ap (λ (x : Outcome). x.status) read), o.text, may xs o.text (sym (ap (λ (x : Outcome). x.text) read)), text)
-  line_text left (Err stop) read is text = tt
-
-  own_line : (xs : List ℕ) → served_text pool xs ≡ o → MayWrite rate xs (served_text pool xs).status o.text
-  own_line xs read = subst (λ (s : Status). MayWrite rate xs s o.text) (sym (ap (λ (x : Outcome). x.status) read)) (may xs o.text (sym (ap (λ (x : Outcome). x.text) read)))
-
-  pub line_front : (left : Option (List ℕ)) (result : Result Status Stop) → IfTold left (λ xs. served_text pool xs ≡ o) → (rest : List ℕ) × Passes held holds o.text rest
-      → IfErr result (λ _. IfTold left (λ xs. (holds ≡ held) ⊎ HasStopped rate xs held holds))
-  line_front left (Ok st) read front = tt
-  line_front None (Err stop) read front = tt
-  line_front (Some xs) (Err stop) read front = inr (o.text, front.0, own_line xs read, front.1)
-
-  pub line_steady : (left : Option (List ℕ)) (result : Result Status Stop) → IfTold left (λ xs. served_text pool xs ≡ o) → (steady (length o.text) → OnlyMemoryStops result (Unit {0}))
-      → IfTold left (λ xs. HasRoomFor rate xs steady → OnlyMemoryStops result (Unit {0}))
-  line_steady None result read calm = tt
-  line_steady (Some xs) result read calm = λ room. calm (room o.text (own_line xs read))

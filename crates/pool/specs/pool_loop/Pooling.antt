@@ -1,13 +1,12 @@
 -- What may be written of a trace for a pool.
 use Rattle.std.specs.Prelude.{◌≡◌, ℕ, ◌*◌, ◌<◌, ◌≤◌, List, [], ◌++◌, length, map, filter_map, slice_index_or, Option}
-use Rattle.std.specs.Io.KnownBytes.{Appends}
-use Rattle.line_io.specs.Passes.{Passes}
 use Rattle.rams_model.specs.declared.status.Status.{Status}
 use Rattle.rams_model.specs.declared.status.Status.TheVariants.{Done}
 use Rattle.rams_model.specs.Service.{book}
 use Rattle.service_laws.specs.book_laws.{notes_in, orders_in, note_sends, order_sends}
 use Rattle.server_hub.specs.{id_of, ticks_among}
 use Rattle.server_hub.specs.Served.{Served}
+use Rattle.trace_loop.specs.{HasEndedSo, HasStoppedSo, HasRoomSo}
 use Rattle.trace_loop.specs.trace_book.trace_serving.{served_text}
 use Rattle.trace_loop.specs.trace_book.{trace_text, served_by, came}
 use Rattle.pool.specs.declared.link_pool.claim.Claim.{Claim}
@@ -48,12 +47,12 @@ MayWrite rate xs _ text = text ≡ (served_text pool xs).text
 
 -- it ended as xs does, and the sink got such a text
 abbrev pub HasEnded : ℕ → List ℕ → Option (List ℕ) → Option (List ℕ) → Status → Type 0
-HasEnded rate xs held holds status = (status ≡ (served_text pool xs).status) × (text : List ℕ) × MayWrite rate xs status text × Appends held holds text
+HasEnded rate xs held holds status = HasEndedSo pool (MayWrite rate) xs held holds status
 
 -- it was stopped, and the sink got a front of such a text
 abbrev pub HasStopped : ℕ → List ℕ → Option (List ℕ) → Option (List ℕ) → Type 0
-HasStopped rate xs held holds = (text : List ℕ) × (rest : List ℕ) × MayWrite rate xs (served_text pool xs).status text × Passes held holds text rest
+HasStopped rate xs held holds = HasStoppedSo pool (MayWrite rate) xs held holds
 
 -- a sink that is steady for so many bytes has room for each text that may be written
 abbrev pub HasRoomFor : ℕ → List ℕ → (ℕ → Type 0) → Type 0
-HasRoomFor rate xs room = (text : List ℕ) → MayWrite rate xs (served_text pool xs).status text → room (length text)
+HasRoomFor rate xs room = HasRoomSo pool (MayWrite rate) xs room

@@ -4,13 +4,14 @@ use Rattle.rams_model.specs.declared.status.Status.TheVariants.{Done}
 use Rattle.rams_model.specs.Texts.{end_line, lines_of, may_come}
 use Rattle.server_hub.specs.declared.event.HubEvent.{HubEvent}
 use Rattle.server_hub.specs.Served.{Served}
+use Rattle.trace_loop.specs.{HasReadSo}
 use Rattle.trace_loop.specs.trace_book.trace_serving.{Stage, goes_on, ends, done, refused, too_long, turn, text_from, last_stage, served_text}
 use Rattle.trace_loop.specs.trace_book.{run, trace_text, came as came_in, event_at}
 use Rattle.pool.specs.declared.pool_loop.dealing.Dealt.{Dealt}
 use Rattle.trace_loop.specs.declared.whole_trace.Does.{Does}
 use Rattle.trace_loop.specs.declared.whole_trace.Does.TheVariants.{GoesOn, Ends, Refused, TooLong}
-use Rattle.pool.specs.declared.pool_loop.reading.ReadTrace.{ReadTrace}
-use Rattle.pool.specs.declared.pool_loop.reading.ReadTrace.TheVariants as read
+use Rattle.trace_loop.specs.declared.whole_trace.ReadTrace.{ReadTrace}
+use Rattle.trace_loop.specs.declared.whole_trace.ReadTrace.TheVariants as read
 use Rattle.pool.specs.pool_loop.Routing.{pool}
 use Rattle.pool.specs.pool_loop.Lines.{came_with, HasDealt, HasDealtBy}
 
@@ -44,13 +45,11 @@ pub record IsReadOf (xs : List ℕ) (d : Dealt) : Type 0 where
   pub ends : (trace_text xs).status ≡ Done
   pub dealt : HasDealt d (came_in xs) (last_stage run xs)
 
--- What was read of a trace: all of it, or up to the line that ends it otherwise.
-abbrev pub HasRead : List ℕ → ReadTrace → Type 0
-HasRead xs (read.Lawful d) = IsReadOf xs d
-HasRead xs (read.Unlawful number fault) = served_text pool xs ≡ refused number fault
-HasRead xs read.TooLong = served_text pool xs ≡ too_long
+-- what was read of a trace
+abbrev pub HasRead : List ℕ → ReadTrace Dealt → Type 0
+HasRead xs read = HasReadSo pool IsReadOf xs read
 
 -- what was read whole has a channel
-abbrev pub IsWhole : ReadTrace → Type 0
+abbrev pub IsWhole : ReadTrace Dealt → Type 0
 IsWhole (read.Lawful d) = (came : List HubEvent) × (stage : Stage (List Served)) × HasDealt d came stage × (0 < length d.channels.items)
 IsWhole _ = Unit {0}

@@ -10,7 +10,7 @@ ghost use Rattle.pool.specs.pool_loop.{HasDealt, HasEnded, HasRoomFor, HasStoppe
 
 use crate::pool_loop::dealing::Dealt;
 use crate::pool_loop::lanes::lanes_of;
-use crate::pool_loop::reading::{ReadTrace, read_trace};
+use crate::pool_loop::reading::read_trace;
 use crate::pool_loop::routes::ticks_among;
 use crate::pool_loop::writing::write_pooled;
 use crate::pool_run::run_pool;
@@ -22,7 +22,7 @@ use std::alloc::Global;
 use std::thread::Threads;
 use trace_loop::Stop;
 use trace_loop::trace_book::laws::{traces_are_served_by_their_lines, traces_end_so};
-use trace_loop::whole_trace::{refuse, refuse_more};
+use trace_loop::whole_trace::{ReadTrace, refuse, refuse_more};
 
 /// Runs the channels, and writes their book and their ledger.
 fn run_and_write<R: Threads + Sync, K: Sink, G: Gate + Sync>(

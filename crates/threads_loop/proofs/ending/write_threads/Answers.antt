@@ -1,9 +1,11 @@
 use Rattle.std.proofs.Common.{subst}
 use Rattle.trace_loop.specs.trace_book.trace_serving.{refused, too_long}
 use Rattle.trace_loop.specs.{IfTold}
-use Rattle.threads_loop.specs.declared.reading.ReadTrace.{ReadTrace}
-use Rattle.threads_loop.specs.{HasRead}
-use Rattle.threads_loop.proofs.Closing.{lawful_text, lawful_front, lawful_steady, line_text, line_front, line_steady}
+use Rattle.trace_loop.specs.declared.whole_trace.ReadTrace.{ReadTrace}
+use Rattle.threads_loop.specs.declared.dealing.Dealt.{Dealt}
+use Rattle.threads_loop.specs.{threads, HasRead, MayWrite}
+use Rattle.threads_loop.proofs.Closing.{lawful_text, lawful_front, lawful_steady}
+use Rattle.trace_loop.proofs.WholeTrace.{line_text, line_front, line_steady}
 use Rattle.threads_loop.proofs.ending.write_threads.Goals as goal
 
 pub returns-in-Lawful-clause-text : goal.returns-in-Lawful-clause-text
@@ -11,7 +13,7 @@ returns-in-Lawful-clause-text g c =
     let left = g.S.Source.left c.args.source.now in
     let held = g.K.Sink.held c.args.sink.now in
     let call = c.work_and_write in
-    let read = subst (λ (r : ReadTrace). IfTold left (λ xs. HasRead c.args.workers xs r)) c.in-Lawful.is c.in_ok-dealt.ensures.read in
+    let read = subst (λ (r : ReadTrace Dealt). IfTold left (λ xs. HasRead c.args.workers xs r)) c.in-Lawful.is c.in_ok-dealt.ensures.read in
     lawful_text c.args.workers held (g.K.Sink.held call.new.sink) (g.K.Sink.is_steady c.args.sink.now) c.in-Lawful.dealt left call.result read call.ensures.status call.ensures.text
 
 pub returns-in-Lawful-clause-front : goal.returns-in-Lawful-clause-front
@@ -19,7 +21,7 @@ returns-in-Lawful-clause-front g c =
     let left = g.S.Source.left c.args.source.now in
     let held = g.K.Sink.held c.args.sink.now in
     let call = c.work_and_write in
-    let read = subst (λ (r : ReadTrace). IfTold left (λ xs. HasRead c.args.workers xs r)) c.in-Lawful.is c.in_ok-dealt.ensures.read in
+    let read = subst (λ (r : ReadTrace Dealt). IfTold left (λ xs. HasRead c.args.workers xs r)) c.in-Lawful.is c.in_ok-dealt.ensures.read in
     lawful_front c.args.workers held (g.K.Sink.held call.new.sink) (g.K.Sink.is_steady c.args.sink.now) c.in-Lawful.dealt left call.result read call.ensures.front
 
 pub returns-in-Lawful-clause-steady : goal.returns-in-Lawful-clause-steady
@@ -27,7 +29,7 @@ returns-in-Lawful-clause-steady g c = λ calm.
     let left = g.S.Source.left c.args.source.now in
     let held = g.K.Sink.held c.args.sink.now in
     let call = c.work_and_write in
-    let read = subst (λ (r : ReadTrace). IfTold left (λ xs. HasRead c.args.workers xs r)) c.in-Lawful.is c.in_ok-dealt.ensures.read in
+    let read = subst (λ (r : ReadTrace Dealt). IfTold left (λ xs. HasRead c.args.workers xs r)) c.in-Lawful.is c.in_ok-dealt.ensures.read in
     lawful_steady c.args.workers held (g.K.Sink.held call.new.sink) (g.K.Sink.is_steady c.args.sink.now) c.in-Lawful.dealt left call.result read call.ensures.steady
 
 pub returns-in-Unlawful-clause-text : goal.returns-in-Unlawful-clause-text
@@ -35,42 +37,42 @@ returns-in-Unlawful-clause-text g c =
     let left = g.S.Source.left c.args.source.now in
     let call = c.refuse in
     let o = refused c.in-Unlawful.line c.in-Unlawful.fault in
-    let read = subst (λ (r : ReadTrace). IfTold left (λ xs. HasRead c.args.workers xs r)) c.in-Unlawful.is c.in_ok-dealt.ensures.read in
-    line_text c.args.workers (g.K.Sink.held c.args.sink.now) (g.K.Sink.held call.new.sink) (g.K.Sink.is_steady c.args.sink.now) o (λ xs text e. e) left call.result read call.ensures.status call.ensures.text
+    let read = subst (λ (r : ReadTrace Dealt). IfTold left (λ xs. HasRead c.args.workers xs r)) c.in-Unlawful.is c.in_ok-dealt.ensures.read in
+    line_text threads (MayWrite c.args.workers) (g.K.Sink.held c.args.sink.now) (g.K.Sink.held call.new.sink) (g.K.Sink.is_steady c.args.sink.now) o (λ xs text e. e) left call.result read call.ensures.status call.ensures.text
 
 pub returns-in-Unlawful-clause-front : goal.returns-in-Unlawful-clause-front
 returns-in-Unlawful-clause-front g c =
     let left = g.S.Source.left c.args.source.now in
     let call = c.refuse in
     let o = refused c.in-Unlawful.line c.in-Unlawful.fault in
-    let read = subst (λ (r : ReadTrace). IfTold left (λ xs. HasRead c.args.workers xs r)) c.in-Unlawful.is c.in_ok-dealt.ensures.read in
-    line_front c.args.workers (g.K.Sink.held c.args.sink.now) (g.K.Sink.held call.new.sink) (g.K.Sink.is_steady c.args.sink.now) o (λ xs text e. e) left call.result read call.ensures.front
+    let read = subst (λ (r : ReadTrace Dealt). IfTold left (λ xs. HasRead c.args.workers xs r)) c.in-Unlawful.is c.in_ok-dealt.ensures.read in
+    line_front threads (MayWrite c.args.workers) (g.K.Sink.held c.args.sink.now) (g.K.Sink.held call.new.sink) (g.K.Sink.is_steady c.args.sink.now) o (λ xs text e. e) left call.result read call.ensures.front
 
 pub returns-in-Unlawful-clause-steady : goal.returns-in-Unlawful-clause-steady
 returns-in-Unlawful-clause-steady g c = λ calm.
     let left = g.S.Source.left c.args.source.now in
     let call = c.refuse in
     let o = refused c.in-Unlawful.line c.in-Unlawful.fault in
-    let read = subst (λ (r : ReadTrace). IfTold left (λ xs. HasRead c.args.workers xs r)) c.in-Unlawful.is c.in_ok-dealt.ensures.read in
-    line_steady c.args.workers (g.K.Sink.held c.args.sink.now) (g.K.Sink.held call.new.sink) (g.K.Sink.is_steady c.args.sink.now) o (λ xs text e. e) left call.result read call.ensures.steady
+    let read = subst (λ (r : ReadTrace Dealt). IfTold left (λ xs. HasRead c.args.workers xs r)) c.in-Unlawful.is c.in_ok-dealt.ensures.read in
+    line_steady threads (MayWrite c.args.workers) (g.K.Sink.held c.args.sink.now) (g.K.Sink.held call.new.sink) (g.K.Sink.is_steady c.args.sink.now) o (λ xs text e. e) left call.result read call.ensures.steady
 
 pub returns-in-TooLong-clause-text : goal.returns-in-TooLong-clause-text
 returns-in-TooLong-clause-text g c =
     let left = g.S.Source.left c.args.source.now in
     let call = c.refuse_more in
-    let read = subst (λ (r : ReadTrace). IfTold left (λ xs. HasRead c.args.workers xs r)) c.in-TooLong.is c.in_ok-dealt.ensures.read in
-    line_text c.args.workers (g.K.Sink.held c.args.sink.now) (g.K.Sink.held call.new.sink) (g.K.Sink.is_steady c.args.sink.now) too_long (λ xs text e. e) left call.result read call.ensures.status call.ensures.text
+    let read = subst (λ (r : ReadTrace Dealt). IfTold left (λ xs. HasRead c.args.workers xs r)) c.in-TooLong.is c.in_ok-dealt.ensures.read in
+    line_text threads (MayWrite c.args.workers) (g.K.Sink.held c.args.sink.now) (g.K.Sink.held call.new.sink) (g.K.Sink.is_steady c.args.sink.now) too_long (λ xs text e. e) left call.result read call.ensures.status call.ensures.text
 
 pub returns-in-TooLong-clause-front : goal.returns-in-TooLong-clause-front
 returns-in-TooLong-clause-front g c =
     let left = g.S.Source.left c.args.source.now in
     let call = c.refuse_more in
-    let read = subst (λ (r : ReadTrace). IfTold left (λ xs. HasRead c.args.workers xs r)) c.in-TooLong.is c.in_ok-dealt.ensures.read in
-    line_front c.args.workers (g.K.Sink.held c.args.sink.now) (g.K.Sink.held call.new.sink) (g.K.Sink.is_steady c.args.sink.now) too_long (λ xs text e. e) left call.result read call.ensures.front
+    let read = subst (λ (r : ReadTrace Dealt). IfTold left (λ xs. HasRead c.args.workers xs r)) c.in-TooLong.is c.in_ok-dealt.ensures.read in
+    line_front threads (MayWrite c.args.workers) (g.K.Sink.held c.args.sink.now) (g.K.Sink.held call.new.sink) (g.K.Sink.is_steady c.args.sink.now) too_long (λ xs text e. e) left call.result read call.ensures.front
 
 pub returns-in-TooLong-clause-steady : goal.returns-in-TooLong-clause-steady
 returns-in-TooLong-clause-steady g c = λ calm.
     let left = g.S.Source.left c.args.source.now in
     let call = c.refuse_more in
-    let read = subst (λ (r : ReadTrace). IfTold left (λ xs. HasRead c.args.workers xs r)) c.in-TooLong.is c.in_ok-dealt.ensures.read in
-    line_steady c.args.workers (g.K.Sink.held c.args.sink.now) (g.K.Sink.held call.new.sink) (g.K.Sink.is_steady c.args.sink.now) too_long (λ xs text e. e) left call.result read call.ensures.steady
+    let read = subst (λ (r : ReadTrace Dealt). IfTold left (λ xs. HasRead c.args.workers xs r)) c.in-TooLong.is c.in_ok-dealt.ensures.read in
+    line_steady threads (MayWrite c.args.workers) (g.K.Sink.held c.args.sink.now) (g.K.Sink.held call.new.sink) (g.K.Sink.is_steady c.args.sink.now) too_long (λ xs text e. e) left call.result read call.ensures.steady
