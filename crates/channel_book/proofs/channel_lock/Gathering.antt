@@ -1,8 +1,8 @@
 -- The passes are given back, and the lock is closed.
-use Rattle.std.proofs.Common.{◌≡◌, ◌≢◌, ℕ, suc, ◌+◌, ◌≤◌, List, [], ◌∷◌, ◌++◌, map, length, set, Option, refl, sym, ap, ◌∙◌, arith}
+use Rattle.std.proofs.Common.{◌≡◌, ◌≢◌, ℕ, ◌+◌, ◌≤◌, List, [], ◌∷◌, ◌++◌, map, length, set, Option, refl, sym, ap, ◌∙◌, arith}
 use Rattle.std.specs.List.{AllByRecursion as Each}
 use Rattle.std.proofs.lemmas.Bool.Decides.{nat_tests}
-use Rattle.std.proofs.lemmas.List.{length-append}
+use Rattle.std.proofs.lemmas.List.{length-append, length-map, map-append}
 use mathlib.Core.Option.{none, some, some-injective}
 use mathlib.Core.Logic.{dite}
 use native.Mathlib.Decide.{ℕ_discrete}
@@ -14,7 +14,7 @@ use Rattle.channel_book.specs.{IsLegal, calls_by, Kept}
 use Rattle.channel_book.specs.declared.channel_lock.turns.View.{View}
 use Rattle.channel_book.specs.channel_lock.Turns.{view, blank, gathering, has_list, lists_past, lists_of, is_taken, kept, IsPast, Turns, Fits}
 use Rattle.channel_book.specs.channel_lock.Steps.{with_pass, Sat}
-use Rattle.channel_book.proofs.channel_lock.Lists.{times_append, two_le, all_zero, no_times, stands_first}
+use Rattle.channel_book.proofs.channel_lock.Lists.{times_append, two_le, all_zero, no_times, stands_first, each_snoc}
 use Rattle.channel_book.proofs.channel_lock.Sums.{Count, of_calls, of_ticket, of_taken, of_list, of_lists, weight, stays}
 use Rattle.channel_book.proofs.channel_lock.Meeting.{fits_blank, weight_note}
 use Rattle.channel_book.specs.channel_lock.{total, times}
@@ -29,14 +29,6 @@ sits s passes slots first st o count fit = (
   refl,
 )
 
-map_past : (past : List (ℕ × List Entry)) (p : ℕ × List Entry) → map (λ (q : ℕ × List Entry). q.0) (past ++ p ∷ []) ≡ map (λ (q : ℕ × List Entry). q.0) past ++ p.0 ∷ []
-map_past [] p = refl
-map_past (x ∷ past) p = ap (λ (l : List ℕ). x.0 ∷ l) (map_past past p)
-
-each_snoc : (log : List Entry) (past : List (ℕ × List Entry)) (p : ℕ × List Entry) → Each (IsPast log) past → IsPast log p → Each (IsPast log) (past ++ p ∷ [])
-each_snoc log [] p e i = (i, tt)
-each_snoc log (x ∷ past) p e i = (e.0, each_snoc log past p e.1 i)
-
 abbrev given : Option Settings → ℕ → List Entry → ℕ → View
 given config list log left = view config log [] (list ∷ []) [] left 0 0 0
 
@@ -46,7 +38,7 @@ weight_given past left config list log more of_calls = omega arith
 weight_given past left config list log more (of_ticket n) = grind (arith, nat_tests)
 weight_given past left config list log more of_taken = omega arith
 weight_given past left config list log more (of_list l) =
-    omega (arith, ap (times l) (map_past past (list, log)), times_append l (map (λ (q : ℕ × List Entry). q.0) past) (list ∷ []))
+    omega (arith, ap (times l) (map-append (λ (q : ℕ × List Entry). q.0) past ((list, log) ∷ [])), times_append l (map (λ (q : ℕ × List Entry). q.0) past) (list ∷ []))
 weight_given past left config list log more of_lists = omega (arith, length-append past ((list, log) ∷ []))
 
 -- a pass is given back
@@ -66,17 +58,13 @@ gives_back s passes id other past left config list log more st o at apart there 
       seen = f.seen;
       told = f.told;
       own = λ l some. absurd (omega (arith, some));
-      past = each_snoc o.log past (list, log) f.past (record { starts = g.seen; own = g.own list (stands_first list []) });
+      past = each_snoc (IsPast o.log) past (list, log) f.past (record { starts = g.seen; own = g.own list (stands_first list []) });
       turn = λ t. absurd (omega (arith, t));
       idle = λ e. (refl, refl);
     }) j u e)
     (fits_blank s o.log o.serving))
 
 -- ---- the end
-
-length_past : (past : List (ℕ × List Entry)) → length (map (λ (q : ℕ × List Entry). q.0) past) ≡ length past
-length_past [] = refl
-length_past (x ∷ past) = ap suc (length_past past)
 
 -- What is found where all passes were given back.
 pub record IsWhole (s : Settings) (past : List (ℕ × List Entry)) (log : List Entry) : Type 0 where
@@ -100,7 +88,7 @@ module _ (s : Settings) (passes id : ℕ) (past : List (ℕ × List Entry)) (lef
       dite (ℕ_discrete j id)
       (λ same. ap (has_list list) (some-injective u (gathering past left) (sym there ∙ (ap (get_elem? st.views) same ∙ at))) ∙ omega (arith, unheld))
       (λ apart. let e = no_lists j u apart there in
-      omega (arith, no_times list u.owns (omega (arith, e)), no_times list (lists_past u) (omega (arith, e, length_past u.past)))))
+      omega (arith, no_times list u.owns (omega (arith, e)), no_times list (lists_past u) (omega (arith, e, length-map u.past (λ (q : ℕ × List Entry). q.0))))))
 
 pub closes : (s : Settings) (passes id : ℕ) (past : List (ℕ × List Entry)) (left : ℕ) (words : List ℕ) (books : List Kept) → passes ≤ length past
     → Final (Seen (Turns s passes) id (gathering past left)) words books → (log : List Entry) × (get_elem? books 0 ≡ some (kept s log)) × IsWhole s past log

@@ -1,5 +1,6 @@
--- Sums over views, and how often a number stands in a list.
+-- Sums over views, how often a number stands in a list, and what holds of each.
 use Rattle.std.proofs.Common.{◌≡◌, ◌≢◌, ℕ, zero, suc, ◌+◌, ◌<◌, ◌≤◌, List, [], ◌∷◌, ◌++◌, length, set, ap, sym, arith, refl}
+use Rattle.std.specs.List.{AllByRecursion as Each}
 use Rattle.std.proofs.lemmas.Bool.Decides.{nat_tests}
 use mathlib.Core.Option.{some, some-injective, some-ne-none}
 use lib.ListN.{get_elem?}
@@ -61,3 +62,7 @@ no_times n (x ∷ xs) e = absurd (omega (arith, e))
 
 pub stands_first : (n : ℕ) (xs : List ℕ) → 0 < times n (n ∷ xs)
 stands_first n xs = grind (arith, nat_tests)
+
+pub each_snoc : {A : Type 0} (P : A → Type 0) (xs : List A) (x : A) → Each P xs → P x → Each P (xs ++ x ∷ [])
+each_snoc P [] x each one = (one, tt)
+each_snoc P (y ∷ xs) x each one = (each.0, each_snoc P xs x each.1 one)

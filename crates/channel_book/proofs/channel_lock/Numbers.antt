@@ -1,5 +1,6 @@
 -- The numbers from one on.
-use Rattle.std.proofs.Common.{◌≡◌, ℕ, zero, suc, ◌+◌, ◌-◌, ◌<◌, ◌≤◌, List, [], ◌∷◌, ◌++◌, length, refl, ap, ◌∙◌, arith}
+use Rattle.std.proofs.Common.{◌≡◌, ℕ, zero, suc, ◌+◌, ◌-◌, ◌<◌, ◌≤◌, List, [], ◌∷◌, ◌++◌, map, length, refl, ap, ◌∙◌, arith}
+use Rattle.std.proofs.lemmas.List.{map-append}
 use Rattle.std.proofs.lemmas.Bool.Decides.{nat_tests}
 use Rattle.channel_book.specs.channel_lock.{times, numbers}
 
@@ -27,3 +28,9 @@ numbers_snoc first (suc n) =
 
 pub numbers_next : (first end : ℕ) → first < end → numbers first (end - first) ≡ first ∷ numbers (first + 1) (end - (first + 1))
 numbers_next first end less = let e : end - first ≡ suc (end - (first + 1)) = omega (arith, less) in ap (numbers first) e
+
+-- what is made of each number, with one number more
+pub map_numbers : {A : Type 0} (f : ℕ → A) (n : ℕ) → map f (numbers 0 (n + 1)) ≡ map f (numbers 0 n) ++ f n ∷ []
+map_numbers f n =
+    let e : 0 + n ≡ n = omega arith in
+    ap (map f) (numbers_snoc 0 n) ∙ (map-append f (numbers 0 n) ((0 + n) ∷ []) ∙ ap (λ k. map f (numbers 0 n) ++ f k ∷ []) e)

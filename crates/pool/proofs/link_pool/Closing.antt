@@ -1,5 +1,5 @@
 -- What is known of a link to which all takers were given back.
-use Rattle.std.proofs.Common.{◌≡◌, ◌^◌, ◌≢◌, ℕ, suc, ◌<◌, ◌≤◌, Bool, false, cond, List, [], ◌∷◌, ◌++◌, length, refl, sym, ap, ◌∙◌, subst, arith, append_assoc}
+use Rattle.std.proofs.Common.{◌≡◌, ◌^◌, ◌≢◌, ℕ, ◌<◌, ◌≤◌, Bool, false, cond, List, [], ◌∷◌, ◌++◌, length, refl, sym, ap, ◌∙◌, subst, arith, append_assoc}
 use Rattle.std.specs.Prelude.{All, ◌==◌}
 use Rattle.std.specs.List.{AllByRecursion as Each}
 use Rattle.std.specs.List.Sorted.{IsPermutation, IsNonDecreasingBy}
@@ -22,6 +22,7 @@ use Rattle.pool.proofs.link_pool.Ordering.{many_same, many_permuted, rising_from
 use Rattle.pool.proofs.link_pool.Granting.{granted_alone}
 use Rattle.channel_book.specs.channel_lock.{total, times}
 use Rattle.channel_book.proofs.channel_lock.Lists.{two_le, only_one, no_times, stands_first}
+use Rattle.std.proofs.lemmas.List.{length-map}
 
 -- ---- the claims of one taker among those of several
 
@@ -70,10 +71,6 @@ among_none : (number : ℕ) (takers : List Claimer) → Each (λ (t : Claimer). 
 among_none number [] apart = refl
 among_none number (t ∷ takers) apart = let other = apart.0 in let later = among_none number takers apart.1 in grind (arith, nat_tests)
 
-length_given : (takers : List Claimer) → length (numbers_given takers) ≡ length takers
-length_given [] = refl
-length_given (t ∷ takers) = ap suc (length_given takers)
-
 -- ---- the end
 
 -- what is found where as many takers were given back as were made
@@ -120,7 +117,7 @@ pub closed : (made id : ℕ) (takers : List Claimer) (granted : ℕ) (words : Li
     → HasGathered granted takers me → All Carries takers → Final (Seen (Fair made) id me.0) words slots → get_elem? words 0 ≡ some word
     → IsPermutation (claims_given takers) ledger → IsNonDecreasingBy (λ (c : Claim). c.from) ledger → HasClosed takers granted word ledger
 closed made id takers granted words slots me word ledger all gathered own final found permuted rising =
-    let w = whole made id granted (numbers_given takers) (claims_given takers) me.0.left words slots (omega (arith, length_given takers, all))
+    let w = whole made id granted (numbers_given takers) (claims_given takers) me.0.left words slots (omega (arith, length-map takers (λ (t : Claimer). t.number), all))
     (subst (λ (u : View). Final (Seen (Fair made) id u) words slots) (ap (λ (m : Mine). m.0) gathered.seat_is) final) in
     let is : ledger ≡ w.drawn = one_order 0 w.drawn ledger w.adjoin (rising_from ledger rising)
     (λ c. many_permuted (claims_given takers) ledger permuted c ∙ many_same (claims_given takers) w.drawn w.each c) in

@@ -1,6 +1,5 @@
 -- A link begins, and its takers are cut off.
-use Rattle.std.proofs.Common.{◌≡◌, ℕ, zero, suc, ◌+◌, ◌-◌, ◌^◌, ◌≤◌, List, [], ◌∷◌, ◌++◌, map, set, refl, sym, ap, ◌∙◌, subst, arith}
-use Rattle.std.proofs.lemmas.List.{map-append}
+use Rattle.std.proofs.Common.{◌≡◌, ℕ, zero, suc, ◌+◌, ◌-◌, ◌^◌, ◌≤◌, List, [], ◌∷◌, ◌++◌, set, refl, sym, subst, arith}
 use mathlib.Core.Option.{some, some-injective, some-ne-none}
 use lib.ListN.{get_elem?}
 use Rattle.atomic_table.specs.Seated.{TableId}
@@ -9,17 +8,14 @@ use Rattle.pool.specs.declared.link_pool.claim.Claim.{Claim}
 use Rattle.pool.specs.declared.link_pool.link.View.{View}
 use Rattle.pool.specs.link_pool.Sharing.{granting, taking, first_view, Fits, Fair}
 use Rattle.pool.specs.link_pool.Steps.{Mine, undealt, dealt}
-use Rattle.pool.specs.link_pool.Parties.{Claimer, claimer, fresh_takers, IsTaker}
+use Rattle.pool.specs.link_pool.Parties.{claimer, fresh_takers, IsTaker}
 use Rattle.pool.proofs.link_pool.Sums.{Count, of_ticker, of_grants, of_left, of_taker, of_takers, weight, stays}
 use Rattle.channel_book.specs.channel_lock.{numbers}
-use Rattle.channel_book.proofs.channel_lock.Numbers.{length_numbers, stands_once, numbers_snoc}
+use Rattle.channel_book.proofs.channel_lock.Numbers.{length_numbers, stands_once, map_numbers}
 use Rattle.channel_book.proofs.channel_lock.Views.{fits_set, fits_snoc, sums_cut}
 
 pub fresh_snoc : (pool : TableId) (n : ℕ) → fresh_takers pool (n + 1) ≡ fresh_takers pool n ++ claimer pool n [] ∷ []
-fresh_snoc pool n =
-    let f : ℕ → Claimer = λ number. claimer pool number [] in
-    let e : 0 + n ≡ n = omega arith in
-    ap (map f) (numbers_snoc 0 n) ∙ (map-append f (numbers 0 n) ((0 + n) ∷ []) ∙ ap (λ (k : ℕ). map f (numbers 0 n) ++ f k ∷ []) e)
+fresh_snoc pool n = map_numbers (λ number. claimer pool number []) n
 
 -- ---- the beginning
 

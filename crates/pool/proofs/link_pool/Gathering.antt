@@ -1,6 +1,5 @@
 -- The takers are given back.
 use Rattle.std.proofs.Common.{◌≡◌, ℕ, ◌+◌, ◌<◌, ◌≤◌, List, [], ◌∷◌, ◌++◌, set, refl, sym, ap, ◌∙◌, subst, arith}
-use Rattle.std.specs.List.{AllByRecursion as Each}
 use Rattle.std.proofs.lemmas.Grind.{flat_map-append}
 use Rattle.std.proofs.lemmas.List.{append-nil, length-append, map-append}
 use mathlib.Core.Logic.{dite}
@@ -10,7 +9,7 @@ use Rattle.pool.specs.declared.link_pool.claim.Claim.{Claim}
 use Rattle.pool.specs.declared.link_pool.link.View.{View}
 use Rattle.pool.specs.link_pool.Sharing.{blank, granting, taking, has_taker, Fits, Fair}
 use Rattle.pool.specs.link_pool.Steps.{Mine, with_taker}
-use Rattle.pool.specs.link_pool.Parties.{Claimer, claims_given, numbers_given, Carries, IsTaker, HasGathered}
+use Rattle.pool.specs.link_pool.Parties.{Claimer, claims_given, numbers_given, IsTaker, HasGathered}
 use Rattle.pool.proofs.link_pool.Filling.{none_before, none_behind}
 use Rattle.pool.proofs.link_pool.Sums.{Count, of_ticker, of_grants, of_left, of_taker, of_takers, weight, stays}
 use Rattle.channel_book.specs.channel_lock.{times, numbers}
@@ -72,7 +71,3 @@ gathers granted done t me own new gathered taker is =
     let named : new ≡ (granting granted (numbers_given (done ++ t ∷ [])) (claims_given (done ++ t ∷ [])) (me.0.left + own.0.left), []) =
     joined ∙ (λ j. (granting granted (sym numbers j) (sym claims j) (me.0.left + own.0.left), [])) in
     subst (HasGathered granted (done ++ t ∷ [])) (sym named) (record { seat_is = refl })
-
-pub each_snoc : (done : List Claimer) (t : Claimer) → Each Carries done → Carries t → Each Carries (done ++ t ∷ [])
-each_snoc [] t each one = (one, tt)
-each_snoc (x ∷ done) t each one = (each.0, each_snoc done t each.1 one)

@@ -6,7 +6,8 @@ use Rattle.pool.specs.link_pool.{Claimer}
 use Rattle.pool.specs.link_pool.Sharing.{blank, granting, Fair}
 use Rattle.pool.specs.link_pool.Steps.{Mine, with_taker}
 use Rattle.pool.specs.link_pool.Parties.{claims_given, numbers_given, Carries, IsTaker}
-use Rattle.pool.proofs.link_pool.Gathering.{gives_back, gathers, each_snoc}
+use Rattle.channel_book.proofs.channel_lock.Lists.{each_snoc}
+use Rattle.pool.proofs.link_pool.Gathering.{gives_back, gathers}
 use Rattle.pool.proofs.link_pool.seats.gather.Goals as goal
 
 pub join_seat-requires : goal.join_seat-requires
@@ -47,7 +48,7 @@ loop-taker-preserved c =
       gathered = (
         done ++ t ∷ [],
         append_assoc done (t ∷ []) later ∙ (ap (λ (l : List Claimer). done ++ l) (sym steps.0) ∙ i.gathered.1),
-        each_snoc done t i.gathered.2 (subst Carries c.taker.view_is c.taker.invariant.own),
+        each_snoc Carries done t i.gathered.2 (subst Carries c.taker.view_is c.taker.invariant.own),
         gathers c.args.seat.me.0.granted done t c.loop-taker.seat.me c.taker.inside.seat.me c.join_seat.new.seat.me i.gathered.3
             (subst (λ (u : Claimer). IsTaker u.number u.claims c.taker.inside.seat.me) c.taker.view_is c.taker.invariant) c.join_seat.ensures.2,
       );
