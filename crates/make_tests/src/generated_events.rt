@@ -1,8 +1,8 @@
 //! The events of a seed, one after another; the bytes are those of an independent model.
-use crate::fixtures::done;
 use generated::trace_gen::{Event, Kind, Made, config_of, event_into, event_of};
 use rams_model::Access;
 use std::test::Fail;
+use test_fixtures::test_calls::done;
 
 /// What client 25 sends in the first four blocks of seed 7: a RAMS-R and a RAMS-T without TLVs (RFC
 /// 6285, 7.2 and 7.4), and between them a generic NACK (RFC 4585, 6.2.1).

@@ -2,8 +2,6 @@
 #![tactic(auto)]
 
 #[cfg(test)]
-mod fixtures;
-#[cfg(test)]
 mod generated_events;
 #[cfg(test)]
 mod summaries;

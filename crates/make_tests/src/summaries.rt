@@ -1,9 +1,9 @@
 //! Answers, counted.
-use crate::fixtures::done;
 use bytes::Bytes;
 use generated::summary::Tally;
 use rams_model::{Answer, Cause, Info, LiveNote, Note, Order};
 use std::test::Fail;
+use test_fixtures::test_calls::done;
 
 /// A note of each kind that is counted, of some twice, and some that aren't.
 const NOTES: [Note; 14] = [
