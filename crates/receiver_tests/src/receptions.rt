@@ -1,11 +1,13 @@
 //! What receivers answer, present and send.
 use crate::row::Call::{Ask, Info, Multicast, Rtx};
 use crate::row::Said::{Asks, Came, Joined, Told};
-use crate::row::{Row, TUNED, Words, datagram, expect_all, let_go};
+use crate::row::{Row, TUNED, datagram, expect_all};
 use receiver_core::{InfoCame, MediaCame, Receiver};
 use std::alloc::Global;
 use std::process::Abort;
 use std::test::Fail;
+use test_fixtures::test_calls::let_go;
+use test_fixtures::test_words::Words;
 
 /// A RAMS-I of a burst that begins with sequence number 500 (RFC 6285, 7.3).
 const BEGINS: Words = &[

@@ -7,6 +7,8 @@ use std::alloc::Global;
 use std::fmt::Display;
 use std::process::Abort;
 use std::test::Fail;
+use test_fixtures::test_calls::let_go;
+use test_fixtures::test_words::{Words, bytes_of};
 
 /// A client of a channel whose retransmissions have payload type 99.
 pub const TUNED: Tuned = Tuned {
@@ -22,9 +24,6 @@ pub const TUNED: Tuned = Tuned {
 const FRONT: &[&str] = &[
     "80c90001", "0000c001", "81ca0003", "0000c001", "01037374", "62000000",
 ];
-
-/// Bytes, as words of hexadecimal digits.
-pub type Words = &'static [&'static str];
 
 /// What is done with a receiver.
 #[derive(Clone, Copy)]
@@ -48,25 +47,12 @@ pub enum Said {
 /// What is done, what is answered, and what is presented then: numbers, and the packets.
 pub type Row = (Call, Said, &'static [(u64, Words)]);
 
-/// The bytes of words.
-pub fn bytes_of(alloc: Global, words: &[&str]) -> Result<Vec<u8>, Fail> {
-    let mut bytes = Vec::new(alloc);
-    for word in words {
-        let piece = hex::decode(alloc, word.as_bytes())?;
-        bytes.extend_from_slice(&piece)?;
-    }
-    Ok(bytes)
-}
-
 /// A receiver's datagram with this message.
 pub fn datagram(alloc: Global, message: &[&str]) -> Result<Vec<u8>, Fail> {
     let mut bytes = bytes_of(alloc, FRONT)?;
     bytes.extend_from_slice(&bytes_of(alloc, message)?)?;
     Ok(bytes)
 }
-
-/// The value is dropped, by a call of its own: so a caller's proof doesn't go through its fields.
-pub fn let_go<T: Drop>(_value: T) {}
 
 /// A receiver that has got nothing.
 pub fn tuned(alloc: Global) -> Result<Receiver, Fail>
