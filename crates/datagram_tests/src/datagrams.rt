@@ -1,5 +1,5 @@
 //! Worked datagrams, byte for byte.
-use crate::fixtures::{done, holds, same};
+use crate::fixtures::{holds, same};
 use book_text::order_datagrams::{Order, append_order, render_order, renders};
 use bytes::Bytes;
 use channel_config::Config;
@@ -7,6 +7,7 @@ use rams_model::Info;
 use std::alloc::Global;
 use std::process::Abort;
 use std::test::Fail;
+use test_fixtures::test_calls::done;
 use test_fixtures::test_channel::{CHANNEL, SOURCE, bytes_of};
 
 /// The server's SSRC.
