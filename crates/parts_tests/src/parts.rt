@@ -1,10 +1,11 @@
 //! New parts, by what their own calls say of them.
-use crate::fixtures::{let_go, same};
+use crate::fixtures::same;
 use channel_config::{Channel, Config};
 use channel_parts::{AdmitFault, Parts};
 use std::alloc::Global;
 use std::process::Abort;
 use std::test::Fail;
+use test_fixtures::test_calls::let_go;
 use test_fixtures::test_channel::CHANNEL;
 
 /// Settings in which no two amounts are the same.

@@ -4,11 +4,12 @@ ghost use Rattle.rams_model.specs.declared.event.Event.{Event};
 ghost use Rattle.rams_model.specs.declared.event.Event.TheVariants.{Tick};
 ghost use Rattle.channel_parts.specs.{StandsFor};
 
-use crate::fixtures::{let_go, same};
+use crate::fixtures::same;
 use channel_config::{Channel, Config};
 use std::alloc::Global;
 use std::process::Abort;
 use std::test::Fail;
+use test_fixtures::test_calls::let_go;
 use test_fixtures::test_channel::CHANNEL;
 use tick_core::{Parts, commit_tick, plan_tick};
 
