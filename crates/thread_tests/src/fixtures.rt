@@ -50,9 +50,6 @@ pub fn request(alloc: Global, client: u64) -> Result<Event, AllocError> {
     Ok(Event::Feedback { client, bytes })
 }
 
-/// The value is dropped, by a call of its own: so a caller's proof doesn't go through its fields.
-pub fn let_go<T: Drop>(_value: T) {}
-
 /// A list of two events.
 pub fn pair(alloc: Global, first: Event, second: Event) -> Result<Vec<Event>, AllocError>
     ensures { IfOk result (λ list. length list.items ≡ 2) }

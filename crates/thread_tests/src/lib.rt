@@ -1,12 +1,10 @@
 //! Tests of the lock of one channel by hand, and of its lists on threads, on public calls alone.
 //!
-//! `fixtures` has a channel's settings and what comes to it, `gates` the gate at which threads meet.
+//! `fixtures` has a channel's settings and what comes to it.
 #![tactic(auto)]
 
 #[cfg(test)]
 mod fixtures;
-#[cfg(test)]
-mod gates;
 // session_worker, live_writer
 #[cfg(test)]
 mod lists;

@@ -1,8 +1,7 @@
 //! Lists of one channel on threads.
 ghost use Rattle.std.specs.Prelude.{◌≡◌, ◌^◌, ◌<◌, ◌≤◌, All, IfOk, length};
 
-use crate::fixtures::{let_go, new_core, packet, pair, request};
-use crate::gates::{Meeting, Point};
+use crate::fixtures::{new_core, packet, pair, request};
 use ram_io::{Gate, Open};
 use rams_model::{Event, Octets};
 use std::alloc::{AllocError, Global};
@@ -10,6 +9,8 @@ use std::process::Abort;
 use std::sync::Wait;
 use std::test::Fail;
 use std::thread::Threads;
+use test_fixtures::test_calls::let_go;
+use test_fixtures::test_gates::{Meeting, Point};
 use threads_loop::session_worker::{Worked, run_lists};
 
 /// Packets of the long list. So many orders of one answer are rendered by several threads, where there may be.
@@ -57,7 +58,7 @@ fn expect_meeting(
 ) -> Result<(), Fail> {
     let packets = two_packets(alloc)?;
     let ticks = pair(alloc, Event::Tick, Event::Tick)?;
-    let gate = Meeting::new(point);
+    let gate = Meeting::new(point, 0);
     let lists = vec![in alloc; packets, ticks]?;
     let worked = run(rt, alloc, lists, 2, &gate)?;
     assert!(rt; gate.was_held(), "both were there at once");
