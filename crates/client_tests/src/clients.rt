@@ -1,9 +1,10 @@
 //! Tables whose clients and entries are told by hand.
-use crate::fixtures::{let_go, same};
+use crate::fixtures::same;
 use client_table::{AdmitFault, Burst, Entry, Info, Table};
 use std::alloc::Global;
 use std::process::Abort;
 use std::test::Fail;
+use test_fixtures::test_calls::let_go;
 
 // The ticks after which an idle client may be due.
 const LIMIT: u32 = 3;
@@ -186,6 +187,13 @@ fn set_burst(table: &mut Table, client: u32, burst: Option<Burst>) {
     );
 }
 
+// Bursts of the clients open or end.
+fn set_bursts(table: &mut Table, clients: &[u32], burst: Option<Burst>) {
+    for client in clients {
+        set_burst(table, *client, burst);
+    }
+}
+
 // The table after these bursts opened and those ended, and the client left.
 fn opened_table(
     rt: &impl Abort,
@@ -195,12 +203,8 @@ fn opened_table(
     left: u32,
 ) -> Result<Table, Fail> {
     let mut table = table_of(rt, alloc, 3, &[9, 2, 5])?;
-    for client in opened {
-        set_burst(&mut table, *client, Some(BURST));
-    }
-    for client in ended {
-        set_burst(&mut table, *client, None);
-    }
+    set_bursts(&mut table, opened, Some(BURST));
+    set_bursts(&mut table, ended, None);
     table.remove(u64::from(left));
     Ok(table)
 }

@@ -6,6 +6,3 @@ use std::process::Abort;
 pub fn same<T: PartialEq, C: Display>(rt: &impl Abort, got: &T, want: &T, of: &C) {
     assert!(rt; *got == *want, "{of}");
 }
-
-/// The value is dropped, by a call of its own: so a caller's proof doesn't go through its fields.
-pub fn let_go<T: Drop>(_value: T) {}

@@ -1,10 +1,11 @@
 //! Asks and settlements whose answers are counted out by hand.
-use crate::fixtures::{let_go, same};
+use crate::fixtures::same;
 use repair_queue::{Asked, Queue, Wanted};
 use std::alloc::{AllocError, Global};
 use std::fmt::Display;
 use std::process::Abort;
 use std::test::Fail;
+use test_fixtures::test_calls::let_go;
 
 // Pending repairs, each its client and its number.
 const PAIRS: [(u64, u64); 5] = [(6, 11), (5, 12), (6, 10), (7, 11), (5, 10)];
