@@ -9,6 +9,7 @@ use server_hub::session_core::Core;
 use std::alloc::{AllocError, Global};
 use std::process::Abort;
 use std::test::Fail;
+use test_fixtures::test_calls::let_go;
 use test_fixtures::test_channel::{CHANNEL, SOURCE, bytes_of};
 
 /// Settings of a channel that sends at most one packet of 1,500 bytes in a tick.
@@ -46,9 +47,6 @@ fn burst_of_two(alloc: Global) -> Result<Vec<Event>, AllocError> {
     add_burst_of_two(alloc, &mut events)?;
     Ok(events)
 }
-
-/// The value is dropped, by a call of its own: so a caller's proof doesn't go through its fields.
-pub fn let_go<T: Drop>(_value: T) {}
 
 /// A channel whose events make it send two packets of 1,500 bytes, one in each of two ticks of 10 ms.
 pub fn sends_two(rt: &impl Abort, alloc: Global) -> Result<Lane, Fail>

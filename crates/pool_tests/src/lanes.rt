@@ -3,8 +3,7 @@ ghost use Rattle.std.specs.Prelude.{◌≡◌, ◌^◌, ◌<◌, ◌≤◌, All,
 ghost use Rattle.pool.specs.link_pool.{claimed};
 ghost use Rattle.pool.specs.pool_run.{IsFresh};
 
-use crate::fixtures::{let_go, sends_two};
-use crate::gates::Meeting;
+use crate::fixtures::sends_two;
 use pool::ledger_text::append_ledger;
 use pool::pool_run::{Lane, Ledger, Pooled, run_pool};
 use ram_io::{Gate, Open};
@@ -12,6 +11,8 @@ use std::alloc::Global;
 use std::process::Abort;
 use std::test::Fail;
 use std::thread::Threads;
+use test_fixtures::test_calls::let_go;
+use test_fixtures::test_gates::{Meeting, Point};
 
 fn one_lane(rt: &impl Abort, alloc: Global) -> Result<Vec<Lane>, Fail>
     ensures { IfOk result (λ lanes. All IsFresh lanes.items × (length lanes.items ≡ 1)) }
@@ -127,7 +128,7 @@ fn two_channels_claim(rt: HostRuntime) -> Result<(), Fail> {
 /// Both lanes have the answer of their first tick before either claims for it.
 #[test]
 fn lanes_run_beside_each_other(rt: HostRuntime) -> Result<(), Fail> {
-    let gate = Meeting::new();
+    let gate = Meeting::new(Point::Drawing, 4);
     two_claim(&rt, rt.alloc(), &gate)?;
     assert!(&rt; gate.was_held(), "both were there at once");
     Ok(())

@@ -1,12 +1,10 @@
 //! Tests of channels that share a link, on public calls alone.
 //!
-//! `fixtures` has a channel's settings and what comes to it, `gates` the gate at which threads meet.
+//! `fixtures` has a channel's settings and what comes to it.
 #![tactic(auto)]
 
 #[cfg(test)]
 mod fixtures;
-#[cfg(test)]
-mod gates;
 // pool_run
 #[cfg(test)]
 mod lanes;

@@ -1,5 +1,4 @@
 //! Traces of channels that share a link: their books, and the ledgers behind.
-use crate::fixtures::let_go;
 use pool::pool_loop::{Open, Status, Stop, write_pool};
 use ram_io::{MemSink, MemSource};
 use std::alloc::{AllocError, Global};
@@ -7,6 +6,7 @@ use std::process::Abort;
 use std::str;
 use std::test::Fail;
 use std::thread::Threads;
+use test_fixtures::test_calls::let_go;
 
 const HEAD: &str = "rams-trace 1 tick 10 link 100000\n";
 
@@ -15,7 +15,7 @@ const CHANNEL: &str =
     "channel <ID> ssrc 11223344 pt 33 rtx 99 server aabbccdd seq0 500 ring 64 window 0 access marker share 10000 reserve 1500 burst 1500 declared 0 minwire 1500 limit 100 idle 100 clients 4\n";
 
 /// Three packets of 1,500 bytes on the wire, the second of them an access point, and a request (RFC 6285,
-/// 7.2).
+/// 7.2): RTP 10 at 0, 11 with the marker at 900, 12 at 1,800, each with 1,458 bytes of 0; RAMS-R.
 const ASKS: &str = "live <ID> 8021000a0000000011223344<1458>
 live <ID> 80a1000b0000038411223344<1458>
 live <ID> 8021000c0000070811223344<1458>
@@ -24,7 +24,8 @@ fb <ID> 5 86cd00030000c0011122334401000000
 
 const TICKS: &str = "tick\ntick\nend\n";
 
-/// The answers to the packets and to the request, where there is one channel.
+/// The answers to the packets and to the request, where there is one channel. The RAMS-I says 200, message 0; first
+/// packet 500 (TLV 32), join after 30,000 ms (33), lasts 1,000 ms (34), at most 1,200,000 bit/s (35).
 const ACCEPTS: &str = "1 7 took 65546
 2 7 took 65547
 3 7 took 65548
@@ -40,7 +41,8 @@ const ACCEPTS_OF_8: &str = "5 8 took 65546
 8 8 send 5 86cd000caabbccdd11223344020000c82000000201f40000210000040000753022000004000003e8230000080000000000124f80
 ";
 
-/// The two packets of a burst, in the ticks of these numbers.
+/// The two packets of a burst, in the ticks of these numbers: RTX 500 of 11 with the marker at 900, and RTX 501 of 12
+/// at 1,800 (RFC 4588, 4), each with 1,458 bytes of 0.
 const SENDS: [&str; 2] = [
     "<TICK> <ID> burst 5 65547 500
 <TICK> <ID> send 5 80e301f40000038411223344000b<1458>
@@ -332,6 +334,11 @@ fn lines_are_counted_or_refused(rt: HostRuntime) -> Result<(), Fail> {
         let_go(trace);
         expected?;
     }
+    Ok(())
+}
+
+#[test]
+fn heads_without_a_channel_are_refused(rt: HostRuntime) -> Result<(), Fail> {
     for (trace, text) in HEADS {
         expect(&rt, rt.alloc(), 1500, trace, (Status::BadTrace, text))?;
     }
