@@ -5,6 +5,7 @@ use std::net::{Ipv4Addr, SocketAddr, UdpSocket};
 use std::process;
 use std::test::Fail;
 use std::time::Duration;
+use test_fixtures::test_calls::done;
 use udp_edge::UdpWire;
 
 /// The first of 32 ports that few other runs use, each below those that the system gives away.
@@ -38,12 +39,4 @@ pub fn local(port: u16) -> SocketAddr {
 /// This port of 127.0.0.1 as the number of a client.
 pub fn client(port: u16) -> u64 {
     0x7f00_0001 << 16 | u64::from(port)
-}
-
-/// What a call gives that succeeds in a test.
-pub fn done<T, E: Drop>(outcome: Result<T, E>) -> Result<T, Fail> {
-    match outcome {
-        Ok(value) => Ok(value),
-        Err(_) => Err(Fail::new("a call failed")),
-    }
 }
