@@ -1,10 +1,11 @@
 //! Captures, written as traces.
-use crate::fixtures::{let_go, same};
+use crate::fixtures::same;
 use converters::capture_loop::{Status, Stop, write_capture};
 use ram_io::{MemSink, MemSource, Open};
 use std::alloc::Global;
 use std::process::Abort;
 use std::test::Fail;
+use test_fixtures::test_calls::let_go;
 use test_fixtures::test_words::{Words, bytes_of, joined};
 
 const HEAD: &str = "rams-trace 1 tick 10 link 100000";
@@ -16,32 +17,155 @@ const EIGHT: &str =
     "channel 8 ssrc 11223344 pt 33 rtx 99 server aabbccdd seq0 500 ring 64 window 0 access marker share 10000 reserve 1500 burst 4000 declared 100 minwire 42 limit 100 idle 100 clients 4";
 
 // The head of a file.
-const FILE: &str = "d4c3b2a1020004000000000000000000ffff000001000000";
+const FILE: &str = concat!(
+    "d4c3b2a1", // little-endian, microseconds
+    "02000400", // version 2.4
+    "00000000", // time zone
+    "00000000", // accuracy
+    "ffff0000", // at most 65,535 bytes of a frame
+    "01000000", // link type 1, Ethernet
+);
 
 // A record of second 1, and its frame: packet 10 of the source, with the marker and four bytes of payload,
 // to port 5000, and two bytes of padding.
-const PACKET: &str =
-    "01000000000000003c0000003c00000001005e00000102000000000108004500002c00000000401100000a000001ef000001138813880018000080a1000a0000000011223344000000000000";
+const PACKET: &str = concat!(
+    // second 1, microsecond 0, 60 bytes of 60
+    "01000000",
+    "00000000",
+    "3c000000",
+    "3c000000",
+    // Ethernet (IEEE 802.3): to 01:00:5e:00:00:01, from 02:00:00:00:00:01; IPv4
+    "01005e000001",
+    "020000000001",
+    "0800",
+    // IPv4 (RFC 791): 44 bytes, 64 hops, UDP, from 10.0.0.1 to 239.0.0.1
+    "4500002c",
+    "00000000",
+    "40110000",
+    "0a000001",
+    "ef000001",
+    // UDP (RFC 768): port 5000 to port 5000, 24 bytes, no checksum
+    "13881388",
+    "00180000",
+    // RTP 10 with the marker; timestamp 0; SSRC 11223344; 4 bytes of 0
+    "80a1000a",
+    "00000000",
+    "11223344",
+    "00000000",
+    // padding of the frame
+    "0000",
+);
 
 // A request (RFC 6285, 7.2) from 10.0.0.9, port 4001, to port 5001, 25 ms after that.
-const REQUEST: &str =
-    "01000000a86100003a0000003a00000001005e00000102000000000108004500002c00000000401100000a000009ef0000010fa113890018000086cd00030000c0011122334401000000";
+const REQUEST: &str = concat!(
+    // second 1, microsecond 25,000, 58 bytes of 58
+    "01000000",
+    "a8610000",
+    "3a000000",
+    "3a000000",
+    // Ethernet (IEEE 802.3): to 01:00:5e:00:00:01, from 02:00:00:00:00:01; IPv4
+    "01005e000001",
+    "020000000001",
+    "0800",
+    // IPv4 (RFC 791): 44 bytes, 64 hops, UDP, from 10.0.0.9 to 239.0.0.1
+    "4500002c",
+    "00000000",
+    "40110000",
+    "0a000009",
+    "ef000001",
+    // UDP (RFC 768): port 4001 to port 5001, 24 bytes, no checksum
+    "0fa11389",
+    "00180000",
+    // RAMS-R of c001 for media source 11223344
+    "86cd0003",
+    "0000c001",
+    "11223344",
+    "01000000",
+);
 
-// Its bytes to port 5003, with a moment 12 ms before that, and two bytes of padding.
-const TO_EIGHT: &str =
-    "01000000883600003c0000004000000001005e00000102000000000108004500002c00000000401100000a000009ef0000010fa1138b0018000086cd00030000c00111223344010000000000";
+// Its bytes to port 5003, with a moment that is earlier, and two bytes of padding.
+const TO_EIGHT: &str = concat!(
+    // second 1, microsecond 13,960, 60 bytes of 64
+    "01000000",
+    "88360000",
+    "3c000000",
+    "40000000",
+    // Ethernet (IEEE 802.3): to 01:00:5e:00:00:01, from 02:00:00:00:00:01; IPv4
+    "01005e000001",
+    "020000000001",
+    "0800",
+    // IPv4 (RFC 791): 44 bytes, 64 hops, UDP, from 10.0.0.9 to 239.0.0.1
+    "4500002c",
+    "00000000",
+    "40110000",
+    "0a000009",
+    "ef000001",
+    // UDP (RFC 768): port 4001 to port 5003, 24 bytes, no checksum
+    "0fa1138b",
+    "00180000",
+    // RAMS-R of c001 for media source 11223344
+    "86cd0003",
+    "0000c001",
+    "11223344",
+    "01000000",
+    // padding of the frame
+    "0000",
+);
 
-// The same in the order of big numbers.
-const BIG_FILE: &str = "a1b2c3d400020004000000000000000000ffff0000000001";
+// The first file's head and record in the order of big numbers.
+const BIG_FILE: &str = concat!(
+    "a1b2c3d4", // big-endian, microseconds
+    "00020004", // version 2.4
+    "00000000", // time zone
+    "00000000", // accuracy
+    "00ffff00", // at most 16,776,960 bytes of a frame
+    "00000001", // link type 1, Ethernet
+);
 
-const BIG_PACKET: &str =
-    "00000001000000000000003c0000003c01005e00000102000000000108004500002c00000000401100000a000001ef000001138813880018000080a1000a0000000011223344000000000000";
+const BIG_PACKET: &str = concat!(
+    // second 1, microsecond 0, 60 bytes of 60
+    "00000001",
+    "00000000",
+    "0000003c",
+    "0000003c",
+    // Ethernet (IEEE 802.3): to 01:00:5e:00:00:01, from 02:00:00:00:00:01; IPv4
+    "01005e000001",
+    "020000000001",
+    "0800",
+    // IPv4 (RFC 791): 44 bytes, 64 hops, UDP, from 10.0.0.1 to 239.0.0.1
+    "4500002c",
+    "00000000",
+    "40110000",
+    "0a000001",
+    "ef000001",
+    // UDP (RFC 768): port 5000 to port 5000, 24 bytes, no checksum
+    "13881388",
+    "00180000",
+    // RTP 10 with the marker; timestamp 0; SSRC 11223344; 4 bytes of 0
+    "80a1000a",
+    "00000000",
+    "11223344",
+    "00000000",
+    // padding of the frame
+    "0000",
+);
 
 // A record of an empty frame, of second 1 and 9.999 ms, and one of second 1 and 10 ms.
-const EMPTY: &str = "010000000f2700000000000000000000";
+const EMPTY: &str = concat!(
+    "01000000", // second 1
+    "0f270000", // microsecond 9,999
+    "00000000", // no byte
+    "00000000", // of none
+);
 
-const EMPTY_TICK: &str = "01000000102700000000000000000000";
+const EMPTY_TICK: &str = concat!(
+    "01000000", // second 1
+    "10270000", // microsecond 10,000
+    "00000000", // no byte
+    "00000000", // of none
+);
 
+// The lines of the first two records: RTP 10 with the marker, and a RAMS-R of the client 10.0.0.9, port 4001.
 const LIVE: &str = "live 7 80a1000a000000001122334400000000";
 
 const ASKS: &str = "fb 7 10995116871585 86cd00030000c0011122334401000000";
@@ -106,28 +230,38 @@ const ROWS: &[Row] = &[
     },
     Row {
         name: "nanoseconds",
-        file: &["4d3cb2a1020004000000000000000000ffff000001000000", PACKET],
+        // the head of FILE with the magic of nanoseconds
+        file: &[
+            "4d3cb2a1", "02000400", "00000000", "00000000", "ffff0000", "01000000", PACKET,
+        ],
         text: &[HEAD, SEVEN, "refused-capture 0 magic"],
         status: Status::BadCapture,
         ..PLAIN
     },
     Row {
         name: "another version",
-        file: &["d4c3b2a1020003000000000000000000ffff000001000000", PACKET],
+        // the head of FILE with version 2.3
+        file: &[
+            "d4c3b2a1", "02000300", "00000000", "00000000", "ffff0000", "01000000", PACKET,
+        ],
         text: &[HEAD, SEVEN, "refused-capture 0 version"],
         status: Status::BadCapture,
         ..PLAIN
     },
     Row {
         name: "another link type",
-        file: &["d4c3b2a1020004000000000000000000ffff000071000000", PACKET],
+        // the head of FILE with link type 113, Linux cooked
+        file: &[
+            "d4c3b2a1", "02000400", "00000000", "00000000", "ffff0000", "71000000", PACKET,
+        ],
         text: &[HEAD, SEVEN, "refused-capture 0 link"],
         status: Status::BadCapture,
         ..PLAIN
     },
     Row {
         name: "a record that is too long, with a tick that isn't written",
-        file: &[FILE, PACKET, "05000000000000000100040001000400"],
+        // second 5, microsecond 0, 262,145 bytes of 262,145
+        file: &[FILE, PACKET, "05000000", "00000000", "01000400", "01000400"],
         text: &[HEAD, SEVEN, LIVE, "refused-capture 2 long"],
         status: Status::BadCapture,
         ..PLAIN
@@ -146,9 +280,11 @@ const ROWS: &[Row] = &[
             HEAD,
             EIGHT,
             SEVEN,
+            // RTP 10 with the marker; timestamp 0; 4 bytes of 0
             "live 8 80a1000a000000001122334400000000",
             "tick",
             "tick",
+            // two RAMS-R
             "fb 8 10995116871585 86cd00030000c0011122334401000000",
             "fb 7 10995116871585 86cd00030000c0011122334401000000",
             "end",
@@ -246,12 +382,18 @@ fn expect_pieces(rt: &impl Abort, alloc: Global, row: &Row, piece: usize) -> Res
     Ok(())
 }
 
+// The capture is written so, whatever the size of the pieces.
+fn expect_row(rt: &impl Abort, alloc: Global, row: &Row) -> Result<(), Fail> {
+    for piece in [1, 2, 3, 7, 4_096] {
+        expect_pieces(rt, alloc, row, piece)?;
+    }
+    Ok(())
+}
+
 #[test]
 fn captures_are_written(rt: HostRuntime) -> Result<(), Fail> {
     for row in ROWS {
-        for piece in [1, 2, 3, 7, 4_096] {
-            expect_pieces(&rt, rt.alloc(), row, piece)?;
-        }
+        expect_row(&rt, rt.alloc(), row)?;
     }
     Ok(())
 }

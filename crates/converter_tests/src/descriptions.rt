@@ -1,10 +1,11 @@
 //! Session descriptions, read and written (RFC 8866; RFC 6285, 8.3).
 use crate::fixtures::same;
 use converters::description_loop::sdp_config::{Sdp, SdpFault, read_sdp, write_sdp};
-use rams_model::{Access, Channel};
 use std::alloc::Global;
+use std::process::Abort;
 use std::str;
 use std::test::Fail;
+use test_fixtures::test_channel::CHANNEL;
 use test_fixtures::test_words::joined;
 
 /// What stands in front of the sections.
@@ -262,13 +263,19 @@ fn text_of(alloc: Global, row: &Row, end: &str) -> Result<Vec<u8>, Fail> {
     Ok(text)
 }
 
+// A row is read so, with either end of its lines.
+fn expect_read(rt: &impl Abort, alloc: Global, row: &Row) -> Result<(), Fail> {
+    for end in ["\n", "\r\n"] {
+        let text = text_of(alloc, row, end)?;
+        same(rt, &read_sdp(&text), &row.4, row.0);
+    }
+    Ok(())
+}
+
 #[test]
 fn settings_are_read(rt: HostRuntime) -> Result<(), Fail> {
     for row in ROWS {
-        for end in ["\n", "\r\n"] {
-            let text = text_of(rt.alloc(), row, end)?;
-            same(&rt, &read_sdp(&text), &row.4, row.0);
-        }
+        expect_read(&rt, rt.alloc(), row)?;
     }
     Ok(())
 }
@@ -325,28 +332,6 @@ fn lines_are_few_and_short(rt: HostRuntime) -> Result<(), Fail> {
     );
     Ok(())
 }
-
-const CHANNEL: Channel = Channel {
-    id: 7,
-    ssrc: 0x1122_3344,
-    pt: 33,
-    rtx: 99,
-    server: 0xaabb_ccdd,
-    seq0: 500,
-    ring: 64,
-    window: 0,
-    access: Access::Marker,
-    share: 10_000,
-    reserve: 1_500,
-    burst: 4_000,
-    declared: 100,
-    minwire: 42,
-    limit: 100,
-    idle: 100,
-    clients: 4,
-    depth: 0,
-    swell: 0,
-};
 
 const DESCRIPTION: &[&str] = &[
     "v=0",

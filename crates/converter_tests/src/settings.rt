@@ -1,12 +1,13 @@
 //! Settings from descriptions, and descriptions of channels: from a head's bytes to what is written.
 use crate::descriptions::{MEDIA, REPAIRS, SESSION};
-use crate::fixtures::{let_go, same};
+use crate::fixtures::same;
 use converters::description_loop::{Status, Stop, write_description, write_settings};
 use ram_io::{MemSink, MemSource};
 use std::alloc::{AllocError, Global};
 use std::process::Abort;
 use std::str;
 use std::test::Fail;
+use test_fixtures::test_calls::let_go;
 use test_fixtures::test_words::joined;
 
 const HEAD: &str = "rams-trace 1 tick 10 link 100000\n";
@@ -198,12 +199,24 @@ fn gets_settings(
     ended
 }
 
+/// The same, with either end of the lines.
+fn gets_settings_by_both(
+    rt: &impl Abort,
+    alloc: Global,
+    head: &str,
+    channel: &str,
+    set: &str,
+) -> Result<(), Fail> {
+    for end in ["\n", "\r\n"] {
+        gets_settings(rt, alloc, head, channel, set, end)?;
+    }
+    Ok(())
+}
+
 #[test]
 fn a_channel_gets_its_settings(rt: HostRuntime) -> Result<(), Fail> {
     for (head, channel, set) in SETTINGS {
-        for end in ["\n", "\r\n"] {
-            gets_settings(&rt, rt.alloc(), head, channel, set, end)?;
-        }
+        gets_settings_by_both(&rt, rt.alloc(), head, channel, set)?;
     }
     Ok(())
 }
@@ -247,10 +260,15 @@ fn refuses(rt: &impl Abort, alloc: Global, description: &[u8], text: &str) -> Re
 
 #[test]
 fn a_description_is_refused(rt: HostRuntime) -> Result<(), Fail> {
-    let alloc = rt.alloc();
     for (description, text) in REFUSED {
-        refuses(&rt, alloc, description.as_bytes(), text)?;
+        refuses(&rt, rt.alloc(), description.as_bytes(), text)?;
     }
+    Ok(())
+}
+
+#[test]
+fn lines_of_repairs_are_refused(rt: HostRuntime) -> Result<(), Fail> {
+    let alloc = rt.alloc();
     for (repairs, text) in REPAIRS_REFUSED {
         refuses(&rt, alloc, &described(alloc, repairs, "\n")?, text)?;
     }

@@ -1,10 +1,10 @@
 //! What is told of a capture that is refused.
-use crate::fixtures::let_go;
 use converters::capture_loop::{CaptureFault, CaptureWatch, FileKind, write_capture};
 use ram_io::{MemSink, MemSource};
 use std::alloc::Global;
 use std::cell::Cell;
 use std::test::Fail;
+use test_fixtures::test_calls::let_go;
 use test_fixtures::test_words::{Words, bytes_of, joined};
 
 const HEAD: Words = &[
@@ -14,7 +14,12 @@ const HEAD: Words = &[
 ];
 
 // A record of second 1 without a byte.
-const EMPTY: &str = "01000000000000000000000000000000";
+const EMPTY: &str = concat!(
+    "01000000", // second 1
+    "00000000", // microsecond 0
+    "00000000", // no byte
+    "00000000", // of none
+);
 
 #[derive(Clone, Copy, PartialEq, Eq)]
 enum Told {
@@ -52,7 +57,11 @@ impl CaptureWatch for Notes {
 const FILES: &[(&str, Words, Told)] = &[
     (
         "a whole file",
-        &["d4c3b2a1020004000000000000000000ffff000001000000", EMPTY],
+        // little-endian, microseconds; version 2.4; at most 65,535 bytes of a frame;
+        // link type 1, Ethernet
+        &[
+            "d4c3b2a1", "02000400", "00000000", "00000000", "ffff0000", "01000000", EMPTY,
+        ],
         Told::Nothing,
     ),
     (
@@ -62,68 +71,108 @@ const FILES: &[(&str, Words, Told)] = &[
     ),
     (
         "a byte is missing of a head",
-        &["d4c3b2a1020004000000000000000000ffff0000010000"],
+        // little-endian, microseconds; version 2.4; at most 65,535 bytes of a frame; a byte is missing
+        &[
+            "d4c3b2a1", "02000400", "00000000", "00000000", "ffff0000", "010000",
+        ],
         Told::File(CaptureFault::Short, FileKind::Unknown),
     ),
     (
         "pcapng, as tshark writes it",
-        &["0a0d0d0ac00000004d3c2b1a01000000ffffffffffffffff"],
+        // a section: its type, 192 bytes, little-endian, version 1.0, of unknown length
+        &[
+            "0a0d0d0a", "c0000000", "4d3c2b1a", "01000000", "ffffffff", "ffffffff",
+        ],
         Told::File(CaptureFault::Magic, FileKind::Pcapng),
     ),
     (
         "nanoseconds",
-        &["4d3cb2a1020004000000000000000000ffff000001000000", EMPTY],
+        // little-endian, nanoseconds; version 2.4; at most 65,535 bytes of a frame;
+        // link type 1, Ethernet
+        &[
+            "4d3cb2a1", "02000400", "00000000", "00000000", "ffff0000", "01000000", EMPTY,
+        ],
         Told::File(CaptureFault::Magic, FileKind::Nanoseconds),
     ),
     (
         "nanoseconds in the order of big numbers",
-        &["a1b23c4d00020004000000000000000000ffff0000000001"],
+        // big-endian, nanoseconds; version 2.4; at most 16,776,960 bytes of a frame;
+        // link type 1, Ethernet
+        &[
+            "a1b23c4d", "00020004", "00000000", "00000000", "00ffff00", "00000001",
+        ],
         Told::File(CaptureFault::Magic, FileKind::Nanoseconds),
     ),
     (
         "a line end in front of the file",
-        &["0ad4c3b2a1020004000000000000000000ffff000001000000"],
+        // a line feed, and the head of the whole file
+        &[
+            "0a", "d4c3b2a1", "02000400", "00000000", "00000000", "ffff0000", "01000000",
+        ],
         Told::File(CaptureFault::Magic, FileKind::Unknown),
     ),
     (
         "another version",
-        &["d4c3b2a1020003000000000000000000ffff000065000000"],
+        // little-endian, microseconds; version 2.3; at most 65,535 bytes of a frame;
+        // link type 101, raw IP
+        &[
+            "d4c3b2a1", "02000300", "00000000", "00000000", "ffff0000", "65000000",
+        ],
         Told::File(CaptureFault::Version, FileKind::RawIp),
     ),
     (
         "raw IP",
-        &["d4c3b2a1020004000000000000000000ffff000065000000", EMPTY],
+        // little-endian, microseconds; version 2.4; at most 65,535 bytes of a frame;
+        // link type 101, raw IP
+        &[
+            "d4c3b2a1", "02000400", "00000000", "00000000", "ffff0000", "65000000", EMPTY,
+        ],
         Told::File(CaptureFault::Link, FileKind::RawIp),
     ),
     (
         "the device any",
-        &["d4c3b2a10200040000000000000000000000040071000000", EMPTY],
+        // little-endian, microseconds; version 2.4; at most 262,144 bytes of a frame;
+        // link type 113, Linux cooked
+        &[
+            "d4c3b2a1", "02000400", "00000000", "00000000", "00000400", "71000000", EMPTY,
+        ],
         Told::File(CaptureFault::Link, FileKind::LinuxCooked),
     ),
     (
         "the device any, in the second version",
-        &["d4c3b2a10200040000000000000000000000040014010000", EMPTY],
+        // little-endian, microseconds; version 2.4; at most 262,144 bytes of a frame;
+        // link type 276, Linux cooked, second version
+        &[
+            "d4c3b2a1", "02000400", "00000000", "00000000", "00000400", "14010000", EMPTY,
+        ],
         Told::File(CaptureFault::Link, FileKind::LinuxCooked2),
     ),
     (
         "wireless",
-        &["d4c3b2a1020004000000000000000000ffff000069000000"],
+        // little-endian, microseconds; version 2.4; at most 65,535 bytes of a frame;
+        // link type 105, wireless
+        &[
+            "d4c3b2a1", "02000400", "00000000", "00000000", "ffff0000", "69000000",
+        ],
         Told::File(CaptureFault::Link, FileKind::OtherLink(105)),
     ),
     (
         "a record that is cut",
         &[
-            "d4c3b2a1020004000000000000000000ffff000001000000",
-            EMPTY,
-            "01",
+            // little-endian, microseconds; version 2.4; at most 65,535 bytes of a frame;
+            // link type 1, Ethernet
+            "d4c3b2a1", "02000400", "00000000", "00000000", "ffff0000", "01000000", EMPTY, "01",
         ],
         Told::Record(2, CaptureFault::Cut),
     ),
     (
         "a record that is too long",
         &[
-            "d4c3b2a1020004000000000000000000ffff000001000000",
-            "010000000000000001000400ffffffff",
+            // little-endian, microseconds; version 2.4; at most 65,535 bytes of a frame;
+            // link type 1, Ethernet
+            "d4c3b2a1", "02000400", "00000000", "00000000", "ffff0000", "01000000",
+            // second 1, microsecond 0, 262,145 bytes of 4,294,967,295
+            "01000000", "00000000", "01000400", "ffffffff",
         ],
         Told::Record(1, CaptureFault::Long),
     ),
@@ -162,7 +211,12 @@ fn a_refused_file_is_told(rt: HostRuntime) -> Result<(), Fail> {
 #[test]
 fn a_refused_head_is_none_of_a_file(rt: HostRuntime) -> Result<(), Fail> {
     let alloc = rt.alloc();
-    let found = what_is_told(alloc, &HEAD[..2], &["0a0d0d0ac00000004d3c2b1a01000000"])?;
+    // a section: its type, 192 bytes, little-endian, version 1.0
+    let found = what_is_told(
+        alloc,
+        &HEAD[..2],
+        &["0a0d0d0a", "c0000000", "4d3c2b1a", "01000000"],
+    )?;
     assert!(rt; found == Told::Nothing);
     Ok(())
 }
