@@ -1,11 +1,12 @@
 //! Lines of a book behind a text, written by hand.
-use crate::fixtures::{done, same};
+use crate::fixtures::same;
 use book_text::{Pen, append_count, append_no_channel, append_refused, append_send};
 use ram_io::NoMemory;
 use rams_model::{Cause, FrameFault, LineFault, LiveNote, Note, RtpFault};
 use std::alloc::Global;
 use std::process::Abort;
 use std::test::Fail;
+use test_fixtures::test_calls::done;
 
 /// Notes of channel 7, and their lines as those of event 4.
 const NOTES: &[(Note, &str)] = &[

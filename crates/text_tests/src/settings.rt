@@ -1,29 +1,14 @@
 //! Settings of a channel that are lawful, and why others aren't.
 use crate::fixtures::same;
-use channel_config::{Access, Channel, Config, ConfigFault, lawful_settings};
+use channel_config::{Channel, Config, ConfigFault, lawful_settings};
 use std::process::Abort;
 use std::test::Fail;
+use test_fixtures::test_channel::CHANNEL;
 
+/// Settings whose share is as much as one may be.
 const LAWFUL: Channel = Channel {
-    id: 7,
-    ssrc: 0x1122_3344,
-    pt: 33,
-    rtx: 99,
-    server: 0xaabb_ccdd,
-    seq0: 500,
-    ring: 64,
-    window: 0,
-    access: Access::Marker,
     share: 1_000_000_000,
-    reserve: 1_500,
-    burst: 4_000,
-    declared: 100,
-    minwire: 42,
-    limit: 100,
-    idle: 100,
-    clients: 4,
-    depth: 0,
-    swell: 0,
+    ..CHANNEL
 };
 
 const RANGE: Option<ConfigFault> = Some(ConfigFault::Range);

@@ -1,11 +1,13 @@
 //! Lines of a trace: each kind, other forms, and numbers out of their ranges.
-use crate::fixtures::{done, holds, same};
+use crate::fixtures::{holds, same};
 use crate::trace_words::{Answer, expect_words, line_of, word_of};
 use ram_io::NoMemory;
 use rams_model::{Access, Channel};
 use std::alloc::{AllocError, Global};
 use std::process::Abort;
 use std::test::Fail;
+use test_fixtures::test_calls::done;
+use test_fixtures::test_channel::CHANNEL;
 use trace_text::{Line, decode, decode_to, read_line, write_line};
 
 /// Lines, and the word of what they are read as.
@@ -150,29 +152,6 @@ fn lines_have_forms_and_ranges(rt: HostRuntime) -> Result<(), Fail> {
     expect_words(&rt, rt.alloc(), LINES)
 }
 
-/// What the channel line says.
-const SETTINGS: Channel = Channel {
-    id: 7,
-    ssrc: 0x1122_3344,
-    pt: 33,
-    rtx: 99,
-    server: 0xaabb_ccdd,
-    seq0: 500,
-    ring: 64,
-    window: 0,
-    access: Access::Marker,
-    share: 10000,
-    reserve: 1500,
-    burst: 4000,
-    declared: 100,
-    minwire: 42,
-    limit: 100,
-    idle: 100,
-    clients: 4,
-    depth: 0,
-    swell: 0,
-};
-
 /// A line, and what it says.
 type Spelled = (&'static str, Line<'static>);
 
@@ -226,7 +205,7 @@ const KINDS: &[Spelled] = &[
         "@",
         Line::Channel {
             version: 1,
-            channel: SETTINGS,
+            channel: CHANNEL,
         },
     ),
     (
@@ -237,7 +216,7 @@ const KINDS: &[Spelled] = &[
                 access: Access::Ts,
                 depth: 50,
                 swell: 60,
-                ..SETTINGS
+                ..CHANNEL
             },
         },
     ),
