@@ -22,6 +22,7 @@ pub const ROWS: &[Row] = &[
             "1 7 took 65546",
             "2 7 accept 5 first 65546 rate 4000 join 1",
             "3 7 refuse 6 501",
+            // RAMS-I 501, message 0
             "3 7 send 6 86cd0003aabbccdd11223344020001f5",
             "done 3",
         ],
@@ -107,6 +108,7 @@ pub const DEPTHS: &[Row] = &[
             ("clients 4", "clients 4 depth 1499 swell 0"),
         ],
         lines: &[
+            // RTP 10 with the marker, 11 to 14; timestamp 0; 1,458 bytes of 0
             "live 7 80a1000a0000000011223344<1458>",
             "live 7 8021000b0000000011223344<1458>",
             "live 7 8021000c0000000011223344<1458>",
@@ -143,6 +145,7 @@ pub const DEPTHS: &[Row] = &[
             ("clients 4", "clients 4 depth 0 swell 0"),
         ],
         lines: &[
+            // RTP 10 with the marker, 11 to 14; timestamp 0; 1,458 bytes of 0
             "live 7 80a1000a0000000011223344<1458>",
             "live 7 8021000b0000000011223344<1458>",
             "live 7 8021000c0000000011223344<1458>",
@@ -173,6 +176,7 @@ pub const DEPTHS: &[Row] = &[
             ("clients 4", "clients 4 depth 1499 swell 0"),
         ],
         lines: &[
+            // RTP 10 with the marker, 11 to 14; timestamp 0; 1,458 bytes of 0
             "live 7 80a1000a0000000011223344<1458>",
             "live 7 8021000b0000000011223344<1458>",
             "live 7 8021000c0000000011223344<1458>",
@@ -204,6 +208,7 @@ pub const DEPTHS: &[Row] = &[
             ("clients 4", "clients 4 depth 1499 swell 0"),
         ],
         lines: &[
+            // RTP 10 with the marker, 11 to 14; timestamp 0; 1,458 bytes of 0
             "live 7 80a1000a0000000011223344<1458>",
             "live 7 8021000b0000000011223344<1458>",
             "live 7 8021000c0000000011223344<1458>",
@@ -238,6 +243,7 @@ pub const SWELLS: &[Row] = &[
             ("clients 4", "clients 4 depth 0 swell 1400"),
         ],
         lines: &[
+            // RTP 10; timestamp 0; 1,458 bytes of 0
             "live 7 8021000a0000000011223344<1458>",
             "tick",
             // NACK of 10
@@ -269,6 +275,7 @@ pub const SWELLS: &[Row] = &[
             ("clients 4", "clients 4 depth 0 swell 1399"),
         ],
         lines: &[
+            // RTP 10; timestamp 0; 1,458 bytes of 0
             "live 7 8021000a0000000011223344<1458>",
             "tick",
             // NACK of 10

@@ -10,6 +10,7 @@ pub const ROWS: &[Row] = &[
         lines: &[
             ACCESS_POINT,
             REQUEST,
+            // RTP 11 to 15; timestamp 0; 4 bytes of 0
             "live 7 8021000b000000001122334400000000",
             "live 7 8021000c000000001122334400000000",
             "live 7 8021000d000000001122334400000000",
@@ -27,6 +28,7 @@ pub const ROWS: &[Row] = &[
             "6 7 took 65550",
             "7 7 took 65551",
             "8 7 end 5 lost",
+            // RAMS-I 502, message 1
             "8 7 send 5 86cd0003aabbccdd11223344020101f6",
             "done 8",
         ],
@@ -40,6 +42,7 @@ pub const ROWS: &[Row] = &[
             "2 7 accept 5 first 65546 rate 4000 join 1",
             "3 7 burst 5 65546 500",
             "3 7 end 5 limit",
+            // RAMS-I 201, message 1
             "3 7 send 5 86cd0003aabbccdd11223344020100c9",
             "5 7 forgot 5",
             "done 5",
@@ -65,6 +68,7 @@ pub const JOIN_TIMES: &[Row] = &[
             ("minwire 42", "minwire 1500"),
         ],
         lines: &[
+            // RTP 10 with the marker, 11, 12; timestamp 0; 1,458 bytes of 0
             "live 7 80a1000a0000000011223344<1458>",
             "live 7 8021000b0000000011223344<1458>",
             "live 7 8021000c0000000011223344<1458>",
@@ -90,10 +94,12 @@ pub const JOIN_TIMES: &[Row] = &[
         name: "a quiet burst isn't lost",
         changes: SMALL_RING,
         lines: &[
+            // RTP 10 with the marker, 11, 12; timestamp 0; 100 bytes of 0
             "live 7 80a1000a0000000011223344<100>",
             "live 7 8021000b0000000011223344<100>",
             "live 7 8021000c0000000011223344<100>",
             REQUEST,
+            // RTP 13; timestamp 0; 100 bytes of 0
             "live 7 8021000d0000000011223344<100>",
             "tick",
             "end",
@@ -116,10 +122,12 @@ pub const JOIN_TIMES: &[Row] = &[
         name: "more than was declared loses the burst",
         changes: SMALL_RING,
         lines: &[
+            // RTP 10 with the marker, 11, 12; timestamp 0; 100 bytes of 0
             "live 7 80a1000a0000000011223344<100>",
             "live 7 8021000b0000000011223344<100>",
             "live 7 8021000c0000000011223344<100>",
             REQUEST,
+            // RTP 13, 14; timestamp 0; 100 bytes of 0
             "live 7 8021000d0000000011223344<100>",
             "live 7 8021000e0000000011223344<100>",
             "tick",
@@ -141,6 +149,7 @@ pub const JOIN_TIMES: &[Row] = &[
         name: "no room in the ring for what is declared",
         changes: SMALL_RING,
         lines: &[
+            // RTP 10 with the marker, 11 to 13; timestamp 0; 100 bytes of 0
             "live 7 80a1000a0000000011223344<100>",
             "live 7 8021000b0000000011223344<100>",
             "live 7 8021000c0000000011223344<100>",

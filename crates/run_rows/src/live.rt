@@ -14,6 +14,7 @@ pub const ROWS: &[Row] = &[
         name: "window and late",
         changes: &[("window 0", "window 2")],
         lines: &[
+            // RTP 10, 12, 11, 14 to 16, 13; timestamp 0; 4 bytes of 0
             "live 7 8021000a000000001122334400000000",
             "live 7 8021000c000000001122334400000000",
             "live 7 8021000b000000001122334400000000",
@@ -45,6 +46,7 @@ pub const ROWS: &[Row] = &[
         lines: &[
             ACCESS_POINT,
             REQUEST,
+            // RTP 20,010, 20,011; timestamp 0; 4 bytes of 0
             "live 7 80214e2a000000001122334400000000",
             "live 7 80214e2b000000001122334400000000",
             "tick",
@@ -67,7 +69,10 @@ pub const ROWS: &[Row] = &[
         lines: &[
             "live 7 -",
             "live 7 40",
+            // RTP 1; timestamp 0; 1,459 bytes of 0
             "live 7 802100010000000011223344<1459>",
+            // RTP 10, 12, 12, 10, 10 of source 11223345, 10 of payload type 34, 10 of version 1; timestamp 0;
+            // 4 bytes of 0
             "live 7 8021000a000000001122334400000000",
             "live 7 8021000c000000001122334400000000",
             "live 7 8021000c000000001122334400000000",
@@ -99,7 +104,9 @@ pub const ROWS: &[Row] = &[
         lines: &[
             "live 7 -",
             "live 7 40",
+            // RTP 1; timestamp 0; 1,459 bytes of 0
             "live 7 802100010000000011223344<1459>",
+            // RTP 10, 10 of source 11223345, 10 of payload type 34, 10 of version 1; timestamp 0; 4 bytes of 0
             "live 7 8021000a000000001122334400000000",
             "live 7 8021000a000000001122334500000000",
             "live 7 8022000a000000001122334400000000",
@@ -123,6 +130,7 @@ pub const ROWS: &[Row] = &[
         name: "padding and extension",
         changes: &[],
         lines: &[
+            // RTP 10 with the marker; timestamp 0; CSRCs 1 and 2; extension bede of one word, 10ff0000
             "live 7 b2a1000a00000000112233440000000100000002bede000110ff0000aabb0002",
             REQUEST,
             "tick",
@@ -132,6 +140,7 @@ pub const ROWS: &[Row] = &[
             "1 7 took 65546",
             "2 7 accept 5 first 65546 rate 4000 join 1",
             "3 7 burst 5 65546 500",
+            // RTX 500 of 10 with the marker; timestamp 0; the same CSRCs and extension; aabb
             "3 7 send 5 92e301f400000000112233440000000100000002bede000110ff0000000aaabb",
             "done 3",
         ],

@@ -12,7 +12,7 @@ const CHANGES: &[(&str, &str)] = &[
     ("ring 64", "ring 8192"),
 ];
 
-/// A request for a buffer fill of at least 400 ms, at 20,000,000 bits a second.
+/// RAMS-R, at least 400 ms of fill (TLV 2), at most 20,000,000 bit/s (TLV 4).
 const REQUEST: &str =
     "fb 7 5 86cd00080000c00111223344010000000200000400000190040000080000000001312d00";
 
@@ -101,7 +101,8 @@ fn trace(alloc: Global) -> Result<String, AllocError> {
     trace
 }
 
-/// Its book.
+/// Its book. The RAMS-I says 200, message 0; first packet 500 (TLV 32), join after 720 ms (33), lasts 1,000 ms
+/// (34), at most 16,000,000 bit/s (35).
 fn book(alloc: Global) -> Result<String, AllocError> {
     let quiet = quiet_ticks(alloc)?;
     let bursts = burst_ticks(alloc)?;

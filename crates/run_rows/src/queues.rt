@@ -16,6 +16,7 @@ const ASKS_10: &str = "81cd00030000c00111223344000a0000";
 fn packets(alloc: Global) -> Result<String, AllocError> {
     let mut lines = String::new(alloc);
     for number in 10u16..310 {
+        // RTP of this number; timestamp 0; 4 bytes of 0
         writeln!(lines, "live 7 8021{number:04x}000000001122334400000000")?;
     }
     Ok(lines)
@@ -30,6 +31,7 @@ fn requests(alloc: Global) -> Result<String, AllocError> {
     Ok(lines)
 }
 
+/// Packets 10 to 309, what is asked for, and packets 20,010 and 20,011, each at timestamp 0 with 4 bytes of 0.
 fn trace(alloc: Global) -> Result<String, AllocError> {
     let opening = opening_with(
         alloc,

@@ -148,16 +148,25 @@ fn refuses_line(rt: &impl Abort, alloc: Global, line: &str, word: &str) -> Resul
 }
 
 #[test]
-fn refused_traces(rt: HostRuntime) -> Result<(), Fail> {
-    let alloc = rt.alloc();
+fn refused_heads(rt: HostRuntime) -> Result<(), Fail> {
     for (trace, word) in HEADS {
-        refuses(&rt, alloc, trace, 1, word)?;
+        refuses(&rt, rt.alloc(), trace, 1, word)?;
     }
+    Ok(())
+}
+
+#[test]
+fn refused_settings(rt: HostRuntime) -> Result<(), Fail> {
     for (from, to, word) in SETTINGS {
-        refuses_setting(&rt, alloc, (from, to), word)?;
+        refuses_setting(&rt, rt.alloc(), (from, to), word)?;
     }
+    Ok(())
+}
+
+#[test]
+fn refused_lines(rt: HostRuntime) -> Result<(), Fail> {
     for (line, word) in LINES {
-        refuses_line(&rt, alloc, line, word)?;
+        refuses_line(&rt, rt.alloc(), line, word)?;
     }
     Ok(())
 }

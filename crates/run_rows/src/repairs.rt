@@ -8,6 +8,7 @@ pub const ROWS: &[Row] = &[
         name: "repair across the wrap",
         changes: &[],
         lines: &[
+            // RTP 65,534 with the marker at 0, 65,535 at 900; 4 bytes of 0
             "live 7 80a1fffe000000001122334400000000",
             "live 7 8021ffff000003841122334400000000",
             // NACK of 65,535, 0
@@ -21,6 +22,7 @@ pub const ROWS: &[Row] = &[
             "3 7 queued 5 131071",
             "3 7 unheld 5 0",
             "4 7 repair 5 131071 500",
+            // RTX 500 of 65,535; timestamp 900; 4 bytes of 0
             "4 7 send 5 806301f40000038411223344ffff00000000",
             "done 4",
         ],
@@ -31,6 +33,7 @@ pub const ROWS: &[Row] = &[
         name: "early and already",
         changes: &[],
         lines: &[
+            // RTP 65,534 with the marker at 0, 65,535 at 900; 4 bytes of 0
             "live 7 80a1fffe000000001122334400000000",
             "live 7 8021ffff000003841122334400000000",
             // NACK of 65,535
@@ -62,6 +65,7 @@ pub const ROWS: &[Row] = &[
         name: "repair waits for its budget",
         changes: &[("burst 4000", "burst 1600")],
         lines: &[
+            // RTP 10 of 1,458 bytes, 11 of 1,458 bytes, 12 of 4 bytes; timestamp 0
             "live 7 8021000a0000000011223344<1458>",
             "live 7 8021000b0000000011223344<1458>",
             "live 7 8021000c000000001122334400000000",

@@ -5,10 +5,12 @@ pub const ROWS: &[Row] = &[
     Row {
         name: "no eligible access point",
         changes: &[],
+        // RTP 10; timestamp 0; 4 bytes of 0
         lines: &["live 7 8021000a000000001122334400000000", REQUEST, "end"],
         book: &[
             "1 7 took 65546",
             "2 7 refuse 5 507",
+            // RAMS-I 507, message 0
             "2 7 send 5 86cd0003aabbccdd11223344020001fb",
             "done 2",
         ],
@@ -82,9 +84,13 @@ pub const ROWS: &[Row] = &[
         book: &[
             "1 7 took 65546",
             "2 7 accept 5 first 65546 rate 4000 join 1",
+            // RAMS-I 200, message 0; first packet 500 (TLV 32), join after 10 ms (33), lasts 1,000 ms (34),
+            // at most 3,200,000 bit/s (35)
             "2 7 send 5 86cd000caabbccdd11223344020000c82000000201f40000210000040000000a22000004000003e823000008000000000030d400",
             "3 7 bad-feedback 5 length",
             "4 7 again 5",
+            // RAMS-I 200, message 0; first packet 500 (TLV 32), join after 10 ms (33), lasts 1,000 ms (34),
+            // at most 3,200,000 bit/s (35)
             "4 7 send 5 86cd000caabbccdd11223344020000c82000000201f40000210000040000000a22000004000003e823000008000000000030d400",
             "done 4",
         ],
@@ -142,12 +148,17 @@ pub const ROWS: &[Row] = &[
             "1 7 took 65546",
             "2 7 accept 5 first 65546 rate 1600 join 46",
             "3 7 update 5 rate 3200 join 1",
+            // RAMS-I 100, message 1; first packet 500 (TLV 32), join after 10 ms (33), lasts 1,000 ms (34),
+            // at most 2,560,000 bit/s (35)
             "3 7 send 5 86cd000caabbccdd11223344020100642000000201f40000210000040000000a22000004000003e8230000080000000000271000",
             "4 7 again 5",
+            // RAMS-I 100, message 1; first packet 500 (TLV 32), join after 10 ms (33), lasts 1,000 ms (34),
+            // at most 2,560,000 bit/s (35)
             "4 7 send 5 86cd000caabbccdd11223344020100642000000201f40000210000040000000a22000004000003e8230000080000000000271000",
             "5 7 refuse 5 403",
             "6 7 stop 5 65546",
             "6 7 end 5 stopped",
+            // RAMS-I 201, message 2
             "6 7 send 5 86cd0003aabbccdd11223344020200c9",
             "done 6",
         ],
@@ -161,6 +172,7 @@ pub const BUFFER_FILL: &[Row] = &[
         changes: &[],
         lines: &[
             ACCESS_POINT,
+            // RTP 11 with the marker at 9,000, 12 at 18,000; 4 bytes of 0
             "live 7 80a1000b000023281122334400000000",
             "live 7 8021000c000046501122334400000000",
             // RAMS-R, at least 150 ms of fill (TLV 2)
@@ -180,6 +192,7 @@ pub const BUFFER_FILL: &[Row] = &[
         changes: &[],
         lines: &[
             ACCESS_POINT,
+            // RTP 11 with the marker at 9,000, 12 at 18,000; 4 bytes of 0
             "live 7 80a1000b000023281122334400000000",
             "live 7 8021000c000046501122334400000000",
             // RAMS-R, at least 201 ms of fill (TLV 2)
@@ -199,6 +212,7 @@ pub const BUFFER_FILL: &[Row] = &[
         changes: &[],
         lines: &[
             ACCESS_POINT,
+            // RTP 11 with the marker at 9,000, 12 at 18,000; 4 bytes of 0
             "live 7 80a1000b000023281122334400000000",
             "live 7 8021000c000046501122334400000000",
             // RAMS-R, at most 99 ms of fill (TLV 3)
@@ -218,6 +232,7 @@ pub const BUFFER_FILL: &[Row] = &[
         changes: &[],
         lines: &[
             ACCESS_POINT,
+            // RTP 11 with the marker at 9,000, 12 at 18,000; 4 bytes of 0
             "live 7 80a1000b000023281122334400000000",
             "live 7 8021000c000046501122334400000000",
             // RAMS-R, at least 100 ms of fill (TLV 2), at most 100 ms of fill (TLV 3)

@@ -8,6 +8,7 @@ pub const ROWS: &[Row] = &[
         name: "stop after the last",
         changes: &[],
         lines: &[
+            // RTP 65,534 with the marker at 0, 65,535 at 900, 0 at 1,800, 1 at 2,700; 4 bytes of 0
             "live 7 80a1fffe000000001122334400000000",
             "live 7 8021ffff000003841122334400000000",
             "live 7 80210000000007081122334400000000",
@@ -41,6 +42,7 @@ pub const ROWS: &[Row] = &[
         name: "stop already passed",
         changes: &[],
         lines: &[
+            // RTP 65,534 with the marker at 0, 65,535 at 900, 0 at 1,800, 1 at 2,700; 4 bytes of 0
             "live 7 80a1fffe000000001122334400000000",
             "live 7 8021ffff000003841122334400000000",
             "live 7 80210000000007081122334400000000",
@@ -66,6 +68,7 @@ pub const ROWS: &[Row] = &[
     Row {
         name: "stop with high bits",
         lines: &[
+            // RTP 65,534 with the marker at 0, 65,535 at 900, 0 at 1,800, 1 at 2,700; 4 bytes of 0
             "live 7 80a1fffe000000001122334400000000",
             "live 7 8021ffff000003841122334400000000",
             "live 7 80210000000007081122334400000000",

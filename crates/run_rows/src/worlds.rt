@@ -7,8 +7,8 @@ use std::process::Abort;
 use std::test::Fail;
 use trace_rows::{ACCESS_POINT, MEET, OPENING, Row, WHOLE, let_go, ran};
 
-/// Packets 10 to 15 of the source; client 5 is tuned, and its request comes to the server. The request
-/// is datagram 0, the RAMS-I datagram 1.
+/// Packets 10 to 15 of the source, the first with the marker, at timestamp 0 with 4 bytes of 0; client 5 is
+/// tuned, and its request comes to the server. The request is datagram 0, the RAMS-I datagram 1.
 const TUNED: &str = "live 7 80a1000a000000001122334400000000
 live 7 8021000b000000001122334400000000
 live 7 8021000c000000001122334400000000
@@ -18,7 +18,7 @@ live 7 8021000f000000001122334400000000
 tune 7 5 0000c001
 give 0";
 
-/// What is said of these.
+/// What is said of these. The datagram is an RR, an SDES and a RAMS-R of every SSRC (TLV 1).
 const TUNED_BOOK: &str = "1 7 took 65546
 2 7 took 65547
 3 7 took 65548
@@ -44,6 +44,7 @@ pub const HANDOVERS: &[Row] = &[Row {
     lines: &[
         TUNED,
         "give 1\ntick\ngive 2\ngive 3\ngive 6\ngive 7\ngive 3",
+        // RTP 16 to 18; timestamp 0; 4 bytes of 0
         "live 7 80210010000000001122334400000000",
         "live 7 80210011000000001122334400000000",
         "live 7 80210012000000001122334400000000",
@@ -55,28 +56,35 @@ pub const HANDOVERS: &[Row] = &[Row {
         TUNED_BOOK,
         BURST_BOOK,
         "11 7 came 5 took",
+        // RTP 10 with the marker; timestamp 0; 4 bytes of 0
         "11 7 show 5 65546 80a1000a000000001122334400000000",
         "12 7 came 5 took",
+        // RTP 11; timestamp 0; 4 bytes of 0
         "12 7 show 5 65547 8021000b000000001122334400000000",
         "13 7 came 5 took\n14 7 came 5 took\n15 7 came 5 behind",
         "16 7 took 65552\n17 7 took 65553\n18 7 took 65554",
         "19 7 came 5 took",
+        // RR; SDES; RAMS-T, first multicast packet 65,552 (TLV 61)
         "19 7 post 5 80c900010000c00181ca00030000c001010373746200000086cd00050000c00111223344030000003d00000400010010",
         "20 7 came 5 took\n21 7 came 5 took",
         "22 7 stop 5 65552\n22 7 end 5 stopped",
         "23 7 info 5 ended 201",
+        // RR; SDES; NACK of 12, 13
         "24 7 post 5 80c900010000c00181ca00030000c001010373746200000081cd00030000c00111223344000c0001",
         "25 7 queued 5 65548\n25 7 queued 5 65549",
         "26 7 repair 5 65548 506\n26 7 repair 5 65549 507",
         "27 7 came 5 took",
+        // RTP 12; timestamp 0; 4 bytes of 0
         "27 7 show 5 65548 8021000c000000001122334400000000",
         "28 7 came 5 took",
+        // RTP 13 to 18; timestamp 0; 4 bytes of 0
         "28 7 show 5 65549 8021000d000000001122334400000000",
         "28 7 show 5 65550 8021000e000000001122334400000000",
         "28 7 show 5 65551 8021000f000000001122334400000000",
         "28 7 show 5 65552 80210010000000001122334400000000",
         "28 7 show 5 65553 80210011000000001122334400000000",
         "28 7 show 5 65554 80210012000000001122334400000000",
+        // RR; SDES; BYE
         "29 7 post 5 80c900010000c00181ca00030000c001010373746200000081cb00010000c001",
         "30 7 no-receiver 5",
         "done 30",
@@ -110,8 +118,10 @@ pub const FIRSTS: &[Row] = &[
             "11 7 came 5 before-first",
             "12 7 came 5 took",
             "13 7 came 5 took",
+            // RTP 10 with the marker; timestamp 0; 4 bytes of 0
             "13 7 show 5 65546 80a1000a000000001122334400000000",
             "14 7 came 5 took",
+            // RTP 11, 12; timestamp 0; 4 bytes of 0
             "14 7 show 5 65547 8021000b000000001122334400000000",
             "14 7 show 5 65548 8021000c000000001122334400000000",
             "done 14",
@@ -144,6 +154,7 @@ pub const REFUSALS: &[Row] = &[
         book: &[
             "1 8 no-channel\n2 8 no-channel\n3 8 no-channel\n4 8 no-channel",
             "5 7 no-receiver 5\n6 7 no-receiver 5\n7 7 no-receiver 5",
+            // RR; SDES; RAMS-R, of every SSRC (TLV 1)
             "8 7 post 5 80c900010000c00181ca00030000c001010373746200000086cd00040000c001112233440100000001000000",
             "9 7 no-packet 65546",
             "done 9",
@@ -155,6 +166,7 @@ pub const REFUSALS: &[Row] = &[
         lines: &[
             TUNED,
             "give 1\ntick\ngive 2",
+            // RTP 60,010, 60,011; timestamp 0; 4 bytes of 0
             "live 7 8021ea6a000000001122334400000000",
             "live 7 8021ea6b000000001122334400000000",
             "mcast 7 5 125547\nend",
@@ -163,6 +175,7 @@ pub const REFUSALS: &[Row] = &[
             TUNED_BOOK,
             BURST_BOOK,
             "11 7 came 5 took",
+            // RTP 10 with the marker; timestamp 0; 4 bytes of 0
             "11 7 show 5 65546 80a1000a000000001122334400000000",
             "12 7 jump\n13 7 restart 125547\n14 7 too-far 5",
             "done 14",
@@ -183,6 +196,7 @@ pub const REFUSED: &[Row] = &[
         changes: &[],
         lines: &["tune 7 5 0000c001", "mcast 0 5 1", "end"],
         book: &[
+            // RR; SDES; RAMS-R, of every SSRC (TLV 1)
             "1 7 post 5 80c900010000c00181ca00030000c001010373746200000086cd00040000c001112233440100000001000000",
             "refused 4 range",
         ],
@@ -200,6 +214,7 @@ fn add_packets(trace: &mut String, book: &mut String) -> Result<(), AllocError> 
     for place in 1..16_386_u32 {
         let sequence = place + 10;
         let (event, number) = (place + 6, place + 65_546);
+        // RTP of this number; timestamp 0; 4 bytes of 0
         writeln!(trace, "live 7 8021{sequence:04x}000000001122334400000000")?;
         writeln!(book, "{event} 7 took {number}")?;
     }
@@ -211,16 +226,19 @@ fn add_far_ahead(trace: &mut String, book: &mut String) -> Result<(), AllocError
     trace.push_str(ACCESS_POINT)?;
     trace.push_str("\ntune 7 5 0000c001\ngive 0\ngive 1\ntick\ngive 2\n")?;
     book.push_str(MEET.first)?;
+    // RR; SDES; RAMS-R, of every SSRC (TLV 1)
     book.push_str(
         "1 7 took 65546\n2 7 post 5 80c900010000c00181ca00030000c001010373746200000086cd00040000c001112233440100000001000000\n",
     )?;
     book.push_str(
         "3 7 accept 5 first 65546 rate 4000 join 1\n4 7 info 5 taken\n5 7 burst 5 65546 500\n",
     )?;
+    // RTP 10 with the marker; timestamp 0; 4 bytes of 0
     book.push_str("6 7 came 5 took\n6 7 show 5 65546 80a1000a000000001122334400000000\n")?;
     add_packets(trace, book)?;
     trace.push_str("mcast 7 5 81931\nmcast 7 5 81930\nend\n")?;
     book.push_str("16392 7 came 5 beyond\n16393 7 came 5 took\n")?;
+    // RR; SDES; RAMS-T, first multicast packet 81,930 (TLV 61)
     book.push_str(
         "16393 7 post 5 80c900010000c00181ca00030000c001010373746200000086cd00050000c00111223344030000003d0000040001400a\n",
     )?;
