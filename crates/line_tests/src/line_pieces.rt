@@ -1,12 +1,13 @@
 //! Lines and texts through a source and a sink that go in small steps, and fail in the middle.
 ghost use Rattle.std.specs.Prelude.{Some};
 
-use crate::fixtures::{done, holds, run, same};
+use crate::fixtures::{holds, run, same};
 use line_io::{Gather, LineReader, Next};
 use ram_io::{Failed, Sink, Source};
 use std::alloc::{AllocError, Global};
 use std::process::Abort;
 use std::test::Fail;
+use test_fixtures::test_calls::done;
 
 /// A source that gives up to `most` bytes a call, and fails once, at call number `fails`.
 #[derive(Drop)]

@@ -2,7 +2,7 @@
 ghost use Rattle.std.specs.Prelude.{All, IfOk};
 ghost use Rattle.ram_io.specs.{IsFromClient};
 
-use crate::fixtures::{done, holds, same};
+use crate::fixtures::{holds, same};
 use ram_io::{
     Arrival, Clock, Failed, Gate, Incoming, MemClock, MemSink, MemSource, MemWire, Octets, Open,
     Sink, Source, StdSink, StdSource, Wire,
@@ -12,6 +12,7 @@ use std::fmt::Write as _;
 use std::io;
 use std::io::{ErrorKind, Read, Write};
 use std::test::Fail;
+use test_fixtures::test_calls::done;
 
 /// The answers of six calls with a buffer of `size` bytes, at most 8.
 fn six_takes<S: Source>(alloc: Global, source: &mut S, size: usize) -> Result<String, AllocError> {
