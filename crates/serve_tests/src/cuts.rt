@@ -1,5 +1,5 @@
 //! A journal that is cut at each byte.
-use crate::memory::{ASKS, HEAD, LIVE, SEVEN, let_go, sink_of, wire_of};
+use crate::memory::{ASKS, HEAD, LIVE, SEVEN, sink_of, wire_of};
 use crate::takeover_row::{Row, journal, take};
 use crate::takeovers::TAKEN;
 use ram_io::{MemSink, MemWire};
@@ -7,6 +7,7 @@ use std::alloc::{AllocError, Global};
 use std::process::Abort;
 use std::rt::HostRuntime;
 use std::test::Fail;
+use test_fixtures::test_calls::let_go;
 
 /// The lines of a journal, but `end`, and the last line of a takeover that has read up to each.
 const LINES: &[(&str, &str)] = &[

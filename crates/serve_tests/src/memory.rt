@@ -6,6 +6,8 @@ use ram_io::{Incoming, MemSink, MemWire, Octets, Sent};
 use std::alloc::{AllocError, Global};
 use std::process::Abort;
 use std::test::Fail;
+use test_fixtures::test_calls::let_go;
+use test_fixtures::test_words::joined;
 
 pub const HEAD: &str = "rams-trace 1 tick 10 link 100000";
 
@@ -39,8 +41,10 @@ pub const AGAIN: &[u8] = &[
     0x00, 0x00,
 ];
 
+/// The line of the packet.
 pub const LIVE: &str = "live 7 80a1000a000000001122334400000000";
 
+/// The line of the request.
 pub const ASKS: &str = "fb 7 5 86cd00030000c0011122334401000000";
 
 /// The sender, the port, and the bytes of a datagram that comes.
@@ -49,23 +53,10 @@ pub type Arrival = (u16, u16, &'static [u8]);
 /// To whom a datagram goes, from which port, and its bytes.
 pub type Sending = (u64, u16, &'static [u8]);
 
-/// The value is dropped, by a call of its own: so a caller's proof doesn't go through its fields.
-pub fn let_go<T: Drop>(_value: T) {}
-
 fn octets(alloc: Global, bytes: &[u8]) -> Result<Octets, AllocError> {
     let mut all = Vec::new(alloc);
     all.extend_from_slice(bytes)?;
     Ok(Octets::of(all))
-}
-
-/// The lines, each with its line feed.
-pub fn joined(alloc: Global, lines: &[&str]) -> Result<Vec<u8>, AllocError> {
-    let mut text = Vec::new(alloc);
-    for line in lines.iter() {
-        text.extend_from_slice(line.as_bytes())?;
-        text.extend_from_slice(b"\n")?;
-    }
-    Ok(text)
 }
 
 /// What comes, and then nothing.
@@ -112,7 +103,7 @@ pub fn wire_of(alloc: Global, all: &[Arrival], fails: &[u64]) -> Result<MemWire,
 
 /// The sink got these lines, and no more.
 pub fn is_text(alloc: Global, lines: &[&str], held: &[u8]) -> Result<bool, AllocError> {
-    let text = joined(alloc, lines)?;
+    let text = joined(alloc, lines, "\n")?;
     let is_so = held == text.as_slice();
     let_go(text);
     Ok(is_so)

@@ -2,13 +2,13 @@
 ghost use Rattle.std.specs.Prelude.{◌≤◌};
 ghost use Rattle.serve_loop.specs.standby.{HasReadSome};
 
-use crate::journals::{HEAD, JOURNAL, follow, joined};
-use crate::memory::let_go;
+use crate::journals::{HEAD, JOURNAL, chained, follow};
 use serve_loop::standby::{FeedFault, LineFault, Standby};
 use std::alloc::Global;
 use std::process::Abort;
 use std::rt::HostRuntime;
 use std::test::Fail;
+use test_fixtures::test_calls::let_go;
 
 /// A name, the front of a journal, the text behind it, and what is wanted.
 type Row<T> = (&'static str, &'static str, &'static str, T);
@@ -65,19 +65,30 @@ fn check(
     size: usize,
 ) -> Result<(), Fail> {
     let (name, front, text) = row;
-    let text = joined(alloc, front, text)?;
+    let text = chained(alloc, front, text)?;
     let got = read(alloc, &text, size);
     let_go(text);
     assert!(rt; got? == *want, "{name}, in pieces of {size}");
     Ok(())
 }
 
+/// The same, in pieces of each size.
+fn check_sizes(
+    rt: &impl Abort,
+    alloc: Global,
+    row: (&str, &str, &str),
+    want: &Outcome,
+) -> Result<(), Fail> {
+    for size in [1, 50, 5_000] {
+        check(rt, alloc, row, want, size)?;
+    }
+    Ok(())
+}
+
 #[test]
 fn journals_are_read_in_any_pieces(rt: HostRuntime) -> Result<(), Fail> {
     for (name, front, text, want) in READ {
-        for size in [1, 50, 5_000] {
-            check(&rt, rt.alloc(), (name, front, text), &Ok(*want), size)?;
-        }
+        check_sizes(&rt, rt.alloc(), (name, front, text), &Ok(*want))?;
     }
     Ok(())
 }
@@ -87,16 +98,14 @@ fn lines_are_refused_in_any_pieces(rt: HostRuntime) -> Result<(), Fail> {
     for (name, front, text, (line, fault)) in REFUSED {
         let (line, fault) = (*line, *fault);
         let want = Err(FeedFault::Line { line, fault });
-        for size in [1, 50, 5_000] {
-            check(&rt, rt.alloc(), (name, front, text), &want, size)?;
-        }
+        check_sizes(&rt, rt.alloc(), (name, front, text), &want)?;
     }
     Ok(())
 }
 
 /// The front of a journal, and a line of so many bytes without a line feed.
 fn with_long_line(alloc: Global, count: usize) -> Result<Vec<u8>, Fail> {
-    let mut text = joined(alloc, HEAD, "")?;
+    let mut text = chained(alloc, HEAD, "")?;
     for _ in 0..count {
         text.push(b'a')?;
     }

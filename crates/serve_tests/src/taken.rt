@@ -1,8 +1,7 @@
 //! What is taken over from a journal.
 ghost use Rattle.std.specs.Prelude.{◌^◌, ◌<◌};
 
-use crate::journals::{HEAD, JOURNAL, follow, joined};
-use crate::memory::let_go;
+use crate::journals::{HEAD, JOURNAL, chained, follow};
 use rams_model::Note;
 use serve_loop::standby::Standby;
 use server_hub::{At, Heard, Hub, HubAnswer};
@@ -10,6 +9,7 @@ use std::alloc::Global;
 use std::process::Abort;
 use std::rt::HostRuntime;
 use std::test::Fail;
+use test_fixtures::test_calls::let_go;
 
 /// A journal, and what the channels answer to a tick that take over behind it; nothing where none is taken
 /// over.
@@ -119,7 +119,7 @@ fn is_wanted(alloc: Global, hub: &mut Hub, want: Option<&[Noted]>) -> Result<boo
 
 /// This is taken over from a text that is read in pieces of at most so many bytes.
 fn is_taken(alloc: Global, row: &Row, size: usize) -> Result<bool, Fail> {
-    let text = joined(alloc, row.front, row.text)?;
+    let text = chained(alloc, row.front, row.text)?;
     let standby = Standby::new(alloc);
     let Ok(mut standby) = standby else {
         let_go(text);

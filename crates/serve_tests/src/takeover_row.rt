@@ -1,15 +1,15 @@
 //! What a row of a table is, and how it is run.
 ghost use Rattle.std.specs.Prelude.{◌<◌};
 
-use crate::memory::{
-    Arrival, Sending, check_sent, is_text, joined, let_go, moments_of, sink_of, wire_of,
-};
+use crate::memory::{Arrival, Sending, check_sent, is_text, moments_of, sink_of, wire_of};
 use ram_io::{MemClock, MemSink, MemSource, MemWire, Open};
 use rams_model::Status;
 use serve_loop::takeover_loop::{Stop, take_over};
 use std::alloc::{AllocError, Global};
 use std::process::Abort;
 use std::test::Fail;
+use test_fixtures::test_calls::let_go;
+use test_fixtures::test_words::joined;
 
 /// A journal that is taken over for some turns, what comes in them, and what is written and sent.
 #[derive(Clone, Copy)]
@@ -36,7 +36,7 @@ pub struct Row {
 
 /// The bytes of the journal.
 pub fn journal(alloc: Global, row: &Row) -> Result<Vec<u8>, AllocError> {
-    let mut text = joined(alloc, row.source)?;
+    let mut text = joined(alloc, row.source, "\n")?;
     text.extend_from_slice(row.rest.as_bytes())?;
     Ok(text)
 }

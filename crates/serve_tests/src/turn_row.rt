@@ -1,13 +1,13 @@
 //! What a row of a table is, and how it is run.
-use crate::memory::{
-    Arrival, Sending, check_sent, is_text, joined, let_go, moments_of, sink_of, wire_of,
-};
+use crate::memory::{Arrival, Sending, check_sent, is_text, moments_of, sink_of, wire_of};
 use ram_io::{MemClock, MemSink, MemSource, MemWire, Open};
 use rams_model::Status;
 use serve_loop::{Stop, Watch, serve};
 use std::alloc::{AllocError, Global};
 use std::process::Abort;
 use std::test::Fail;
+use test_fixtures::test_calls::let_go;
+use test_fixtures::test_words::joined;
 
 /// What comes in three turns of a server, and what it writes and sends.
 #[derive(Clone, Copy)]
@@ -32,7 +32,7 @@ pub struct Row {
 /// The source of the row.
 fn source_of(alloc: Global, row: &Row) -> Result<MemSource, AllocError> {
     let fails = row.source_fails.to_vec(alloc)?;
-    Ok(MemSource::new(joined(alloc, row.source)?, 1_000, fails))
+    Ok(MemSource::new(joined(alloc, row.source, "\n")?, 1_000, fails))
 }
 
 /// Three turns at the ports from 5000 on, while this looks on.

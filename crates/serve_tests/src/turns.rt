@@ -50,7 +50,9 @@ const TURNS: &[Row] = &[
             HEAD,
             EIGHT,
             SEVEN,
+            // RTP 10 with the marker; timestamp 0; 4 bytes of 0
             "live 8 80a1000a000000001122334400000000",
+            // NACK of 10
             "fb 8 6 81cd00030000c00111223344000a0000",
             LIVE,
             "tick",
@@ -174,6 +176,11 @@ fn servers_write_and_send(rt: HostRuntime) -> Result<(), Fail> {
     for row in TURNS {
         check_row(&rt, rt.alloc(), row)?;
     }
+    Ok(())
+}
+
+#[test]
+fn heads_are_served_or_refused(rt: HostRuntime) -> Result<(), Fail> {
     for row in HEADS {
         check_row(&rt, rt.alloc(), row)?;
     }

@@ -1,5 +1,5 @@
 //! What is told of a server while it serves.
-use crate::memory::{ACCESS_POINT, EIGHT, HEAD, SEVEN, let_go, sink_of, wire_of};
+use crate::memory::{ACCESS_POINT, EIGHT, HEAD, SEVEN, sink_of, wire_of};
 use crate::turn_row::{Row, serve_row};
 use crate::turns::{JOURNAL, LOSS, UNSERVED};
 use ram_io::MemSink;
@@ -11,6 +11,7 @@ use std::cell::Cell;
 use std::process::Abort;
 use std::rt::HostRuntime;
 use std::test::Fail;
+use test_fixtures::test_calls::let_go;
 
 /// What was told: how many channels opened, and the last of them with its ports; how many events came;
 /// how many ticks were late; and the line of a refused head.
