@@ -1,9 +1,10 @@
 //! Payloads of TS packets, written by hand (ISO/IEC 13818-1, 2.4.3).
-use crate::fixtures::{let_go, same};
+use crate::fixtures::same;
 use channel_cache::ts_access::has_access;
 use std::alloc::{AllocError, Global};
 use std::process::Abort;
 use std::test::Fail;
+use test_fixtures::test_calls::let_go;
 
 // The first six bytes of a TS packet: sync byte, packet identifier 0, control byte, length of the
 // adaptation field, its flags.
@@ -42,14 +43,20 @@ const PAYLOADS: &[Row] = &[
     (&[(&[], 1), (&FLAGGED, 376)], false),
 ];
 
+// Appends a piece: its first bytes, and zeros up to its length.
+fn add_piece(bytes: &mut Vec<u8>, head: &[u8], len: usize) -> Result<(), AllocError> {
+    bytes.extend_from_slice(head)?;
+    for _ in head.len()..len {
+        bytes.push(0)?;
+    }
+    Ok(())
+}
+
 // The bytes of a payload.
 fn payload(alloc: Global, pieces: &[(&[u8], usize)]) -> Result<Vec<u8>, AllocError> {
     let mut bytes = Vec::new(alloc);
     for (head, len) in pieces {
-        bytes.extend_from_slice(head)?;
-        for _ in head.len()..*len {
-            bytes.push(0)?;
-        }
+        add_piece(&mut bytes, head, *len)?;
     }
     Ok(bytes)
 }

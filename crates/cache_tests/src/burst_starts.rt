@@ -1,9 +1,10 @@
 //! Choices among packets that are worked out by hand.
-use crate::fixtures::{let_go, same};
+use crate::fixtures::same;
 use channel_cache::access_index::{Choice, Index};
 use std::alloc::Global;
 use std::process::Abort;
 use std::test::Fail;
+use test_fixtures::test_calls::let_go;
 
 // A packet: its timestamp, its bytes on the wire, and whether it is an access point.
 type Packet = (u32, u32, bool);

@@ -2,7 +2,7 @@
 ghost use Rattle.std.specs.Prelude.{ℕ, ◌+◌, ◌≤◌, IfOk, OnOk, length};
 ghost use Rattle.channel_cache.specs.{StandsForFewer};
 
-use crate::fixtures::{holds, let_go, packet, same};
+use crate::fixtures::{holds, packet, same};
 use channel_cache::LiveNote::{
     Bad, ForeignSsrc, ForeignType, Jump, Late, Restart, TooBig, Took, Twice,
 };
@@ -12,6 +12,7 @@ use rams_model::RtpFault::{Short, Version};
 use std::alloc::{AllocError, Global};
 use std::process::Abort;
 use std::test::Fail;
+use test_fixtures::test_calls::let_go;
 use test_fixtures::test_channel::CHANNEL;
 
 // A sequence number, its note, and what is held after it: the number of the oldest packet, and one

@@ -2,11 +2,12 @@
 ghost use Rattle.std.specs.Prelude.{◌≡◌, ◌<◌, ◌^◌, [], None, true, false, OnOk};
 ghost use Rattle.channel_cache.specs.reorder_window.{first_free};
 
-use crate::fixtures::{holds, let_go, same};
+use crate::fixtures::{holds, same};
 use channel_cache::reorder_window::{Came, Window};
 use std::alloc::{AllocError, Global};
 use std::process::Abort;
 use std::test::Fail;
+use test_fixtures::test_calls::let_go;
 
 // How far a window waits, and the numbers that come after its start at 65,546: each with what becomes
 // of it, and the numbers that go out then.

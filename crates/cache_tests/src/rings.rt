@@ -1,12 +1,13 @@
 //! Packets under rising numbers, and those of them that are held.
 ghost use Rattle.std.specs.Prelude.{◌≡◌, IfOk};
 
-use crate::fixtures::{holds, let_go, same};
+use crate::fixtures::{holds, same};
 use bytes::Bytes;
 use channel_cache::packet_ring::{Held, Ring};
 use std::alloc::{AllocError, Global};
 use std::process::Abort;
 use std::test::Fail;
+use test_fixtures::test_calls::let_go;
 
 // So many packets at most, the numbers that are put in, and the interval that is held then.
 type Row = (u32, &'static [u64], u64, u64);
