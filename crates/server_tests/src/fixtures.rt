@@ -13,9 +13,6 @@ pub fn holds<C: Display>(rt: &impl Abort, is_so: bool, of: &C) {
     assert!(rt; is_so, "{of}");
 }
 
-/// The value is dropped, by a call of its own: so a caller's proof doesn't go through its fields.
-pub fn let_go<T: Drop>(_value: T) {}
-
 /// The SSRC of a client.
 pub const SENDER: u32 = 0x0000_c001;
 

@@ -1,7 +1,7 @@
 //! Two channels, worked out by hand.
 ghost use Rattle.std.specs.Prelude.{◌≡◌, ◌+◌, ◌<◌, OnOk, length};
 
-use crate::fixtures::{holds, let_go, same};
+use crate::fixtures::{holds, same};
 use crate::row::Given::{Asks, Start, Tick};
 use crate::row::{Given, event_of};
 use channel_config::Config;
@@ -13,6 +13,7 @@ use std::alloc::Global;
 use std::process::Abort;
 use std::slice;
 use std::test::Fail;
+use test_fixtures::test_calls::let_go;
 use test_fixtures::test_channel::CHANNEL;
 
 /// The channel that an event names, the event, and what is answered.

@@ -3,13 +3,14 @@ ghost use Rattle.std.specs.Prelude.{◌+◌, ◌<◌, ◌^◌, List, [], ◌∷�
 ghost use Rattle.rams_model.specs.declared.event.Event.{Event};
 ghost use Rattle.server_hub.specs.session_core.{StandsFor, StandsForFewer};
 
-use crate::fixtures::{REQUEST, let_go};
+use crate::fixtures::REQUEST;
 use channel_config::{Channel, Config};
 use rams_model::{Answer, Event, Info, Note, Octets, Order};
 use server_hub::session_core::{Core, NoMemory};
 use std::alloc::{AllocError, Global};
 use std::process::Abort;
 use std::test::Fail;
+use test_fixtures::test_calls::let_go;
 use test_fixtures::test_channel::{SOURCE, bytes_of};
 
 /// What comes to a channel.
