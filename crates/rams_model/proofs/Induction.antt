@@ -1,17 +1,21 @@
 -- A channel's history by induction. What holds of the empty history and is kept by each item that may come, holds of each history: a note comes only where `Allows` says so.
-use Rattle.std.proofs.Common.{◌≡◌, ℕ, Bool, true, false, List, [], ◌∷◌, ◌++◌, Option, None, sym, subst, refl}
-use Rattle.std.proofs.lemmas.Bool.{true≢false}
+use Rattle.std.proofs.Common.{◌≡◌, ℕ, ◌<◌, Bool, true, false, cond, not, ◌&&◌, List, [], ◌∷◌, ◌++◌, Option, Some, None, ap, sym, ◌∙◌, subst, refl, arith, eqb}
+use Rattle.std.specs.Prelude.{Ok, Err}
+use Rattle.std.proofs.lemmas.Bool.{cond_both, eqb-false, true≢false}
 use Rattle.rams_model.specs.declared.event.Event.{Event}
 use Rattle.rams_model.specs.declared.held.Held.{Held}
 use Rattle.rams_model.specs.declared.note.Note.{Note}
+use Rattle.rams_model.specs.declared.note.Cause.TheVariants as cause
 use Rattle.rams_model.specs.declared.note.Note.TheVariants as note
-use Rattle.rams_model.specs.Service.{Settings, Message, Heard, live, dropped, feedback, unframed, tick, heard_of, began, told, noted, History, arrivals, stream, after_message, after_messages, after_tick, after_hearing, history_of}
+use Rattle.rams_model.specs.Service.{Settings, stop_of, Message, bye, nack, asks, stops, Heard, live, dropped, feedback, unframed, tick, heard_of, began, told, noted, History, arrivals, stream, known, is_among, ssrc, Burst, next, open_burst, has_open, on_stop, stop_burst, is_bye_of, after_bye, after_message, after_messages, after_tick, after_hearing, history_of}
+use Rattle.rams_model.specs.Formats.{Framed}
 use Rattle.rams_model.specs.Packets.{live_note}
 use Rattle.rams_model.specs.Laws.{NoneIs, is_event}
 use Rattle.rams_model.proofs.Legal.{is_tick, in_tick, Answers, Allows, IsLegal, legal_part}
-use Rattle.rams_model.proofs.Legality.{legal_history}
+use Rattle.rams_model.proofs.Legality.{in_tick_from_runs, legal_history}
 use Rattle.rams_model.proofs.Items.{AreOfKind, is_note, Puts, message_puts}
 use Rattle.rams_model.proofs.Adding.{adds_hearing, adds_messages}
+use Rattle.rams_model.proofs.Stopping.{stop_from_next}
 
 -- What each note of a kind keeps is kept by a part of an event: a message's answer, a tick or a phase of it.
 module _ (kind : Note → Bool) (P : History → Type 0) (step : (n : Note) (packet : Option Held) (history : History) → kind n ≡ true → P history → P (noted n packet ∷ history)) where
@@ -36,6 +40,10 @@ module _ (kind : Note → Bool) (s : Settings) (P : History → Type 0)
   pub onwards : (before after : History) → Puts kind before after → IsLegal s after → P before → P after
   onwards before after p l start = subst P (sym p.splits) (onwards_items p.items before p.notes (subst (IsLegal s) p.splits l) start)
 
+-- what stands before a part of a legal history is legal
+pub legal_before : (s : Settings) (kind : Note → Bool) (before after : History) → Puts kind before after → IsLegal s after → IsLegal s before
+legal_before s kind before after p l = legal_part s p.items before (subst (IsLegal s) p.splits l)
+
 -- The notes that answer a message: what each that may come keeps is kept by the whole answer.
 module _ (s : Settings) (P : History → Type 0) (client : ℕ) (message : Message)
     (step : (n : Note) (packet : Option Held) (history : History) → Allows s history n packet → Answers history client message → P history → P (noted n packet ∷ history)) where
@@ -52,6 +60,74 @@ no_tick_answers [] client message a e = absurd cc
 no_tick_answers (began heard ∷ history) client message a e = absurd cc
 no_tick_answers (told k m ∷ history) client message a e = true≢false (sym e)
 no_tick_answers (noted n packet ∷ history) client message a e = no_tick_answers history client message a e
+
+-- the answers to NACKs and requests
+abbrev is_plain : Message → Bool
+is_plain (nack media sender numbers) = true
+is_plain (asks sender request) = true
+is_plain m = false
+
+-- A note of an answer that stands alone: behind a StopAt and a Bye the End of the burst may stand.
+abbrev pub is_alone : Note → Bool
+is_alone (note.StopAt client n) = false
+is_alone (note.Bye client) = false
+is_alone (note.Burst client n number) = false
+is_alone (note.Repair client n number) = false
+is_alone (note.Gone client n) = false
+is_alone (note.Forgot client) = false
+is_alone n = true
+
+-- no other message is answered
+plainly : (history : History) (client other : ℕ) (m n : Message) → is_plain m ≡ true → is_plain n ≡ false → Answers history client m → Answers history other n → ⊥
+plainly history client other m n t f here there = true≢false (sym t ∙ ap plain_of (sym here ∙ there) ∙ f)
+  where
+    plain_of : Option (ℕ × Message) → Bool
+    plain_of None = false
+    plain_of (Some p) = is_plain p.1
+
+alone : (s : Settings) (history : History) (client : ℕ) (m : Message) (n : Note) (packet : Option Held) → is_plain m ≡ true → Answers history client m → Allows s history n packet → is_alone n ≡ true
+alone s history client m (note.StopAt k n) packet t here a = absurd (plainly history client k m (stops (Ok a.stop)) t refl here a.is_answer)
+alone s history client m (note.Bye k) packet t here a = absurd (plainly history client k m (bye a.packet) t refl here a.is_answer)
+alone s history client m (note.Burst k n number) packet t here a = absurd (no_tick_answers history client m here (in_tick_from_runs history a.running))
+alone s history client m (note.Repair k n number) packet t here a = absurd (no_tick_answers history client m here a.ticking)
+alone s history client m (note.Gone k n) packet t here a = absurd (no_tick_answers history client m here a.ticking)
+alone s history client m (note.Forgot k) packet t here a = absurd (no_tick_answers history client m here a.ticking)
+alone s history client m n packet t here a = refl
+
+-- What holds between messages alone: each note that stands alone keeps it, and so do a StopAt and a Bye, by themselves or with the End behind them.
+module _ (s : Settings) (P : History → Type 0) (client : ℕ)
+    (each : (n : Note) (packet : Option Held) (history : History) → is_alone n ≡ true → Allows s history n packet → P history → P (noted n packet ∷ history))
+    (set : (b : Burst) (n : ℕ) (history : History) → open_burst s client history ≡ Some b → next b < n → P history → P (noted (note.StopAt client n) None ∷ history))
+    (stopped : (n : ℕ) (history : History) → P history → P (noted (note.End client cause.Stopped) None ∷ noted (note.StopAt client n) None ∷ history))
+    (left : (history : History) → has_open s client history ≡ false → P history → P (noted (note.Bye client) None ∷ history))
+    (closed : (history : History) → P history → P (noted (note.End client cause.Bye) None ∷ noted (note.Bye client) None ∷ history)) where
+  stop_answer : (named : Option ℕ) (o : Option Burst) (history : History) → open_burst s client history ≡ o → IsLegal s (stop_burst client named o history) → P history
+      → P (stop_burst client named o history)
+  stop_answer named None history e l p = each (note.StopIdle client) None history refl l.0 p
+  stop_answer named (Some b) history e l p = at b.stop l
+    where
+      at : (old : Option ℕ) → IsLegal s (on_stop client b named old history) → P (on_stop client b named old history)
+      at (Some stop) l = each (note.StopKept client stop) None history refl l.0 p
+      at None l =
+          let n = stop_of b.first (next b) named in
+          cond_both (eqb n (next b)) (noted (note.End client cause.Stopped) None ∷ noted (note.StopAt client n) None ∷ history) (noted (note.StopAt client n) None ∷ history) P
+          (λ t. stopped n history p) (λ f. set b n history e (omega (arith, stop_from_next b.first (next b) named, eqb-false n (next b) f)) p)
+
+  bye_answer : (packet : Framed) (history : History) → IsLegal s (after_bye s client packet history) → P history → P (after_bye s client packet history)
+  bye_answer packet history l p =
+      let gone = noted (note.Bye client) None ∷ history in
+      let over = noted (note.End client cause.Bye) None ∷ gone in
+      let ends = has_open s client history in
+      cond_both (not (is_among client (known history) && is_bye_of packet (ssrc client history))) (noted (note.ByeIdle client) None ∷ history) (cond ends over gone) (λ h. IsLegal s h → P h)
+      (λ t legal. each (note.ByeIdle client) None history refl legal.0 p) (λ f legal. cond_both ends over gone P (λ t. closed history p) (λ g. left history g p)) l
+
+  pub whole_answer : (message : Message) (history : History) → IsLegal s (after_message s client message (told client message ∷ history)) → P (told client message ∷ history)
+      → P (after_message s client message (told client message ∷ history))
+  whole_answer (bye packet) history l p = bye_answer packet (told client (bye packet) ∷ history) l p
+  whole_answer (stops (Err fault)) history l p = each (note.Refuse client 404) None (told client (stops (Err fault)) ∷ history) refl l.0 p
+  whole_answer (stops (Ok stop)) history l p =
+      let asked = told client (stops (Ok stop)) ∷ history in stop_answer stop.first_multicast (open_burst s client asked) asked refl l p
+  whole_answer m history l p = in_answer s P client m (λ n packet h a here q. each n packet h (alone s h client m n packet refl here a) a q) history l p
 
 -- What each message and each note keeps is kept by a whole event, once it began.
 module _ (P : History → Type 0) (tells : (client : ℕ) (message : Message) (history : History) → P history → P (told client message ∷ history))

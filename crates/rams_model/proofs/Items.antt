@@ -49,7 +49,7 @@ is_of_tick (note.Gone client n) = true
 is_of_tick (note.Forgot client) = true
 is_of_tick _ = false
 
-run_in_runs : (k : ℕ) (n : Note) → is_run_of k n ≡ true → is_of_runs n ≡ true
+pub run_in_runs : (k : ℕ) (n : Note) → is_run_of k n ≡ true → is_of_runs n ≡ true
 run_in_runs k (note.Burst client n number) e = refl
 run_in_runs k (note.End client why) e = refl
 run_in_runs k n e = absurd (true≢false (sym e))

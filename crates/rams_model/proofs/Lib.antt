@@ -28,5 +28,6 @@ pub mod Items
 pub mod Legality
 pub mod Adding
 pub mod Induction
+pub mod Turns
 pub mod Granting
 pub mod PieceCounts

@@ -1,11 +1,11 @@
 -- A client's open burst after a note and after a tick began, and what is true of it, item by item.
 use Rattle.std.proofs.Common.{◌≡◌, ℕ, Bool, true, false, cond, List, [], ◌∷◌, Option, Some, None, option_map, refl, ap, sym, ◌∙◌, subst, eqb}
-use Rattle.std.proofs.lemmas.Bool.{cond_both, cond-true, eqb-true, eq-eqb}
+use Rattle.std.proofs.lemmas.Bool.{cond_both, cond-true, cond-false, eqb-true, eq-eqb}
 use Rattle.rams_model.specs.declared.held.Held.{Held}
 use Rattle.rams_model.specs.declared.note.Cause.{Cause}
 use Rattle.rams_model.specs.declared.note.Note.{Note}
 use Rattle.rams_model.specs.declared.note.Note.TheVariants as note
-use Rattle.rams_model.specs.Service.{Settings, tick, began, noted, History, sequence, Burst, begun, is_of, in_tick, after_note, newest_changed, size_of, bursts, if_open, newest_open, open_burst}
+use Rattle.rams_model.specs.Service.{Settings, tick, began, noted, History, sequence, Burst, begun, is_of, in_tick, after_note, bursts_after, newest_changed, size_of, bursts, if_open, newest_open, open_burst}
 
 map_open : (o : Option Cause) (change : Burst → Burst) (b : Burst) → if_open o (change b) ≡ option_map change (if_open o b)
 map_open None change b = refl
@@ -35,6 +35,12 @@ pub open_updated : (s : Settings) (k rate join : ℕ) (history : History) (b : B
     → open_burst s k (noted (note.Update k rate join) None ∷ history) ≡ Some (after_note s (note.Update k rate join) 0 b)
 unfolding bursts
 open_updated s k rate join history b e = own_changed k (after_note s (note.Update k rate join) 0) (λ c. refl) (bursts s k history) b e
+
+-- A note that isn't of the client's bursts leaves them.
+pub other_bursts : (s : Settings) (k : ℕ) (n : Note) (packet : Option Held) (history : History) → is_of k n ≡ false → bursts s k (noted n packet ∷ history) ≡ bursts s k history
+unfolding bursts
+other_bursts s k n packet history other =
+    cond-false (is_of k n) (bursts_after s n (sequence s k history) (size_of packet) (bursts s k history)) (bursts s k history) other
 
 -- it is true of a burst, where one is open
 abbrev pub Holds : (Burst → Type 0) → Option Burst → Type 0

@@ -3,5 +3,5 @@ pub mod Idling
 mod Orders
 mod Takes
 mod Repairs
-mod Runs
+pub mod Runs
 mod Ticks

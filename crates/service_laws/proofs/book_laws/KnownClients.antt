@@ -1,21 +1,19 @@
 -- A client with an open burst is known: it wasn't forgotten, since it isn't idle, and a BYE of it ends its burst at once.
-use Rattle.std.proofs.Common.{◌≡◌, ℕ, ◌≤◌, Bool, true, false, cond, not, ◌&&◌, ◌||◌, ⊎_elim, List, [], ◌∷◌, ◌++◌, Option, Some, None, refl, ap, sym, ◌∙◌, subst, arith, eqb}
+use Rattle.std.proofs.Common.{◌≡◌, ℕ, ◌≤◌, Bool, true, false, cond, not, ◌&&◌, ◌||◌, ⊎_elim, List, [], ◌∷◌, ◌++◌, Option, None, refl, ap, sym, ◌∙◌, subst, arith, eqb}
 use Rattle.std.specs.Prelude.{is_some, IsTrue}
 use Rattle.std.specs.List.{list_any}
-use Rattle.std.proofs.lemmas.Bool.{cond_both, both_ways, or_cases, or_left, or_right, and_parts, and_from, not-true, eqb-true, eq-eqb, true≢false}
+use Rattle.std.proofs.lemmas.Bool.{both_ways, or_cases, or_left, or_right, and_parts, and_from, not-true, eqb-true, eq-eqb, true≢false}
 use Rattle.rams_model.specs.declared.event.Event.{Event}
 use Rattle.rams_model.specs.declared.held.Held.{Held}
 use Rattle.rams_model.specs.declared.note.Note.{Note}
 use Rattle.rams_model.specs.declared.note.Cause.TheVariants as cause
 use Rattle.rams_model.specs.declared.note.Note.TheVariants as note
-use Rattle.rams_model.specs.Formats.{Framed}
-use Rattle.rams_model.specs.Service.{Settings, Message, bye, nack, asks, stops, Heard, feedback, tick, heard_of, Item, began, told, noted, History, known, is_among, ssrc, bursts, has_open, pending, idle, quiet_ticks, is_bye_of, after_bye, after_message, after_tick, history_of}
+use Rattle.rams_model.specs.Service.{Settings, Message, Heard, feedback, tick, heard_of, Item, began, told, noted, History, known, is_among, bursts, has_open, pending, idle, quiet_ticks, after_message, after_tick, history_of}
 use Rattle.rams_model.specs.Laws.{NoneIs, is_accept_of, is_end_of, ends_known, makes_known}
-use Rattle.rams_model.proofs.Induction.{onwards, in_answer, no_tick_answers, is_at_once, between}
+use Rattle.rams_model.proofs.Induction.{onwards, is_alone, whole_answer, is_at_once, between}
 use Rattle.rams_model.proofs.Items.{is_of_tick, tick_puts}
 use Rattle.rams_model.proofs.LastAccept.{open_step}
-use Rattle.rams_model.proofs.Legal.{Answers, Allows, IsLegal}
-use Rattle.rams_model.proofs.Legality.{in_tick_from_runs}
+use Rattle.rams_model.proofs.Legal.{Allows, IsLegal}
 use Rattle.rams_model.proofs.Since.{stands, known_stands}
 use Rattle.service_laws.specs.book_laws.{IsMoment, LastAccept}
 
@@ -103,65 +101,43 @@ tick_kept s k least n packet history e a l r = absurd (none e)
 
 -- ---- in an answer
 
-abbrev IsNoBye : Message → Type 0
-IsNoBye (bye p) = ⊥
-IsNoBye m = Unit {0}
+alone_kept : (s : Settings) (k : ℕ) (n : Note) (packet : Option Held) (history : History) → is_alone n ≡ true → IsKept s k history → IsKept s k (noted n packet ∷ history)
+alone_kept s k (note.Bye other) packet history alone r = absurd (none alone)
+alone_kept s k (note.Forgot other) packet history alone r = absurd (none alone)
+alone_kept s k (note.Burst other n number) packet history alone r = absurd (none alone)
+alone_kept s k n packet history alone r = plain_item s k (noted n packet) history none (λ p. p) r
 
-same_message : (history : History) (client other : ℕ) (m n : Message) → Answers history client m → Answers history other n → m ≡ n
-same_message history client other m n a b = let both : Some (client, m) ≡ Some (other, n) = sym a ∙ b in ap (λ (o : Option (ℕ × Message)). message_of o) both
-  where
-    message_of : Option (ℕ × Message) → Message
-    message_of None = m
-    message_of (Some p) = p.1
+set_kept : (s : Settings) (k client n : ℕ) (history : History) → IsKept s k history → IsKept s k (noted (note.StopAt client n) None ∷ history)
+set_kept s k client n history r = plain_item s k (noted (note.StopAt client n) None) history none (λ p. p) r
 
-answer_kept : (s : Settings) (k client : ℕ) (m : Message) → IsNoBye m → (n : Note) (packet : Option Held) (history : History) → Allows s history n packet → Answers history client m
-    → IsKept s k history → IsKept s k (noted n packet ∷ history)
-answer_kept s k client m plain (note.Bye other) packet history a answers r =
-    absurd (subst IsNoBye (same_message history client other m (bye a.packet) answers a.is_answer) plain)
-answer_kept s k client m plain (note.Forgot other) packet history a answers r = absurd (no_tick_answers history client m answers a.ticking)
-answer_kept s k client m plain (note.Burst other n number) packet history a answers r = absurd (no_tick_answers history client m answers (in_tick_from_runs history a.running))
-answer_kept s k client m plain n packet history a answers r = plain_item s k (noted n packet) history none (λ p. p) r
+stopped_kept : (s : Settings) (k client n : ℕ) (history : History) → IsKept s k history → IsKept s k (noted (note.End client cause.Stopped) None ∷ noted (note.StopAt client n) None ∷ history)
+stopped_kept s k client n history r =
+    plain_item s k (noted (note.End client cause.Stopped) None) (noted (note.StopAt client n) None ∷ history) none (λ p. p) (set_kept s k client n history r)
 
 -- a BYE ends the burst, where one is open
-bye_kept : (s : Settings) (k client : ℕ) (p : Framed) (history : History) → IsKept s k history → IsKept s k (after_bye s client p history)
-bye_kept s k client p history r =
-    cond_both (not (is_among client (known history) && is_bye_of p (ssrc client history))) (noted (note.ByeIdle client) None ∷ history) (cond (has_open s client history) closed gone) (IsKept s k)
-    (λ t. plain_item s k (noted (note.ByeIdle client) None) history none (λ q. q) r)
-    (λ f. cond_both (has_open s client history) closed gone (IsKept s k) (λ t. ended) left)
-  where
-    gone : History
-    gone = noted (note.Bye client) None ∷ history
+left_kept : (s : Settings) (k client : ℕ) (history : History) → has_open s client history ≡ false → IsKept s k history → IsKept s k (noted (note.Bye client) None ∷ history)
+left_kept s k client history shut r = record {
+  opened =
+      one_more s k (noted (note.Bye client) None) history
+      (λ e o. both_ways (has_open s client history) shut (subst (λ (j : ℕ). has_open s j history ≡ true) (sym (eqb-true client k e)) o)) r.opened;
+  sent = r.sent;
+}
 
-    closed : History
-    closed = noted (note.End client cause.Bye) None ∷ noted (note.Bye client) None ∷ history
-
-    left : has_open s client history ≡ false → IsKept s k (noted (note.Bye client) None ∷ history)
-    left shut = record {
-      opened =
-          one_more s k (noted (note.Bye client) None) history
-          (λ e o. both_ways (has_open s client history) shut (subst (λ (j : ℕ). has_open s j history ≡ true) (sym (eqb-true client k e)) o)) r.opened;
-      sent = r.sent;
-    }
-
-    ended : IsKept s k (noted (note.End client cause.Bye) None ∷ noted (note.Bye client) None ∷ history)
-    ended = record {
-      opened = λ o.
-          let after : History = noted (note.Bye client) None ∷ history in
-          let mine = and_parts (not (eqb client k)) (has_open s k after) (sym (open_step s k (noted (note.End client cause.Bye) None) after) ∙ o) in
-          one_more s k (noted (note.End client cause.Bye) None) after (λ e q. none e)
-          (one_more s k (noted (note.Bye client) None) history (λ e q. both_ways (eqb client k) (not-true (eqb client k) mine.0) e) r.opened) o;
-      sent = r.sent;
-    }
+closed_kept : (s : Settings) (k client : ℕ) (history : History) → IsKept s k history → IsKept s k (noted (note.End client cause.Bye) None ∷ noted (note.Bye client) None ∷ history)
+closed_kept s k client history r = record {
+  opened = λ o.
+      let after : History = noted (note.Bye client) None ∷ history in
+      let mine = and_parts (not (eqb client k)) (has_open s k after) (sym (open_step s k (noted (note.End client cause.Bye) None) after) ∙ o) in
+      one_more s k (noted (note.End client cause.Bye) None) after (λ e q. none e)
+      (one_more s k (noted (note.Bye client) None) history (λ e q. both_ways (eqb client k) (not-true (eqb client k) mine.0) e) r.opened) o;
+  sent = r.sent;
+}
 
 message_kept : (s : Settings) (k client : ℕ) (m : Message) (history : History) → IsLegal s (after_message s client m (told client m ∷ history)) → IsKept s k history
     → IsKept s k (after_message s client m (told client m ∷ history))
-message_kept s k client (bye p) history l r = bye_kept s k client p (told client (bye p) ∷ history) (told_kept s k client (bye p) history r)
-message_kept s k client (nack media sender lows) history l r =
-    in_answer s (IsKept s k) client (nack media sender lows) (answer_kept s k client (nack media sender lows) tt) history l (told_kept s k client (nack media sender lows) history r)
-message_kept s k client (asks sender request) history l r =
-    in_answer s (IsKept s k) client (asks sender request) (answer_kept s k client (asks sender request) tt) history l (told_kept s k client (asks sender request) history r)
-message_kept s k client (stops stop) history l r =
-    in_answer s (IsKept s k) client (stops stop) (answer_kept s k client (stops stop) tt) history l (told_kept s k client (stops stop) history r)
+message_kept s k client m history l r =
+    whole_answer s (IsKept s k) client (λ n packet h alone a q. alone_kept s k n packet h alone q) (λ b n h is lt q. set_kept s k client n h q) (stopped_kept s k client) (left_kept s k client)
+    (closed_kept s k client) m history l (told_kept s k client m history r)
 
 -- ---- every history
 

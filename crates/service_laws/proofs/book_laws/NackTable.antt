@@ -87,7 +87,7 @@ not_named : (held : List Held) (low n : ℕ) (P : ℕ → Type 0) → IsNamed he
 not_named held low n P is no_one names = no_one (subst P (one_named held low names.0 n names.1 is) names.2)
 
 -- what the burst will send
-before_stop : (stop : Option ℕ) (n : ℕ) → is_before stop n ≡ true → IfSome stop (λ m. n < m)
+pub before_stop : (stop : Option ℕ) (n : ℕ) → is_before stop n ≡ true → IfSome stop (λ m. n < m)
 before_stop None n e = tt
 before_stop (Some m) n e = ltb-true n m e
 
