@@ -1,10 +1,8 @@
 pub mod Packets
-pub mod Through
 pub mod Sizes
 pub mod Answers
 pub mod Near
 pub mod States
-pub mod Once
 pub mod Grown
 pub mod Turns
 pub mod Kept

@@ -11,6 +11,7 @@ use Rattle.rams_model.specs.Packets.{hi, wires, from_number, Arrival, Follows, h
 use Rattle.rams_model.specs.Packets.Source as sources
 use Rattle.rams_model.proofs.Growing.{source_grows}
 use Rattle.rams_model.specs.Laws.{source, moments, AreAtLeast, JoinsSlowly, IsQuiet, told_join}
+use Rattle.rams_model.proofs.Legal.{IsLegal}
 use Rattle.rams_model.proofs.Running.{wires-cons}
 use Rattle.service_laws.specs.book_laws.{ticks_since_told}
 use Rattle.service_laws.proofs.book_laws.Quiet.Packets.{follows_drop, follows_front, held_later, held_to, drop_at_least, count_fits}
@@ -18,7 +19,7 @@ use Rattle.service_laws.proofs.book_laws.Quiet.Sizes.{AreSized, sized_filter, si
 use Rattle.service_laws.proofs.book_laws.Quiet.Near.{Near, wires_now, next_near}
 use Rattle.service_laws.proofs.book_laws.Quiet.States.{Quietly, Keeps, Good, has_sent, open_is}
 use Rattle.service_laws.proofs.book_laws.Quiet.Grown.{grown, some_moment}
-use Rattle.service_laws.proofs.book_laws.Quiet.Turns.{Opened, base, held_in, run_in, served, with_left, IsClosed, Repaired, IsRepaired, ticked, ticked_shut}
+use Rattle.service_laws.proofs.book_laws.Quiet.Turns.{Opened, base, run_in, served, with_left, IsClosed, Repaired, IsRepaired, ticked, ticked_shut}
 
 -- What is known of an open burst that is quiet: its packets as the last moment had them and those that have joined since.
 pub record Known (s : Settings) (k : ℕ) (history : History) (b : Burst) : Type 0 where
@@ -135,7 +136,7 @@ opened_at s k before b others small keeps is_newest is_open = record {
 }
 
 -- An open burst that is quiet as a tick begins is nearer after it.
-nearer : (s : Settings) (k : ℕ) (before : History) (o : Opened s k before) (later : History) → Known s k before o.burst → (r : Repaired s k before o (held_in s before) later)
+nearer : (s : Settings) (k : ℕ) (before : History) (o : Opened s k before) (later : History) → Known s k before o.burst → (r : Repaired s k before o later)
     → Near s (with_left (served s before o.burst) r.left) (told_join k before) (ticks_since_told k before + 1) (from_number o.burst.first (source s before))
 unfolding arrivals
 nearer s k before o later q r =
@@ -180,7 +181,7 @@ keeps_shut s k history closed b others m ms is_newest is_open marks quiet =
 
 -- the burst that a tick leaves open
 tick_near : (s : Settings) (k : ℕ) (before : History) (o : Opened s k before) (later : History) → ArriveSmall (arrivals before) → Keeps s k before
-    → (r : Repaired s k before o (held_in s before) later) → let b = with_left (served s before o.burst) r.left in Quietly s b.first before (moments k before) (source s later)
+    → (r : Repaired s k before o later) → let b = with_left (served s before o.burst) r.left in Quietly s b.first before (moments k before) (source s later)
     → Near s b (told_join k later) (ticks_since_told k later) (from_number b.first (source s before))
 unfolding arrivals moments told_join ticks_since_told
 tick_near s k before o later small keeps r quiet =
@@ -199,7 +200,7 @@ tick_near s k before o later small keeps r quiet =
     (subst (λ (n : ℕ). Near s b (told_join k before) n (from_number o.burst.first (source s before))) (sym r.state.same_since) (nearer s k before o later q r)))
 
 keeps_repaired : (s : Settings) (k : ℕ) (before : History) (o : Opened s k before) (later : History) → ArriveSmall (arrivals before) → Keeps s k before
-    → Repaired s k before o (held_in s before) later → Keeps s k later
+    → Repaired s k before o later → Keeps s k later
 unfolding moments
 keeps_repaired s k before o later small keeps r b others m ms is_newest is_open marks quiet =
     let own = with_left (served s before o.burst) r.left in
@@ -213,21 +214,21 @@ keeps_repaired s k before o later small keeps r b others m ms is_newest is_open 
     (λ q. tick_near s k before o later small keeps r q))) quiet
 
 -- A tick keeps it so.
-pub good_tick : (s : Settings) (k : ℕ) (before : History) → ArriveSmall (arrivals before) → Good s k before → Good s k (after_tick s (base before))
-good_tick s k before small good = at (bursts s k before) refl
+pub good_tick : (s : Settings) (k : ℕ) (before : History) → ArriveSmall (arrivals before) → IsLegal s (after_tick s (base before)) → Good s k before → Good s k (after_tick s (base before))
+good_tick s k before small l good = at (bursts s k before) refl
   where
     shut : IsClosed s k before → Good s k (after_tick s (base before))
     shut closed =
-        let done = ticked_shut s k before closed good.sound in
+        let done = ticked_shut s k before l closed good.sound in
         record { keeps = keeps_shut s k (after_tick s (base before)) done.1; sound = done.0 }
 
-    open_one : (o : Opened s k before) → IsRepaired s k before o (held_in s before) (after_tick s (base before)) → Good s k (after_tick s (base before))
+    open_one : (o : Opened s k before) → IsRepaired s k before o (after_tick s (base before)) → Good s k (after_tick s (base before))
     open_one o (sound, inl closed) = record { keeps = keeps_shut s k (after_tick s (base before)) closed; sound = sound }
     open_one o (sound, inr r) = record { keeps = keeps_repaired s k before o (after_tick s (base before)) small good.keeps r; sound = sound }
 
     burst : (b : Burst) (others : List Burst) → bursts s k before ≡ b ∷ others → (ended : Option Cause) → b.ended ≡ ended → Good s k (after_tick s (base before))
     burst b others e (Some why) f = shut (ap newest_open e ∙ ap (λ (x : Option Cause). if_open x b) f)
-    burst b others e None f = let o = opened_at s k before b others small good.keeps e f in open_one o (ticked s k before o good.sound)
+    burst b others e None f = let o = opened_at s k before b others small good.keeps e f in open_one o (ticked s k before o l good.sound)
 
     at : (bs : List Burst) → bursts s k before ≡ bs → Good s k (after_tick s (base before))
     at [] e = shut (ap newest_open e)

@@ -71,7 +71,7 @@ stays_history s k events =
     (good_once s k n (began heard ∷ history_of s before) is (good_begun s k heard (history_of s before) other p.0), small_event s event before))
     (λ client ms history p. (good_framed s k client ms history p.0, p.1)) (λ client m history l p. good_message s k client m history l p)
     (λ before l p. let start = began tick ∷ history_of s before in
-    (good_tick s k (history_of s before) p.1 p.0, subst ArriveSmall (sym (arrivals_of_part is_of_tick start (after_tick s start) (tick_puts s start))) p.1))
+    (good_tick s k (history_of s before) p.1 l p.0, subst ArriveSmall (sym (arrivals_of_part is_of_tick start (after_tick s start) (tick_puts s start))) p.1))
     (record { keeps = λ b others m ms is_newest is_open marks quiet. absurd cc; sound = tt }, tt) events
 
 good_history : (s : Settings) (k : ℕ) (events : List Event) → Good s k (history_of s events)
@@ -84,12 +84,8 @@ record Kept (k : ℕ) (base history : History) : Type 0 where
 
 kept_note : (k : ℕ) (base : History) (note : Note) (packet : Option Held) (history : History) → is_of_tick note ≡ true → Kept k base history → Kept k base (noted note packet ∷ history)
 unfolding moments arrivals
-kept_note k base (note.Burst client n q) packet history is a = record { same_moments = a.same_moments; same_arrivals = a.same_arrivals }
-kept_note k base (note.End client why) packet history is a = record { same_moments = a.same_moments; same_arrivals = a.same_arrivals }
-kept_note k base (note.Repair client n q) packet history is a = record { same_moments = a.same_moments; same_arrivals = a.same_arrivals }
-kept_note k base (note.Gone client n) packet history is a = record { same_moments = a.same_moments; same_arrivals = a.same_arrivals }
-kept_note k base (note.Forgot client) packet history is a = record { same_moments = a.same_moments; same_arrivals = a.same_arrivals }
-kept_note k base note packet history is a = absurd (true≢false (sym is))
+kept_note k base (note.Accept client first rate join) packet history is a = absurd (true≢false (sym is))
+kept_note k base note packet history is a = record { same_moments = a.same_moments; same_arrivals = a.same_arrivals }
 
 kept_tick : (s : Settings) (k : ℕ) (before : History) → Kept k (began tick ∷ before) (after_tick s (began tick ∷ before))
 kept_tick s k before =

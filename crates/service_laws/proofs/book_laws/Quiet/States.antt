@@ -1,14 +1,15 @@
 -- What a history says of one client, and what leaves that as it was.
 use Rattle.std.proofs.Common.{◌≡◌, ℕ, ◌+◌, ◌-◌, ◌≤◌, Bool, true, false, cond, List, [], ◌∷◌, length, Option, Some, None, refl, ap, sym, ◌∙◌, subst, arith, eqb}
-use Rattle.std.proofs.lemmas.Bool.{cond_both, cond-true, cond-false, both_ways, eq-eqb}
+use Rattle.std.proofs.lemmas.Bool.{cond-true, cond-false, both_ways, eqb-true, eq-eqb}
 use Rattle.rams_model.specs.declared.held.Held.{Held}
 use Rattle.rams_model.specs.declared.note.Cause.{Cause}
 use Rattle.rams_model.specs.declared.note.Note.{Note}
 use Rattle.rams_model.specs.declared.note.Cause.TheVariants as cause
 use Rattle.rams_model.specs.declared.note.Note.TheVariants as note
-use Rattle.rams_model.specs.Service.{Settings, Message, tick, began, told, noted, History, arrivals, as_tick_began, sequence, Burst, after_note, bursts_after, newest_changed, is_of, size_of, bursts, if_open, newest_open, send, is_burst_of, is_repair_of, sent_now}
+use Rattle.rams_model.specs.Service.{Settings, Message, tick, began, told, noted, History, arrivals, as_tick_began, sequence, Burst, after_note, newest_changed, is_of, size_of, bursts, if_open, newest_open, send, is_burst_of, is_repair_of, sent_now}
 use Rattle.rams_model.specs.Packets.{wires, from_number, Follows}
 use Rattle.rams_model.specs.Laws.{source, moments, JoinsSlowly, AreAtLeast, IsQuiet, told_join}
+use Rattle.rams_model.proofs.OpenBurst.{Holds, other_bursts, end_closes, at_note, at_tick}
 use Rattle.rams_model.proofs.Running.{wires-cons}
 use Rattle.service_laws.specs.book_laws.{ticks_since_told}
 use Rattle.service_laws.proofs.book_laws.Quiet.Near.{Near}
@@ -78,11 +79,6 @@ unfolding ticks_since_told
 other_since k (note.Accept client first rate join) packet history e = cond-false (eqb client k) 0 (ticks_since_told k history) e
 other_since k (note.Update client rate join) packet history e = cond-false (eqb client k) 0 (ticks_since_told k history) e
 other_since k note packet history e = refl
-
-other_bursts : (s : Settings) (k : ℕ) (note : Note) (packet : Option Held) (history : History) → is_of k note ≡ false → bursts s k (noted note packet ∷ history) ≡ bursts s k history
-unfolding bursts
-other_bursts s k note packet history e =
-    cond-false (is_of k note) (bursts_after s note (sequence s k history) (size_of packet) (bursts s k history)) (bursts s k history) e
 
 other_runs : (k : ℕ) (note : Note) (packet : Option Held) (history : History) → is_of k note ≡ false
     → sent_now (is_burst_of k) (noted note packet ∷ history) ≡ sent_now (is_burst_of k) history
@@ -235,29 +231,28 @@ open_is bs b others e open_one = ap newest_open e ∙ at b.ended open_one
 -- The client's End leaves no open burst.
 pub ended_none : (s : Settings) (k client : ℕ) (why : Cause) (packet : Option Held) (history : History) → eqb client k ≡ true
     → newest_open (bursts s k (noted (note.End client why) packet ∷ history)) ≡ None
-unfolding bursts
 ended_none s k client why packet history t =
-    ap newest_open (cond-true (eqb client k) (newest_changed (after_note s (note.End client why) (size_of packet)) (bursts s k history)) (bursts s k history) t) ∙ at (bursts s k history)
-  where
-    at : (bs : List Burst) → newest_open (newest_changed (after_note s (note.End client why) (size_of packet)) bs) ≡ None
-    at [] = refl
-    at (b ∷ bs) = refl
+    subst (λ (j : ℕ). newest_open (bursts s j (noted (note.End client why) packet ∷ history)) ≡ None) (eqb-true client k t) (end_closes s client why packet history)
 
--- Where none is open, none is after a note that isn't an Accept.
-pub none_repaired : (s : Settings) (k client n q : ℕ) (packet : Option Held) (history : History) → newest_open (bursts s k history) ≡ None
-    → newest_open (bursts s k (noted (note.Repair client n q) packet ∷ history)) ≡ None
-unfolding bursts
-none_repaired s k client n q packet history e =
-    cond_both (eqb client k) (newest_changed (after_note s (note.Repair client n q) (size_of packet)) (bursts s k history)) (bursts s k history) (λ bs. newest_open bs ≡ None)
-    (λ t. at (bursts s k history) e) (λ f. e)
-  where
-    at : (bs : List Burst) → newest_open bs ≡ None → newest_open (newest_changed (after_note s (note.Repair client n q) (size_of packet)) bs) ≡ None
-    at [] none = refl
-    at (b ∷ bs) none = one b.ended none
-      where
-        one : (ended : Option Cause) → if_open ended b ≡ None → if_open ended (after_note s (note.Repair client n q) (size_of packet) b) ≡ None
-        one None g = absurd cc
-        one (Some why) g = refl
+-- Where none is open, none is after a note that isn't an Accept, nor after a tick began.
+abbrev IsNone : Option Burst → Type 0
+IsNone = Holds (λ b. ⊥)
+
+none_holds : (o : Option Burst) → o ≡ None → IsNone o
+none_holds o e = subst IsNone (sym e) tt
+
+none_is : (o : Option Burst) → IsNone o → o ≡ None
+none_is None h = refl
+none_is (Some b) h = absurd h
+
+pub none_stays : (s : Settings) (k : ℕ) (n : Note) (packet : Option Held) (history : History) → ((first rate join : ℕ) → n ≡ note.Accept k first rate join → ⊥) → newest_open (bursts s k history) ≡ None
+    → newest_open (bursts s k (noted n packet ∷ history)) ≡ None
+none_stays s k n packet history other e =
+    none_is (newest_open (bursts s k (noted n packet ∷ history)))
+    (at_note s k (λ b. ⊥) n packet history (record { begins = other; changes = λ b own is no. no }) (none_holds (newest_open (bursts s k history)) e))
+
+pub none_begun : (s : Settings) (k : ℕ) (before : History) → newest_open (bursts s k before) ≡ None → newest_open (bursts s k (began tick ∷ before)) ≡ None
+none_begun s k before e = none_is (newest_open (bursts s k (began tick ∷ before))) (at_tick s k (λ b. ⊥) (λ b. ⊥) before (λ b no. no) (none_holds (newest_open (bursts s k before)) e))
 
 pub other_none : (s : Settings) (k : ℕ) (note : Note) (packet : Option Held) (history : History) → is_of k note ≡ false → newest_open (bursts s k history) ≡ None
     → newest_open (bursts s k (noted note packet ∷ history)) ≡ None

@@ -1,21 +1,20 @@
 -- What a tick does to a client's newest burst.
-use Rattle.std.proofs.Common.{◌≡◌, ℕ, ◌+◌, ◌-◌, ◌≤◌, ◌⊎◌, inl, inr, ⊎_elim, min, true, false, cond, List, [], ◌∷◌, Option, Some, None, refl, ap, ap₂, sym, ◌∙◌, subst, arith, eqb, ltb}
-use Rattle.std.specs.Prelude.{is_some}
-use Rattle.std.proofs.lemmas.Bool.{cond_both, cond-true, cases_Bool, eqb-true, eq-eqb}
+use Rattle.std.proofs.Common.{◌≡◌, ℕ, ◌+◌, ◌-◌, ◌≤◌, ◌⊎◌, inl, inr, ⊎_elim, min, true, false, cond, List, ◌∷◌, Option, Some, None, refl, ap, ap₂, sym, ◌∙◌, subst, arith, eqb, ltb}
+use Rattle.std.proofs.lemmas.Bool.{cond_both, cond-true, cases_Bool, eqb-true, eq-eqb, true≢false}
 use Rattle.rams_model.specs.declared.held.Held.{Held}
 use Rattle.rams_model.specs.declared.note.Cause.{Cause}
 use Rattle.rams_model.specs.declared.note.Note.{Note}
 use Rattle.rams_model.specs.declared.note.Cause.TheVariants as cause
 use Rattle.rams_model.specs.declared.note.Note.TheVariants as note
-use Rattle.rams_model.specs.Service.{Settings, tick, began, noted, History, arrivals, hold, as_tick_began, known, opened, is_among, Burst, next, kept, in_tick, newest_changed, is_of, bursts, if_open, newest_open, open_burst, pending, budget_of, cap, run_left, kept_from_repairs, may_take, run, send, is_lost, is_stop, after_run, run_sent, burst_served, bursts_served, repairs_sent, after_tick}
+use Rattle.rams_model.specs.Service.{Settings, tick, began, noted, History, arrivals, hold, as_tick_began, known, Burst, next, kept, in_tick, newest_changed, is_of, bursts, newest_open, open_burst, pending, budget_of, cap, run_left, kept_from_repairs, may_take, run, send, is_lost, is_stop, after_run, run_sent, burst_served, bursts_served, repairs_sent, idle_forgotten, after_tick}
 use Rattle.rams_model.specs.Packets.{hi, wires, from_number, Arrival, Follows, stream_of}
 use Rattle.rams_model.specs.Packets.Source as sources
 use Rattle.rams_model.specs.Laws.{source, moments, JoinsSlowly, AreAtLeast, IsQuiet}
-use Rattle.rams_model.proofs.LastAccept.{opened_open}
-use Rattle.service_laws.proofs.book_laws.Quiet.Through.{each_any, all_served_through, all_repaired_through, all_forgotten_through}
-use Rattle.service_laws.proofs.book_laws.Quiet.Once.{unserved, turn_through}
-use Rattle.service_laws.proofs.book_laws.Quiet.States.{Sound, other_sound, At, at_base, at_other, at_repair, at_send, sound_send, with_run, has_sent, open_is, ended_none, none_repaired, other_none}
-use Rattle.service_laws.proofs.book_laws.Reserved.{times-opened}
+use Rattle.rams_model.proofs.Induction.{through, onwards, legal_before}
+use Rattle.rams_model.proofs.Items.{is_repair, is_forgotten, is_of_tick, all_repaired_put, all_forgotten_put, tick_puts}
+use Rattle.rams_model.proofs.Legal.{Allows, IsLegal}
+use Rattle.rams_model.proofs.Turns.{in_turn}
+use Rattle.service_laws.proofs.book_laws.Quiet.States.{Sound, other_sound, At, at_base, at_other, at_repair, at_send, sound_send, with_run, has_sent, open_is, ended_none, none_stays, none_begun, other_none}
 
 -- A burst that is open as a tick begins, with the packets that are held.
 pub record Opened (s : Settings) (k : ℕ) (before : History) : Type 0 where
@@ -58,16 +57,16 @@ HasRun s k before o history = Sound s k history × (IsClosed s k history ⊎ Ran
 abbrev pub with_left : Burst → ℕ → Burst
 with_left b left = record b { left = left }
 
-pub record Repaired (s : Settings) (k : ℕ) (before : History) (o : Opened s k before) (held : List Held) (history : History) : Type 0 where
+pub record Repaired (s : Settings) (k : ℕ) (before : History) (o : Opened s k before) (history : History) : Type 0 where
   pub left : ℕ
   pub repairs : ℕ
   pub state : At s k (base before) (with_left (served s before o.burst) left ∷ o.others) (wires (run_in s before o.burst)) repairs history
   pub unstopped : is_stop (served s before o.burst).stop (next (served s before o.burst)) ≡ false
   pub is_left : left ≡ (o.burst.rate + kept s o.burst - wires (run_in s before o.burst)) - repairs
-  pub leaves : ltb (next (served s before o.burst)) (hi held) ≡ true → min s.channel.depth (o.burst.rate + kept s o.burst - wires (run_in s before o.burst)) ≤ left
+  pub leaves : ltb (next (served s before o.burst)) (hi (held_in s before)) ≡ true → min s.channel.depth (o.burst.rate + kept s o.burst - wires (run_in s before o.burst)) ≤ left
 
-abbrev pub IsRepaired : (s : Settings) (k : ℕ) (before : History) → Opened s k before → List Held → History → Type 0
-IsRepaired s k before o held history = Sound s k history × (IsClosed s k history ⊎ Repaired s k before o held history)
+abbrev pub IsRepaired : (s : Settings) (k : ℕ) (before : History) → Opened s k before → History → Type 0
+IsRepaired s k before o history = Sound s k history × (IsClosed s k history ⊎ Repaired s k before o history)
 
 -- a history in which nothing changed that quietness looks at
 quiet_same : (s : Settings) (k first : ℕ) (before later : History) → arrivals later ≡ arrivals before → moments k later ≡ moments k before → IsQuiet s k first later → IsQuiet s k first before
@@ -148,14 +147,10 @@ base_bursts s k before o = ap (newest_changed (in_tick s)) o.is_newest
 all_turns : (s : Settings) (k : ℕ) (before : History) (o : Opened s k before) → Sound s k before → HasRun s k before o (bursts_served s (base before))
 all_turns s k before o sound =
     let start = base_bursts s k before o in
-    let among : is_among k (opened (base before)) ≡ true = opened_open s k (base before) ∙ ap (λ (x : Option Burst). is_some x) (open_is (bursts s k (base before)) (in_tick s o.burst) o.others start o.is_open) in
-    turn_through (Waits s k before o) (HasRun s k before o) s (held_in s before) k
-    (λ j e n q h history p. other_waits s k before o (note.Burst j n q) (Some h) history e p)
-    (λ j e why history p. other_waits s k before o (note.End j why) None history e p)
-    (λ j e n q h history p. other_ran s k before o (note.Burst j n q) (Some h) history e p)
-    (λ j e why history p. other_ran s k before o (note.End j why) None history e p)
-    (λ history p. turn s k before o history p)
-    (opened (base before)) (times-opened k (base before)) among (base before) (sound, at_base s k before (in_tick s o.burst ∷ o.others) start)
+    let is_open = open_is (bursts s k (base before)) (in_tick s o.burst) o.others start o.is_open in
+    in_turn s k (base before) (Waits s k before o) (HasRun s k before o) (λ n packet history runs other w. other_waits s k before o n packet history other w)
+    (λ n packet history runs other p. other_ran s k before o n packet history other p) (turn s k before o) (sound, at_base s k before (in_tick s o.burst ∷ o.others) start)
+    (λ closed. let none : Some (in_tick s o.burst) ≡ None = sym is_open ∙ closed in absurd cc)
 
 -- What a client's repairs may take.
 takes_at_most : (s : Settings) (k : ℕ) (before : History) (o : Opened s k before) (held : List Held) (history : History) (left repairs : ℕ)
@@ -176,10 +171,10 @@ takes_at_most s k before o held history left repairs state =
     ap₂ (λ (x : ℕ) (y : ℕ). x - y) (ap₂ (λ (x : ℕ) (y : ℕ). x - y) own_left keeps) state.are_repairs
 
 -- repairs
-other_repaired : (s : Settings) (k : ℕ) (before : History) (o : Opened s k before) (held : List Held) (note : Note) (packet : Option Held) (history : History) → is_of k note ≡ false
-    → IsRepaired s k before o held history → IsRepaired s k before o held (noted note packet ∷ history)
-other_repaired s k before o held note packet history e (sound, inl closed) = (other_sound s k note packet history e sound, inl (other_none s k note packet history e closed))
-other_repaired s k before o held note packet history e (sound, inr done) = (
+other_repaired : (s : Settings) (k : ℕ) (before : History) (o : Opened s k before) (note : Note) (packet : Option Held) (history : History) → is_of k note ≡ false
+    → IsRepaired s k before o history → IsRepaired s k before o (noted note packet ∷ history)
+other_repaired s k before o note packet history e (sound, inl closed) = (other_sound s k note packet history e sound, inl (other_none s k note packet history e closed))
+other_repaired s k before o note packet history e (sound, inr done) = (
   other_sound s k note packet history e sound,
   inr (record {
     left = done.left;
@@ -191,12 +186,15 @@ other_repaired s k before o held note packet history e (sound, inr done) = (
   }),
 )
 
-own_repair : (s : Settings) (k : ℕ) (before : History) (o : Opened s k before) (held : List Held) (client n q : ℕ) (h : Held) (history : History) → eqb client k ≡ true
-    → h.wire ≤ may_take s held k history → IsRepaired s k before o held history → IsRepaired s k before o held (noted (note.Repair client n q) (Some h) ∷ history)
-own_repair s k before o held client n q h history t le (sound, inl closed) = (sound, inl (none_repaired s k client n q (Some h) history closed))
-own_repair s k before o held client n q h history t le (sound, inr done) = (
+own_repair : (s : Settings) (k : ℕ) (before : History) (o : Opened s k before) (client n q : ℕ) (h : Held) (history : History) → eqb client k ≡ true
+    → h.wire ≤ may_take s (hold s history) k history → IsRepaired s k before o history → IsRepaired s k before o (noted (note.Repair client n q) (Some h) ∷ history)
+own_repair s k before o client n q h history t le (sound, inl closed) = (sound, inl (none_stays s k (note.Repair client n q) (Some h) history (λ f r j e. absurd cc) closed))
+own_repair s k before o client n q h history t le (sound, inr done) = (
   sound,
   inr (
+      let held = held_in s before in
+      let same : hold s history ≡ held = ap (λ (arrived : List Arrival). sources.hold s.channel.window s.channel.ring (stream_of s.channel.window arrived)) done.state.same_arrivals in
+      let fits = subst (λ (l : List Held). h.wire ≤ may_take s l k history) same le in
       let takes = takes_at_most s k before o held history done.left done.repairs done.state in
       record {
         left = done.left - h.wire;
@@ -208,37 +206,37 @@ own_repair s k before o held client n q h history t le (sound, inr done) = (
             let unspent = o.burst.rate + kept s o.burst - wires (run_in s before o.burst) in
             let kept_now = cond-true (ltb (next (served s before o.burst)) (hi held)) (min s.channel.depth unspent) 0 b in
             let enough = done.leaves b in
-            omega (arith, le, takes, kept_now, enough, done.is_left);
+            omega (arith, fits, takes, kept_now, enough, done.is_left);
       }
       ),
 )
 
-any_repair : (s : Settings) (k : ℕ) (before : History) (o : Opened s k before) (held : List Held) (client n q : ℕ) (h : Held) (history : History)
-    → h.wire ≤ may_take s held client history → IsRepaired s k before o held history → IsRepaired s k before o held (noted (note.Repair client n q) (Some h) ∷ history)
-any_repair s k before o held client n q h history le p =
-    ⊎_elim (λ t. own_repair s k before o held client n q h history t (subst (λ (j : ℕ). h.wire ≤ may_take s held j history) (eqb-true client k t) le) p)
-    (λ f. other_repaired s k before o held (note.Repair client n q) (Some h) history f p) (cases_Bool (eqb client k))
+each_repair : (s : Settings) (k : ℕ) (before : History) (o : Opened s k before) (n : Note) (packet : Option Held) (history : History) → is_repair n ≡ true → Allows s history n packet
+    → IsRepaired s k before o history → IsRepaired s k before o (noted n packet ∷ history)
+each_repair s k before o (note.Repair client n q) packet history is a p =
+    subst (λ (x : Option Held). IsRepaired s k before o (noted (note.Repair client n q) x ∷ history)) (sym a.packet_is)
+    (⊎_elim (λ t. own_repair s k before o client n q a.h history t (subst (λ (j : ℕ). a.h.wire ≤ may_take s (hold s history) j history) (eqb-true client k t) a.fits) p)
+    (λ f. other_repaired s k before o (note.Repair client n q) (Some a.h) history f p) (cases_Bool (eqb client k)))
+each_repair s k before o (note.Gone client n) packet history is a p = other_repaired s k before o (note.Gone client n) packet history refl p
+each_repair s k before o n packet history is a p = absurd (true≢false (sym is))
 
--- runs bring no packet
-held_after_runs : (s : Settings) (history : History) → hold s (bursts_served s history) ≡ hold s history
-unfolding arrivals
-held_after_runs s history =
-    ap (λ (arrived : List Arrival). sources.hold s.channel.window s.channel.ring (stream_of s.channel.window arrived))
-    (all_served_through (λ h. arrivals h ≡ arrivals history) (λ j. Unit {0}) s (hold s history) (λ j r n q x h e. e) (λ j r why h e. e) (opened history) (each_any (opened history)) history refl)
+of_none : (k : ℕ) (n : Note) → is_forgotten n ≡ true → is_of k n ≡ false
+of_none k (note.Forgot client) is = refl
+of_none k n is = absurd (true≢false (sym is))
 
 -- The client's burst after a tick.
-pub ticked : (s : Settings) (k : ℕ) (before : History) (o : Opened s k before) → Sound s k before → IsRepaired s k before o (held_in s before) (after_tick s (base before))
+pub ticked : (s : Settings) (k : ℕ) (before : History) (o : Opened s k before) → IsLegal s (after_tick s (base before)) → Sound s k before → IsRepaired s k before o (after_tick s (base before))
 unfolding after_tick
-ticked s k before o sound =
+ticked s k before o l sound =
     let runs = bursts_served s (base before) in
-    let held = hold s runs in
     let repairs = repairs_sent s runs in
-    subst (λ (l : List Held). IsRepaired s k before o l (after_tick s (base before))) (held_after_runs s (base before))
-    (all_forgotten_through (IsRepaired s k before o held) s (λ j history p. other_repaired s k before o held (note.Forgot j) None history refl p) (known repairs) repairs
-    (all_repaired_through (IsRepaired s k before o held) s held (λ j n q h history le p. any_repair s k before o held j n q h history le p)
-    (λ j n history p. other_repaired s k before o held (note.Gone j n) None history refl p) (pending runs) runs (start (all_turns s k before o sound))))
+    let after = idle_forgotten s repairs in
+    let forgotten = all_forgotten_put s (known repairs) repairs in
+    through is_forgotten (IsRepaired s k before o) (λ n packet h is p. other_repaired s k before o n packet h (of_none k n is) p) repairs after forgotten
+    (onwards is_repair s (IsRepaired s k before o) (λ n packet h is a legal p. each_repair s k before o n packet h is a p) runs repairs (all_repaired_put s (hold s runs) (pending runs) runs)
+    (legal_before s is_forgotten repairs after forgotten l) (start (all_turns s k before o sound)))
   where
-    start : {history : History} {held : List Held} → HasRun s k before o history → IsRepaired s k before o held history
+    start : {history : History} → HasRun s k before o history → IsRepaired s k before o history
     start (sound, inl closed) = (sound, inl closed)
     start (sound, inr ran) =
         let left = (has_sent (in_tick s o.burst) (run_in s before o.burst)).less_left in (
@@ -257,30 +255,15 @@ ticked s k before o sound =
 abbrev pub Shut : Settings → ℕ → History → Type 0
 Shut s k history = Sound s k history × IsClosed s k history
 
-other_shut : (s : Settings) (k : ℕ) (note : Note) (packet : Option Held) (history : History) → is_of k note ≡ false → Shut s k history → Shut s k (noted note packet ∷ history)
-other_shut s k note packet history e p = (other_sound s k note packet history e p.0, other_none s k note packet history e p.1)
+each_shut : (s : Settings) (k : ℕ) (n : Note) (packet : Option Held) (history : History) → is_of_tick n ≡ true → Allows s history n packet → Shut s k history → Shut s k (noted n packet ∷ history)
+each_shut s k (note.Accept client first rate join) packet history is a p = absurd (true≢false (sym is))
+each_shut s k (note.End client why) packet history is a p = (
+  (λ t. let some : Some a.opened.burst ≡ None = sym (subst (λ (j : ℕ). open_burst s j history ≡ Some a.opened.burst) (eqb-true client k t) a.opened.is_open) ∙ p.1 in absurd cc, p.0),
+  none_stays s k (note.End client why) packet history (λ f r j e. absurd cc) p.1,
+)
+each_shut s k n packet history is a p = (p.0, none_stays s k n packet history (λ f r j e. absurd cc) p.1)
 
-closed_base : (s : Settings) (k : ℕ) (before : History) → IsClosed s k before → IsClosed s k (base before)
-unfolding bursts
-closed_base s k before closed = at (bursts s k before) closed
-  where
-    at : (bs : List Burst) → newest_open bs ≡ None → newest_open (newest_changed (in_tick s) bs) ≡ None
-    at [] e = refl
-    at (b ∷ bs) e = one b.ended e
-      where
-        one : (ended : Option Cause) → if_open ended b ≡ None → if_open ended (in_tick s b) ≡ None
-        one None f = absurd cc
-        one (Some why) f = refl
-
-pub ticked_shut : (s : Settings) (k : ℕ) (before : History) → IsClosed s k before → Sound s k before → Shut s k (after_tick s (base before))
-unfolding after_tick
-ticked_shut s k before closed sound =
-    let start = closed_base s k before closed in
-    let among : is_among k (opened (base before)) ≡ false = opened_open s k (base before) ∙ ap (λ (x : Option Burst). is_some x) start in
-    let runs = bursts_served s (base before) in
-    let repairs = repairs_sent s runs in
-    all_forgotten_through (Shut s k) s (λ j history p. other_shut s k (note.Forgot j) None history refl p) (known repairs) repairs
-    (all_repaired_through (Shut s k) s (hold s runs) (λ j n q h history le p. (p.0, none_repaired s k j n q (Some h) history p.1))
-    (λ j n history p. other_shut s k (note.Gone j n) None history refl p) (pending runs) runs
-    (all_served_through (Shut s k) (λ j. eqb j k ≡ false) s (held_in s before) (λ j e n q h history p. other_shut s k (note.Burst j n q) (Some h) history e p)
-    (λ j e why history p. other_shut s k (note.End j why) None history e p) (opened (base before)) (unserved k (opened (base before)) among) (base before) (sound, start)))
+pub ticked_shut : (s : Settings) (k : ℕ) (before : History) → IsLegal s (after_tick s (base before)) → IsClosed s k before → Sound s k before → Shut s k (after_tick s (base before))
+ticked_shut s k before l closed sound =
+    onwards is_of_tick s (Shut s k) (λ n packet h is a legal p. each_shut s k n packet h is a p) (base before) (after_tick s (base before)) (tick_puts s (base before)) l
+    (sound, none_begun s k before closed)
