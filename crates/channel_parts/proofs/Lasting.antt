@@ -1,21 +1,20 @@
 -- Between two events an open burst has lasted fewer than `limit` ticks: each tick ends those that have lasted so many.
-use Rattle.std.proofs.Common.{◌≡◌, ℕ, ◌-◌, ◌<◌, ◌≤◌, true, ◌⊎◌, inl, inr, ⊎_elim, List, [], ◌∷◌, Option, Some, None, refl, sym, ◌∙◌, subst, arith, eqb, Bool, false}
+use Rattle.std.proofs.Common.{◌≡◌, ℕ, ◌-◌, ◌<◌, ◌≤◌, List, ◌∷◌, Option, Some, None, refl, sym, subst, arith, eqb, Bool, false}
 use Rattle.std.specs.Prelude.{◌≢◌}
-use Rattle.std.proofs.lemmas.Bool.{cond_both, cases_Bool, or_cases, eqb-true, eqb-false, true≢false}
+use Rattle.std.proofs.lemmas.Bool.{cond_both, eqb-false, true≢false}
 use Rattle.rams_model.specs.declared.event.Event.{Event}
 use Rattle.rams_model.specs.declared.held.Held.{Held}
 use Rattle.rams_model.specs.declared.note.Cause.{Cause}
 use Rattle.rams_model.specs.declared.note.Note.{Note}
 use Rattle.rams_model.specs.declared.note.Cause.TheVariants as cause
 use Rattle.rams_model.specs.declared.note.Note.TheVariants as note
-use Rattle.rams_model.specs.Service.{Settings, Heard, tick, heard_of, began, noted, History, hold, known, opened, is_among, Burst, next, after_note, size_of, bursts, open_burst, pending, run, send, is_lost, is_stop, after_run, run_sent, burst_served, all_served, bursts_served, repairs_sent, after_tick, history_of, idle_forgotten, told, after_message}
+use Rattle.rams_model.specs.Service.{Settings, Heard, tick, heard_of, began, noted, History, hold, known, Burst, next, after_note, size_of, bursts, open_burst, pending, run, send, is_lost, is_stop, after_run, run_sent, burst_served, bursts_served, repairs_sent, after_tick, history_of, idle_forgotten, told, after_message}
 use Rattle.rams_model.specs.Packets.{from_number}
-use Rattle.channel_parts.proofs.Opening.{none_of}
 use Rattle.rams_model.proofs.Legal.{is_tick}
-use Rattle.rams_model.proofs.Items.{is_note, is_run_of, is_repair, is_forgotten, Puts, message_puts, send_puts, served_puts, all_repaired_put, all_forgotten_put}
+use Rattle.rams_model.proofs.Items.{is_note, is_run_of, is_repair, is_forgotten, Puts, message_puts, send_puts, all_repaired_put, all_forgotten_put}
 use Rattle.rams_model.proofs.Induction.{through, between}
 use Rattle.rams_model.proofs.OpenBurst.{Holds, holds_of, end_closes, at_note, at_tick}
-use Rattle.rams_model.proofs.LastAccept.{opened_open}
+use Rattle.rams_model.proofs.Turns.{in_turn}
 
 -- it has lasted at most so many ticks
 abbrev Within : ℕ → Burst → Type 0
@@ -69,28 +68,12 @@ served_lasts s held k (Some b) history e l =
     cond_both (is_lost (next b) held) (noted (note.End k cause.Lost) None ∷ history) (run_sent s k sent) (Lasts s (most - 1) k) (λ t. ended_lasts s (most - 1) k cause.Lost history)
     (λ f. run_lasts s k (open_burst s k sent) sent refl (lasts_through s most k (is_run_of k) history sent (send_puts s k hs history) l))
 
--- so have all, after each was served
-all_last : (s : Settings) (held : List Held) (j : ℕ) (ks : List ℕ) (history : History) → Lasts s s.channel.limit j history
-    → (is_among j ks ≡ true) ⊎ Lasts s (s.channel.limit - 1) j history → Lasts s (s.channel.limit - 1) j (all_served s held ks history)
-unfolding all_served
-all_last s held j [] history l o = ⊎_elim (λ t. absurd cc) (λ less. less) o
-all_last s held j (k ∷ ks) history l o =
-    let most = s.channel.limit in
-    let served = burst_served s held k (open_burst s k history) history in
-    let further : (m : ℕ) → Lasts s m j history → Lasts s m j served = λ m x. lasts_through s m j (is_run_of k) history served (served_puts s held k (open_burst s k history) history) x in
-    all_last s held j ks served (further most l)
-    (⊎_elim
-    (λ t. ⊎_elim
-    (λ here. let same : k ≡ j = eqb-true k j here in
-    inr (subst (λ (i : ℕ). Lasts s (most - 1) i served) same (served_lasts s held k (open_burst s k history) history refl (subst (λ (i : ℕ). Lasts s most i history) (sym same) l))))
-    (λ later. inl later) (or_cases (eqb k j) (is_among j ks) t))
-    (λ less. inr (further (most - 1) less)) o)
-
+-- so has each, once all were served
 runs_last : (s : Settings) (j : ℕ) (history : History) → Lasts s s.channel.limit j history → Lasts s (s.channel.limit - 1) j (bursts_served s history)
 runs_last s j history l =
-    all_last s (hold s history) j (opened history) history l
-    (⊎_elim (λ t. inl t) (λ f. inr (closed_lasts s (s.channel.limit - 1) j history (none_of (open_burst s j history) (sym (opened_open s j history) ∙ f))))
-    (cases_Bool (is_among j (opened history))))
+    let most = s.channel.limit in
+    in_turn s j history (Lasts s most j) (Lasts s (most - 1) j) (λ n packet h runs other l. noted_lasts s most j n packet h l) (λ n packet h runs other l. noted_lasts s (most - 1) j n packet h l)
+    (λ h l. served_lasts s (hold s history) j (open_burst s j h) h refl l) l (closed_lasts s (most - 1) j history)
 
 tick_lasts : (s : Settings) (j : ℕ) (history : History) → Lasts s s.channel.limit j history → Lasts s (s.channel.limit - 1) j (after_tick s history)
 unfolding after_tick

@@ -1,19 +1,18 @@
 -- Between two events only known clients have an open burst.
-use Rattle.std.proofs.Common.{◌≡◌, ℕ, ◌≤◌, Bool, true, false, cond, not, ◌&&◌, ⊎_elim, List, ◌∷◌, Option, Some, None, refl, ap, sym, ◌∙◌, subst, eqb}
+use Rattle.std.proofs.Common.{◌≡◌, ℕ, ◌<◌, ◌≤◌, Bool, true, false, not, ◌&&◌, ⊎_elim, List, ◌∷◌, Option, Some, None, refl, ap, sym, ◌∙◌, subst, eqb}
 use Rattle.std.specs.Prelude.{filter, is_some}
-use Rattle.std.proofs.lemmas.Bool.{cond_both, cases_Bool, or_cases, and_parts, not-true, both_ways, eqb-true, true≢false}
+use Rattle.std.proofs.lemmas.Bool.{cases_Bool, or_cases, and_parts, not-true, both_ways, eqb-true, true≢false}
 use Rattle.std.proofs.lemmas.Map.Views.{any-filter_same}
 use Rattle.rams_model.specs.declared.event.Event.{Event}
 use Rattle.rams_model.specs.declared.held.Held.{Held}
 use Rattle.rams_model.specs.declared.note.Note.{Note}
 use Rattle.rams_model.specs.declared.note.Cause.TheVariants as cause
 use Rattle.rams_model.specs.declared.note.Note.TheVariants as note
-use Rattle.rams_model.specs.Service.{Settings, Message, bye, nack, asks, stops, Heard, tick, heard_of, Item, began, told, noted, History, known, opened, is_among, ssrc, bursts, open_burst, has_open, is_bye_of, after_bye, after_message, after_tick, history_of}
-use Rattle.rams_model.specs.Formats.{Framed}
+use Rattle.rams_model.specs.Service.{Settings, Message, Heard, tick, heard_of, Item, began, told, noted, History, known, opened, is_among, Burst, next, bursts, open_burst, has_open, after_message, after_tick, history_of}
 use Rattle.rams_model.specs.Laws.{makes_known, ends_known, is_accept_of, is_end_of}
-use Rattle.rams_model.proofs.Legal.{is_tick, Answers, Allows, IsLegal}
+use Rattle.rams_model.proofs.Legal.{is_tick, Allows, IsLegal}
 use Rattle.rams_model.proofs.Items.{is_of_tick, tick_puts}
-use Rattle.rams_model.proofs.Induction.{onwards, in_answer, is_at_once, between}
+use Rattle.rams_model.proofs.Induction.{onwards, is_alone, whole_answer, is_at_once, between}
 use Rattle.rams_model.proofs.LastAccept.{open_step, opened_open}
 use Rattle.channel_parts.proofs.Ordered.{rise_passed, known_rise, opened_rise, same_rise}
 use Rattle.channel_parts.proofs.Knowing.{still_known, made_known, forgotten_rests}
@@ -55,37 +54,17 @@ ended s k history are j e =
     still_known j (noted (note.End k cause.Bye) None) (noted (note.Bye k) None ∷ history) refl
     (still_known j (noted (note.Bye k) None) history (not-true (eqb k j) parts.0) (are j parts.1))
 
-bye_kept : (s : Settings) (k : ℕ) (p : Framed) (history : History) → AreKnown s history → AreKnown s (after_bye s k p history)
-unfolding bursts known
-bye_kept s k p history are =
-    cond_both (not (is_among k (known history) && is_bye_of p (ssrc k history))) (noted (note.ByeIdle k) None ∷ history)
-    (cond (has_open s k history) (noted (note.End k cause.Bye) None ∷ noted (note.Bye k) None ∷ history) (noted (note.Bye k) None ∷ history)) (AreKnown s)
-    (λ t. are)
-    (λ f. cond_both (has_open s k history) (noted (note.End k cause.Bye) None ∷ noted (note.Bye k) None ∷ history) (noted (note.Bye k) None ∷ history) (AreKnown s)
-    (λ t. ended s k history are) (λ none. left s k history are none))
-
-message_of : Message → Option (ℕ × Message) → Message
-message_of m None = m
-message_of m (Some told') = told'.1
-
-answered : (s : Settings) (k : ℕ) (m : Message) (history : History) → 1 ≤ s.channel.idle → ((p : Framed) → m ≡ bye p → ⊥) → IsLegal s (after_message s k m (told k m ∷ history))
-    → AreKnown s history → AreKnown s (after_message s k m (told k m ∷ history))
-unfolding bursts known message_of
-answered s k m history some other l are = in_answer s (AreKnown s) k m each history l are
-  where
-    each : (n : Note) (packet : Option Held) (before : History) → Allows s before n packet → Answers before k m → AreKnown s before → AreKnown s (noted n packet ∷ before)
-    each n packet before a here known' =
-        kept s (noted n packet) before
-        (stays s before n packet some a
-        (λ client is. let bye_allowed = subst (λ (x : Note). Allows s before x packet) is a in other bye_allowed.packet (ap (message_of m) (sym here ∙ bye_allowed.is_answer)))) known'
-
 pub message_kept : (s : Settings) (k : ℕ) (m : Message) (history : History) → 1 ≤ s.channel.idle → IsLegal s (after_message s k m (told k m ∷ history)) → AreKnown s history
     → AreKnown s (after_message s k m (told k m ∷ history))
 unfolding bursts known
-message_kept s k (bye p) history some l are = bye_kept s k p (told k (bye p) ∷ history) are
-message_kept s k (nack media sender lows) history some l are = answered s k (nack media sender lows) history some (λ p e. absurd cc) l are
-message_kept s k (asks sender request) history some l are = answered s k (asks sender request) history some (λ p e. absurd cc) l are
-message_kept s k (stops stop) history some l are = answered s k (stops stop) history some (λ p e. absurd cc) l are
+message_kept s k m history some l are =
+    whole_answer s (AreKnown s) k
+    (λ n packet before alone a known'. kept s (noted n packet) before (stays s before n packet some a (λ client bye. true≢false (sym alone ∙ ap (λ (x : Note). is_alone x) bye))) known') set
+    (λ n before known'. kept s (noted (note.End k cause.Stopped) None) (noted (note.StopAt k n) None ∷ before) (λ j e o. absurd cc) (kept s (noted (note.StopAt k n) None) before (λ j e o. absurd cc) known'))
+    (λ before none known'. left s k before known' none) (ended s k) m history l are
+  where
+    set : (b : Burst) (n : ℕ) (before : History) → open_burst s k before ≡ Some b → next b < n → AreKnown s before → AreKnown s (noted (note.StopAt k n) None ∷ before)
+    set b n before is lt known' = kept s (noted (note.StopAt k n) None) before (λ j e o. absurd cc) known'
 
 tick_kept : (s : Settings) (history : History) → 1 ≤ s.channel.idle → IsLegal s (after_tick s (began tick ∷ history)) → AreKnown s (began tick ∷ history)
     → AreKnown s (after_tick s (began tick ∷ history))
