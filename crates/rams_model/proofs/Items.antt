@@ -1,18 +1,20 @@
 -- What a message, or a tick, puts in front of a history: notes, and of which kinds.
-use Rattle.std.proofs.Common.{◌≡◌, ℕ, Bool, true, false, List, [], ◌∷◌, ◌++◌, Option, Some, None, refl, ap, sym, ◌∙◌, append_assoc}
+use Rattle.std.proofs.Common.{◌≡◌, ℕ, ◌+◌, ◌-◌, ◌*◌, ◌≤◌, Bool, true, false, List, [], ◌∷◌, ◌++◌, length, Option, Some, None, refl, ap, sym, ◌∙◌, arith, append_assoc}
 use Rattle.std.specs.Prelude.{◌==◌, ◌&&◌, not, nat_le, if◌then◌else◌, find, Result, Ok, Err}
 use Rattle.std.proofs.lemmas.Bool.{cond_both, eq-eqb, true≢false}
+use Rattle.std.proofs.lemmas.List.{length-append}
 use Rattle.rams_model.specs.declared.fault.TlvFault.{TlvFault}
 use Rattle.rams_model.specs.declared.held.Held.{Held}
 use Rattle.rams_model.specs.declared.message.Stop.{Stop}
 use Rattle.rams_model.specs.declared.note.Note.{Note}
 use Rattle.rams_model.specs.declared.note.Note.TheVariants as note
 use Rattle.rams_model.specs.declared.note.Cause.TheVariants as cause
-use Rattle.rams_model.specs.Service.{Settings, Message, bye, nack, asks, stops, began, told, noted, History, hold, known, opened, is_among, sequence, ssrc, Burst, next, open_burst, has_open, Wanted, pending, idle, channel_left, may_take, verdict, room, number_answer, is_bye_of, after_numbers, after_nack, stop_set, on_stop, stop_burst, after_stop, after_bye, after_message, run, send, is_lost, is_stop, after_run, run_sent, burst_served, all_served, repaired, all_repaired, all_forgotten, bursts_served, repairs_sent, idle_forgotten, after_tick}
+use Rattle.rams_model.specs.Service.{Settings, Message, bye, nack, asks, stops, began, told, noted, History, hold, known, opened, is_among, sequence, ssrc, Burst, next, open_burst, has_open, Wanted, pending, idle, channel_left, may_take, verdict, room, number_answer, is_bye_of, is_before, after_numbers, after_nack, stop_set, on_stop, stop_burst, after_stop, after_bye, after_message, run, send, is_lost, is_stop, after_run, run_sent, burst_served, all_served, repaired, all_repaired, all_forgotten, bursts_served, repairs_sent, idle_forgotten, after_tick}
 use Rattle.rams_model.specs.Formats.{Framed}
 use Rattle.rams_model.specs.Service.Rates as rates
 use Rattle.rams_model.specs.Packets.{from_number}
 use Rattle.rams_model.proofs.Legal.{is_of_runs}
+use Rattle.rams_model.proofs.ListFacts.{few_passed}
 
 -- each of these items is a note of the kind
 abbrev pub AreOfKind : (Note → Bool) → History → Type 0
@@ -154,62 +156,121 @@ message_puts s k (nack media from lows) history = nack_puts s k media lows histo
 message_puts s k (asks from request) history = one is_note (verdict s k history request) None history refl
 message_puts s k (stops stop) history = stop_puts s k stop history
 
--- a tick
-pub send_puts : (s : Settings) (k : ℕ) (hs : List Held) (history : History) → Puts (is_run_of k) history (send s k hs history)
+-- They are at most so many.
+pub record PutsFew (kind : Note → Bool) (most : ℕ) (before after : History) : Type 0 where
+  pub puts : Puts kind before after
+  pub few : length puts.items ≤ most
+
+few_none : (kind : Note → Bool) (most : ℕ) (history : History) → PutsFew kind most history history
+unfolding none
+few_none kind most history = let size : length (none kind history).items ≡ 0 = refl in record { puts = none kind history; few = omega (arith, size) }
+
+few_one : (kind : Note → Bool) (most : ℕ) (n : Note) (packet : Option Held) (history : History) → kind n ≡ true → 1 ≤ most → PutsFew kind most history (noted n packet ∷ history)
+unfolding none one_more one
+few_one kind most n packet history is le =
+    let size : length (one kind n packet history is).items ≡ 1 = refl in record { puts = one kind n packet history is; few = omega (arith, le, size) }
+
+few_both : (kind : Note → Bool) (some more most : ℕ) (before mid after : History) → some + more ≤ most → PutsFew kind some before mid → PutsFew kind more mid after → PutsFew kind most before after
+unfolding both
+few_both kind some more most before mid after le p q =
+    let puts = both kind before mid after p.puts q.puts in
+    let size : length puts.items ≡ length (q.puts.items ++ p.puts.items) = refl in
+    record { puts = puts; few = omega (arith, le, size, p.few, q.few, length-append q.puts.items p.puts.items) }
+
+few_wider : (kind other : Note → Bool) → ((n : Note) → kind n ≡ true → other n ≡ true) → (most : ℕ) (before after : History) → PutsFew kind most before after → PutsFew other most before after
+unfolding widen
+few_wider kind other wider most before after p = record { puts = widen kind other wider before after p.puts; few = p.few }
+
+-- a tick: a run is of what is held
+run_few : (stop : Option ℕ) (n left : ℕ) (hs : List Held) → length (run stop n left hs) ≤ length hs
+unfolding run
+run_few stop n left [] = omega arith
+run_few stop n left (h ∷ hs) =
+    let rest = run stop (n + 1) (left - h.wire) hs in
+    cond_both (h.n == n && is_before stop n && nat_le h.wire left) (h ∷ rest) [] (λ l. length l ≤ length (h ∷ hs))
+    (λ t. omega (arith, run_few stop (n + 1) (left - h.wire) hs)) (λ f. omega arith)
+
+send_few : (s : Settings) (k : ℕ) (hs : List Held) (history : History) → PutsFew (is_run_of k) (length hs) history (send s k hs history)
 unfolding send
-send_puts s k [] history = none (is_run_of k) history
-send_puts s k (h ∷ hs) history =
+send_few s k [] history = few_none (is_run_of k) 0 history
+send_few s k (h ∷ hs) history =
     let sent = noted (note.Burst k h.n (sequence s k history)) (Some h) ∷ history in
-    both (is_run_of k) history sent (send s k hs sent) (one (is_run_of k) (note.Burst k h.n (sequence s k history)) (Some h) history (eq-eqb k k refl)) (send_puts s k hs sent)
+    few_both (is_run_of k) 1 (length hs) (length (h ∷ hs)) history sent (send s k hs sent) (omega arith)
+    (few_one (is_run_of k) 1 (note.Burst k h.n (sequence s k history)) (Some h) history (eq-eqb k k refl) (omega arith)) (send_few s k hs sent)
 
-pub run_puts : (s : Settings) (k : ℕ) (o : Option Burst) (history : History) → Puts (is_run_of k) history (after_run s k o history)
-run_puts s k None history = none (is_run_of k) history
-run_puts s k (Some b) history =
+ended_few : (s : Settings) (k : ℕ) (o : Option Burst) (history : History) → PutsFew (is_run_of k) 1 history (after_run s k o history)
+ended_few s k None history = few_none (is_run_of k) 1 history
+ended_few s k (Some b) history =
     cond_both (is_stop b.stop (next b)) (noted (note.End k cause.Stopped) None ∷ history)
-    (if b.ticks == s.channel.limit then noted (note.End k cause.Limit) None ∷ history else history) (Puts (is_run_of k) history)
-    (λ t. one (is_run_of k) (note.End k cause.Stopped) None history (eq-eqb k k refl))
-    (λ f. cond_both (b.ticks == s.channel.limit) (noted (note.End k cause.Limit) None ∷ history) history (Puts (is_run_of k) history)
-    (λ t. one (is_run_of k) (note.End k cause.Limit) None history (eq-eqb k k refl)) (λ g. none (is_run_of k) history))
+    (if b.ticks == s.channel.limit then noted (note.End k cause.Limit) None ∷ history else history) (PutsFew (is_run_of k) 1 history)
+    (λ t. few_one (is_run_of k) 1 (note.End k cause.Stopped) None history (eq-eqb k k refl) (omega arith))
+    (λ f. cond_both (b.ticks == s.channel.limit) (noted (note.End k cause.Limit) None ∷ history) history (PutsFew (is_run_of k) 1 history)
+    (λ t. few_one (is_run_of k) 1 (note.End k cause.Limit) None history (eq-eqb k k refl) (omega arith)) (λ g. few_none (is_run_of k) 1 history))
 
-pub served_puts : (s : Settings) (held : List Held) (k : ℕ) (o : Option Burst) (history : History) → Puts (is_run_of k) history (burst_served s held k o history)
-served_puts s held k None history = none (is_run_of k) history
-served_puts s held k (Some b) history =
-    let sent = send s k (run b.stop (next b) b.left (from_number (next b) held)) history in
-    cond_both (is_lost (next b) held) (noted (note.End k cause.Lost) None ∷ history) (run_sent s k sent) (Puts (is_run_of k) history)
-    (λ t. one (is_run_of k) (note.End k cause.Lost) None history (eq-eqb k k refl))
-    (λ f. both (is_run_of k) history sent (run_sent s k sent) (send_puts s k (run b.stop (next b) b.left (from_number (next b) held)) history) (run_puts s k (open_burst s k sent) sent))
+served_few : (s : Settings) (held : List Held) (k : ℕ) (o : Option Burst) (history : History) → PutsFew (is_run_of k) (length held + 1) history (burst_served s held k o history)
+served_few s held k None history = few_none (is_run_of k) (length held + 1) history
+served_few s held k (Some b) history =
+    let kind = is_run_of k in
+    let from = from_number (next b) held in
+    let packets = run b.stop (next b) b.left from in
+    let sent = send s k packets history in
+    cond_both (is_lost (next b) held) (noted (note.End k cause.Lost) None ∷ history) (run_sent s k sent) (PutsFew kind (length held + 1) history)
+    (λ t. few_one kind (length held + 1) (note.End k cause.Lost) None history (eq-eqb k k refl) (omega arith))
+    (λ f. few_both kind (length packets) 1 (length held + 1) history sent (run_sent s k sent)
+    (omega (arith, run_few b.stop (next b) b.left from, few_passed (λ (h : Held). nat_le (next b) h.n) held)) (send_few s k packets history) (ended_few s k (open_burst s k sent) sent))
 
-pub all_served_put : (s : Settings) (held : List Held) (ks : List ℕ) (history : History) → Puts is_of_runs history (all_served s held ks history)
+pub all_served_few : (s : Settings) (held : List Held) (ks : List ℕ) (history : History) → PutsFew is_of_runs (length ks * (length held + 1)) history (all_served s held ks history)
 unfolding all_served
-all_served_put s held [] history = none is_of_runs history
-all_served_put s held (k ∷ ks) history =
-    let served = burst_served s held k (open_burst s k history) history in
-    both is_of_runs history served (all_served s held ks served)
-    (widen (is_run_of k) is_of_runs (run_in_runs k) history served (served_puts s held k (open_burst s k history) history)) (all_served_put s held ks served)
+all_served_few s held [] history = few_none is_of_runs (length {A = ℕ} [] * (length held + 1)) history
+all_served_few s held (k ∷ ks) history =
+    let o = open_burst s k history in
+    let served = burst_served s held k o history in
+    let own = served_few s held k o history in
+    few_both is_of_runs (length held + 1) (length ks * (length held + 1)) (length (k ∷ ks) * (length held + 1)) history served (all_served s held ks served) (omega arith)
+    (few_wider (is_run_of k) is_of_runs (run_in_runs k) (length held + 1) history served own) (all_served_few s held ks served)
 
-pub repaired_puts : (s : Settings) (held : List Held) (w : Wanted) (o : Option Held) (history : History) → Puts is_repair history (repaired s held w o history)
-repaired_puts s held w None history = one is_repair (note.Gone w.client w.n) None history refl
-repaired_puts s held w (Some h) history =
+repaired_few : (s : Settings) (held : List Held) (w : Wanted) (o : Option Held) (history : History) → PutsFew is_repair 1 history (repaired s held w o history)
+repaired_few s held w None history = few_one is_repair 1 (note.Gone w.client w.n) None history refl (omega arith)
+repaired_few s held w (Some h) history =
     let repair = note.Repair w.client w.n (sequence s w.client history) in
     cond_both (nat_le h.wire (may_take s held w.client history) && nat_le h.wire (channel_left s history)) (noted repair (Some h) ∷ history) history
-    (Puts is_repair history) (λ t. one is_repair repair (Some h) history refl) (λ f. none is_repair history)
+    (PutsFew is_repair 1 history) (λ t. few_one is_repair 1 repair (Some h) history refl (omega arith)) (λ f. few_none is_repair 1 history)
+
+pub all_repaired_few : (s : Settings) (held : List Held) (ws : List Wanted) (history : History) → PutsFew is_repair (length ws) history (all_repaired s held ws history)
+unfolding all_repaired
+all_repaired_few s held [] history = few_none is_repair 0 history
+all_repaired_few s held (w ∷ ws) history =
+    let o = find (λ h. h.n == w.n) held in
+    let now = repaired s held w o history in
+    few_both is_repair 1 (length ws) (length (w ∷ ws)) history now (all_repaired s held ws now) (omega arith) (repaired_few s held w o history) (all_repaired_few s held ws now)
+
+pub all_forgotten_few : (s : Settings) (ks : List ℕ) (history : History) → PutsFew is_forgotten (length ks) history (all_forgotten s ks history)
+unfolding all_forgotten
+all_forgotten_few s [] history = few_none is_forgotten 0 history
+all_forgotten_few s (k ∷ ks) history =
+    let now = if idle s k history == s.channel.idle then noted (note.Forgot k) None ∷ history else history in
+    few_both is_forgotten 1 (length ks) (length (k ∷ ks)) history now (all_forgotten s ks now) (omega arith)
+    (cond_both (idle s k history == s.channel.idle) (noted (note.Forgot k) None ∷ history) history (PutsFew is_forgotten 1 history)
+    (λ t. few_one is_forgotten 1 (note.Forgot k) None history refl (omega arith)) (λ f. few_none is_forgotten 1 history))
+    (all_forgotten_few s ks now)
+
+pub send_puts : (s : Settings) (k : ℕ) (hs : List Held) (history : History) → Puts (is_run_of k) history (send s k hs history)
+send_puts s k hs history = (send_few s k hs history).puts
+
+pub served_puts : (s : Settings) (held : List Held) (k : ℕ) (o : Option Burst) (history : History) → Puts (is_run_of k) history (burst_served s held k o history)
+served_puts s held k o history = (served_few s held k o history).puts
+
+pub all_served_put : (s : Settings) (held : List Held) (ks : List ℕ) (history : History) → Puts is_of_runs history (all_served s held ks history)
+all_served_put s held ks history = (all_served_few s held ks history).puts
+
+pub repaired_puts : (s : Settings) (held : List Held) (w : Wanted) (o : Option Held) (history : History) → Puts is_repair history (repaired s held w o history)
+repaired_puts s held w o history = (repaired_few s held w o history).puts
 
 pub all_repaired_put : (s : Settings) (held : List Held) (ws : List Wanted) (history : History) → Puts is_repair history (all_repaired s held ws history)
-unfolding all_repaired
-all_repaired_put s held [] history = none is_repair history
-all_repaired_put s held (w ∷ ws) history =
-    let now = repaired s held w (find (λ h. h.n == w.n) held) history in
-    both is_repair history now (all_repaired s held ws now) (repaired_puts s held w (find (λ h. h.n == w.n) held) history) (all_repaired_put s held ws now)
+all_repaired_put s held ws history = (all_repaired_few s held ws history).puts
 
 pub all_forgotten_put : (s : Settings) (ks : List ℕ) (history : History) → Puts is_forgotten history (all_forgotten s ks history)
-unfolding all_forgotten
-all_forgotten_put s [] history = none is_forgotten history
-all_forgotten_put s (k ∷ ks) history =
-    let now = if idle s k history == s.channel.idle then noted (note.Forgot k) None ∷ history else history in
-    both is_forgotten history now (all_forgotten s ks now)
-    (cond_both (idle s k history == s.channel.idle) (noted (note.Forgot k) None ∷ history) history (Puts is_forgotten history)
-    (λ t. one is_forgotten (note.Forgot k) None history refl) (λ f. none is_forgotten history))
-    (all_forgotten_put s ks now)
+all_forgotten_put s ks history = (all_forgotten_few s ks history).puts
 
 pub tick_puts : (s : Settings) (history : History) → Puts is_of_tick history (after_tick s history)
 unfolding after_tick
