@@ -91,9 +91,9 @@ impl Points {
         }
     }
 
-    /// The choice among the points. Where none is above the last mark's timestamp, it is found by halves among those
-    /// that are below all behind them. Else the search goes from the newest on, and into a span only where a point
-    /// of it may be old enough.
+    /// The choice among the points. Where none is above the last mark's timestamp, it is found by guesses and halves
+    /// among those that are below all behind them. Else the search goes from the newest on, and into a span only where
+    /// a point of it may be old enough.
     pub fn choose(&self, ask: &Ask) -> Choice
         requires { RiseIn 0 (2 ^ 62) 0 ask.now.total self.now.items }
         ensures { result ≡ choice_for ask.now self.now.items }
