@@ -41,19 +41,18 @@ const TICKS: &[Ticks] = &[
     (1000, 0, [[1000, 0, 0], [1, 2, 3]], [1000, 1000], 994),
 ];
 
-// Of 3,100 bytes: what is spent before, what the client has left, a size, and whether it fits.
-type Spent = (u64, u64, u64, bool);
+// Of 3,100 bytes: what is spent before, a size, and whether it fits.
+type Spent = (u64, u64, bool);
 
 const SPENT: &[Spent] = &[
-    (0, 1500, 1500, true),
-    (0, 1499, 1500, false),
-    (1500, 1600, 1600, true),
-    (1500, 1601, 1601, false),
-    (3000, 100, 101, false),
-    (3000, 100, 100, true),
-    (3100, u64::MAX, 1, false),
-    (3100, 0, 0, true),
-    (0, u64::MAX, u64::MAX, false),
+    (0, 1500, true),
+    (1500, 1600, true),
+    (1500, 1601, false),
+    (3000, 101, false),
+    (3000, 100, true),
+    (3100, 1, false),
+    (3100, 0, true),
+    (0, u64::MAX, false),
 ];
 
 // The answers to two amounts, and what is reserved then; all of it can be released.
@@ -85,7 +84,7 @@ fn begun(budget: &mut Budget, sizes: &[u64; 3]) -> Option<u64> {
     budget.open_tick();
     let left = budget.left();
     for size in sizes {
-        if !budget.spend(1500, *size) {
+        if !budget.spend(*size) {
             return None;
         }
     }
@@ -116,26 +115,26 @@ fn keeps_up_to_the_swell(rt: HostRuntime) {
 }
 
 // Whether a size fits behind what is spent before, and how much less is left then.
-fn spent(before: u64, client_left: u64, size: u64) -> Option<(bool, u64)> {
+fn spent(before: u64, size: u64) -> Option<(bool, u64)> {
     let mut budget = Budget::new(3100, 1500, 0);
     budget.open_tick();
-    if !budget.spend(before, before) {
+    if !budget.spend(before) {
         return None;
     }
     let left = budget.left();
-    let fits = budget.spend(client_left, size);
+    let fits = budget.spend(size);
     Some((fits, left - budget.left()))
 }
 
 fn expect_spent(rt: &impl Abort, rows: &[Spent]) {
-    for (place, (before, client_left, size, fits)) in rows.iter().enumerate() {
+    for (place, (before, size, fits)) in rows.iter().enumerate() {
         let taken = if *fits { *size } else { 0 };
-        let got = spent(*before, *client_left, *size);
+        let got = spent(*before, *size);
         same(rt, &got, &Some((*fits, taken)), &place);
     }
 }
 
 #[test]
-fn spends_within_both_bounds(rt: HostRuntime) {
+fn spends_what_is_left(rt: HostRuntime) {
     expect_spent(&rt, SPENT);
 }

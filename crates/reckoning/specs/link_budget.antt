@@ -1,3 +1,3 @@
 pub mod Amounts
-unfoldable pub use Rattle.reckoning.specs.link_budget.Amounts.{amounts, HasRoom, Fits}
+unfoldable pub use Rattle.reckoning.specs.link_budget.Amounts.{amounts, HasRoom}
 pub use Rattle.reckoning.specs.link_budget.Amounts.{AreWithinShare}

@@ -22,7 +22,7 @@ fn spend(budget: &mut Budget, size: u64)
 {
     // At most all that is left, so it always fits.
     let size = size.min(budget.left());
-    let _ = budget.spend(size, size);
+    let _ = budget.spend(size);
 }
 
 /// Packets that were sent to a client are written down.

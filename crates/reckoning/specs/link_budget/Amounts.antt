@@ -22,7 +22,3 @@ pub record AreWithinShare (a : Amounts) : Type 0 where
 -- One amount more fits into the share, beside what is reserved and what is left to repairs.
 abbrev pub HasRoom : Amounts → ℕ → Type 0
 HasRoom a amount = a.reserved + amount + a.reserve ≤ a.share
-
--- A size fits into what a client may still be sent, and into what is left.
-abbrev pub Fits : Amounts → ℕ → ℕ → Type 0
-Fits a client_left size = (size ≤ client_left) × (size ≤ a.left)

@@ -1,7 +1,7 @@
 //! Bytes that are reserved, and bytes that are left.
 ghost use Rattle.std.specs.Prelude.{◌≡◌, ◌+◌, ◌-◌, ◌<◌, ◌≤◌, ◌^◌, ◌↔◌, min, IsTrue};
 ghost use Rattle.std.specs.Bool.{OnTrue, OnFalse};
-ghost use Rattle.reckoning.specs.link_budget.{amounts, HasRoom, Fits};
+ghost use Rattle.reckoning.specs.link_budget.{amounts, HasRoom};
 
 use std::marker::Model;
 
@@ -86,14 +86,13 @@ impl Budget {
         self.left = self.share + self.swell.min(self.left);
     }
 
-    /// Takes the wire size of a packet from what is left. `false` where it doesn't fit there, or into
-    /// what its client may still be sent.
-    pub fn spend(&mut self, client_left: u64, size: u64) -> bool
-        ensures fits { IsTrue result ↔ Fits self.old client_left size }
+    /// Takes the wire size of a packet from what is left. `false` where it doesn't fit there.
+    pub fn spend(&mut self, size: u64) -> bool
+        ensures fits { IsTrue result ↔ size ≤ self.old.left }
         ensures taken { OnTrue result (self.new ≡ record self.old { left = self.old.left - size }) }
         ensures same { OnFalse result (self.new ≡ self.old) }
     {
-        let fits = size <= client_left && size <= self.left;
+        let fits = size <= self.left;
         if fits {
             self.left -= size;
         }
