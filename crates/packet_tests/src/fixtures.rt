@@ -2,6 +2,7 @@
 use std::alloc::Global;
 use std::process::Abort;
 use std::test::Fail;
+use test_fixtures::test_calls::let_go;
 use test_fixtures::test_words::{Words, bytes_of};
 
 /// The SSRC of the client that sends feedback.
@@ -9,9 +10,6 @@ pub const CLIENT: u32 = 0x0000_c001;
 
 /// The SSRC of the media source.
 pub const MEDIA: u32 = 0x1122_3344;
-
-/// The value is dropped, by a call of its own: so a caller's proof doesn't go through its fields.
-pub fn let_go<T: Drop>(_value: T) {}
 
 /// It holds of this.
 pub fn holds(rt: &impl Abort, is_so: bool, of: &str) {
@@ -46,12 +44,4 @@ pub fn expect_rows<W: Wanted>(rt: &impl Abort, alloc: Global, rows: &[Row<W>]) -
         holds(rt, is_met?, name);
     }
     Ok(())
-}
-
-/// What a call gives that succeeds in a test.
-pub fn done<T, E: Drop>(outcome: Result<T, E>) -> Result<T, Fail> {
-    match outcome {
-        Ok(value) => Ok(value),
-        Err(_) => Err(Fail::new("a call failed")),
-    }
 }

@@ -1,8 +1,9 @@
 //! Feedback messages and generic NACKs, byte for byte (RFC 4585, 6.1 and 6.2.1).
-use crate::fixtures::{CLIENT, MEDIA, Row, Wanted, done, expect_rows, is_twice, let_go};
+use crate::fixtures::{CLIENT, MEDIA, Row, Wanted, expect_rows, is_twice};
 use std::alloc::Global;
 use std::process::Abort;
 use std::test::Fail;
+use test_fixtures::test_calls::{done, let_go};
 use wire_packets::rtcp_feedback::{
     Feedback, NackFault, NackIter, append_nack, feedback, nack_numbers, write_nack,
 };

@@ -1,9 +1,8 @@
 //! RAMS messages, byte for byte, and each fault at its edge (RFC 6285, 7).
-use crate::fixtures::{
-    CLIENT, MEDIA, Row, Wanted, done, expect_rows, fci_of, holds, is_twice, let_go,
-};
+use crate::fixtures::{CLIENT, MEDIA, Row, Wanted, expect_rows, fci_of, holds, is_twice};
 use std::alloc::Global;
 use std::test::Fail;
+use test_fixtures::test_calls::{done, let_go};
 use wire_packets::rams_tlv::{
     Info, Request, Stop, TlvFault, append_info, append_request, append_stop, names, read_info,
     read_request, read_stop, write_info, write_request, write_stop,

@@ -1,8 +1,9 @@
 //! Worked retransmissions, and what is restored of them (RFC 4588, 4).
-use crate::fixtures::{Row, Wanted, done, expect_rows, is_twice, let_go};
+use crate::fixtures::{Row, Wanted, expect_rows, is_twice};
 use std::alloc::Global;
 use std::process::Abort;
 use std::test::Fail;
+use test_fixtures::test_calls::{done, let_go};
 use test_fixtures::test_words::{Words, bytes_of};
 use wire_packets::rtx_payload::{
     Rtp, RtxFault, append_rtx, restore, restoring_gives_the_original, write_rtx,

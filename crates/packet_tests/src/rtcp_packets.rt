@@ -1,9 +1,10 @@
 //! Datagrams of RTCP packets, byte for byte, and each fault at its edge (RFC 3550, 6).
-use crate::fixtures::{CLIENT, Row, Wanted, done, expect_rows, let_go};
+use crate::fixtures::{CLIENT, Row, Wanted, expect_rows};
 use rams_model::FrameFault;
 use std::alloc::Global;
 use std::process::Abort;
 use std::test::Fail;
+use test_fixtures::test_calls::{done, let_go};
 use test_fixtures::test_words::Words;
 use wire_packets::rtcp_frame::{
     Packet, Packets, append_bye, append_rr, append_sdes, bye_names, packets, write_bye, write_rr,

@@ -1,8 +1,9 @@
 //! A packet with every part, and each fault at its edge (RFC 3550, 5.1).
-use crate::fixtures::{Row, Wanted, done, expect_rows, holds, is_twice, let_go};
+use crate::fixtures::{Row, Wanted, expect_rows, holds, is_twice};
 use std::alloc::Global;
 use std::process::Abort;
 use std::test::Fail;
+use test_fixtures::test_calls::{done, let_go};
 use test_fixtures::test_words::{Words, bytes_of};
 use wire_packets::rtp_record::{
     Rtp, RtpFault, RtpFields, append_rtp, append_rtp_behind, write_rtp,
