@@ -4,6 +4,7 @@ use Rattle.std.specs.List.{list_any, filter, AllByRecursion as Each}
 use Rattle.std.proofs.lemmas.Bool.{cond_both}
 use Rattle.std.proofs.lemmas.Bool.Decides.{nat_tests}
 use Rattle.rams_model.specs.Service.{Wanted, wanted, is_wanted}
+use Rattle.repair_queue.specs.declared.wanted.TheConstants.{MOST_PENDING}
 use Rattle.repair_queue.specs.declared.wanted.Asked.TheVariants.{Queued}
 use Rattle.repair_queue.specs.{is_of, count_of, asked_of, unmarked, without, IsWithinLimits}
 
@@ -73,7 +74,7 @@ few_step true client n k ws same few limit =
 few_step false client n k ws same few limit = omega arith
 
 -- one more that Already, ClientFull and QueueFull don't answer
-pub limits_push : (client n : ℕ) (ws : List Wanted) → list_any (is_wanted client n) ws ≡ false → count_of client ws < 256 → length ws < 4096 → IsWithinLimits ws → IsWithinLimits (ws ++ wanted client n ∷ [])
+pub limits_push : (client n : ℕ) (ws : List Wanted) → list_any (is_wanted client n) ws ≡ false → count_of client ws < 256 → length ws < MOST_PENDING → IsWithinLimits ws → IsWithinLimits (ws ++ wanted client n ∷ [])
 limits_push client n ws new few short limits = record {
   once = λ k m. rw (filter_push (is_wanted k m) ws (wanted client n)) (once_step (is_wanted k m (wanted client n)) client n k m ws refl new (limits.once k m));
   of_client = λ k. rw (filter_push (is_of k) ws (wanted client n)) (few_step (is_of k (wanted client n)) client n k ws refl few (limits.of_client k));
@@ -84,7 +85,7 @@ limits_push client n ws new few short limits = record {
 pub record IsQueued (ws : List Wanted) (client n : ℕ) : Type 0 where
   pub new : list_any (is_wanted client n) ws ≡ false
   pub few : count_of client ws < 256
-  pub short : length ws < 4096
+  pub short : length ws < MOST_PENDING
 
 pub queued : (ws : List Wanted) (client n : ℕ) → asked_of ws client n ≡ Queued → IsQueued ws client n
 queued ws client n is = record {

@@ -2,6 +2,7 @@
 use Rattle.std.specs.Prelude.{ℕ, ◌≤◌, nat_le, Bool, true, false, ◌==◌, not, if◌then◌else◌, List, [], ◌∷◌, ◌++◌, length, filter}
 use Rattle.std.specs.List.{list_any}
 use Rattle.rams_model.specs.Service.{Wanted, wanted, is_wanted}
+use Rattle.repair_queue.specs.declared.wanted.TheConstants.{MOST_PENDING}
 use Rattle.repair_queue.specs.declared.wanted.Asked.{Asked}
 use Rattle.repair_queue.specs.declared.wanted.Asked.TheVariants.{Queued, Already, ClientFull, QueueFull}
 
@@ -18,7 +19,7 @@ abbrev pub asked_of : List Wanted → ℕ → ℕ → Asked
 asked_of ws client n =
     if list_any (is_wanted client n) ws then Already
     else if nat_le 256 (count_of client ws) then ClientFull
-    else if nat_le 4096 (length ws) then QueueFull
+    else if nat_le MOST_PENDING (length ws) then QueueFull
     else Queued
 
 -- what is pending after an answer: one more behind the others where it is Queued
@@ -41,4 +42,4 @@ without client ws = filter (λ w. not (is_of client w)) ws
 pub record IsWithinLimits (ws : List Wanted) : Type 0 where
   pub once : (client n : ℕ) → length (filter (is_wanted client n) ws) ≤ 1
   pub of_client : (client : ℕ) → count_of client ws ≤ 256
-  pub in_all : length ws ≤ 4096
+  pub in_all : length ws ≤ MOST_PENDING

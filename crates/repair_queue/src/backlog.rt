@@ -7,7 +7,7 @@ use crate::block::is_any_set;
 use crate::index::{Index, Run};
 use crate::piece::{PIECE, Piece};
 use crate::tail::Tail;
-use crate::wanted::Wanted;
+use crate::wanted::{MOST_PENDING, Wanted};
 use ram_io::NoMemory;
 use std::alloc::Global;
 use std::marker::Model;
@@ -59,7 +59,7 @@ impl Backlog {
 
     /// How many there are.
     pub(crate) fn len(&self) -> usize
-        requires { length self.now ≤ 4096 }
+        requires { length self.now ≤ MOST_PENDING }
         ensures { result ≡ length self.now }
     {
         self.in_pieces + self.last.as_slice().len()
@@ -74,7 +74,7 @@ impl Backlog {
 
     /// One more repair, behind the others.
     pub(crate) fn push(&mut self, w: Wanted)
-        requires room { length self.old < 4096 }
+        requires room { length self.old < MOST_PENDING }
         ensures { self.new ≡ self.old ++ w ∷ [] }
     {
         self.last.push(w);
@@ -82,7 +82,7 @@ impl Backlog {
 
     /// The repairs whose flag is set go, and their pairs go out of the index of all. There is one flag for each.
     pub(crate) fn drop_marked(&mut self, index: &mut Index, done: &[bool])
-        requires few { length self.old ≤ 4096 }
+        requires few { length self.old ≤ MOST_PENDING }
         requires one_each { length done.now ≡ length self.old }
         requires once { AreOnce self.old }
         requires indexed { Indexes index.old self.old }
@@ -99,7 +99,7 @@ impl Backlog {
 
     /// The client's repairs go.
     pub(crate) fn drop_client(&mut self, client: u64)
-        requires few { length self.old ≤ 4096 }
+        requires few { length self.old ≤ MOST_PENDING }
         ensures { self.new ≡ without client self.old }
     {
         drop_client_of_pieces(&mut self.pieces, client);
@@ -109,7 +109,7 @@ impl Backlog {
 
     /// What was asked for last goes into pieces, where whole ones can be made of it and there is memory.
     pub(crate) fn cut(&mut self)
-        requires few { length self.old ≤ 4096 }
+        requires few { length self.old ≤ MOST_PENDING }
         ensures { self.new ≡ self.old }
     {
         if has_empty(&self.pieces) {
@@ -134,7 +134,7 @@ fn drop_empty(pieces: &mut Vec<Piece>)
 
 // The first of those behind the pieces go into more pieces. How many went.
 fn cut_pieces(alloc: Global, pieces: &mut Vec<Piece>, last: &mut Tail) -> usize
-    requires few { length (all_of pieces.old.items ++ last.old) ≤ 4096 }
+    requires few { length (all_of pieces.old.items ++ last.old) ≤ MOST_PENDING }
     ensures same { all_of pieces.new.items ++ last.new ≡ all_of pieces.old.items ++ last.old }
     ensures count { length (all_of pieces.new.items) ≡ length (all_of pieces.old.items) + result }
 {
@@ -168,7 +168,7 @@ fn cut_piece(alloc: Global, pieces: &mut Vec<Piece>, last: &mut Tail) -> bool
 // Of the repairs of some pieces those go whose flag is set, and their pairs go out of the index of these and those
 // behind them. There is one flag for each.
 fn drop_of_pieces(index: &mut Index, pieces: &mut Vec<Piece>, done: &[bool]) -> Run
-    requires few { length (all_of pieces.old.items) ≤ 4096 }
+    requires few { length (all_of pieces.old.items) ≤ MOST_PENDING }
     requires one_each { length done.now ≡ length (all_of pieces.old.items) }
     ensures pieces { all_of pieces.new.items ≡ unmarked (all_of pieces.old.items) done.now }
     ensures removed { (back : List Repair) → AreOnce (all_of pieces.old.items ++ back) → Indexes index.old (all_of pieces.old.items ++ back) → Owes index.new (all_of pieces.new.items ++ back) result }
@@ -187,7 +187,7 @@ fn drop_of_pieces(index: &mut Index, pieces: &mut Vec<Piece>, done: &[bool]) -> 
 
 // The same of one piece. Where no flag is set, none of its repairs is looked at, but for once after some went.
 fn drop_of_piece(index: &mut Index, run: Run, piece: &mut Piece, done: &[bool]) -> Run
-    requires few { run.len + length piece.old ≤ 4096 }
+    requires few { run.len + length piece.old ≤ MOST_PENDING }
     requires one_each { length done.now ≡ length piece.old }
     ensures piece { piece.new ≡ unmarked piece.old done.now }
     ensures removed { (front back : List Repair) → AreOnce (front ++ piece.old ++ back) → Owes index.old (front ++ piece.old ++ back) run → Owes index.new (front ++ piece.new ++ back) result }
@@ -214,7 +214,7 @@ fn drop_client_of_pieces(pieces: &mut Vec<Piece>, client: u64)
 
 // How many repairs some pieces have.
 fn count_of_pieces(pieces: &[Piece]) -> usize
-    requires { length (all_of pieces.now) ≤ 4096 }
+    requires { length (all_of pieces.now) ≤ MOST_PENDING }
     ensures { result ≡ length (all_of pieces.now) }
 {
     let mut count = 0;

@@ -68,7 +68,7 @@ impl Index {
     /// How many numbers are pending for this client.
     pub(crate) fn count(&self, pending: &Backlog, client: u64) -> u32
         requires indexed { Indexes self.now pending.now }
-        requires few { length pending.now ≤ 4096 }
+        requires few { length pending.now ≤ MOST_PENDING }
         ensures { result ≡ count_of client pending.now }
     {
         if self.whole {
@@ -81,7 +81,7 @@ impl Index {
     /// The answer to an ask. Where it is `Queued`, the pair is among the others from here on. Where the
     /// index can't take the pair in, the answer comes from what is pending.
     pub(crate) fn claim(&mut self, pending: &Backlog, client: u64, n: u64) -> Asked
-        requires few { length pending.now ≤ 4096 }
+        requires few { length pending.now ≤ MOST_PENDING }
         requires indexed { Indexes self.old pending.now }
         ensures answer { result ≡ asked_of pending.now client n }
         ensures indexed { Indexes self.new (answered result pending.now client n) }
@@ -97,7 +97,7 @@ impl Index {
 
     // The answer to an ask, with no pair put in.
     fn answer(&self, pending: &Backlog, client: u64, n: u64) -> Asked
-        requires few { length pending.now ≤ 4096 }
+        requires few { length pending.now ≤ MOST_PENDING }
         requires indexed { Indexes self.now pending.now }
         ensures { result ≡ asked_of pending.now client n }
     {
@@ -116,7 +116,7 @@ impl Index {
     // Puts the pair among those of fewer than 4,096 repairs, where it is new and its client isn't full.
     // After an `Err` the index isn't whole.
     fn put(&mut self, client: u64, n: u64) -> Result<Asked, NoMemory>
-        ensures answer { IfOk result (λ asked. (ws : List Repair) → self.old.whole ≡ true → Indexes self.old ws → length ws < 4096 → asked ≡ asked_of ws client n) }
+        ensures answer { IfOk result (λ asked. (ws : List Repair) → self.old.whole ≡ true → Indexes self.old ws → length ws < MOST_PENDING → asked ≡ asked_of ws client n) }
         ensures indexed { IfOk result (λ asked. (ws : List Repair) → self.old.whole ≡ true → Indexes self.old ws → Indexes self.new (answered asked ws client n)) }
     {
         if !self.pairs.put(client, n)? {
@@ -131,7 +131,7 @@ impl Index {
 
     // One more pair. Where it can't be put in, the index isn't whole.
     fn add(&mut self, client: u64, n: u64)
-        ensures { (ws : List Repair) → length ws < 4096 → Indexes self.old ws → Indexes self.new (ws ++ wanted client n ∷ []) }
+        ensures { (ws : List Repair) → length ws < MOST_PENDING → Indexes self.old ws → Indexes self.new (ws ++ wanted client n ∷ []) }
     {
         if self.whole {
             if let Ok(Asked::Queued) = self.put(client, n) {
@@ -143,7 +143,7 @@ impl Index {
 
     // One pair less, which is there, in the run of its client.
     fn remove(&mut self, run: Run, w: Wanted) -> Run
-        requires { run.len < 4096 }
+        requires { run.len < MOST_PENDING }
         ensures removed { (front back : List Repair) → AreOnce (front ++ w ∷ back) → Owes self.old (front ++ w ∷ back) run → Owes self.new (front ++ back) result }
         ensures client { result.client ≡ w.client }
         ensures len { result.len ≤ run.len + 1 }
@@ -176,7 +176,7 @@ impl Index {
 
     /// An index that isn't whole is built anew, where there is memory.
     pub(crate) fn mend(&mut self, pending: &Backlog)
-        requires few { length pending.now ≤ 4096 }
+        requires few { length pending.now ≤ MOST_PENDING }
         requires indexed { Indexes self.old pending.now }
         ensures { Indexes self.new pending.now }
     {
@@ -187,7 +187,7 @@ impl Index {
 
     // The index of these.
     fn rebuild(&mut self, pending: &Backlog)
-        requires few { length pending.now ≤ 4096 }
+        requires few { length pending.now ≤ MOST_PENDING }
         ensures { Indexes self.new pending.now }
     {
         self.pairs.clear();
@@ -202,7 +202,7 @@ impl Index {
 
     // These pairs more.
     fn add_all(&mut self, pending: &[Wanted])
-        ensures { (ws : List Repair) → length (ws ++ pending.now) ≤ 4096 → Indexes self.old ws → Indexes self.new (ws ++ pending.now) }
+        ensures { (ws : List Repair) → length (ws ++ pending.now) ≤ MOST_PENDING → Indexes self.old ws → Indexes self.new (ws ++ pending.now) }
     {
         for w in pending {
             self.add(w.client, w.n);
@@ -212,7 +212,7 @@ impl Index {
     /// The pairs of the marked ones of these go, with one flag for each. Of whole blocks in which no flag is set
     /// nothing is looked at.
     pub(crate) fn drop_of(&mut self, run: Run, pending: &[Wanted], done: &[bool]) -> Run
-        requires few { run.len + length pending.now ≤ 4096 }
+        requires few { run.len + length pending.now ≤ MOST_PENDING }
         requires one_each { length done.now ≡ length pending.now }
         ensures removed { (front back : List Repair) → AreOnce (front ++ pending.now ++ back) → Owes self.old (front ++ pending.now ++ back) run → Owes self.new (front ++ unmarked pending.now done.now ++ back) result }
         ensures len { result.len ≤ run.len + length pending.now }
@@ -232,7 +232,7 @@ impl Index {
 
     // The pairs of the marked ones of these go, by a walk over their flags.
     fn drop_each(&mut self, run: Run, pending: &[Wanted], done: &[bool]) -> Run
-        requires few { run.len + length pending.now ≤ 4096 }
+        requires few { run.len + length pending.now ≤ MOST_PENDING }
         requires one_each { length done.now ≡ length pending.now }
         ensures removed { (front back : List Repair) → AreOnce (front ++ pending.now ++ back) → Owes self.old (front ++ pending.now ++ back) run → Owes self.new (front ++ unmarked pending.now done.now ++ back) result }
         ensures len { result.len ≤ run.len + length pending.now }
@@ -256,7 +256,7 @@ impl Index {
 
     /// The pairs of a client go.
     pub(crate) fn drop_client(&mut self, pending: &Backlog, client: u64)
-        requires few { length pending.now ≤ 4096 }
+        requires few { length pending.now ≤ MOST_PENDING }
         requires once { AreOnce pending.now }
         requires indexed { Indexes self.old pending.now }
         ensures { Indexes self.new (without client pending.now) }
@@ -272,7 +272,7 @@ impl Index {
 
     // The pairs of the run's client among these go.
     fn drop_client_of(&mut self, run: Run, pending: &[Wanted]) -> Run
-        requires few { run.len + length pending.now ≤ 4096 }
+        requires few { run.len + length pending.now ≤ MOST_PENDING }
         ensures removed { (front back : List Repair) → AreOnce (front ++ pending.now ++ back) → Owes self.old (front ++ pending.now ++ back) run → Owes self.new (front ++ without run.client pending.now ++ back) result }
         ensures client { result.client ≡ run.client }
         ensures len { result.len ≤ run.len + length pending.now }
@@ -310,7 +310,7 @@ fn is_among(pending: &[Wanted], client: u64, n: u64) -> bool
 
 // How many numbers are pending for this client, by a walk.
 fn count_pending(pending: &Backlog, client: u64) -> u32
-    requires { length pending.now ≤ 4096 }
+    requires { length pending.now ≤ MOST_PENDING }
     ensures { result ≡ count_of client pending.now }
 {
     let (pieces, last) = pending.parts();
@@ -323,7 +323,7 @@ fn count_pending(pending: &Backlog, client: u64) -> u32
 
 // How many of these are the client's.
 fn count_among(pending: &[Wanted], client: u64) -> u32
-    requires { length pending.now ≤ 4096 }
+    requires { length pending.now ≤ MOST_PENDING }
     ensures { result ≡ count_of client pending.now }
 {
     let mut count = 0;

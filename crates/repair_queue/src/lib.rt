@@ -20,4 +20,4 @@ mod wanted;
 pub use piece::Piece;
 pub use queue::Queue;
 pub use ram_io::NoMemory;
-pub use wanted::{Asked, Wanted};
+pub use wanted::{Asked, MOST_PENDING, Wanted};

@@ -57,7 +57,7 @@ impl Tail {
 
     /// One more repair, behind the others.
     pub(crate) fn push(&mut self, w: Wanted)
-        requires room { length self.old < 4096 }
+        requires room { length self.old < MOST_PENDING }
         ensures { self.new ≡ self.old ++ w ∷ [] }
     {
         self.places.push_reserved(w);

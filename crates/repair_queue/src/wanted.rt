@@ -2,7 +2,7 @@
 use std::marker::Model;
 
 /// Most repairs of a channel that are pending at once.
-pub(crate) const MOST_PENDING: usize = 4096;
+pub const MOST_PENDING: usize = 4096;
 
 /// Most repairs of one client that are pending at once.
 pub(crate) const MOST_OF_CLIENT: u32 = 256;

@@ -14,7 +14,7 @@ use channel_cache::Cache;
 use client_table::Table;
 use ram_io::NoMemory;
 use rams_model::{Held, Note};
-use repair_queue::{Piece, Queue, Wanted};
+use repair_queue::{MOST_PENDING, Piece, Queue, Wanted};
 use std::alloc::Global;
 use std::marker::Model;
 
@@ -201,7 +201,7 @@ impl<'a> Repairs<'a> {
 
     /// Sends some of the pending repairs.
     fn repair_some(&mut self, holding: &Holding<'_>, pending: &[Wanted]) -> Result<(), NoMemory>
-        requires few { length pending.now ≤ 4096 }
+        requires few { length pending.now ≤ MOST_PENDING }
         ensures { IfOk result (λ _. self.new ≡ with_all_wanted holding.now pending.now self.old) }
     {
         for (i, wanted) in pending.iter().enumerate() {
@@ -229,7 +229,7 @@ impl<'a> Repairs<'a> {
         last: &[Wanted],
     ) -> Result<(), NoMemory>
         requires spent { IsSpent holding.now self.old }
-        requires few { length (all_of pieces.now ++ last.now) ≤ 4096 }
+        requires few { length (all_of pieces.now ++ last.now) ≤ MOST_PENDING }
         ensures { IfOk result (λ _. self.new ≡ with_all_wanted holding.now (all_of pieces.now ++ last.now) self.old) }
     {
         let mut waiting = 0;
@@ -248,7 +248,7 @@ impl<'a> Repairs<'a> {
     /// Nothing fits any more: these wait but for those whose packets are gone.
     fn pass_some(&mut self, holding: &Holding<'_>, pending: &[Wanted]) -> Result<(), NoMemory>
         requires spent { IsSpent holding.now self.old }
-        requires few { length pending.now ≤ 4096 }
+        requires few { length pending.now ≤ MOST_PENDING }
         ensures { IfOk result (λ _. self.new ≡ with_all_wanted holding.now pending.now self.old) }
     {
         let waiting = self.pass_over(holding, 0, pending)?;
@@ -257,7 +257,7 @@ impl<'a> Repairs<'a> {
 
     /// So many repairs wait on.
     fn wait_all(&mut self, count: usize) -> Result<(), NoMemory>
-        requires { count ≤ 4096 }
+        requires { count ≤ MOST_PENDING }
         ensures { IfOk result (λ _. self.new ≡ with_waiting count self.old) }
     {
         let all = self.done.len() + count;
@@ -274,7 +274,7 @@ impl<'a> Repairs<'a> {
         pending: &[Wanted],
     ) -> Result<usize, NoMemory>
         requires spent { IsSpent holding.now self.old }
-        requires few { before + length pending.now ≤ 4096 }
+        requires few { before + length pending.now ≤ MOST_PENDING }
         ensures passed { IfOk result (λ waiting. with_waiting waiting self.new ≡ with_all_wanted holding.now pending.now (with_waiting before self.old)) }
         ensures few { IfOk result (λ waiting. waiting ≤ before + length pending.now) }
     {
@@ -298,7 +298,7 @@ impl<'a> Repairs<'a> {
         pending: &'b [Wanted],
     ) -> Result<(usize, &'b [Wanted]), NoMemory>
         requires gone { IsGone _holding.now pending.now }
-        requires few { waiting ≤ 4096 }
+        requires few { waiting ≤ MOST_PENDING }
         ensures rest { IfOk result (λ then. then.1.now ≡ drop 1 pending.now) }
         ensures first { IfOk result (λ then. with_waiting then.0 self.new ≡ with_all_wanted _holding.now (take 1 pending.now) (with_waiting waiting self.old)) }
         ensures few { IfOk result (λ then. then.0 ≤ waiting) }
