@@ -1,6 +1,7 @@
 -- What contracts see of a cache, and the live packets that it stands for.
 use Rattle.std.specs.Prelude.{◌≡◌, ℕ, ◌*◌, ◌<◌, ◌≤◌, List, [], length}
 use Rattle.rams_model.specs.declared.held.Held.{Held}
+use Rattle.rams_model.specs.declared.wire.TheConstants.{MOST_ON_WIRE}
 use Rattle.rams_model.specs.Service.{Settings}
 use Rattle.rams_model.specs.Packets.{Arrival, stream_of, hold}
 use Rattle.channel_cache.specs.packet_ring.Seen as rings
@@ -36,7 +37,7 @@ pub record StandsFor (v : Seen) (arrivals : List Arrival) : Type 0 where
   pub numbering : numbers.StandsFor v.numbering v.settings.channel.window arrivals
   pub waits : Waits v.window v.settings.channel.window (stream_of v.settings.channel.window arrivals).present
   pub held : v.held ≡ hold v.settings.channel.window v.settings.channel.ring (stream_of v.settings.channel.window arrivals)
-  pub total : v.total ≤ 1500 * length arrivals
+  pub total : v.total ≤ MOST_ON_WIRE * length arrivals
 
 -- It stands for some live packets, fewer than so many.
 pub record StandsForFewer (v : Seen) (most : ℕ) : Type 0 where

@@ -1,6 +1,7 @@
 -- The packets of a channel that came in time: those that wait for others, and those that are held.
 use Rattle.std.specs.Prelude.{◌≡◌, ℕ, ◌+◌, ◌*◌, ◌^◌, ◌<◌, ◌≤◌, false, List, [], ◌∷◌, ◌++◌, length, map, None}
 use Rattle.rams_model.specs.declared.held.Held.{Held}
+use Rattle.rams_model.specs.declared.wire.TheConstants.{MOST_ON_WIRE}
 use Rattle.rams_model.specs.Packets.{hi}
 use Rattle.channel_cache.specs.packet_ring.Seen as rings
 use Rattle.channel_cache.specs.declared.reorder_window.window.Came.{Came}
@@ -38,7 +39,7 @@ pub record IsIntake (v : Intake) : Type 0 where
 
 -- the wire sizes of all packets that were held, and 1,500 bytes for each that waits
 abbrev pub total_of : Intake → ℕ
-total_of v = v.stock.total + 1500 * length v.window.kept
+total_of v = v.stock.total + MOST_ON_WIRE * length v.window.kept
 
 -- Between two packets of a start: it goes on, and none of those that wait could go out.
 pub record IsSettled (v : Intake) : Type 0 where
@@ -51,7 +52,7 @@ pub record Grows (old new : Intake) (more : ℕ) : Type 0 where
   pub width : new.window.width ≡ old.window.width
   pub capacity : new.stock.ring.capacity ≡ old.stock.ring.capacity
   pub end : hi old.stock.ring.held ≤ hi new.stock.ring.held
-  pub total : total_of new ≤ total_of old + 1500 * more
+  pub total : total_of new ≤ total_of old + MOST_ON_WIRE * more
 
 -- for a packet that was dropped
 abbrev pub UnlessKept : Came → Type 0 → Type 0

@@ -2,6 +2,7 @@
 use Rattle.std.specs.Prelude.{◌≡◌, ℕ, ◌≤◌, List, [], ◌∷◌, length, Ok}
 use Rattle.std.specs.List.{AllByRecursion}
 use Rattle.rams_model.specs.declared.held.Held.{Held}
+use Rattle.rams_model.specs.declared.wire.TheConstants.{MOST_PACKET}
 use Rattle.rams_model.specs.Formats.{Packet, wire_size, packet_at}
 
 -- The bytes are an RTP packet without padding (RFC 3550, 5.1), at most 1,470 of them.
@@ -9,7 +10,7 @@ pub record IsBare (bytes : List ℕ) : Type 0 where
   pub packet : Packet
   pub read : packet_at bytes ≡ Ok packet
   pub unpadded : packet.padding ≡ []
-  pub short : length bytes ≤ 1470
+  pub short : length bytes ≤ MOST_PACKET
 
 -- so are those of a held packet, which is counted with its size on the wire
 pub record IsWhole (h : Held) : Type 0 where

@@ -7,6 +7,7 @@ use Rattle.rams_model.specs.declared.held.Held.{Held}
 use Rattle.rams_model.specs.declared.note.Note.{Note}
 use Rattle.rams_model.specs.declared.note.Cause.{Cause}
 use Rattle.rams_model.specs.declared.note.Note.TheVariants.{Accept, Update, End}
+use Rattle.rams_model.specs.declared.wire.TheConstants.{MOST_ON_WIRE}
 use Rattle.rams_model.specs.Service.{Settings, Message, Heard, began, told, noted, History, arrivals, hold, known, opened, is_among, sequence, Burst, next, open_burst, has_open, pending, idle, reserved, channel_left, history_of}
 use Rattle.rams_model.specs.Packets.{hi, Arrival}
 use Rattle.channel_config.specs.{IsLawful}
@@ -54,7 +55,7 @@ RepairsAreWithinLimits = (s : Settings) (history : History) → IsMoment s histo
 -- The bounds of an open burst: its next number is at most the end of what is held, and its rate is enough for a packet beside what the source declares, and at most `burst`.
 pub record IsWithinBounds (s : Settings) (held : List Held) (b : Burst) : Type 0 where
   pub by_held : next b ≤ hi held
-  pub rate_least : s.channel.declared + 1500 ≤ b.rate
+  pub rate_least : s.channel.declared + MOST_ON_WIRE ≤ b.rate
   pub rate_most : b.rate ≤ s.channel.burst
 
 abbrev pub OpenBurstsAreWithinBounds : Type 0

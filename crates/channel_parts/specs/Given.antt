@@ -4,6 +4,7 @@ use Rattle.rams_model.specs.declared.event.Event.{Event}
 use Rattle.rams_model.specs.declared.held.Held.{Held}
 use Rattle.rams_model.specs.declared.note.LiveNote.{LiveNote}
 use Rattle.rams_model.specs.declared.event.Event.TheVariants.{Live, Feedback, Tick}
+use Rattle.rams_model.specs.declared.wire.TheConstants.{MOST_ON_WIRE}
 use Rattle.rams_model.specs.Service.{Settings, History, arrivals, hold, known, is_among, pending, is_busy, history_of}
 use Rattle.rams_model.specs.Packets.{lo, hi, Follows}
 use Rattle.channel_cache.specs.{live_note_of, arrivals_after}
@@ -37,7 +38,7 @@ EntriesAreOfTheirClients =
 pub record IsBurstInBounds (s : Settings) (held : List Held) (b : Burst) : Type 0 where
   pub first_most : b.first ≤ b.next
   pub next_most : b.next ≤ hi held
-  pub rate_least : s.channel.declared + 1500 ≤ b.rate
+  pub rate_least : s.channel.declared + MOST_ON_WIRE ≤ b.rate
   pub rate_most : b.rate ≤ s.channel.burst
   pub ticks_most : b.ticks < s.channel.limit
   pub kept_most : b.kept ≤ s.channel.depth

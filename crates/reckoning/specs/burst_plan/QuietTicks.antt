@@ -1,6 +1,7 @@
 -- The ticks of a burst that is quiet, over plain numbers and the runs that they send: how it catches up.
 use Rattle.std.specs.Prelude.{ℕ, ◌+◌, ◌-◌, ◌<◌, ◌≤◌, min, IsFalse, List, [], ◌∷◌, ◌++◌, length, drop, Option}
 use Rattle.rams_model.specs.declared.held.Held.{Held}
+use Rattle.rams_model.specs.declared.wire.TheConstants.{MOST_ON_WIRE}
 use Rattle.rams_model.specs.Packets.{wires, Follows}
 use Rattle.rams_model.specs.Service.{join_ticks, run, is_stop}
 use Rattle.rams_model.specs.Laws.{IsByStop, ComesNearer, NothingIsLeft}
@@ -42,7 +43,7 @@ AreAtMost size (h ∷ hs) = (h.wire ≤ size) × AreAtMost size hs
 -- A tick in which nothing is missing and no more than declared joins, after which the burst is open, and whose repairs leave what it may keep where it is still behind.
 pub record IsQuiet (declared : ℕ) (b : Burst) (t : Tick) : Type 0 where
   pub follows : Follows b.next (b.packets ++ t.joined)
-  pub sizes : AreAtMost 1500 (b.packets ++ t.joined)
+  pub sizes : AreAtMost MOST_ON_WIRE (b.packets ++ t.joined)
   pub joins : wires t.joined ≤ declared
   pub stops : IsByStop t.stop b.next
   pub is_open : IsFalse (is_stop t.stop (after b t).next)
@@ -56,7 +57,7 @@ AreQuiet declared b (t ∷ ts) = IsQuiet declared b t × AreQuiet declared (afte
 
 -- The burst's rate has room for a packet beside what is declared, and it keeps no more than it may.
 pub record IsLawful (declared : ℕ) (b : Burst) : Type 0 where
-  pub suffices : declared + 1500 ≤ b.rate
+  pub suffices : declared + MOST_ON_WIRE ≤ b.rate
   pub keeps : b.kept ≤ b.depth
 
 -- the bytes behind and the bytes kept, and those after each tick

@@ -5,6 +5,7 @@ use Rattle.rams_model.specs.declared.fault.TlvFault.{TlvFault}
 use Rattle.rams_model.specs.declared.held.Held.{Held}
 use Rattle.rams_model.specs.declared.note.Note.{Note}
 use Rattle.rams_model.specs.declared.note.Note.TheVariants.{Accept, Update, Again, Refuse}
+use Rattle.rams_model.specs.declared.wire.TheConstants.{MOST_ON_WIRE}
 use Rattle.rams_model.specs.Service.{Settings, join_ticks, asks, stops, told, noted, History, hold, known, is_among, Burst, next, open_burst, reserved, history_of}
 use Rattle.rams_model.specs.Formats.{Request}
 use Rattle.rams_model.specs.Packets.{is_eligible, age, behind}
@@ -76,7 +77,7 @@ NamesOthers ssrc named = IsSomeAnd named (λ ssrcs. (0 < length ssrcs) × (¬ Co
 
 -- below what the source declares for a tick and one packet more
 abbrev pub IsSlow : Settings → ℕ → Type 0
-IsSlow s rate = rate < s.channel.declared + 1500
+IsSlow s rate = rate < s.channel.declared + MOST_ON_WIRE
 
 -- with what is left for repairs it is more than the share
 abbrev pub IsLarge : Settings → ℕ → Type 0

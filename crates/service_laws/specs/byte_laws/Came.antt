@@ -7,6 +7,7 @@ use Rattle.rams_model.specs.declared.held.Held.{Held}
 use Rattle.rams_model.specs.declared.answer.Order.TheVariants.{Rtx}
 use Rattle.rams_model.specs.declared.channel.Access.TheVariants.{Marker, Ts}
 use Rattle.rams_model.specs.declared.event.Event.TheVariants.{Live}
+use Rattle.rams_model.specs.declared.wire.TheConstants.{MOST_PACKET}
 use Rattle.rams_model.specs.Formats.{Packet, packet_at}
 use Rattle.rams_model.specs.Service.{Settings, History, hold, datagram, history_of}
 use Rattle.rams_model.specs.Laws.{source}
@@ -37,7 +38,7 @@ MayStart Ts bytes p = (k : ℕ) × IsRandomAccessAt p.payload (188 * k)
 pub record CameAs (s : Settings) (events : List Event) (h : Held) : Type 0 where
   pub bytes : List ℕ
   pub came : Contains events (Live bytes)
-  pub short : length bytes ≤ 1470
+  pub short : length bytes ≤ MOST_PACKET
   -- it is an RTP packet of the channel's payload type and media source
   pub packet : Packet
   pub is_read : packet_at bytes ≡ Ok packet

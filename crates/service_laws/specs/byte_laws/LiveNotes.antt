@@ -10,6 +10,7 @@ use Rattle.rams_model.specs.declared.note.LiveNote.{LiveNote}
 use Rattle.rams_model.specs.declared.note.LiveNote.TheVariants.{Took, Restart, Late, Twice, Jump, ForeignSsrc, ForeignType, TooBig, Bad}
 use Rattle.rams_model.specs.declared.note.Note.{Note}
 use Rattle.rams_model.specs.declared.note.Note.TheVariants as note
+use Rattle.rams_model.specs.declared.wire.TheConstants.{MOST_PACKET}
 use Rattle.rams_model.specs.Service.{Answered, answered, Settings, Entry, Book, IsLawful, events_of}
 use Rattle.service_laws.specs.byte_laws.Came.{number16, number32, HasBytes}
 
@@ -50,7 +51,7 @@ IsNoRtp bytes Padding =
 
 -- At most 1,470 bytes, an RTP packet of the channel's media source (bytes 8 to 11) and payload type (the low bits of byte 1).
 pub record IsOfChannel (c : Channel) (bytes : List ℕ) : Type 0 where
-  pub short : length bytes ≤ 1470
+  pub short : length bytes ≤ MOST_PACKET
   pub rtp : IsRtp bytes
   pub media : number32 8 bytes ≡ c.ssrc
   pub kind : slice_index bytes 1 % 128 ≡ c.pt
@@ -144,11 +145,11 @@ NumbersSo window numbers jumped sequence _ = ⊥
 
 -- What became of a live packet: the first of its faults, or what its number says.
 abbrev pub BecameSo : Settings → Book → List ℕ → LiveNote → Type 0
-BecameSo s book bytes TooBig = 1470 < length bytes
-BecameSo s book bytes (Bad fault) = (length bytes ≤ 1470) × IsNoRtp bytes fault
-BecameSo s book bytes ForeignSsrc = (length bytes ≤ 1470) × IsRtp bytes × (number32 8 bytes ≢ s.channel.ssrc)
+BecameSo s book bytes TooBig = MOST_PACKET < length bytes
+BecameSo s book bytes (Bad fault) = (length bytes ≤ MOST_PACKET) × IsNoRtp bytes fault
+BecameSo s book bytes ForeignSsrc = (length bytes ≤ MOST_PACKET) × IsRtp bytes × (number32 8 bytes ≢ s.channel.ssrc)
 BecameSo s book bytes ForeignType =
-    (length bytes ≤ 1470) × IsRtp bytes × (number32 8 bytes ≡ s.channel.ssrc) × (slice_index bytes 1 % 128 ≢ s.channel.pt)
+    (length bytes ≤ MOST_PACKET) × IsRtp bytes × (number32 8 bytes ≡ s.channel.ssrc) × (slice_index bytes 1 % 128 ≢ s.channel.pt)
 BecameSo s book bytes one =
     IsOfChannel s.channel bytes × NumbersSo s.channel.window (numbers_taken book) (last_jump book) (number16 2 bytes) one
 
