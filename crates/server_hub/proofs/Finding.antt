@@ -1,12 +1,14 @@
 -- The channel of a number.
 use Rattle.std.proofs.Common.{◌≡◌, ◌≢◌, ℕ, zero, suc, Bool, true, false, cond, List, [], ◌∷◌, Option, Some, None, map, option_map, refl, sym, ◌∙◌, ap, subst, arith, eqb}
-use Rattle.std.specs.Prelude.{All, AllPairs, find, slice_get, ◌||◌}
+use Rattle.std.specs.Prelude.{All, AllPairs, find, option_and_then, slice_get, ◌||◌}
 use Rattle.std.proofs.lemmas.Bool.{eq-eqb, ne_eqb}
 use Rattle.rams_model.specs.declared.event.Event.{Event}
 use Rattle.rams_model.specs.Service.{Settings, hold, history_of}
 use Rattle.rams_model.specs.Packets.{hi}
+use Rattle.rams_model.specs.declared.held.Held.{Held}
+use Rattle.channel_cache.specs.packet_ring.{packet_of}
 use Rattle.server_hub.specs.session_core.Seen as cores
-use Rattle.server_hub.specs.{id_of, channel_of, hi_of, ids_of, has_id, Serves}
+use Rattle.server_hub.specs.{id_of, channel_of, hi_of, held_of, ids_of, has_id, Serves}
 use Rattle.server_hub.specs.Served.{Served}
 use Rattle.server_hub.proofs.Changing.{later_differs, rest_once}
 
@@ -56,3 +58,10 @@ hi_found id core other cs n f same says =
     let serves : Serves core f.channel = subst (λ (v : cores.Seen). Serves v f.channel) (sym same) f.serves in
     let events = f.channel.events in
     ap Some (says events serves.stands ∙ ap (λ (s : Settings). hi (hold s (history_of s events))) serves.settings) ∙ sym (ap (option_map hi_of) f.is_there)
+
+pub held_found : (id n : ℕ) (core other : cores.Seen) (cs : List Served) (o : Option Held) → Found id other cs → core ≡ other
+    → ((events : List Event) → cores.StandsFor core events → o ≡ packet_of n (hold core.settings (history_of core.settings events))) → o ≡ option_and_then (held_of n) (channel_of id cs)
+held_found id n core other cs o f same says =
+    let serves : Serves core f.channel = subst (λ (v : cores.Seen). Serves v f.channel) (sym same) f.serves in
+    let events = f.channel.events in
+    says events serves.stands ∙ ap (λ (s : Settings). packet_of n (hold s (history_of s events))) serves.settings ∙ sym (ap (option_and_then (held_of n)) f.is_there)

@@ -8,7 +8,7 @@ pub mod Coming
 pub mod JoinTimes
 pub mod Worked
 unfoldable pub use Rattle.server_hub.specs.Pairs.{Pairwise}
-unfoldable pub use Rattle.server_hub.specs.Served.{served, id_of, with_event, answer_to, hi_of, channel_of, after_event_of, answer_of, after_tick, answer_at, answers_to_tick, event_of, after_event, told, told_of, told_to}
+unfoldable pub use Rattle.server_hub.specs.Served.{served, id_of, with_event, answer_to, hi_of, held_of, channel_of, after_event_of, answer_of, after_tick, answer_at, answers_to_tick, event_of, after_event, told, told_of, told_to}
 pub use Rattle.server_hub.specs.Served.{Told, no_channel, says}
 unfoldable pub use Rattle.server_hub.specs.Seen.{new_hub, all_settings, settings_of, ids_of, has_id, shares_of, AllServe, StandsFor, refused}
 pub use Rattle.server_hub.specs.Seen.{FitLink, IsHub, AreFields, Serves, KeepsSettings, AddsSettings}

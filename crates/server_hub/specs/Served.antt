@@ -4,6 +4,8 @@ use Rattle.rams_model.specs.declared.event.Event.{Event}
 use Rattle.rams_model.specs.declared.event.Event.TheVariants as event
 use Rattle.rams_model.specs.Service.{Answered, Settings, hold, history_of, answer}
 use Rattle.rams_model.specs.Packets.{hi}
+use Rattle.rams_model.specs.declared.held.Held.{Held}
+use Rattle.channel_cache.specs.packet_ring.{packet_of}
 use Rattle.server_hub.specs.declared.event.At.{At}
 use Rattle.server_hub.specs.declared.event.Heard.{Heard}
 use Rattle.server_hub.specs.declared.event.Heard.TheVariants as heard
@@ -36,6 +38,10 @@ answer_to e c = answer c.settings c.events e
 -- one above the number of the newest packet that the channel holds; 0 while it holds none
 abbrev pub hi_of : Served → ℕ
 hi_of c = hi (hold c.settings (history_of c.settings c.events))
+
+-- the packet that the channel holds under a number
+abbrev pub held_of : ℕ → Served → Option Held
+held_of n c = packet_of n (hold c.settings (history_of c.settings c.events))
 
 -- the channel of this number
 abbrev pub channel_of : ℕ → List Served → Option Served

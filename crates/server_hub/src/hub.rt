@@ -6,7 +6,7 @@ use crate::steps::{feedback_at, live_at};
 use crate::ticks::tick_all;
 use channel_config::{Config, MOST_CHANNELS};
 use ram_io::NoMemory;
-use rams_model::{Answer, MOST_ON_WIRE};
+use rams_model::{Answer, Held, MOST_ON_WIRE};
 use std::alloc::Global;
 use std::marker::Model;
 
@@ -42,10 +42,10 @@ impl Model for Hub {
 }
 
 impl Hub {
-    ghost use Rattle.std.specs.Prelude.{◌≡◌, ◌+◌, ◌^◌, ◌<◌, ◌≤◌, ◌++◌, ◌==◌, List, [], ◌∷◌, Err, IfNone, IfOk, IfSome, IsOkUnless, OnErr, OnOk, find, is_some, option_copied, option_map};
+    ghost use Rattle.std.specs.Prelude.{◌≡◌, ◌+◌, ◌^◌, ◌<◌, ◌≤◌, ◌++◌, ◌==◌, List, [], ◌∷◌, Err, IfNone, IfOk, IfSome, IsOkUnless, OnErr, OnOk, find, is_some, option_and_then, option_copied, option_map};
     ghost use Rattle.rams_model.specs.declared.event.Event.TheVariants as events;
     ghost use Rattle.server_hub.specs.declared.event.AddFault.TheVariants as faults;
-    ghost use Rattle.server_hub.specs.{served, hi_of, channel_of, answer_of, after_event_of, answers_to_tick, after_tick, event_of, told, told_to, after_event, AllKeepJoinTimes, IsHub, StandsFor, KeepsSettings, AddsSettings, new_hub, settings_of, has_id, refused};
+    ghost use Rattle.server_hub.specs.{served, hi_of, held_of, channel_of, answer_of, after_event_of, answers_to_tick, after_tick, event_of, told, told_to, after_event, AllKeepJoinTimes, IsHub, StandsFor, KeepsSettings, AddsSettings, new_hub, settings_of, has_id, refused};
     ghost use Rattle.server_hub.specs.Served.{Served};
 
     /// A hub without channels, for ticks of `tick_ms` ms and a link of so many bytes a tick. It takes the
@@ -103,6 +103,16 @@ impl Hub {
     {
         let place = place_of(&self.ids, id)?;
         Some(self.cores[place].hi())
+    }
+
+    /// The packet that a channel holds under a number; `None` where it holds none, or none has the
+    /// channel's number.
+    pub fn held(&self, id: u16, n: u64) -> Option<&Held>
+        ensures { (channels : List Served) → StandsFor self.now channels →
+            option_copied result ≡ option_and_then (held_of n) (channel_of id channels) }
+    {
+        let place = place_of(&self.ids, id)?;
+        self.cores[place].held(n)
     }
 
     /// Adds a channel, which has had no event. `Full` where there are 64, `Twice` where one has its

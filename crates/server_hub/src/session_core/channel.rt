@@ -5,7 +5,7 @@ use channel_config::Config;
 use channel_parts::Parts;
 use feedback_core::answer_feedback;
 use ram_io::NoMemory;
-use rams_model::{Answer, LiveNote};
+use rams_model::{Answer, Held, LiveNote};
 use std::alloc::Global;
 use std::marker::Model;
 use tick_core::TickPlan;
@@ -35,13 +35,14 @@ impl Model for Core {
 }
 
 impl Core {
-    ghost use Rattle.std.specs.Prelude.{◌≡◌, ◌^◌, ◌<◌, List, [], ◌∷◌, length, IfOk, OnOk, OnErr};
+    ghost use Rattle.std.specs.Prelude.{◌≡◌, ◌^◌, ◌<◌, List, [], ◌∷◌, length, option_copied, IfOk, OnOk, OnErr};
     ghost use Rattle.rams_model.specs.declared.event.Event.{Event};
     ghost use Rattle.rams_model.specs.declared.event.Event.TheVariants.{Live, Feedback, Tick};
     ghost use Rattle.rams_model.specs.declared.note.Note.TheVariants.{Live as LiveNoted};
     ghost use Rattle.rams_model.specs.Packets.{lo, hi};
     ghost use Rattle.rams_model.specs.Service.{hold, history_of, answer, answered, heard_live, live};
     ghost use Rattle.channel_cache.specs.{arrival_of, IsBare};
+    ghost use Rattle.channel_cache.specs.packet_ring.{packet_of};
     ghost use Rattle.server_hub.specs.session_core.{StandsFor, StandsForFewer, IsPlanOf, SendsShort, HasAtMost, IsCountable, JoinTimesAreKept, TellsAlone, most_notes_for, most_notes_in, most_orders_in};
 
     /// The core of a channel to which nothing came yet. It takes the room for the channel's live
@@ -76,6 +77,14 @@ impl Core {
             result ≡ hi (hold self.now.settings (history_of self.now.settings events)) }
     {
         self.parts.cache.hi()
+    }
+
+    /// The packet that is held under a number; `None` where none is.
+    pub fn held(&self, n: u64) -> Option<&Held>
+        ensures { (events : List Event) → StandsFor self.now events →
+            option_copied result ≡ packet_of n (hold self.now.settings (history_of self.now.settings events)) }
+    {
+        self.parts.cache.held(n)
     }
 
     /// A live packet, as it came (RFC 3550): what became of it. After want of memory all is as before.
