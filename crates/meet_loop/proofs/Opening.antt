@@ -1,7 +1,7 @@
 -- The turns of lines that bring no event.
 use Rattle.std.proofs.Common.{◌≡◌, ℕ, Bool, true, false, not, ◌&&◌, List, [], ◌∷◌, ◌++◌, map, Option, None, Some, Ok, is_some, refl, sym, subst, ap, ◌∙◌}
 use Rattle.std.specs.Prelude.{IsSomeAnd}
-use Rattle.std.proofs.lemmas.Bool.{and_parts}
+use Rattle.std.proofs.lemmas.Bool.{and_parts, not-true}
 use Rattle.std.proofs.lemmas.List.{map-append}
 use Rattle.rams_model.specs.declared.channel.Channel.{Channel}
 use Rattle.rams_model.specs.declared.mode.LineKind.TheVariants as kind
@@ -26,16 +26,12 @@ pub accepted_so : (world : Option Seen) (events : ℕ) (later : Reached) (line :
 accepted_so world events later line stage comes = (judged_so stage.reached comes.bytes line later comes.comes).accepts
 
 -- no event comes before a channel line
-not_true : (b : Bool) → not b ≡ true → b ≡ false
-not_true true e = absurd cc
-not_true false e = refl
-
 unbegun : (r : Reached) (version : ℕ) (c : Channel) → may_come r (channel_line version c) ≡ true → r.begun ≡ false
 unbegun r version c may =
     let kind_may : kind_may_come r kind.Channel ≡ true = (and_parts _ _ may).0 in
     let next : may_come_next r kind.Channel ≡ true = (and_parts (not r.ended) (may_come_next r kind.Channel) kind_may).1 in
     let under = and_parts (is_some r.head && not r.begun) (not (has_one_channel r.mode && has_channel r)) next in
-    not_true r.begun (and_parts (is_some r.head) (not r.begun) under.0).1
+    not-true r.begun (and_parts (is_some r.head) (not r.begun) under.0).1
 
 -- the world serves under this head line
 served_under : (world : Option Seen) (events : ℕ) (reached : Reached) (stage : Stage World) (head : Head) → Stands world events reached stage → stage.reached.head ≡ Some head

@@ -22,10 +22,11 @@ use Rattle.trace_loop.specs.journal_book.{HasLine, IsJournal, event_lines, event
 use Rattle.trace_loop.specs.declared.stop.Stop.{Stop}
 use Rattle.trace_loop.specs.declared.stop.Stop.TheVariants.{Memory, Read, Write, Wire}
 use Rattle.trace_loop.proofs.Reading.{passes_whole}
+use Rattle.trace_loop.proofs.journal_book.EventLines.{lines_append}
 use Rattle.serve_loop.specs.{Begun, Broken, Ending, EndsAs, Given, GoOut, HasEnded, HasRoom, HasStopped, IsBetween, IsHeadOf, OnlyMemoryStops, Room, Serving, Stopping, StopsIn, WaitsIn, datagrams_by, given_events, given_journal, head_end, head_stage, head_text, sent_by, served_datagrams, served_text, text_by}
 use Rattle.serve_loop.proofs.GoingOut.{GoOut-none}
 use Rattle.serve_loop.proofs.Rooms.{quiet_room, wire_none}
-use Rattle.serve_loop.proofs.Steps.{lines_append, waits_more}
+use Rattle.serve_loop.proofs.Steps.{waits_more}
 
 -- a line behind nothing
 pub alone : (a b : Option (List ℕ)) (waits text rest : List ℕ) → waits ≡ [] → Passes a b (waits ++ text) rest → Passes a b text rest

@@ -25,6 +25,7 @@ use Rattle.serve_loop.specs.{Begun, Ready, Serving, Broken, WaitsIn, sent_by, An
 use Rattle.serve_loop.proofs.GoingOut.{GoOut-then}
 use Rattle.trace_loop.proofs.head_loop.Channels.{settings_stand}
 use Rattle.trace_loop.proofs.Writing.{unwritten}
+use Rattle.trace_loop.proofs.journal_book.EventLines.{lines_append}
 use Rattle.serve_loop.proofs.Telling.{settled_behind, said_is_sent}
 
 -- a text goes on until the call stops
@@ -33,10 +34,6 @@ StopsIn-then a c d text mid left Memory p q = (q.0, Passes-then a c d text mid (
 StopsIn-then a c d text mid left Read p q = (q.0, Passes-then a c d text mid (left ++ q.0) p q.1)
 StopsIn-then a c d text mid left Write p q = (q.0, Passes-then a c d text mid q.0 p q.1)
 StopsIn-then a c d text mid left Wire p q = (q.0, Passes-then a c d text mid (left ++ q.0) p q.1)
-
-pub lines_append : (xs ys : List HubEvent) → event_lines (xs ++ ys) ≡ event_lines xs ++ event_lines ys
-lines_append [] ys = refl
-lines_append (x ∷ xs) ys = ap (λ (l : List ℕ). event_line x ++ l) (lines_append xs ys) ∙ sym (append_assoc (event_line x) (event_lines xs) (event_lines ys))
 
 none_waits : (stop : Stop) → WaitsIn [] [] stop
 none_waits Memory = ([], refl)

@@ -22,6 +22,7 @@ use Rattle.trace_loop.proofs.journal_book.Modes.{accepts, judges}
 use Rattle.threads_loop.specs.{threads}
 use Rattle.threads_loop.proofs.Accepted.{IsTaken, taken_so}
 use Rattle.trace_loop.proofs.journal_book.Modes.{refused_event}
+use Rattle.trace_loop.proofs.trace_book.trace_serving.Steps.{went_to}
 
 -- what a server has reached by the same head
 abbrev pub serve_of : Reached → Reached
@@ -58,14 +59,6 @@ abbrev pub IsHeadStep : Stage (List Served) → Stage (List Served) → List ℕ
 IsHeadStep stage later bytes =
     ((event_at threads bytes ≡ None) × ((number : ℕ) → turn run (head_of stage) number bytes ≡ goes_on (head_of later) []))
     ⊎ ((e : HubEvent) × (event_at threads bytes ≡ Some e) × (head_of later ≡ head_of stage))
-
--- what went on went on to this
-went_to : (stage later next : Stage (List Served)) (text more : List ℕ) → goes_on next more ≡ goes_on later text → next ≡ later
-went_to stage later next text more e = ap (λ (t : Turn (List Served)). stage_in t) e
-  where
-    stage_in : Turn (List Served) → Stage (List Served)
-    stage_in (goes_on s t) = s
-    stage_in (ends o) = stage
 
 -- no line of a receiver may come
 pub no_receiver : (r : Reached) → r.mode ≡ Threads → ((not r.ended && (has_channel r && has_receivers r.mode)) && true) ≡ true → ⊥

@@ -1,4 +1,3 @@
-pub mod Hexes
 pub mod Accepted
 pub mod Heads
 pub mod Taking

@@ -25,11 +25,11 @@ use Rattle.trace_loop.specs.journal_book.{HasLine}
 use Rattle.threads_loop.specs.declared.dealing.Dealt.{Dealt}
 use Rattle.trace_loop.specs.declared.whole_trace.Does.{Does}
 use Rattle.trace_loop.specs.declared.whole_trace.Does.TheVariants.{GoesOn, Ends, Refused, TooLong}
+use Rattle.trace_loop.proofs.journal_book.Hexes.{word_back}
 use Rattle.threads_loop.specs.{threads, list_of, dealt, hub_event, holding, HaveLines, HasDealt, HasTaken, IsDealt, Comes, Took}
 use Rattle.threads_loop.proofs.Accepted.{IsTaken, taken_so, none_served, served_id, no_channel}
 use Rattle.threads_loop.proofs.Heads.{no_receiver}
 use Rattle.threads_loop.proofs.Histories.{one_after}
-use Rattle.threads_loop.proofs.Hexes.{hex_back}
 
 -- ---- an event's list
 
@@ -54,7 +54,7 @@ live_is : (s : Settings) (id : ℕ) (hex : List ℕ) → s.channel.id ≡ id →
 live_is s id hex own digits spelled = record {
   brings = ap (λ (n : ℕ). Some (Live n (bytes_in hex))) (sym own);
   has_line = subst (λ (n : ℕ). is_spelled (live_line n (hex_word (bytes_in hex))) ≡ true) (sym own)
-      (subst (λ (w : List ℕ). is_spelled (live_line id w) ≡ true) (sym (hex_back hex digits)) spelled);
+      (subst (λ (w : List ℕ). is_spelled (live_line id w) ≡ true) (sym (word_back hex digits)) spelled);
 }
 
 feedback_is : (s : Settings) (id client : ℕ) (hex : List ℕ) → s.channel.id ≡ id → is_hex hex ≡ true → is_spelled (feedback_line id client hex) ≡ true
@@ -62,7 +62,7 @@ feedback_is : (s : Settings) (id client : ℕ) (hex : List ℕ) → s.channel.id
 feedback_is s id client hex own digits spelled = record {
   brings = ap (λ (n : ℕ). Some (Feedback n client (bytes_in hex))) (sym own);
   has_line = subst (λ (n : ℕ). is_spelled (feedback_line n client (hex_word (bytes_in hex))) ≡ true) (sym own)
-      (subst (λ (w : List ℕ). is_spelled (feedback_line id client w) ≡ true) (sym (hex_back hex digits)) spelled);
+      (subst (λ (w : List ℕ). is_spelled (feedback_line id client w) ≡ true) (sym (word_back hex digits)) spelled);
 }
 
 module _ (d : Dealt) (stage : Stage (List Served)) (h : HasDealt d stage) where

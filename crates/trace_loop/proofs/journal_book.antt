@@ -1,4 +1,5 @@
 pub mod EventLines
+pub mod Hexes
 pub mod Modes
 pub mod Replays
 pub mod Served

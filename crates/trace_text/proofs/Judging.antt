@@ -9,7 +9,7 @@ use Rattle.rams_model.specs.declared.fault.LineFault.{LineFault}
 use Rattle.rams_model.specs.declared.fault.LineFault.TheVariants.{Form, Order, Range, Twice, Rule}
 use Rattle.rams_model.specs.declared.mode.LineKind.TheVariants as kind
 use Rattle.rams_model.specs.Service.{Settings, settings, channel_in_range, checked}
-use Rattle.rams_model.specs.Texts.{Head, joined, with_channel, front, TraceLine, head_line, channel_line, live_line, feedback_line, tick_line, end_line, tune_line, give_line, mcast_line, ask_line, drop_line, line_of, line_words, channel_words, line_in_range, line_has_form, is_version, Reached, version_of, version_spelled, kind_named, kind_may_come, named_may_come, may_come, expected, line_is_served, with_line, accepted, with_reached, judged_line, judged}
+use Rattle.rams_model.specs.Texts.{Head, joined, with_channel, front, TraceLine, head_line, channel_line, live_line, feedback_line, tick_line, end_line, tune_line, give_line, mcast_line, ask_line, drop_line, line_of, line_words, channel_words, line_in_range, line_has_form, is_version, Reached, version_of, version_spelled, kind_named, kind_may_come, named_may_come, may_come, expected, line_is_served, with_line, accepted, with_reached, judged_line, judged, tick_of}
 use Rattle.trace_text.specs.declared.line.Judged.{Judged}
 use Rattle.trace_text.specs.declared.line.Line.{Line}
 use Rattle.trace_text.specs.declared.line.Line.TheVariants as line
@@ -155,3 +155,7 @@ channel_accepted r version c may =
     by : (o : Option Head) → is_some o ≡ true → (if not (channel_in_range c) then Err Range else with_channel r o c) ≡ with_ranged r o c
     by None h = absurd cc
     by (Some head) h = settles head (channel_in_range c) (list_any (λ k. k.id == c.id) r.channels) (checked (settings c head.tick))
+
+-- what was judged is settled as that which it is
+pub settled : (r : Reached) (j k : Judged) → j ≡ k → IsSettled (tick_of r.head) j → IsSettled (tick_of r.head) k
+settled r j k is = subst (IsSettled (tick_of r.head)) is

@@ -29,7 +29,7 @@ if_some false x h = absurd cc
 own : IsNumeralModel (λ ds. list_all is_digit ds ≡ true) (digits_value 10)
 own = numerals_by_value _ (search rules)
 
-short_true : (n : ℕ) → n < 10 ^ 15 → is_short n ≡ true
+pub short_true : (n : ℕ) → n < 10 ^ 15 → is_short n ≡ true
 short_true n h = lt-ltb n (10 ^ 15) h
 
 short_lt : (n : ℕ) → is_short n ≡ true → n < 10 ^ 15

@@ -70,7 +70,7 @@ is_text bytes l h =
     }
 
 -- what a line in range says
-ranged_ok : (o : Option TraceLine) (l : TraceLine) → ranged o ≡ Ok l → (o ≡ Some l) × (line_in_range l ≡ true)
+pub ranged_ok : (o : Option TraceLine) (l : TraceLine) → ranged o ≡ Ok l → (o ≡ Some l) × (line_in_range l ≡ true)
 ranged_ok None l h = absurd cc
 ranged_ok (Some line) l h = by (line_in_range line) refl h
   where
@@ -84,7 +84,7 @@ ranged_in l h = rw h refl
 le_4096 : (n : ℕ) → nat_le n 4096 ≡ true → n ≤ 4096
 le_4096 n h = grind (arith, nat_tests)
 
-le_true : (n : ℕ) → n ≤ 4096 → nat_le n 4096 ≡ true
+pub le_true : (n : ℕ) → n ≤ 4096 → nat_le n 4096 ≡ true
 le_true n h = grind (arith, nat_tests)
 
 -- a line that a trace may have is read from its text

@@ -8,8 +8,9 @@ use Rattle.server_hub.specs.declared.event.HubEvent.{HubEvent}
 use Rattle.server_hub.specs.declared.event.HubEvent.TheVariants.{Tick}
 use Rattle.server_hub.specs.Served.{Served}
 use Rattle.trace_loop.specs.journal_book.{CanCome, EventsAreSpelled, HasLine, event_line, event_lines}
+use Rattle.trace_loop.proofs.journal_book.EventLines.{lines_append}
 use Rattle.converters.specs.capture_loop.{captured_in, frame_heard, record_events, ticks_and}
-use Rattle.converters.proofs.capture_loop.Limits.{fits_or_not, lines_append, ticks_alone, ticks_first}
+use Rattle.converters.proofs.capture_loop.Limits.{fits_or_not, ticks_alone, ticks_first}
 
 -- the bytes of a frame, behind the header
 pub frame_is : (bytes kept : List ℕ) (len : ℕ) → bytes ≡ kept → slice_range bytes 16 (16 + len) ≡ take len (drop 16 kept)

@@ -8,6 +8,7 @@ use Rattle.server_hub.specs.declared.event.HubEvent.{HubEvent}
 use Rattle.server_hub.specs.declared.event.HubEvent.TheVariants.{Tick}
 use Rattle.trace_loop.specs.trace_book.trace_serving.{Outcome, after_text, too_long}
 use Rattle.trace_loop.specs.journal_book.{event_line, event_lines}
+use Rattle.trace_loop.proofs.journal_book.EventLines.{lines_append}
 use Rattle.converters.specs.capture_loop.{limited, ticks_and}
 
 at_most : (a b : ℕ) → a ≤ b → nat_le a b ≡ true
@@ -15,10 +16,6 @@ at_most a b h = grind (arith, nat_tests)
 
 not_at_most : (a b : ℕ) → b < a → nat_le a b ≡ false
 not_at_most a b h = grind (arith, nat_tests)
-
-pub lines_append : (xs ys : List HubEvent) → event_lines (xs ++ ys) ≡ event_lines xs ++ event_lines ys
-lines_append [] ys = refl
-lines_append (x ∷ xs) ys = ap (λ (l : List ℕ). event_line x ++ l) (lines_append xs ys) ∙ sym (append_assoc (event_line x) (event_lines xs) (event_lines ys))
 
 take_past : {A : Type 0} (room left : ℕ) (xs ys : List A) → left + length xs ≡ room → take room (xs ++ ys) ≡ xs ++ take left ys
 take_past {A} room left [] ys h = let same : room ≡ left = omega arith in ap (λ n. take n ys) same

@@ -19,10 +19,11 @@ use Rattle.trace_loop.specs.{IfBothTold, IfTold, StopsIn}
 use Rattle.trace_loop.proofs.Writing.{IsWriting, writing_breaks, writing_stops, writing_has_room}
 use Rattle.trace_loop.specs.trace_book.{most_events}
 use Rattle.trace_loop.specs.journal_book.{HasLine, event_lines}
+use Rattle.trace_loop.proofs.journal_book.EventLines.{lines_append}
 use Rattle.converters.specs.declared.capture_loop.last.End.{End}
 use Rattle.converters.specs.declared.capture_loop.last.End.TheVariants.{Whole, Refused, TooLong}
 use Rattle.converters.specs.capture_loop.{AreWritten, Captured, ComesTo, HasLinesOf, Records, broken, captured_in, clock_told, ended_by, ending, event_room, events_in, last, limited, most_records, record_events, record_in, records_in, records_text, too_many, whole}
-use Rattle.converters.proofs.capture_loop.Limits.{fits_or_not, limited_full, limited_none, limited_past, lines_append}
+use Rattle.converters.proofs.capture_loop.Limits.{fits_or_not, limited_full, limited_none, limited_past}
 use Rattle.converters.proofs.capture_loop.Cutting.{records_broken, records_none, records_past, records_too_many, records_unread, whole_record}
 
 pub event_room_is : event_room ≡ most_events

@@ -13,7 +13,7 @@ use Rattle.converters.specs.declared.description_loop.sdp_config.sdp.SdpFault.{S
 use Rattle.converters.specs.description_loop.sdp_config.{sdp_at, IsDescribable}
 use Rattle.converters.proofs.description_loop.sdp_config.InRange as in_range
 use Rattle.converters.proofs.description_loop.sdp_config.ReadBack.{read_back}
-use Rattle.trace_text.proofs.Spelling.{spelled_is_read}
+use Rattle.trace_text.proofs.Spelling.{spelled_is_read, ranged_ok}
 use Rattle.trace_loop.specs.trace_book.trace_serving.{ended, done, opening, turn, text_from, served_text, after_text}
 use Rattle.trace_loop.specs.trace_book.{first_line, run, trace_text}
 use Rattle.converters.specs.description_loop.{Heading, HeadSays, says, refuses, behind_head, head_of, heading_text, with_sdp, settings_by, by_head, settings_outcome, SettingsAreTraces, SettingsAreTurnedBack}
@@ -21,16 +21,9 @@ use Rattle.converters.proofs.description_loop.ReadHeads.{lawful_head}
 use Rattle.converters.proofs.description_loop.Spelled.{IsFine, fine_with}
 use Rattle.converters.proofs.description_loop.Words.{shorts}
 
--- what a line in range was read as
-ranged_is : (o : Option TraceLine) (line : TraceLine) → ranged o ≡ Ok line → (o ≡ Some line) × (line_in_range line ≡ true)
-ranged_is None line h = absurd cc
-ranged_is (Some read) line h =
-    cond_both (line_in_range read) (Ok read) (Err fault.LineFault.Range) (λ (r : Result TraceLine fault.LineFault). r ≡ Ok line → (Some read ≡ Some line) × (line_in_range line ≡ true))
-    (λ t q. let same : read ≡ line = cc in (ap Some same, subst (λ (x : TraceLine). line_in_range x ≡ true) same t)) (λ f q. absurd cc) h
-
 reads_back : (line : TraceLine) → is_spelled line ≡ true → (line_of (line_text line) ≡ Some line) × (line_in_range line ≡ true)
 unfolding line_at
-reads_back line h = ranged_is (line_of (line_text line)) line (spelled_is_read line h)
+reads_back line h = ranged_ok (line_of (line_text line)) line (spelled_is_read line h)
 
 -- a spelled line that may come is judged by what it does
 judges : (r later : Reached) (line : TraceLine) → is_spelled line ≡ true → may_come r line ≡ true → line_is_served r line ≡ true → with_line r line ≡ Ok later → judged r (line_text line) ≡ Ok (line, later)

@@ -9,6 +9,7 @@ use Rattle.rams_model.specs.Texts.{head_line, channel_line, line_in_range, line_
 use Rattle.converters.specs.declared.description_loop.sdp_config.sdp.Sdp.{Sdp}
 use Rattle.converters.specs.description_loop.sdp_config.{IsInRange}
 use Rattle.trace_text.proofs.Spelled.{and_both}
+use Rattle.trace_text.proofs.Spelling.{le_true}
 use Rattle.line_io.specs.{HasNoFeed}
 use Rattle.converters.specs.description_loop.{Heading, with_settings, with_sdp}
 use Rattle.converters.proofs.description_loop.ReadHeads.{IsLawfulHead}
@@ -22,9 +23,6 @@ pub record IsFine (h : Heading) : Type 0 where
   pub channel_spelled : is_spelled (channel_line h.version h.settings.channel) ≡ true
   pub head_clean : HasNoFeed (line_text (head_line h.version h.settings.tick h.link))
   pub channel_clean : HasNoFeed (line_text (channel_line h.version h.settings.channel))
-
-few : (n : ℕ) → n ≤ 4096 → nat_le n 4096 ≡ true
-few n h = grind (arith, nat_tests)
 
 -- lawful settings are in range
 pub in_range : (s : Settings) → IsLawful s → channel_in_range s.channel ≡ true
@@ -101,11 +99,11 @@ form_of version c are says =
 -- a line in range whose numbers can be spelled
 spelled_channel : (version : ℕ) (c : Channel) → AreShort version c → version_says version c ≡ true → channel_in_range c ≡ true → is_spelled (channel_line version c) ≡ true
 unfolding is_spelled line_text
-spelled_channel version c are says range = and_both (and_both (form_of version c are says) range) (few _ (channel_text version c are).short)
+spelled_channel version c are says range = and_both (and_both (form_of version c are says) range) (le_true _ (channel_text version c are).short)
 
 spelled_head : (version tick link : ℕ) → line_has_form (head_line version tick link) ≡ true → line_in_range (head_line version tick link) ≡ true → is_spelled (head_line version tick link) ≡ true
 unfolding is_spelled line_text
-spelled_head version tick link form range = and_both (and_both form range) (few _ (head_text version tick link form).short)
+spelled_head version tick link form range = and_both (and_both form range) (le_true _ (head_text version tick link form).short)
 
 clean_head : (version tick link : ℕ) → line_has_form (head_line version tick link) ≡ true → HasNoFeed (line_text (head_line version tick link))
 unfolding line_text

@@ -21,9 +21,9 @@ use Rattle.rams_model.proofs.Rising.{end_of}
 use Rattle.rams_model.proofs.RtpPackets.{spelled_so}
 use Rattle.rams_model.specs.Laws.{Rises}
 use Rattle.meet_loop.specs.world_laws.{takes, hears_number, as_it_came}
-use Rattle.service_laws.proofs.byte_laws.Low.{IsLow, IsHigh, live_note_low}
-use Rattle.service_laws.proofs.book_laws.CameBefore.{all_of}
-use Rattle.service_laws.proofs.book_laws.Members.{of_one}
+use Rattle.service_laws.proofs.byte_laws.Low.{IsLow, IsHigh, live_note_low, high_present}
+use Rattle.service_laws.proofs.book_laws.CameBefore.{all_of, not_live}
+use Rattle.service_laws.proofs.book_laws.Members.{of_one, of_with, is_first}
 use Rattle.service_laws.proofs.byte_laws.Rising.{all_rises, stands_once}
 use Rattle.service_laws.specs.byte_laws.{HasBytes}
 
@@ -72,17 +72,6 @@ live_read : (c : Channel) (bytes : List ℕ) → ReadSo c bytes (heard_live c by
 live_read c bytes = cond_both (ltb 1470 (length bytes)) (dropped TooBig) (heard_packet c (packet_at bytes)) (ReadSo c bytes) (λ t. tt) (λ f. packet_read c bytes (packet_at bytes) refl)
 
 -- ---- one packet more
-
-of_with : (new : Held) (hs : List Held) (h : Held) → Contains (with_packet new hs) h → Contains hs h ⊎ (new ≡ h)
-of_with new [] h c = inr (of_one new h c)
-of_with new (k ∷ ks) h c =
-    cond_both (ltb new.n k.n) (new ∷ k ∷ ks) (k ∷ with_packet new ks) (λ l. Contains l h → Contains (k ∷ ks) h ⊎ (new ≡ h))
-    (λ t d. ⊎_elim (λ e. inr (of_one new h e)) (λ r. inl r) (Contains-append_cases (new ∷ []) (k ∷ ks) h d))
-    (λ f d. ⊎_elim (λ e. inl (Contains-append_left (k ∷ []) ks h e))
-    (λ r. ⊎_elim (λ e. inl (Contains-append_right (k ∷ []) ks h e)) (λ e. inr e) (of_with new ks h r)) (Contains-append_cases (k ∷ []) (with_packet new ks) h d)) c
-
-is_first : (h : Held) (hs : List Held) → Contains (h ∷ hs) h
-is_first h hs = (0, omega arith, refl)
 
 has_new : (new : Held) (hs : List Held) → Contains (with_packet new hs) new
 has_new new [] = is_first new []
@@ -148,10 +137,6 @@ note_kept c look bytes st a n h r small low rises old has = old h has
 
 -- ---- all packets
 
-high_present : (ended present : List Held) → ((k : Held) → Contains (ended ++ present) k → 65536 ≤ k.n) → IsHigh present
-high_present ended [] f = tt
-high_present ended (h ∷ hs) f = f h (Contains-append_right ended (h ∷ hs) h (is_first h hs))
-
 -- what is looked up after an event of which this is heard
 abbrev look_after : Settings → List Event → List ℕ → Heard → ℕ → Option (List ℕ)
 look_after s events bytes heard n = cond (hears_number s (stream s (history_of s events)) n heard) (Some bytes) (as_it_came s events n)
@@ -170,11 +155,6 @@ heard_kept s events bytes (dropped n) h r small old has = old h has
 heard_kept s events bytes (feedback client messages) h r small old has = old h has
 heard_kept s events bytes (unframed client fault) h r small old has = old h has
 heard_kept s events bytes tick h r small old has = old h has
-
-pub not_live : (client : ℕ) (r : Result (List Framed) FrameFault) (history : History) → arrivals (began (heard_feedback client r) ∷ history) ≡ arrivals history
-unfolding arrivals
-not_live client (Err fault) history = refl
-not_live client (Ok packets) history = refl
 
 event_kept : (s : Settings) (event : Event) (events : List Event) (h : Held) → HasBytes event
     → ((k : Held) → Contains (all_of (stream s (history_of s events))) k → IsKept s.channel (as_it_came s events) k)

@@ -21,12 +21,13 @@ use Rattle.trace_loop.specs.journal_book.{HeadsOpenNewChannels, behind, event_li
 use Rattle.trace_loop.specs.declared.stop.Stop.{Stop}
 use Rattle.trace_loop.specs.declared.stop.Stop.TheVariants.{Memory, Read, Write, Wire}
 use Rattle.trace_loop.proofs.Reading.{passes_whole}
+use Rattle.trace_loop.proofs.journal_book.EventLines.{lines_append}
 use Rattle.serve_loop.specs.{Begun, Broken, Given, GoOut, HasRoom, IsBetween, OnlyMemoryStops, Room, Serving, StopsIn, WaitsIn, sent_by}
 use Rattle.serve_loop.proofs.Closing.{serving_begins}
 use Rattle.serve_loop.proofs.GoingOut.{GoOut-none}
 use Rattle.serve_loop.proofs.Telling.{settled_behind}
 use Rattle.serve_loop.proofs.Rooms.{quiet_room, wire_none}
-use Rattle.serve_loop.proofs.Steps.{lines_append, waits_more}
+use Rattle.serve_loop.proofs.Steps.{waits_more}
 use Rattle.serve_loop.specs.standby.{followed, stage_of}
 use Rattle.serve_loop.specs.standby.standby_book.{JournalsAreTakenOver, followed_text}
 use Rattle.serve_loop.specs.takeover_loop.{Ending, EndsAs, HasEnded, HasStopped, IsTaken, IsWithin, Stopping, done_events, events_left, given_events, last_line, reading_end, taken_datagrams, taken_text, turns_end}

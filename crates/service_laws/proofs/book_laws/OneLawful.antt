@@ -108,18 +108,18 @@ at_end (a ∷ xs) (b ∷ ys) zs x y e =
     (at_end xs ys zs x y tails)
 
 -- a note of a history stands in it
-record StandsIn (history : History) (earlier : List Note) (note : Note) : Type 0 where
-  packet : Option Held
-  later : History
-  before : History
-  splits : history ≡ later ++ noted note packet ∷ before
-  stood : notes_of before ≡ earlier
+pub record StandsIn (history : History) (earlier : List Note) (note : Note) : Type 0 where
+  pub packet : Option Held
+  pub later : History
+  pub before : History
+  pub splits : history ≡ later ++ noted note packet ∷ before
+  pub stood : notes_of before ≡ earlier
 
 further : (i : Item) (history : History) (earlier : List Note) (note : Note) → StandsIn history earlier note → StandsIn (i ∷ history) earlier note
 further i history earlier note w =
     record { packet = w.packet; later = i ∷ w.later; before = w.before; splits = ap (λ (h : History). i ∷ h) w.splits; stood = w.stood }
 
-stands_in : (history : History) (earlier later : List Note) (note : Note) → notes_of history ≡ earlier ++ note ∷ later → StandsIn history earlier note
+pub stands_in : (history : History) (earlier later : List Note) (note : Note) → notes_of history ≡ earlier ++ note ∷ later → StandsIn history earlier note
 stands_in [] earlier later note e = absurd (no_end earlier later note e)
 stands_in (began heard ∷ history) earlier later note e = further (began heard) history earlier note (stands_in history earlier later note e)
 stands_in (told client message ∷ history) earlier later note e = further (told client message) history earlier note (stands_in history earlier later note e)

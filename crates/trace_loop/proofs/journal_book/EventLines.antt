@@ -1,7 +1,7 @@
 -- The line of an event: it has no line feed, is read as itself, and brings the event.
-use Rattle.std.proofs.Common.{◌≡◌, ℕ, ◌/◌, ◌%◌, ◌<◌, ◌≤◌, Bool, true, false, not, ◌&&◌, ◌==◌, List, [], ◌∷◌, ◌++◌, length, get_or, ltb, ltb-true, ltb-false, Option, Some, None, Result, Ok, Err, codes, bytes_eq, decimal, zero, suc, refl, sym, ap, subst, ◌∙◌, arith}
+use Rattle.std.proofs.Common.{◌≡◌, ℕ, ◌/◌, ◌%◌, ◌<◌, ◌≤◌, Bool, true, false, not, ◌&&◌, ◌==◌, List, [], ◌∷◌, ◌++◌, length, get_or, ltb, ltb-true, ltb-false, Option, Some, None, Result, Ok, Err, codes, bytes_eq, decimal, zero, suc, refl, sym, ap, subst, ◌∙◌, arith, append_assoc}
 use Rattle.std.specs.List.{list_all}
-use Rattle.std.proofs.lemmas.Bool.{and_parts, cond_both}
+use Rattle.std.proofs.lemmas.Bool.{and_parts, cond_both, not-true}
 use Rattle.std.proofs.lemmas.Bool.Decides.{nat_tests}
 use Rattle.std.proofs.lemmas.List.{get_or_past}
 use Rattle.std.proofs.lemmas.List.Folds.{list_all-append}
@@ -18,19 +18,15 @@ use Rattle.server_hub.specs.declared.event.HubEvent.{HubEvent}
 use Rattle.server_hub.specs.declared.event.HubEvent.TheVariants.{Live, Feedback, Tick}
 use Rattle.trace_loop.specs.trace_book.trace_serving.{brought}
 use Rattle.trace_loop.specs.trace_book.{run}
-use Rattle.trace_loop.specs.journal_book.{line_of_event, HasLine}
+use Rattle.trace_loop.specs.journal_book.{line_of_event, HasLine, event_line, event_lines}
 
 -- none of the bytes is a line feed, as a test
 abbrev pub has_no_feed : List ℕ → Bool
 has_no_feed bytes = list_all (λ b. not (b == 10)) bytes
 
-unlike : (b : Bool) → not b ≡ true → b ≡ false
-unlike true h = absurd cc
-unlike false h = refl
-
 pub no_feed : (bytes : List ℕ) → has_no_feed bytes ≡ true → HasNoFeed bytes
 no_feed [] h = tt
-no_feed (b ∷ bytes) h = let parts = and_parts (not (b == 10)) (has_no_feed bytes) h in (unlike (b == 10) parts.0, no_feed bytes parts.1)
+no_feed (b ∷ bytes) h = let parts = and_parts (not (b == 10)) (has_no_feed bytes) h in (not-true (b == 10) parts.0, no_feed bytes parts.1)
 
 -- what passes one test passes another that asks for less
 pub all_weaker : (p q : ℕ → Bool) → ((b : ℕ) → p b ≡ true → q b ≡ true) → (bytes : List ℕ) → list_all p bytes ≡ true → list_all q bytes ≡ true
@@ -158,3 +154,8 @@ pub event_line_is : (event : HubEvent) → HasLine event → IsEventLine event
 event_line_is event h =
     let so = spelled_so (line_of_event event) h in
     record { clean = text_clean event so.form; reads = reads_back (line_of_event event) h; in_range = so.in_range; brings = brings_back event so.form }
+
+-- the lines of some events and of more
+pub lines_append : (xs ys : List HubEvent) → event_lines (xs ++ ys) ≡ event_lines xs ++ event_lines ys
+lines_append [] ys = refl
+lines_append (x ∷ xs) ys = ap (λ (l : List ℕ). event_line x ++ l) (lines_append xs ys) ∙ sym (append_assoc (event_line x) (event_lines xs) (event_lines ys))

@@ -9,7 +9,8 @@ use Rattle.hex.specs.Hex.{encode_lower, lower_digits, IsBytes}
 use Rattle.hex.proofs.HexLemmas.{length-encode_with}
 use Rattle.hex_text.proofs.Written.{written_is_lower}
 use Rattle.rams_model.specs.Texts.{is_hex, hex_word, is_short, id_in_range, line_text, is_spelled}
-use Rattle.trace_text.proofs.Spelled.{and_both}
+use Rattle.trace_text.proofs.Spelled.{and_both, short_true}
+use Rattle.trace_text.proofs.Spelling.{le_true}
 use Rattle.server_hub.specs.declared.event.HubEvent.TheVariants.{Live, Feedback, Tick}
 use Rattle.trace_loop.specs.journal_book.{IsDatagramOf, EventsAreSpelled}
 use Rattle.trace_loop.proofs.journal_book.EventLines.{bytes_more}
@@ -39,9 +40,6 @@ hex_short (b ∷ bytes) h = let long = length-encode_with lower_digits (b ∷ by
 decimal_short : (n : ℕ) → n < 10 ^ 15 → length (decimal n) ≤ 15
 decimal_short n h = length-decimal-le 15 n (omega arith) h (omega arith)
 
-short_true : (n : ℕ) → n < 10 ^ 15 → is_short n ≡ true
-short_true n h = lt-ltb n (10 ^ 15) h
-
 id_short : (id : ℕ) (bytes : List ℕ) → IsDatagramOf id bytes → id < 10 ^ 15
 id_short id bytes is = let most = is.number.most in omega (arith, most)
 
@@ -50,9 +48,6 @@ id_is id bytes is = in_range id is.number.least is.number.most
   where
     in_range : (n : ℕ) → 1 ≤ n → n ≤ 65535 → id_in_range n ≡ true
     in_range n low high = grind (arith, nat_tests)
-
-few_enough : (n : ℕ) → n ≤ 4096 → nat_le n 4096 ≡ true
-few_enough n h = grind (arith, nat_tests)
 
 -- a name, a word and another word
 two_words : (name first second : List ℕ) → length name ≤ 4 → length first ≤ 15 → length second ≤ 4000 → length (name ++ (32 ∷ (first ++ (32 ∷ (second ++ []))))) ≤ 4096
@@ -75,10 +70,10 @@ unfolding is_spelled line_text
 events_are_spelled (Live id bytes) is =
     let small = id_short id bytes is in
     let short = two_words (codes "live") (decimal id) (hex_word bytes) (omega arith) (decimal_short id small) (hex_short bytes is.short) in
-    and_both (and_both (and_both (short_true id small) (hex_is bytes is.octets)) (id_is id bytes is)) (few_enough _ short)
+    and_both (and_both (and_both (short_true id small) (hex_is bytes is.octets)) (id_is id bytes is)) (le_true _ short)
 events_are_spelled (Feedback id client bytes) is =
     let small = id_short id bytes is.0 in
     let sender : client < 10 ^ 15 = let below = is.1 in omega (arith, below) in
     let short = three_words (codes "fb") (decimal id) (decimal client) (hex_word bytes) (omega arith) (decimal_short id small) (decimal_short client sender) (hex_short bytes is.0.short) in
-    and_both (and_both (and_both (and_both (short_true id small) (short_true client sender)) (hex_is bytes is.0.octets)) (and_both (id_is id bytes is.0) (lt-ltb client (2 ^ 48) is.1))) (few_enough _ short)
+    and_both (and_both (and_both (and_both (short_true id small) (short_true client sender)) (hex_is bytes is.0.octets)) (and_both (id_is id bytes is.0) (lt-ltb client (2 ^ 48) is.1))) (le_true _ short)
 events_are_spelled Tick is = refl

@@ -4,15 +4,13 @@ use Rattle.rams_model.specs.Texts.{Reached, tick_of}
 use Rattle.trace_loop.specs.trace_book.trace_serving.{after_line, brought}
 use Rattle.trace_text.specs.declared.line.Judged.{Judged}
 use Rattle.trace_text.specs.{told, IsSettled}
+use Rattle.trace_text.proofs.Judging.{settled}
 use Rattle.trace_loop.specs.declared.turn.Turn.{Turn}
 use Rattle.trace_loop.specs.declared.turn.Turn.TheVariants.{GoesOn}
 use Rattle.meet_loop.specs.world_book.{meet}
 use Rattle.meet_loop.specs.{Comes, Took}
 use Rattle.meet_loop.proofs.Opening.{opens_next, opened_turn}
 use Rattle.meet_loop.proofs.meeting.after_line.Goals as goal
-
-settled : (r : Reached) (j k : Judged) → j ≡ k → IsSettled (tick_of r.head) j → IsSettled (tick_of r.head) k
-settled r j k is = subst (IsSettled (tick_of r.head)) is
 
 pub open-requires : goal.open-requires
 open-requires c =

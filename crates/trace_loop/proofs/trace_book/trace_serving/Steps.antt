@@ -11,6 +11,7 @@ use Rattle.rams_model.specs.declared.channel.Channel.{Channel}
 use Rattle.rams_model.specs.Service.{Settings, settings, most_bytes, tick_in_range}
 use Rattle.rams_model.specs.Texts.{TraceLine, head_line, channel_line, live_line, feedback_line, tick_line, end_line, tune_line, give_line, mcast_line, ask_line, drop_line, Reached, Head, Claim, tick_of, has_channel, has_version, has_one_channel, judged}
 use Rattle.server_hub.specs.{FitLink, ids_of, shares_of}
+use Rattle.server_hub.proofs.Adding.{fit_more}
 use Rattle.trace_loop.specs.trace_book.trace_serving.{Serving, Stage, Turn, goes_on, ends, opening, brought, too_long, eventless, after_line, counted, claim_of, IsHead, AreLawful, StandUnder, Stand, opened_all, new_state, opened_by, after_brought, IsIdle, IsStage, channel_of_line, head_of_line, after_all, events_text, EndsWith, is_too_long, is_done}
 use Rattle.trace_loop.proofs.trace_book.trace_serving.Judged.{IsAccepted, IsJoined, channel_so, claim}
 
@@ -29,6 +30,14 @@ pub record Says (Event : Type 0) : Type 0 where
   pub channel : Option Channel
   pub head : Option Head
 
+-- what went on went on to this
+pub went_to : {State : Type 0} (stage later next : Stage State) (text more : List ℕ) → goes_on next more ≡ goes_on later text → next ≡ later
+went_to {State} stage later next text more e = ap stage_in e
+  where
+    stage_in : Turn State → Stage State
+    stage_in (goes_on s t) = s
+    stage_in (ends o) = stage
+
 -- a channel more
 other_way : (id : ℕ) (all : List Settings) → list_any (λ k. eqb k.id id) (map claim_of all) ≡ false → All (λ k. k ≢ id) (ids_of all)
 other_way id [] e = All-nil (λ k. k ≢ id)
@@ -42,15 +51,6 @@ shares_are (x ∷ all) =
     sum_by-cons (λ (k : Claim). k.share) (claim_of x) (map claim_of all) ∙ ap (λ (n : ℕ). x.channel.share + n) (shares_are all)
     ∙ sym (sum_by-cons (λ (s : Settings). s.channel.share) x all)
 
-fit_more : (tick link : ℕ) (all : List Settings) (x : Settings) → FitLink tick link all → length all < 64 → All (λ k. k ≢ x.channel.id) (ids_of all)
-    → shares_of all + x.channel.share ≤ link → x.tick ≡ tick → FitLink tick link (all ++ x ∷ [])
-fit_more tick link all x f few new fits same = record {
-  few = omega (arith, length-append all (x ∷ []));
-  once =
-      subst (AllPairs (λ a b. a ≢ b)) (sym (map-append (λ (s : Settings). s.channel.id) all (x ∷ [])))
-      (all_pairs_push (λ a b. a ≢ b) (ids_of all) x.channel.id f.once new);
-  shares = omega (arith, sum_by_push (λ (s : Settings). s.channel.share) all x);
-  ticks = All-append (λ (s : Settings). s.tick ≡ tick) all (x ∷ []) f.ticks (All-cons (λ (s : Settings). s.tick ≡ tick) x [] same (All-nil (λ (s : Settings). s.tick ≡ tick)));
 }
 
 stand_more : (head : Head) (r : Reached) (c : Channel) (later : Reached) (all : List Settings) → r.channels ≡ map claim_of all → StandUnder head all → IsJoined r head c later

@@ -6,13 +6,11 @@ use Rattle.trace_loop.specs.trace_book.{run}
 use Rattle.trace_text.specs.declared.line.Judged.{Judged}
 use Rattle.trace_text.specs.declared.line.Judged.TheVariants as judged
 use Rattle.trace_text.specs.{told, IsSettled}
+use Rattle.trace_text.proofs.Judging.{settled}
 use Rattle.trace_loop.specs.declared.head_loop.head.HeadLine.TheVariants.{GoesOn}
 use Rattle.trace_loop.specs.head_loop.{Comes, Took}
 use Rattle.trace_loop.proofs.head_loop.Opening.{opens_next, opened_turn}
 use Rattle.trace_loop.proofs.head_loop.head.after_line.Goals as goal
-
-settled : (r : Reached) (j k : Judged) → j ≡ k → IsSettled (tick_of r.head) j → IsSettled (tick_of r.head) k
-settled r j k is = subst (IsSettled (tick_of r.head)) is
 
 pub open-requires : goal.open-requires
 open-requires c =

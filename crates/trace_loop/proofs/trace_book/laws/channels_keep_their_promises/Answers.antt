@@ -6,12 +6,13 @@ use Rattle.rams_model.specs.Service.{checked, tick, began, noted, History, Book,
 use Rattle.rams_model.specs.declared.event.Event.TheVariants.{Tick}
 use Rattle.rams_model.specs.declared.note.Note.TheVariants.{Repair}
 use Rattle.service_laws.specs.book_laws.{LastAccept, is_tick_start, BeginsWithATick, notes_of}
+use Rattle.service_laws.proofs.book_laws.OneLawful.{stands_in}
 use Rattle.rams_model.specs.Laws.{NoneIs}
 use Rattle.server_hub.specs.Served.{Served}
 use Rattle.trace_loop.specs.trace_book.{WasSo, HasOneBook, RetransmitsTheSource, SendsInOrder, TellsWhereBurstsBegin, TellsWhatCame, RespectsItsStop, TellsBurstsTruly, SendsWhatIsAsked, IsWithinBudgets, IsWithinBudgetsOverTicks, KeepsBudgets, RefusesTruly, AnswersByTheTable, KeepsJoinTimes, TellsItsClients, ServesEachTick, GivesUpTruly, IsOfBytes, KeepsPromises}
 use Rattle.trace_loop.proofs.trace_book.Bytes.{have_bytes, have_part, bytes_of}
 use Rattle.trace_loop.proofs.trace_book.Lawful.{idle_least}
-use Rattle.trace_loop.proofs.trace_book.Moments.{moment, earlier, stands_in}
+use Rattle.trace_loop.proofs.trace_book.Moments.{moment, earlier}
 use Rattle.trace_loop.proofs.trace_book.Repairs.{repair_waits, repair_held}
 use Rattle.trace_loop.proofs.trace_book.laws.channels_keep_their_promises.Goals as goal
 
