@@ -1,6 +1,7 @@
 -- What contracts see of a hub, and the channels that it stands for.
 use Rattle.std.specs.Prelude.{◌≡◌, ◌≢◌, ℕ, ◌+◌, ◌≤◌, Bool, ◌==◌, not, nat_le, nat_lt, if◌then◌else◌, List, [], ◌∷◌, ◌++◌, length, map, sum_by, All, AllPairs, Option, Some, None}
 use Rattle.std.specs.List.{list_any}
+use Rattle.rams_model.specs.declared.wire.TheConstants.{MOST_ON_WIRE}
 use Rattle.rams_model.specs.Service.{Settings}
 use Rattle.server_hub.specs.session_core.Seen as cores
 use Rattle.server_hub.specs.declared.event.AddFault.{AddFault}
@@ -53,7 +54,7 @@ pub record FitLink (tick link : ℕ) (all : List Settings) : Type 0 where
 pub record IsHub (v : Seen) : Type 0 where
   pub tick_least : 1 ≤ v.tick
   pub tick_most : v.tick ≤ 1000
-  pub link_least : 1500 ≤ v.link
+  pub link_least : MOST_ON_WIRE ≤ v.link
   pub link_most : v.link ≤ 1000000000
   pub channels : FitLink v.tick v.link (settings_of v)
   -- each core stands for some events, no more of them than the hub counts

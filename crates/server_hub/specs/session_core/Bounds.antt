@@ -2,11 +2,12 @@
 use Rattle.std.specs.Prelude.{ℕ, ◌^◌, ◌<◌, ◌≤◌, length, All}
 use Rattle.rams_model.specs.declared.answer.Order.{Order}
 use Rattle.rams_model.specs.declared.answer.Order.TheVariants.{Rtx, Info}
+use Rattle.rams_model.specs.declared.wire.TheConstants.{MOST_PACKET}
 use Rattle.rams_model.specs.Service.{Answered}
 
 -- the packet that it sends again has at most 1,470 bytes
 abbrev pub IsShort : Order → Type 0
-IsShort (Rtx client n sequence packet) = length packet ≤ 1470
+IsShort (Rtx client n sequence packet) = length packet ≤ MOST_PACKET
 IsShort (Info client info) = Unit {0}
 
 -- So does each packet that the answer sends.
