@@ -39,7 +39,7 @@ impl Core {
     ghost use Rattle.rams_model.specs.declared.event.Event.{Event};
     ghost use Rattle.rams_model.specs.declared.event.Event.TheVariants.{Live, Feedback, Tick};
     ghost use Rattle.rams_model.specs.declared.note.Note.TheVariants.{Live as LiveNoted};
-    ghost use Rattle.rams_model.specs.Packets.{lo, hi};
+    ghost use Rattle.rams_model.specs.Packets.{hi};
     ghost use Rattle.rams_model.specs.Service.{hold, history_of, answer, answered, heard_live, live};
     ghost use Rattle.channel_cache.specs.{arrival_of, IsBare};
     ghost use Rattle.channel_cache.specs.packet_ring.{packet_of};
@@ -61,14 +61,6 @@ impl Core {
         ensures { result.now ≡ self.now.settings }
     {
         &self.parts.config
-    }
-
-    /// The number of the oldest packet that is held; 0 while none is.
-    pub fn lo(&self) -> u64
-        ensures { (events : List Event) → StandsFor self.now events →
-            result ≡ lo (hold self.now.settings (history_of self.now.settings events)) }
-    {
-        self.parts.cache.lo()
     }
 
     /// One above the number of the newest packet that is held; 0 while none is.
