@@ -9,4 +9,3 @@ pub mod HighPackets
 pub mod Answered
 pub mod Steps
 pub mod Fresh
-pub mod Spanned

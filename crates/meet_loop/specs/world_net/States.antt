@@ -17,7 +17,7 @@ use Rattle.meet_loop.specs.declared.world_laws.world.WorldNote.{WorldNote}
 use Rattle.meet_loop.specs.declared.world_net.parts.Parts.{Parts}
 use Rattle.meet_loop.specs.declared.world_net.seat.Seat.{Seat}
 use Rattle.meet_loop.specs.world_net.Seats.{Follows, HasFew}
-use Rattle.meet_loop.specs.world_net.Spans.{at_pair}
+use Rattle.meet_loop.specs.world_net.Pairs.{at_pair}
 
 -- what a world keeps
 pub record Kept : Type 0 where

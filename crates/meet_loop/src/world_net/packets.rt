@@ -1,41 +1,29 @@
 //! The live packets of a world.
-ghost use Rattle.std.specs.Prelude.{◌≡◌, ◌&&◌, ◌==◌, ℕ, None, Some, OnOk, length, option_map, if◌then◌else◌};
-ghost use Rattle.meet_loop.specs.world_net.{at_pair, cut, IsWithin};
+ghost use Rattle.std.specs.Prelude.{◌≡◌, ◌&&◌, ◌==◌, ℕ, None, Some, IfOk, OnOk, option_map, if◌then◌else◌};
+ghost use Rattle.meet_loop.specs.world_net.{at_pair};
 
+use bytes::Bytes;
 use ram_io::NoMemory;
+use rams_model::Held;
 use std::alloc::Global;
 use std::collections::BTreeMap;
 use std::marker::Model;
 
-/// Where the bytes of a packet begin, and where they end.
-#[derive(Clone, Copy)]
-struct Span {
-    start: usize,
-    end: usize,
-}
-
-/// Packets by their channel's number and their own. Their bytes stand one behind another, so that none
-/// takes memory of its own.
+/// Packets by their channel's number and their own. Most share their bytes with the channel that took them.
 #[derive(Drop)]
 pub(crate) struct Packets {
-    spans: BTreeMap<(u16, u64), Span>,
-    bytes: Vec<u8>,
+    packets: BTreeMap<(u16, u64), Bytes>,
+    /// The length of the longest packet that came.
+    longest: usize,
 }
 
 impl Model for Packets {
-    ghost use Rattle.std.specs.Prelude.{ℕ, List, length};
-    ghost use Rattle.meet_loop.specs.world_net.Spans.{spanned, AreWithin};
+    ghost use Rattle.std.specs.Prelude.{ℕ, List};
 
     ghost Value = { List ((ℕ × ℕ) × List ℕ) };
 
-    ghost view = { λ p. spanned p.bytes.items p.spans.entries };
-
-    ghost invariant = { λ p. AreWithin (length p.bytes.items) p.spans.entries };
+    ghost view = { λ p. p.packets.entries };
 }
-
-/// Room for so many bytes is asked for with the first packet. The system gives a block of this size page by
-/// page, as it is written, and lets it grow without a copy.
-const ROOM: usize = 1 << 22;
 
 impl Packets {
     /// No packets. It takes no memory.
@@ -43,20 +31,26 @@ impl Packets {
         ensures { (id n : ℕ) → at_pair result id n ≡ None }
     {
         Packets {
-            spans: BTreeMap::new(alloc),
-            bytes: Vec::new(alloc),
+            packets: BTreeMap::new(alloc),
+            longest: 0,
         }
     }
 
-    /// One more packet, in place of one with the same numbers.
-    pub(crate) fn add(&mut self, id: u16, n: u64, packet: &[u8]) -> Result<(), NoMemory>
+    /// One more packet, as it came, in place of one with the same numbers. What its channel `held` then may
+    /// have the same bytes.
+    pub(crate) fn add(
+        &mut self,
+        alloc: Global,
+        id: u16,
+        n: u64,
+        packet: &[u8],
+        held: Option<&Held>,
+    ) -> Result<(), NoMemory>
         ensures { OnOk result ((i m : ℕ) → at_pair self.new i m ≡ (if id == i && n == m then Some packet.now else at_pair self.old i m)) }
     {
-        make_room(&mut self.bytes);
-        let start = self.bytes.len();
-        self.bytes.extend_from_slice(packet)?;
-        let end = self.bytes.len();
-        self.spans.insert((id, n), Span { start, end })?;
+        self.longest = self.longest.max(packet.len());
+        let kept = shared(alloc, packet, held, self.longest)?;
+        self.packets.insert((id, n), kept)?;
         Ok(())
     }
 
@@ -64,26 +58,27 @@ impl Packets {
     pub(crate) fn get(&self, id: u16, n: u64) -> Option<&[u8]>
         ensures { option_map (λ packet. packet.now) result ≡ at_pair self.now id n }
     {
-        match self.spans.get(&(id, n)) {
-            Some(span) => Some(part(&self.bytes, *span)),
+        match self.packets.get(&(id, n)) {
+            Some(packet) => Some(packet.as_slice()),
             None => None,
         }
     }
 }
 
-// Asks for that room. Where there is none, it grows as it is needed.
-fn make_room(bytes: &mut Vec<u8>)
-    ensures { bytes.new.items ≡ bytes.old.items }
+// A packet's bytes: those that are held, where they are the same. What is held may have room for the
+// `longest` packet, so that a much shorter one is copied.
+fn shared(
+    alloc: Global,
+    packet: &[u8],
+    held: Option<&Held>,
+    longest: usize,
+) -> Result<Bytes, NoMemory>
+    ensures { IfOk result (λ bytes. bytes ≡ packet.now) }
 {
-    if bytes.capacity() == 0 {
-        let _ = bytes.try_reserve(ROOM);
+    match held {
+        Some(held) if packet.len() >= longest / 2 && held.packet.as_slice() == packet => {
+            Ok(held.packet.clone()?)
+        }
+        _ => Ok(Bytes::copy_from_slice(alloc, packet)?),
     }
-}
-
-// The bytes of a span.
-fn part(bytes: &[u8], span: Span) -> &[u8]
-    requires { IsWithin (length bytes.now) span }
-    ensures { result.now ≡ cut bytes.now span }
-{
-    &bytes[span.start..span.end]
 }

@@ -25,7 +25,7 @@ pub(crate) struct Places {
 
 impl Model for Places {
     ghost use Rattle.std.specs.Prelude.{◌≡◌, ℕ, List, Some, IfSome};
-    ghost use Rattle.meet_loop.specs.world_net.Spans.{at_pair};
+    ghost use Rattle.meet_loop.specs.world_net.Pairs.{at_pair};
 
     ghost Value = { List ((ℕ × ℕ) × ℕ) };
 

@@ -11,7 +11,7 @@ use crate::world_net::parts::Parts;
 use crate::world_net::telling::tell;
 use ram_io::NoMemory;
 use rams_model::{LiveNote, Note};
-use server_hub::{At, Heard, HubAnswer};
+use server_hub::{At, Heard, Hub, HubAnswer};
 use std::alloc::Global;
 use std::slice;
 
@@ -28,27 +28,40 @@ impl Parts {
         ensures few { (n : ℕ) → AreFew n self.old → AreFew (n + 1) self.new }
     {
         let answer = self.hub.hear(alloc, heard)?;
-        keep_live(&mut self.packets, heard, &answer)?;
+        keep_live(alloc, &mut self.packets, &self.hub, heard, &answer)?;
         tell(alloc, &self.hub, answer, notes, &mut self.parcels)
     }
 }
 
 // Keeps what is heard, where it is a live packet that its channel took.
-fn keep_live(packets: &mut Packets, heard: Heard<'_>, answer: &HubAnswer) -> Result<(), NoMemory>
+fn keep_live(
+    alloc: Global,
+    packets: &mut Packets,
+    hub: &Hub,
+    heard: Heard<'_>,
+    answer: &HubAnswer,
+) -> Result<(), NoMemory>
     ensures { OnOk result (KeepsHeard (event_of heard.entry) (told answer.now) packets.old packets.new) }
 {
     match heard {
-        Heard::Live { id, bytes } => keep(packets, id, bytes, answer),
+        Heard::Live { id, bytes } => keep(alloc, packets, hub, id, bytes, answer),
         _ => Ok(()),
     }
 }
 
 // Keeps a live packet, where the channel took it.
-fn keep(packets: &mut Packets, id: u16, bytes: &[u8], answer: &HubAnswer) -> Result<(), NoMemory>
+fn keep(
+    alloc: Global,
+    packets: &mut Packets,
+    hub: &Hub,
+    id: u16,
+    bytes: &[u8],
+    answer: &HubAnswer,
+) -> Result<(), NoMemory>
     ensures { OnOk result (Keeps id bytes.now (taken_number (told answer.now)) packets.old packets.new) }
 {
     if let Some(n) = number_taken(answer) {
-        packets.add(id, n, bytes)?;
+        packets.add(alloc, id, n, bytes, hub.held(id, n))?;
     }
     Ok(())
 }
