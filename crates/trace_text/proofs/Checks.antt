@@ -42,11 +42,6 @@ range_out : (s : Settings) → tick_in_range s.tick ≡ true → Err config.Rang
 unfolding checked
 range_out s t h = grind (arith, nat_tests)
 
-of_tests : (g twice : Bool) (x : Result Settings LineFault) → g ≡ true → twice ≡ false → x ≡ (if not g then Err Range else if twice then Err Twice else x)
-of_tests true false x a b = refl
-of_tests false twice x a b = absurd cc
-of_tests true true x a b = absurd cc
-
 settles : (g twice : Bool) (x : Result Settings LineFault) → g ≡ true → (if twice then Err Twice else x) ≡ (if not g then Err Range else if twice then Err Twice else x)
 settles true twice x h = refl
 settles false twice x h = absurd cc

@@ -16,9 +16,6 @@ starts_empty log = record { rest = log; is = refl }
 pub starts_more : (log front more : List Entry) → StartsWith log front → StartsWith (log ++ more) front
 starts_more log front more st = record { rest = st.rest ++ more; is = ap (λ l. l ++ more) st.is ∙ append_assoc front st.rest more }
 
-pub length_starts : (log front : List Entry) → StartsWith log front → length front ≤ length log
-length_starts log front st = omega (arith, ap length st.is, length-append front st.rest)
-
 pub legal_starts : (s : Settings) (log front : List Entry) → StartsWith log front → IsLegal s log → IsLegal s front
 legal_starts s log front st l = legal_front s [] front st.rest (subst (IsLegal s) st.is l)
 
