@@ -18,7 +18,7 @@ use Rattle.trace_loop.proofs.head_loop.Channels.{settings_stand}
 use Rattle.trace_loop.proofs.head_loop.Claims.{claims_are, fits, none_before}
 use Rattle.trace_loop.proofs.head_loop.Opening.{Bounded, bounded, later_head}
 use Rattle.rams_replay.specs.{Stands, Comes, Took}
-use Rattle.serve_loop.specs.standby.{HubServes, Serves}
+use Rattle.takeover.specs.standby.{HubServes, Serves}
 
 -- the hub serves under this head line
 served_under : (hub : Option Seen) (events : ℕ) (stage : Stage (List Served)) (head : Head) → Stands hub events stage.reached stage → stage.reached.head ≡ Some head → HubServes hub (Some head) stage.state stage.events

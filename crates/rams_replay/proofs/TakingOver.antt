@@ -7,7 +7,7 @@ use Rattle.ram_io.specs.{Outgoing}
 use Rattle.trace_loop.specs.declared.stop.Stop.{Stop}
 use Rattle.trace_loop.specs.declared.stop.Stop.TheVariants.{Memory, Read, Write, Wire}
 use Rattle.serve_loop.specs.{Given, OnlyMemoryStops}
-use Rattle.serve_loop.specs.takeover_loop.{HasEnded, HasStopped, IsTakeoverEnd, taken_text}
+use Rattle.takeover.specs.takeover_loop.{HasEnded, HasStopped, IsTakeoverEnd, taken_text}
 use Rattle.rams_replay.specs.declared.words.Command.{Command}
 use Rattle.rams_replay.specs.declared.words.Command.TheVariants.{Takeover}
 use Rattle.rams_replay.specs.{HasTakenOver, IsOrLacksMemory, status_of}

@@ -22,7 +22,7 @@ use Rattle.rams_replay.specs.{Comes, Stands, CountsOne, Tells, Took}
 use Rattle.trace_text.specs.declared.line.Line.{Line}
 use Rattle.trace_text.specs.{shown, IsOther}
 use Rattle.trace_text.specs.declared.line.Line.TheVariants.{Channel as ChannelLine, Tune, Give, Mcast, Ask, Drop}
-use Rattle.serve_loop.specs.standby.{HubServes}
+use Rattle.takeover.specs.standby.{HubServes}
 
 -- what is judged well was accepted
 accepts : (line : TraceLine) (o : Result Reached LineFault) (read : TraceLine) (later : Reached) → with_reached line o ≡ Ok (read, later) → (line ≡ read) × (o ≡ Ok later)

@@ -5,7 +5,7 @@ use Rattle.rams_model.specs.declared.status.Status.TheVariants.{Done, NoMemory, 
 use Rattle.ram_io.specs.declared.wire.Incoming.{Incoming}
 use Rattle.ram_io.specs.{Outgoing}
 use Rattle.serve_loop.specs.{Given}
-use Rattle.serve_loop.specs.takeover_loop.{HasEnded, HasStopped}
+use Rattle.takeover.specs.takeover_loop.{HasEnded, HasStopped}
 
 -- Where the status is Done, BadTrace or TooLong the takeover came to its end, and what is written and sent is all of it; where something stopped it, fronts of it. It ends in no other way.
 abbrev pub HasTakenOver : Given → Option (List ℕ) → Option (List ℕ) → Option (List Outgoing) → Option (List Outgoing) → Option (List Incoming) → Status → Type 0

@@ -17,7 +17,7 @@ use Rattle.trace_loop.specs.{ending, written, Took as TookSo}
 use Rattle.trace_loop.specs.trace_book.{event_text}
 use Rattle.trace_loop.specs.head_loop.{claim_of}
 use Rattle.trace_loop.specs.journal_book.{AllRender}
-use Rattle.serve_loop.specs.standby.{HubServes}
+use Rattle.takeover.specs.standby.{HubServes}
 
 -- What stands before a line: a hub for the channels, so many events, and these lines.
 pub record Stands (hub : Option Seen) (events : ℕ) (reached : Reached) (stage : Stage (List Served)) : Type 0 where

@@ -9,7 +9,7 @@ ghost use Rattle.generated.specs.summary.{made_summary};
 ghost use Rattle.meet_loop.specs.world_book.{EndsSo as WorldEndsSo, IsServedByAWorld, ReceiversPresent, meet as world, world_of};
 ghost use Rattle.std.specs.Io.KnownBytes.{IsAtEnd};
 ghost use Rattle.rams_replay.specs.{AreDescribe, AreMake, AreMeet, ArePcap, ArePool, AreRun, AreSdp, AreServe, AreTakeover, AreThreads, ComesPromised, HasTakenOver, Replies, WritesCapture, WritesPool, WritesThreads, command_of, is_plain, no_room, port_of, status_of, is_words, HasServed, HasSummary, IsCaused, IsCausedOverWire, IsOrLacksMemory, Writes};
-ghost use Rattle.serve_loop.specs.takeover_loop.{HoldsItsLines, MakesOneJournal, taken_datagrams, taken_text};
+ghost use Rattle.takeover.specs.takeover_loop.{HoldsItsLines, MakesOneJournal, taken_datagrams, taken_text};
 ghost use Rattle.trace_loop.specs.{IfTold};
 
 use crate::made::write_summary;
@@ -29,10 +29,10 @@ use pool::pool_loop::write_pool;
 use ram_io::{Clock, Gate, Octets, Sink, Source, Wire};
 use rams_model::Status;
 use serve_loop::Watch;
-use serve_loop::takeover_loop::laws::takeovers_make_one_journal;
 use std::alloc::Global;
 use std::sync::Wait;
 use std::thread::Threads;
+use takeover::takeover_loop::laws::takeovers_make_one_journal;
 use threads_loop::write_threads;
 use trace_loop::trace_book::laws::{
     traces_are_served_by_their_lines, traces_are_served_lawfully, traces_end_so,

@@ -2,15 +2,15 @@
 ghost use Rattle.std.specs.Prelude.{◌≡◌, ◌≤◌, false};
 ghost use Rattle.rams_model.specs.declared.status.Status.TheVariants.{BadTrace, ReadFault};
 ghost use Rattle.serve_loop.specs.{Given, HasRoom, IfBothTold, IsGiven, served_datagrams, served_text};
-ghost use Rattle.serve_loop.specs.takeover_loop.{HoldsItsLines, taken_datagrams, taken_text};
+ghost use Rattle.takeover.specs.takeover_loop.{HoldsItsLines, taken_datagrams, taken_text};
 ghost use Rattle.rams_replay.specs.{HasServed, HasTakenOver, IsCausedOverWire, IsOrLacksMemory, is_words, no_room};
 
 use crate::commands::status_of;
 use ram_io::{Clock, Sink, Source, Wire};
 use rams_model::Status;
-use serve_loop::takeover_loop::take_over;
 use serve_loop::{Watch, serve};
 use std::alloc::Global;
+use takeover::takeover_loop::take_over;
 
 /// Serves so many turns to the channels that a head opens, and says how that ended.
 pub fn serve_status<S: Source, K: Sink, W: Wire, C: Clock, T: Watch>(

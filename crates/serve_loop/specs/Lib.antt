@@ -1,5 +1,3 @@
-pub mod standby
-pub mod takeover_loop
 pub mod Sending
 pub mod Progress
 pub mod Steady

@@ -7,8 +7,6 @@ mod hearing;
 mod journal;
 mod send;
 mod serving;
-pub mod standby;
-pub mod takeover_loop;
 mod turns;
 mod watch;
 
@@ -19,5 +17,5 @@ pub use send::send_all;
 pub use serving::serve;
 pub use trace_loop::Stop;
 pub use trace_loop::head_loop::{Head, HeadLine, Opened};
-pub use turns::take_turns;
+pub use turns::{MOST_DATAGRAM, take_turns};
 pub use watch::{Watch, tell_ports};

@@ -15,7 +15,7 @@ use trace_loop::head_loop::event_at;
 use trace_loop::{Stop, flush};
 
 /// Most bytes of a datagram.
-pub(crate) const MOST_DATAGRAM: usize = 2_000;
+pub const MOST_DATAGRAM: usize = 2_000;
 
 /// Takes what comes next, and hears it where it is an event. Where nothing comes, what waits goes to the
 /// sink.

@@ -1,9 +1,9 @@
 //! A journal, and how it is read.
 ghost use Rattle.std.specs.Prelude.{◌≤◌};
-ghost use Rattle.serve_loop.specs.standby.{HasReadSome};
+ghost use Rattle.takeover.specs.standby.{HasReadSome};
 
-use serve_loop::standby::{FeedFault, Standby};
 use std::alloc::{AllocError, Global};
+use takeover::standby::{FeedFault, Standby};
 
 /// The head line and the line of a channel.
 pub const HEAD: &str = "rams-trace 1 tick 10 link 100000

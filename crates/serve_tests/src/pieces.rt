@@ -1,13 +1,13 @@
 //! How far a journal is read, whatever its pieces.
 ghost use Rattle.std.specs.Prelude.{◌≤◌};
-ghost use Rattle.serve_loop.specs.standby.{HasReadSome};
+ghost use Rattle.takeover.specs.standby.{HasReadSome};
 
 use crate::journals::{HEAD, JOURNAL, chained, follow};
-use serve_loop::standby::{FeedFault, LineFault, Standby};
 use std::alloc::Global;
 use std::process::Abort;
 use std::rt::HostRuntime;
 use std::test::Fail;
+use takeover::standby::{FeedFault, LineFault, Standby};
 use test_fixtures::test_calls::let_go;
 
 /// A name, the front of a journal, the text behind it, and what is wanted.

@@ -3,12 +3,12 @@ ghost use Rattle.std.specs.Prelude.{◌^◌, ◌<◌};
 
 use crate::journals::{HEAD, JOURNAL, chained, follow};
 use rams_model::Note;
-use serve_loop::standby::Standby;
 use server_hub::{At, Heard, Hub, HubAnswer};
 use std::alloc::Global;
 use std::process::Abort;
 use std::rt::HostRuntime;
 use std::test::Fail;
+use takeover::standby::Standby;
 use test_fixtures::test_calls::let_go;
 
 /// A journal, and what the channels answer to a tick that take over behind it; nothing where none is taken

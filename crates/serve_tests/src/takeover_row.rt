@@ -4,10 +4,10 @@ ghost use Rattle.std.specs.Prelude.{◌<◌};
 use crate::memory::{Arrival, Sending, check_sent, is_text, moments_of, sink_of, wire_of};
 use ram_io::{MemClock, MemSink, MemSource, MemWire, Open};
 use rams_model::Status;
-use serve_loop::takeover_loop::{Stop, take_over};
 use std::alloc::{AllocError, Global};
 use std::process::Abort;
 use std::test::Fail;
+use takeover::takeover_loop::{Stop, take_over};
 use test_fixtures::test_calls::let_go;
 use test_fixtures::test_words::joined;
 

@@ -4,11 +4,11 @@ ghost use Rattle.std.specs.Prelude.{◌<◌};
 use crate::memory::{ACCESS_POINT, AGAIN, ASKS, HEAD, INFO, LIVE, REQUEST, SEVEN};
 use crate::takeover_row::{Row, check_row};
 use rams_model::Status;
-use serve_loop::takeover_loop::Stop;
 use std::alloc::Global;
 use std::process::Abort;
 use std::rt::HostRuntime;
 use std::test::Fail;
+use takeover::takeover_loop::Stop;
 
 /// A journal up to a request, and a half of a tick: the tick of the turn brings the packet again, and
 /// nothing is said to the client a second time.

@@ -1,4 +1,4 @@
-use Rattle.serve_loop.specs.standby.{HasReadSome}
+use Rattle.takeover.specs.standby.{HasReadSome}
 use Rattle.serve_tests.proofs.journals.follow.Given as goal
 
 abbrev pub invariant-loop : goal.invariant-loop

@@ -1,0 +1,2 @@
+pub mod standby
+pub mod takeover_loop
