@@ -16,7 +16,7 @@ HasNoFeed-from_places [] none = tt
 HasNoFeed-from_places (x ∷ xs) none =
     (false_from_not_true (x == 10) (none 0 (omega arith)), HasNoFeed-from_places xs (λ k inside. none (suc k) (omega arith)))
 
-HasNoFeed-append : (xs ys : List ℕ) → HasNoFeed xs → HasNoFeed ys → HasNoFeed (xs ++ ys)
+pub HasNoFeed-append : (xs ys : List ℕ) → HasNoFeed xs → HasNoFeed ys → HasNoFeed (xs ++ ys)
 HasNoFeed-append [] ys front back = back
 HasNoFeed-append (x ∷ xs) ys front back = (front.0, HasNoFeed-append xs ys front.1 back)
 
@@ -70,7 +70,7 @@ lines_read-cut front rest [] clean = lines_of-cut front rest clean
 lines_read-cut front rest (b ∷ left) clean = whole_lines-cut front rest clean
 
 -- bytes with no feed are no whole line
-whole_lines-none : (xs : List ℕ) → HasNoFeed xs → whole_lines xs ≡ []
+pub whole_lines-none : (xs : List ℕ) → HasNoFeed xs → whole_lines xs ≡ []
 unfolding whole_lines
 whole_lines-none [] clean = refl
 whole_lines-none (b ∷ xs) clean = rw (clean.0, whole_lines-none xs clean.1) refl

@@ -5,13 +5,13 @@ use Rattle.std.proofs.lemmas.Bool.{lt-ltb, ltb-true}
 use Rattle.rams_model.specs.declared.fault.LineFault.TheVariants.{Form}
 use Rattle.rams_model.specs.Texts.{into_first, whole_lines}
 use Rattle.line_io.specs.{HasNoFeed}
-use Rattle.line_io.proofs.LineFeeds.{whole_lines-kept}
+use Rattle.line_io.proofs.LineFeeds.{whole_lines-kept, HasNoFeed-append, whole_lines-none}
 use Rattle.server_hub.specs.Served.{Served}
 use Rattle.trace_loop.specs.trace_book.trace_serving.{Stage, Turn, Outcome, goes_on, ends, refused, opening, turn, stage_after, stage_from, taken_from, taken_with}
 use Rattle.trace_loop.specs.trace_book.{run}
 use Rattle.trace_loop.proofs.LongLines.{long_refused}
 use Rattle.takeover.specs.standby.{Seen, HasRead, Halted, Stands, end_after, end_from, end_of, is_feed, lines_followed, looked_at, overlong, rest_of, stage_of, StaysEnded}
-use Rattle.takeover.proofs.standby.Pieces.{has_line, no_feed, no_feed_in_both, no_line_more, one_line_more, one_more_looked_at, rest_clean, rest_grows, rest_whole, split_lines}
+use Rattle.takeover.proofs.standby.Pieces.{has_line, no_feed, no_line_more, one_line_more, one_more_looked_at, rest_clean, rest_grows, rest_whole, split_lines}
 use Rattle.takeover.proofs.standby.Reading.{end_append, end_front, stage_append}
 
 -- Lines that end a journal end it alike, whatever stands behind them.
@@ -80,9 +80,6 @@ no_lines : whole_lines [] ≡ []
 unfolding whole_lines
 no_lines = refl
 
-whole_lines-none : (xs : List ℕ) → HasNoFeed xs → whole_lines xs ≡ []
-whole_lines-none xs none = whole_lines-kept [] xs none ∙ no_lines
-
 -- the first line of what begins without a line feed
 first_longer : (rest more line : List ℕ) (lines : List (List ℕ)) → HasNoFeed rest → whole_lines more ≡ line ∷ lines → whole_lines (rest ++ more) ≡ (rest ++ line) ∷ lines
 unfolding whole_lines
@@ -112,7 +109,7 @@ stays_long rest more clean long = by (list_any is_feed more) refl
           looked = inl (ap (λ (ls : List (List ℕ)). ls ++ overlong (rest_of (rest ++ more))) whole);
         }
     by false is =
-        let none = no_feed_in_both rest more clean (no_feed more is) in
+        let none = HasNoFeed-append rest more clean (no_feed more is) in
         let size : 4096 < length (rest ++ more) = omega (arith, long, length-append rest more) in
         record {
           first = rest ++ more;

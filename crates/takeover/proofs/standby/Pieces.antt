@@ -5,7 +5,7 @@ use Rattle.std.proofs.lemmas.Bool.{eqb-true}
 use Rattle.std.specs.List.{list_any}
 use Rattle.rams_model.specs.Texts.{whole_lines, into_first}
 use Rattle.line_io.specs.{HasNoFeed, IsCutAt}
-use Rattle.line_io.proofs.LineFeeds.{whole_lines-cut, whole_lines-kept}
+use Rattle.line_io.proofs.LineFeeds.{whole_lines-cut, whole_lines-kept, HasNoFeed-append}
 use Rattle.takeover.specs.standby.{is_feed, rest_of, first_part, overlong, looked_at}
 
 neither : (a b : Bool) → (a || b) ≡ false → (a ≡ false) × (b ≡ false)
@@ -37,10 +37,6 @@ any_more (x ∷ xs) more h = by (x == 10) h (any_more xs more)
 pub any_fed : (xs : List ℕ) → list_any is_feed (xs ++ 10 ∷ []) ≡ true
 any_fed [] = refl
 any_fed (x ∷ xs) = either_true (x == 10) (list_any is_feed (xs ++ 10 ∷ [])) (any_fed xs)
-
-pub no_feed_in_both : (xs ys : List ℕ) → HasNoFeed xs → HasNoFeed ys → HasNoFeed (xs ++ ys)
-no_feed_in_both [] ys front back = back
-no_feed_in_both (x ∷ xs) ys front back = (front.0, no_feed_in_both xs ys front.1 back)
 
 -- where there is a line feed there is a whole line
 pub record Some (lines : List (List ℕ)) : Type 0 where
@@ -127,7 +123,7 @@ first_length xs at cut =
 -- The rest of a line and its line feed make one whole line more, and leave nothing.
 module _ (bytes rest : List ℕ) (clean : HasNoFeed rest) where
   line_clean : HasNoFeed (rest_of bytes ++ rest)
-  line_clean = no_feed_in_both (rest_of bytes) rest (rest_clean bytes) clean
+  line_clean = HasNoFeed-append (rest_of bytes) rest (rest_clean bytes) clean
 
   pub one_line_more : whole_lines (bytes ++ (rest ++ 10 ∷ [])) ≡ whole_lines bytes ++ (rest_of bytes ++ rest) ∷ []
   unfolding whole_lines
@@ -150,7 +146,7 @@ module _ (bytes piece : List ℕ) (clean : HasNoFeed piece) where
   no_line_more = whole_lines-kept bytes piece clean
 
   pub rest_longer : rest_of (bytes ++ piece) ≡ rest_of bytes ++ piece
-  rest_longer = rest_grows bytes piece ∙ rest_whole (rest_of bytes ++ piece) (no_feed_in_both (rest_of bytes) piece (rest_clean bytes) clean)
+  rest_longer = rest_grows bytes piece ∙ rest_whole (rest_of bytes ++ piece) (HasNoFeed-append (rest_of bytes) piece (rest_clean bytes) clean)
 
   pub looked_at_longer : looked_at (bytes ++ piece) ≡ whole_lines bytes ++ overlong (rest_of bytes ++ piece)
   looked_at_longer = ap (λ (ls : List (List ℕ)). ls ++ overlong (rest_of (bytes ++ piece))) no_line_more ∙ ap (λ (l : List ℕ). whole_lines bytes ++ overlong l) rest_longer

@@ -16,6 +16,7 @@ use Rattle.server_hub.specs.Served.{Served}
 use Rattle.trace_loop.specs.trace_book.trace_serving.{Stage, ends, too_long, done, after_judging, after_line, counted, turn, brought}
 use Rattle.trace_loop.proofs.trace_book.trace_serving.Judged.{judged_so}
 use Rattle.trace_text.proofs.Judging.{expected_is}
+use Rattle.trace_text.proofs.Spelling.{ranged_ok}
 use Rattle.trace_loop.specs.trace_book.{run, event_text}
 use Rattle.trace_loop.specs.head_loop.{numbers}
 use Rattle.trace_loop.proofs.head_loop.Claims.{claims_kept}
@@ -23,18 +24,9 @@ use Rattle.trace_loop.proofs.trace_book.Served.{settings_after}
 use Rattle.takeover.specs.declared.standby.fault.Step.TheVariants.{GoesOn}
 use Rattle.takeover.specs.standby.{HubServes, Stands, Took, turn_of}
 
--- what reads well is the line, and its numbers are in range
-pub read_so : (o : Option TraceLine) (line : TraceLine) → ranged o ≡ Ok line → (o ≡ Some line) × (line_in_range line ≡ true)
-read_so None line h = absurd cc
-read_so (Some read) line h = by (line_in_range read) refl h
-  where
-    by : (t : Bool) → line_in_range read ≡ t → (let o : Result TraceLine LineFault = if t then Ok read else Err Range in o) ≡ Ok line → (Some read ≡ Some line) × (line_in_range line ≡ true)
-    by true is h = let same : read ≡ line = cc in (ap Some same, subst (λ (l : TraceLine). line_in_range l ≡ true) same is)
-    by false is h = absurd cc
-
 pub read_line_so : (bytes : List ℕ) (line : TraceLine) → line_at bytes ≡ Ok line → (line_of bytes ≡ Some line) × (line_in_range line ≡ true)
 unfolding line_at
-read_line_so bytes line h = read_so (line_of bytes) line h
+read_line_so bytes line h = ranged_ok (line_of bytes) line h
 
 -- a line that is judged well reads well, and is expected
 pub judged_reads : (r : Reached) (bytes : List ℕ) (line : TraceLine) (later : Reached) → judged r bytes ≡ Ok (line, later) → (line_at bytes ≡ Ok line) × (expected r bytes ≡ true)

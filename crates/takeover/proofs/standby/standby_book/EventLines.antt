@@ -11,33 +11,7 @@ use Rattle.server_hub.specs.declared.event.HubEvent.TheVariants.{Live, Feedback,
 use Rattle.trace_loop.specs.trace_book.trace_serving.{brought}
 use Rattle.trace_loop.specs.trace_book.{run}
 use Rattle.trace_loop.specs.journal_book.{line_of_event}
-
--- the parts of a word of digits
-some_digits : (long even digits : Bool) → (false || ((long && even) && digits)) ≡ true → (long ≡ true) × ((even && digits) ≡ true)
-some_digits true even digits h = (refl, h)
-some_digits false even digits h = absurd cc
-
--- bytes of a word that has digits are written as those
-written_back : (word bytes : List ℕ) → ltb 0 (length word) ≡ true → encode_lower bytes ≡ word → hex_word bytes ≡ word
-unfolding encode_with
-written_back word [] long is = let none : ltb 0 (length word) ≡ false = ap (λ (w : List ℕ). ltb 0 (length w)) (sym is) in absurd cc
-written_back word (b ∷ bytes) long is = is
-
-digits_back : (word : List ℕ) → ltb 0 (length word) ≡ true → (length word % 2 == 0 && list_all is_hex_digit word) ≡ true → hex_word (bytes_in word) ≡ word
-digits_back word long lower =
-    let w = lower_is_written word lower in
-    let bytes_are : bytes_in word ≡ w.0 = ap decoded w.1 in
-    ap hex_word bytes_are ∙ written_back word w.0 long w.3
-
--- the bytes of a word are written as it
-pub word_back : (word : List ℕ) → is_hex word ≡ true → hex_word (bytes_in word) ≡ word
-word_back word h = by (bytes_eq word (codes "-")) refl
-  where
-    by : (t : Bool) → bytes_eq word (codes "-") ≡ t → hex_word (bytes_in word) ≡ word
-    by true dash = subst (λ (w : List ℕ). hex_word (bytes_in w) ≡ w) (sym (is_word word (codes "-") dash)) refl
-    by false other =
-        let parts = some_digits (ltb 0 (length word)) (length word % 2 == 0) (list_all is_hex_digit word) (subst (λ (b : Bool). (b || ((ltb 0 (length word) && length word % 2 == 0) && list_all is_hex_digit word)) ≡ true) other h) in
-        digits_back word parts.0 parts.1
+use Rattle.trace_loop.proofs.journal_book.Hexes.{word_back}
 
 pub event_is : (line : TraceLine) (e : HubEvent) → line_has_form line ≡ true → brought run line ≡ Some e → line_of_event e ≡ line
 event_is (head_line version tick link) e form h = absurd cc

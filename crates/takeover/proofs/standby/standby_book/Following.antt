@@ -21,6 +21,7 @@ use Rattle.trace_loop.specs.trace_book.{run, most_events, event_text}
 use Rattle.trace_text.proofs.Spelling.{is_text, read_is_spelled}
 use Rattle.trace_loop.specs.journal_book.{HasLine, JournalsGrow, Leads, nothing, behind, event_line, event_lines, stage_behind, starting}
 use Rattle.trace_loop.proofs.journal_book.Heads.{heads_grow}
+use Rattle.trace_loop.proofs.trace_book.trace_serving.Steps.{went_to}
 use Rattle.takeover.proofs.standby.Followed.{AreClean}
 use Rattle.takeover.proofs.standby.Turning.{begun_by, event_kind, never_receiver}
 use Rattle.takeover.proofs.standby.standby_book.EventLines.{event_is}
@@ -66,14 +67,6 @@ journal_begins = record {
   fresh = λ e. refl;
   headless = λ e. (refl, refl);
 }
-
--- what went on went on to this
-went_to : (stage later next : Stage (List Served)) (text more : List ℕ) → goes_on next more ≡ goes_on later text → next ≡ later
-went_to stage later next text more e = ap stage_in e
-  where
-    stage_in : Turn (List Served) → Stage (List Served)
-    stage_in (goes_on s t) = s
-    stage_in (ends o) = stage
 
 -- the text of one line more
 text_more : (lines : List (List ℕ)) (bytes : List ℕ) → flat_map fed (lines ++ bytes ∷ []) ≡ flat_map fed lines ++ fed bytes
