@@ -7,7 +7,7 @@ mod datagram;
 mod laws;
 
 pub use channel_config::Config;
-pub use datagram::{append_order, render_order, renders};
+pub use datagram::{append_order, client_of, render_order, renders};
 pub use laws::orders_of_answers_render;
 pub use ram_io::NoMemory;
 pub use rams_model::Order;

@@ -2,7 +2,7 @@
 ghost use Rattle.std.specs.Prelude.{◌≡◌, ◌+◌, ◌^◌, ◌<◌, ◌≤◌, ℕ, List, ◌∷◌, [], ◌++◌, IfErr, IfOk, OnOk, length, not, ◌==◌};
 ghost use Rattle.std.specs.List.{list_any};
 ghost use Rattle.server_hub.specs.declared.event.HubEvent.{HubEvent};
-ghost use Rattle.server_hub.specs.{answers_said, event_of, told};
+ghost use Rattle.server_hub.specs.{event_of};
 ghost use Rattle.trace_loop.specs.journal_book.{behind, datagrams_of, event_line};
 ghost use Rattle.serve_loop.specs.{Begun, Ready, Broken, GoesOn, HasRoom, IsStoppedOutside, OnlyMemoryStops, Room, StandsSomewhere};
 
@@ -11,9 +11,8 @@ use crate::send::send_all;
 use crate::watch::Watch;
 use line_io::Gather;
 use ram_io::{Sink, Wire};
-use server_hub::{At, Heard, Hub, HubAnswer};
+use server_hub::{At, Heard, Hub, answers_of};
 use std::alloc::Global;
-use std::slice;
 use trace_loop::{Stop, flush};
 
 /// What a server has beside its source, sink, wire and clock.
@@ -43,17 +42,6 @@ pub fn new_server(alloc: Global, hub: Hub, ids: Vec<u16>, live: u16, journal: Ga
         live,
         journal,
         datagram: Vec::new(alloc),
-    }
-}
-
-/// The answers of the channels that answer.
-fn answers_of(answer: &HubAnswer) -> &[At]
-    ensures { result.now ≡ answers_said (told answer.now) }
-{
-    match answer {
-        HubAnswer::NoChannel(_) => &[],
-        HubAnswer::Answer(at) => slice::from_ref(at),
-        HubAnswer::Answers(all) => all,
     }
 }
 

@@ -2,24 +2,15 @@
 ghost use Rattle.std.specs.Prelude.{◌≡◌, ◌+◌, ◌*◌, ◌<◌, ◌^◌, ◌∷◌, ℕ, All, List, [], OnOk, length};
 ghost use Rattle.ram_io.specs.{Outgoing};
 ghost use Rattle.book_text.specs.order_datagrams.{Renders};
-ghost use Rattle.rams_model.specs.Service.{client_of, datagram};
 ghost use Rattle.server_hub.specs.{settings_of};
 ghost use Rattle.trace_loop.specs.journal_book.{AllRender};
 ghost use Rattle.serve_loop.specs.{Sends, IsStoppedByWire, OnlyMemoryStops, bytes_of, order_datagrams, at_datagrams, said_datagrams};
 
-use book_text::order_datagrams::{Config, append_order};
+use book_text::order_datagrams::{Config, append_order, client_of};
 use ram_io::Wire;
 use rams_model::Order;
 use server_hub::{At, Hub};
 use trace_loop::Stop;
-
-fn client_of(order: &Order) -> u64
-    ensures { result ≡ client_of order.now }
-{
-    match order {
-        Order::Rtx { client, .. } | Order::Info { client, .. } => *client,
-    }
-}
 
 /// Sends the datagram of an order, which is made in `room`, from this port.
 fn send_order<W: Wire>(

@@ -1,11 +1,12 @@
 //! What comes to a server, and what it answers.
 ghost use Rattle.std.specs.Prelude.{◌≡◌};
 ghost use Rattle.server_hub.specs.declared.event.AddFault.TheVariants as faults;
-ghost use Rattle.server_hub.specs.{event_of, told, told_of};
+ghost use Rattle.server_hub.specs.{answers_said, event_of, told, told_of};
 
 use ram_io::NoMemory as OutOfMemory;
 use rams_model::{Answer, Octets};
 use std::alloc::{AllocError, AllocFailed};
+use std::slice;
 
 /// One event of a server.
 #[derive(Drop)]
@@ -83,6 +84,17 @@ impl HubAnswer {
             Some(answer) => HubAnswer::Answer(At { id, answer }),
             None => HubAnswer::NoChannel(id),
         }
+    }
+}
+
+/// The answers of the channels that answer.
+pub fn answers_of(answer: &HubAnswer) -> &[At]
+    ensures { result.now ≡ answers_said (told answer.now) }
+{
+    match answer {
+        HubAnswer::NoChannel(_) => &[],
+        HubAnswer::Answer(at) => slice::from_ref(at),
+        HubAnswer::Answers(all) => all,
     }
 }
 

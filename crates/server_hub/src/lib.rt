@@ -13,7 +13,7 @@ mod steps;
 mod ticks;
 
 pub use channel_config::Config;
-pub use event::{AddFault, At, Heard, HubAnswer, HubEvent};
+pub use event::{AddFault, At, Heard, HubAnswer, HubEvent, answers_of};
 pub use hub::Hub;
 pub use ram_io::NoMemory;
 pub use rams_model::{Answer, Octets};

@@ -12,8 +12,9 @@ use crate::receivers::{ask, drop, give, mcast, tune};
 use crate::words::Words;
 use rams_model::LineFault;
 
-/// Most bytes of a line.
-const LONGEST_LINE: usize = 4096;
+/// Most bytes of a line: room for the digits of a datagram of 2,000 bytes, and for the words in front
+/// of them. What reads lines needs no more, whatever comes.
+pub const LONGEST_LINE: usize = 4096;
 
 /// The line that the bytes are, without their line feed. `Form` where they are no line of a trace,
 /// else `Range` where a number is out of its range.

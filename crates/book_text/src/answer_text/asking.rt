@@ -1,7 +1,6 @@
 //! Which notes ask for a datagram.
 ghost use Rattle.std.specs.Prelude.{All, ◌≡◌, ◌∷◌, [], MatchOption, drop, if◌then◌else◌, take};
 ghost use Rattle.rams_model.specs.Texts.{order_count};
-ghost use Rattle.rams_model.specs.Service.{client_of};
 ghost use Rattle.book_text.specs.order_datagrams.{Renders};
 
 use rams_model::{Cause, Note, Order};
@@ -58,14 +57,5 @@ pub fn after<'a>(note: &Note, orders: &'a [Order]) -> &'a [Order]
     match (asks(note), orders) {
         (true, [_, rest @ ..]) => rest,
         _ => orders,
-    }
-}
-
-/// Whom an order is for.
-pub(crate) fn client_of(order: &Order) -> u64
-    ensures { result ≡ client_of order.now }
-{
-    match order {
-        Order::Rtx { client, .. } | Order::Info { client, .. } => *client,
     }
 }

@@ -5,8 +5,8 @@ ghost use Rattle.book_text.specs.order_datagrams.{Renders};
 ghost use Rattle.book_text.specs.answer_text.{entry_text};
 
 use crate::Pen;
-use crate::answer_text::asking::{asked, asks, client_of};
-use crate::order_datagrams::{Config, append_order};
+use crate::answer_text::asking::{asked, asks};
+use crate::order_datagrams::{Config, append_order, client_of};
 use ram_io::NoMemory;
 use rams_model::{Note, Octets, Order};
 

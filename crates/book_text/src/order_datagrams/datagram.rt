@@ -1,6 +1,6 @@
 //! The datagrams that orders ask for.
 ghost use Rattle.std.specs.Prelude.{◌≡◌, ◌<◌, ◌++◌, ◌↔◌, ◌+◌, IsOk, IsTrue, IfOk, OnOk, OnErr, length, vec_len, vec_capacity};
-ghost use Rattle.rams_model.specs.Service.{datagram, sent_again};
+ghost use Rattle.rams_model.specs.Service.{client_of, datagram, sent_again};
 ghost use Rattle.rams_model.specs.Formats.{packet_at};
 ghost use Rattle.book_text.specs.order_datagrams.{Renders, IsRetransmission};
 
@@ -11,6 +11,15 @@ use std::alloc::Global;
 use wire_packets::rams_tlv::append_info;
 use wire_packets::rtp_record::Rtp;
 use wire_packets::rtx_payload::{append_plain, append_rtx, is_plain};
+
+/// Whom an order is for.
+pub fn client_of(order: &Order) -> u64
+    ensures { result ≡ client_of order.now }
+{
+    match order {
+        Order::Rtx { client, .. } | Order::Info { client, .. } => *client,
+    }
+}
 
 /// The datagram of an order; empty where the packet of a retransmission doesn't read as one, as each
 /// does that a channel holds.

@@ -1,6 +1,6 @@
 //! What comes to the server of a world.
 ghost use Rattle.std.specs.Prelude.{◌≡◌, ◌+◌, ◌-◌, ◌^◌, ℕ, OnOk};
-ghost use Rattle.server_hub.specs.{answers_said, event_of, told};
+ghost use Rattle.server_hub.specs.{event_of, told};
 ghost use Rattle.meet_loop.specs.world_laws.{serving};
 ghost use Rattle.meet_loop.specs.world_laws.World.{World};
 ghost use Rattle.meet_loop.specs.world_net.{Stands, Goes, AreFew, taken_number, Keeps, KeepsHeard};
@@ -11,9 +11,8 @@ use crate::world_net::parts::Parts;
 use crate::world_net::telling::tell;
 use ram_io::NoMemory;
 use rams_model::{LiveNote, Note};
-use server_hub::{At, Heard, Hub, HubAnswer};
+use server_hub::{Heard, Hub, HubAnswer, answers_of};
 use std::alloc::Global;
-use std::slice;
 
 impl Parts {
     /// Something comes to the server.
@@ -76,16 +75,5 @@ fn number_taken(answer: &HubAnswer) -> Option<u64>
     match at.answer.notes.as_slice() {
         [Note::Live(LiveNote::Took(n) | LiveNote::Restart(n)), ..] => Some(*n),
         _ => None,
-    }
-}
-
-// The answers of the channels that answer.
-fn answers_of(answer: &HubAnswer) -> &[At]
-    ensures { result.now ≡ answers_said (told answer.now) }
-{
-    match answer {
-        HubAnswer::NoChannel(_) => &[],
-        HubAnswer::Answer(at) => slice::from_ref(at),
-        HubAnswer::Answers(all) => all,
     }
 }

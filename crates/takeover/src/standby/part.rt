@@ -15,9 +15,7 @@ use crate::standby::line::take_line;
 use memchr::memchr;
 use rams_model::LineFault;
 use std::alloc::Global;
-
-/// Most bytes of a line.
-pub const LONGEST_LINE: usize = 4096;
+use trace_text::LONGEST_LINE;
 
 /// The place of the first line feed.
 pub fn find_feed(bytes: &[u8]) -> Option<usize>

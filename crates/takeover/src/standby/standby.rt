@@ -1,11 +1,12 @@
 //! What reads a journal, piece by piece.
 use crate::standby::channels::{Channels, new_channels};
 use crate::standby::fault::{FeedFault, is_end, lasting};
-use crate::standby::part::{LONGEST_LINE, append, find_feed, take_whole};
+use crate::standby::part::{append, find_feed, take_whole};
 use ram_io::NoMemory;
 use server_hub::Hub;
 use std::alloc::Global;
 use std::marker::Model;
+use trace_text::LONGEST_LINE;
 
 /// What has read a part of a journal, and can take over from the server that wrote it.
 ///
