@@ -1,8 +1,8 @@
 -- How a line is judged from its reading, its words and what came before.
-use Rattle.std.proofs.Common.{◌≡◌, ℕ, Bool, true, false, not, ◌&&◌, ◌==◌, if◌then◌else◌, List, Option, Some, None, is_some, Result, Ok, Err, refl, sym, ap, subst, ◌∙◌, inl, inr}
+use Rattle.std.proofs.Common.{◌≡◌, ℕ, Bool, true, false, not, ◌&&◌, ◌==◌, if◌then◌else◌, List, Option, Some, None, is_some, is_ok, Result, Ok, Err, refl, sym, ap, subst, ◌∙◌, inl, inr}
 use Rattle.std.proofs.lemmas.Bool.{and_parts}
 use Rattle.std.specs.List.{list_any}
-use Rattle.std.specs.Result.{IfErr}
+use Rattle.std.specs.Result.{IfErr, IfOk, OnOk}
 use Rattle.rams_model.specs.declared.channel.Channel.{Channel}
 use Rattle.rams_model.specs.declared.fault.ConfigFault.{ConfigFault}
 use Rattle.rams_model.specs.declared.fault.LineFault.{LineFault}
@@ -13,7 +13,7 @@ use Rattle.rams_model.specs.Texts.{Head, joined, with_channel, front, TraceLine,
 use Rattle.trace_text.specs.declared.line.Judged.{Judged}
 use Rattle.trace_text.specs.declared.line.Line.{Line}
 use Rattle.trace_text.specs.declared.line.Line.TheVariants as line
-use Rattle.trace_text.specs.{shown, is_ranged, Unread, HasDigits, told, judged_as, IsSettled, by_rules, with_settled, with_ranged}
+use Rattle.trace_text.specs.{shown, is_ranged, Unread, HasDigits, told, judged_as, IsJudged, IsSettled, by_rules, with_settled, with_ranged}
 use Rattle.trace_text.proofs.Spelling.{is_text}
 use Rattle.trace_text.proofs.Steps.{two_versions}
 
@@ -85,6 +85,18 @@ judged_read r bytes l h = ap (judged_line r) h
 pub judged_ok : (r now : Reached) (bytes : List ℕ) (tick : ℕ) (l : Line) (j : Judged) → line_of bytes ≡ Some (shown l) → accepted r (shown l) ≡ Ok now → j ≡ judged_as tick l → judged r bytes ≡ Ok (told j, now)
 judged_ok r now bytes tick l j h k is =
     judged_read r bytes (shown l) h ∙ ap (with_reached (shown l)) k ∙ ap (λ (t : TraceLine). Ok (t, now)) (sym (ap told is ∙ told_as tick l))
+
+pub judges : (r : Reached) (bytes : List ℕ) (tick : ℕ) (l : Line) (result : Result Judged LineFault) → line_of bytes ≡ Some (shown l) → OnOk result (is_ok (accepted r (shown l)) ≡ true)
+    → IfOk result (λ j. j ≡ judged_as tick l) → IfOk result (IsJudged r bytes)
+judges r bytes tick l (Err fault) h ok is = tt
+judges r bytes tick l (Ok j) h ok is = by (accepted r (shown l)) refl ok
+  where
+    told_is : told j ≡ shown l
+    told_is = ap told is ∙ told_as tick l
+
+    by : (x : Result Reached LineFault) → accepted r (shown l) ≡ x → is_ok x ≡ true → IsJudged r bytes j
+    by (Err fault) e ok = absurd cc
+    by (Ok later) e ok = record { later = later; accepts = ap (accepted r) told_is ∙ e; judges = judged_ok r later bytes tick l j h e is }
 
 pub judged_refused : (r : Reached) (bytes : List ℕ) (l : TraceLine) (fault : LineFault) → line_of bytes ≡ Some l → accepted r l ≡ Err fault → judged r bytes ≡ Err fault
 judged_refused r bytes l fault h k = judged_read r bytes l h ∙ ap (with_reached l) k

@@ -10,6 +10,7 @@ pub mod Digits
 pub mod Hexes
 pub mod Joins
 pub mod Judging
+pub mod GoingOn
 pub mod AsRead
 pub mod Spelled
 pub mod Spelling

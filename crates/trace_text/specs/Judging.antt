@@ -1,27 +1,27 @@
 -- What a line is that was judged.
-use Rattle.std.specs.Prelude.{◌≡◌, ℕ, ◌==◌, not, if◌then◌else◌, Option, None, Some, Result, Ok, Err}
+use Rattle.std.specs.Prelude.{◌≡◌, ℕ, ◌==◌, not, if◌then◌else◌, List, Option, None, Some, Result, Ok, Err}
 use Rattle.std.specs.List.{list_any}
 use Rattle.rams_model.specs.declared.channel.Channel.{Channel}
 use Rattle.rams_model.specs.declared.fault.ConfigFault.{ConfigFault}
 use Rattle.rams_model.specs.declared.fault.LineFault.{LineFault}
 use Rattle.rams_model.specs.declared.fault.LineFault.TheVariants.{Order, Range, Twice}
 use Rattle.rams_model.specs.Service.{Settings, settings, channel_in_range, checked}
-use Rattle.rams_model.specs.Texts.{TraceLine, channel_line, Head, Reached, line_fault, joined}
+use Rattle.rams_model.specs.Texts.{TraceLine, channel_line, Head, Reached, accepted, judged, line_fault, joined}
 use Rattle.trace_text.specs.declared.line.Judged.{Judged}
-use Rattle.trace_text.specs.declared.line.Judged.TheVariants as judged
+use Rattle.trace_text.specs.declared.line.Judged.TheVariants as judged_line
 use Rattle.trace_text.specs.declared.line.Line.{Line}
 use Rattle.trace_text.specs.declared.line.Line.TheVariants as line
 use Rattle.trace_text.specs.Shown.{shown, HasDigits}
 
 -- the line that it is
 abbrev pub told : Judged → TraceLine
-told (judged.Channel version config) = channel_line version config.channel
-told (judged.Other l) = shown l
+told (judged_line.Channel version config) = channel_line version config.channel
+told (judged_line.Other l) = shown l
 
 -- this line, judged in a trace of this tick
 abbrev pub judged_as : ℕ → Line → Judged
-judged_as tick (line.Channel version c) = judged.Channel version (settings c tick)
-judged_as tick l = judged.Other l
+judged_as tick (line.Channel version c) = judged_line.Channel version (settings c tick)
+judged_as tick l = judged_line.Other l
 
 -- the line opens no channel
 abbrev pub IsOther : Line → Type 0
@@ -30,8 +30,14 @@ IsOther l = Unit {0}
 
 -- Settings are of this tick, no other line opens a channel, and the bytes that it carries are hexadecimal digits.
 abbrev pub IsSettled : ℕ → Judged → Type 0
-IsSettled tick (judged.Channel version config) = config.tick ≡ tick
-IsSettled tick (judged.Other l) = IsOther l × HasDigits l
+IsSettled tick (judged_line.Channel version config) = config.tick ≡ tick
+IsSettled tick (judged_line.Other l) = IsOther l × HasDigits l
+
+-- The line of these bytes may come, and this is what it says.
+pub record IsJudged (r : Reached) (bytes : List ℕ) (j : Judged) : Type 0 where
+  pub later : Reached
+  pub accepts : accepted r (told j) ≡ Ok later
+  pub judges : judged r bytes ≡ Ok (told j, later)
 
 abbrev pub by_rules : Result Settings ConfigFault → Result Settings LineFault
 by_rules (Ok s) = Ok s

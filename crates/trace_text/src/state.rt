@@ -1,9 +1,9 @@
 //! Which line may come where in a trace.
-ghost use Rattle.std.specs.Prelude.{◌≡◌, ◌≤◌, Ok, Err, Some, true, ◌==◌, if◌then◌else◌, is_some, IfErr, IfOk, OnErr, OnOk};
+ghost use Rattle.std.specs.Prelude.{◌≡◌, ◌≤◌, Ok, Err, Some, true, ◌==◌, if◌then◌else◌, is_ok, is_some, IfErr, IfOk, OnErr, OnOk};
 ghost use Rattle.rams_model.specs.declared.fault.LineFault.TheVariants.{Rule, Twice};
 ghost use Rattle.rams_model.specs.Service.{settings, tick_in_range};
-ghost use Rattle.rams_model.specs.Texts.{line_of, nothing_reached, tick_of, version_of, has_channel, kind_may_come, may_come_next, may_come, has_version, spells_version, line_is_served, line_in_range, with_line, expected, accepted, judged, words_of};
-ghost use Rattle.trace_text.specs.{shown, told, judged_as, settled, with_ranged, IsOther, IsSettled, Unread};
+ghost use Rattle.rams_model.specs.Texts.{line_of, nothing_reached, tick_of, version_of, has_channel, kind_may_come, may_come_next, may_come, has_version, spells_version, line_is_served, line_in_range, with_line, with_channel, expected, accepted, judged, words_of};
+ghost use Rattle.trace_text.specs.{shown, told, judged_as, settled, with_ranged, IsJudged, IsOther, IsSettled, Unread};
 ghost use Rattle.std.specs.List.{list_any};
 
 use crate::line::{Judged, Line};
@@ -95,18 +95,52 @@ impl State {
     }
 
     /// Reads a line, without its line feed, and goes on behind it. The first fault that is true, in
-    /// this order: `Form` where it is no line of a trace, and what `accept` says of it. A refusal
-    /// changes nothing.
-    #[tactic(auto, using(crate::proofs::Judging::judged_ok, crate::proofs::Judging::is_settled))]
+    /// this order: `Form` where it is no line of a trace, `Order` where a line of its kind may not come
+    /// here or a channel line is of another version than the head, `Range` where a number is out of its
+    /// range, or, for threads, is not the channel's, and then what is wrong with a channel line: `Twice`
+    /// where a channel before has its number, the first of rules 1 to 3 that its settings break,
+    /// `Rule(4)` where the shares are more than the link, `Rule(5)` where there are 64 channels already.
+    /// A refusal changes nothing.
     pub fn judge<'a>(&mut self, line: &'a [u8]) -> Result<Judged<'a>, LineFault>
         ensures ok { IfOk result (λ read. judged self.old line.now ≡ Ok (told read, self.new)) }
         ensures err { IfErr result (λ fault. judged self.old line.now ≡ Err fault) }
         ensures same { OnErr result (self.new ≡ self.old) }
         ensures settled { IfOk result (IsSettled (tick_of self.new.head)) }
     {
+        match self.inspect(line) {
+            Ok(read) => {
+                self.go_on(&read);
+                Ok(read)
+            }
+            Err(fault) => Err(fault),
+        }
+    }
+
+    /// What `judge` answers, without going on: a caller that may fail before it has done what the line
+    /// says goes on when it is done.
+    #[tactic(auto, using(crate::proofs::Judging::judged_ok, crate::proofs::Judging::is_settled))]
+    pub fn inspect<'a>(&self, line: &'a [u8]) -> Result<Judged<'a>, LineFault>
+        ensures ok { IfOk result (IsJudged self.now line.now) }
+        ensures err { IfErr result (λ fault. judged self.now line.now ≡ Err fault) }
+        ensures settled { IfOk result (IsSettled (tick_of self.now.head)) }
+    {
         match read_unranged(line) {
-            Ok(read) => self.follow(&read),
+            Ok(read) => self.examine(&read),
             Err(fault) => Err(self.first_fault(line, fault)),
+        }
+    }
+
+    /// Goes on behind a line that may come.
+    #[tactic(auto, using(crate::proofs::GoingOn::accepted_ranges, crate::proofs::GoingOn::accepted_does))]
+    pub fn go_on(&mut self, line: &Judged<'_>)
+        requires accepted { is_ok (accepted self.old (told line.now)) ≡ true }
+        requires settled { IsSettled (tick_of self.old.head) line.now }
+        ensures goes_on { accepted self.old (told line.now) ≡ Ok self.new }
+        ensures settled { IsSettled (tick_of self.new.head) line.now }
+    {
+        match line {
+            Judged::Channel { config, .. } => self.add(config.channel()),
+            Judged::Other(line) => self.step(line),
         }
     }
 
@@ -119,23 +153,6 @@ impl State {
         match kind_of_first_word(line) {
             Some(kind) => self.kind_may_come(kind) && self.spells_version(kind, line),
             None => false,
-        }
-    }
-
-    /// Goes on behind this line. `Order` where a line of its kind may not come here or a channel line
-    /// is of another version than the head, else `Range` where a number is out of its range, or, for
-    /// threads, is not the channel's, else what is wrong with a channel line: `Twice` where a channel
-    /// before has its number, the first of rules 1 to 3 that its settings break, `Rule(4)` where the
-    /// shares are more than the link, `Rule(5)` where there are 64 channels already. A refusal changes
-    /// nothing.
-    pub fn accept(&mut self, line: &Line<'_>) -> Result<(), LineFault>
-        ensures ok { OnOk result (accepted self.old (shown line.now) ≡ Ok self.new) }
-        ensures err { IfErr result (λ fault. accepted self.old (shown line.now) ≡ Err fault) }
-        ensures same { OnErr result (self.new ≡ self.old) }
-    {
-        match self.follow(line) {
-            Ok(_) => Ok(()),
-            Err(fault) => Err(fault),
         }
     }
 
@@ -179,26 +196,24 @@ impl State {
         }
     }
 
-    // Goes on behind this line, as `accept` says it.
+    // What this line is where it may come, else the first fault of it that is true.
     #[tactic(auto, unfolding(rams_model::specs::Texts::TraceOrder::accepted), using(crate::proofs::Judging::channel_accepted))]
-    fn follow<'a>(&mut self, line: &Line<'a>) -> Result<Judged<'a>, LineFault>
-        ensures ok { OnOk result (accepted self.old (shown line.now) ≡ Ok self.new) }
-        ensures err { IfErr result (λ fault. accepted self.old (shown line.now) ≡ Err fault) }
-        ensures same { OnErr result (self.new ≡ self.old) }
-        ensures judged { IfOk result (λ read. read ≡ judged_as (tick_of self.new.head) line.now) }
+    fn examine<'a>(&self, line: &Line<'a>) -> Result<Judged<'a>, LineFault>
+        ensures ok { OnOk result (is_ok (accepted self.now (shown line.now)) ≡ true) }
+        ensures err { IfErr result (λ fault. accepted self.now (shown line.now) ≡ Err fault) }
+        ensures judged { IfOk result (λ read. read ≡ judged_as (tick_of self.now.head) line.now) }
     {
         if !self.may_come(line) {
             return Err(LineFault::Order);
         }
         if let Line::Channel { version, channel } = line {
             let version = *version;
-            let config = self.add(channel)?;
+            let config = self.admit(channel)?;
             return Ok(Judged::Channel { version, config });
         }
         if !is_in_range(line) || !self.serves(line) {
             return Err(LineFault::Range);
         }
-        self.step(line);
         Ok(Judged::Other(*line))
     }
 
@@ -288,12 +303,11 @@ impl State {
         });
     }
 
-    // Adds a channel with these settings.
-    fn add(&mut self, channel: &Channel) -> Result<Config, LineFault>
-        ensures ok { OnOk result (with_ranged self.old self.old.head channel.now ≡ Ok self.new) }
-        ensures err { IfErr result (λ fault. with_ranged self.old self.old.head channel.now ≡ Err fault) }
-        ensures same { OnErr result (self.new ≡ self.old) }
-        ensures config { IfOk result (λ config. config ≡ settings channel.now (tick_of self.new.head)) }
+    // The settings of a channel that can be added, or what is wrong with them.
+    fn admit(&self, channel: &Channel) -> Result<Config, LineFault>
+        ensures ok { OnOk result (is_ok (with_ranged self.now self.now.head channel.now) ≡ true) }
+        ensures err { IfErr result (λ fault. with_ranged self.now self.now.head channel.now ≡ Err fault) }
+        ensures config { IfOk result (λ config. config ≡ settings channel.now (tick_of self.now.head)) }
     {
         let Some(head) = self.head else {
             return Err(LineFault::Order);
@@ -305,12 +319,21 @@ impl State {
         if self.channels.is_full() {
             return Err(LineFault::Rule(5));
         }
+        Ok(config)
+    }
+
+    // Adds a channel that can be added.
+    #[tactic(auto, using(crate::proofs::GoingOn::joins_few, crate::proofs::GoingOn::joins_small, crate::proofs::GoingOn::joins_gives))]
+    fn add(&mut self, channel: &Channel)
+        requires { is_ok (with_channel self.old self.old.head channel.now) ≡ true }
+        ensures goes_on { with_channel self.old self.old.head channel.now ≡ Ok self.new }
+        ensures head { self.new.head ≡ self.old.head }
+    {
         self.channels.push(Claim {
             id: channel.id,
             share: channel.share,
         });
         self.claimed += channel.share;
-        Ok(config)
     }
 
     // The settings of a channel, or what is wrong with them before the other shares are looked at: the

@@ -1,22 +1,19 @@
 -- The turns of lines, as a standby takes them.
-use Rattle.std.proofs.Common.{◌≡◌, ℕ, ◌+◌, ◌<◌, ◌≤◌, Bool, true, false, List, Option, None, Some, Result, Ok, Err, refl, sym, subst, ap, ◌∙◌, arith}
-use Rattle.std.specs.Prelude.{if◌then◌else◌}
+use Rattle.std.proofs.Common.{◌≡◌, ℕ, ◌+◌, ◌<◌, ◌≤◌, true, false, List, Option, None, Some, Result, Ok, Err, refl, sym, subst, ap, ◌∙◌, arith}
+use Rattle.std.specs.Prelude.{is_ok}
 use Rattle.std.proofs.lemmas.Bool.{and_parts, lt-ltb, le-ltb}
 use Rattle.rams_model.specs.declared.fault.LineFault.{LineFault}
-use Rattle.rams_model.specs.declared.fault.LineFault.TheVariants.{Range}
 use Rattle.rams_model.specs.declared.mode.LineKind.{LineKind}
 use Rattle.rams_model.specs.declared.mode.LineKind.TheVariants as kind
 use Rattle.rams_model.specs.declared.mode.Mode.{Mode}
 use Rattle.rams_model.specs.declared.mode.Mode.TheVariants.{Run}
-use Rattle.rams_model.specs.Texts.{TraceLine, head_line, channel_line, live_line, feedback_line, tick_line, end_line, tune_line, give_line, mcast_line, ask_line, drop_line, Head, Reached, accepted, has_receivers, judged, judged_line, kind_of, kind_may_come, line_at, line_of, line_in_range, line_is_served, may_come, expected, ranged, with_line, with_reached}
+use Rattle.rams_model.specs.Texts.{TraceLine, head_line, channel_line, live_line, feedback_line, tick_line, end_line, tune_line, give_line, mcast_line, ask_line, drop_line, Head, Reached, accepted, has_receivers, judged, judged_line, kind_of, kind_may_come, line_of, line_in_range, line_is_served, may_come, with_line, with_reached}
 use Rattle.server_hub.specs.declared.event.HubEvent.{HubEvent}
 use Rattle.server_hub.specs.{StandsFor, after_event, ids_of}
 use Rattle.server_hub.specs.Seen as hubs
 use Rattle.server_hub.specs.Served.{Served}
 use Rattle.trace_loop.specs.trace_book.trace_serving.{Stage, ends, too_long, done, after_judging, after_line, counted, turn, brought}
-use Rattle.trace_loop.proofs.trace_book.trace_serving.Judged.{judged_so}
-use Rattle.trace_text.proofs.Judging.{expected_is}
-use Rattle.trace_text.proofs.Spelling.{ranged_ok}
+use Rattle.trace_loop.proofs.trace_book.trace_serving.Judged.{accepted_so, judged_so}
 use Rattle.trace_loop.specs.trace_book.{run, event_text}
 use Rattle.trace_loop.specs.head_loop.{numbers}
 use Rattle.trace_loop.proofs.head_loop.Claims.{claims_kept}
@@ -24,21 +21,29 @@ use Rattle.trace_loop.proofs.trace_book.Served.{settings_after}
 use Rattle.takeover.specs.declared.standby.fault.Step.TheVariants.{GoesOn}
 use Rattle.takeover.specs.standby.{HubServes, Stands, Took, turn_of}
 
-pub read_line_so : (bytes : List ℕ) (line : TraceLine) → line_at bytes ≡ Ok line → (line_of bytes ≡ Some line) × (line_in_range line ≡ true)
-unfolding line_at
-read_line_so bytes line h = ranged_ok (line_of bytes) line h
+-- where a line that is accepted leads
+pub later_of : (r : Reached) (line : TraceLine) → is_ok (accepted r line) ≡ true → (later : Reached) × (accepted r line ≡ Ok later)
+later_of r line h = by (accepted r line) refl h
+  where
+    by : (x : Result Reached LineFault) → accepted r line ≡ x → is_ok x ≡ true → (later : Reached) × (accepted r line ≡ Ok later)
+    by (Ok later) is h = (later, is)
+    by (Err fault) is h = absurd cc
 
--- a line that is judged well reads well, and is expected
-pub judged_reads : (r : Reached) (bytes : List ℕ) (line : TraceLine) (later : Reached) → judged r bytes ≡ Ok (line, later) → (line_at bytes ≡ Ok line) × (expected r bytes ≡ true)
-unfolding line_at
-judged_reads r bytes line later h =
-    let is = judged_so r bytes line later h in
-    (ap ranged is.reads ∙ rw is.accepts.in_range refl, expected_is r bytes line is.reads ∙ is.accepts.may)
+-- it may come, and its numbers are in range
+pub may_be : (r : Reached) (line : TraceLine) → is_ok (accepted r line) ≡ true → (may_come r line ≡ true) × (line_in_range line ≡ true)
+may_be r line h =
+    let l = later_of r line h in
+    let is = accepted_so r line l.0 l.1 in
+    (is.may, is.in_range)
 
 -- the turn of a line that is read
 pub read_turn : (stage : Stage (List Served)) (number : ℕ) (bytes : List ℕ) (line : TraceLine) → line_of bytes ≡ Some line → turn run stage number bytes ≡ turn_of stage number line
 unfolding turn judged
 read_turn stage number bytes line h = ap (λ (o : Option TraceLine). after_judging run stage number (judged_line stage.reached o)) h
+
+-- the turn of a line that is judged well
+pub judged_turn : (stage : Stage (List Served)) (number : ℕ) (bytes : List ℕ) (line : TraceLine) (later : Reached) → judged stage.reached bytes ≡ Ok (line, later) → turn run stage number bytes ≡ turn_of stage number line
+judged_turn stage number bytes line later h = read_turn stage number bytes line (judged_so stage.reached bytes line later h).reads
 
 -- a line that may come, with its numbers in range, does what it says
 served_in_run : (r : Reached) (line : TraceLine) → r.mode ≡ Run → line_is_served r line ≡ true

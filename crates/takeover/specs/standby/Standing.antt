@@ -1,17 +1,13 @@
 -- What the lines of a journal lead to, as code has it.
-use Rattle.std.specs.Prelude.{◌≡◌, ℕ, ◌+◌, ◌≤◌, Bool, true, false, ◌&&◌, if◌then◌else◌, List, [], map, length, Option, None, Some, is_some, is_none, Result, Ok, Err, is_ok}
-use Rattle.rams_model.specs.declared.channel.Channel.{Channel}
+use Rattle.std.specs.Prelude.{◌≡◌, ℕ, ◌+◌, ◌≤◌, Bool, true, false, if◌then◌else◌, List, [], map, length, Option, None, Some, is_some, Result, Ok, Err}
 use Rattle.rams_model.specs.declared.mode.Mode.TheVariants.{Run}
-use Rattle.rams_model.specs.Service.{settings, checked}
 use Rattle.rams_model.specs.Texts.{TraceLine, Head, Reached, accepted, with_reached}
-use Rattle.server_hub.specs.declared.event.AddFault.{AddFault}
-use Rattle.server_hub.specs.declared.event.AddFault.TheVariants.{NoMemory as OutOfMemory}
-use Rattle.server_hub.specs.{StandsFor, refused as refused_add}
+use Rattle.server_hub.specs.{StandsFor}
 use Rattle.server_hub.specs.Seen as hubs
 use Rattle.server_hub.specs.Served.{Served}
 use Rattle.trace_loop.specs.trace_book.trace_serving.{Stage, Turn, goes_on, ends, done, refused, too_long, after_judging}
 use Rattle.trace_loop.specs.trace_book.{run}
-use Rattle.trace_loop.specs.head_loop.{OpensChannel, claim_of, numbers}
+use Rattle.trace_loop.specs.head_loop.{claim_of, numbers}
 use Rattle.takeover.specs.declared.standby.fault.FeedFault.{FeedFault}
 use Rattle.takeover.specs.declared.standby.fault.FeedFault.TheVariants.{Line, TooLong, NoMemory}
 use Rattle.takeover.specs.declared.standby.fault.Step.{Step}
@@ -47,21 +43,6 @@ StandsSomewhere hub ids events reached = (stage : Stage (List Served)) × Stands
 -- how many lines went on: the head line, those of the channels and those of the events
 abbrev pub count_of : Option hubs.Seen → List ℕ → ℕ → ℕ
 count_of hub ids events = (if is_some hub then 1 else 0) + length ids + events
-
--- the channel was opened in a hub that is there, with its tick
-abbrev pub OpensIn : Channel → Option hubs.Seen → Option hubs.Seen → Type 0
-OpensIn c (Some old) (Some new) = OpensChannel (settings c old.tick) old new
-OpensIn c _ _ = ⊥
-
--- the hub can have the channel: its settings are lawful, and it fits beside the others
-abbrev pub can_open : Option hubs.Seen → Channel → Bool
-can_open None c = false
-can_open (Some v) c = is_ok (checked (settings c v.tick)) && is_none (refused_add v (settings c v.tick))
-
--- memory ran out
-abbrev pub lacks_memory : Result (Unit {0}) AddFault → Bool
-lacks_memory (Err OutOfMemory) = true
-lacks_memory _ = false
 
 -- the turn of a line, once it is read
 abbrev pub turn_of : Stage (List Served) → ℕ → TraceLine → Turn (List Served)

@@ -1,24 +1,25 @@
 //! The channels of a journal, and what came to them.
-ghost use Rattle.std.specs.Prelude.{◌≡◌, ◌+◌, List, ℕ, Some, Ok, IfOk, OnErr, OnOk, is_some, is_ok, true, false};
+ghost use Rattle.std.specs.Prelude.{◌≡◌, ◌+◌, List, ℕ, Some, IfOk, IsSomeAnd, OnErr, OnOk, is_some, is_ok, true};
 ghost use Rattle.rams_model.specs.declared.mode.Mode.TheVariants as modes;
-ghost use Rattle.rams_model.specs.Texts.{may_come, line_in_range, accepted, head_line, channel_line};
+ghost use Rattle.rams_model.specs.Texts.{may_come, line_in_range, accepted, head_line, channel_line, tick_of};
 ghost use Rattle.server_hub.specs.{event_of};
 ghost use Rattle.server_hub.specs.Served.{Served};
 ghost use Rattle.trace_loop.specs.trace_book.trace_serving.{Stage, opening, brought};
 ghost use Rattle.trace_loop.specs.trace_book.{run};
-ghost use Rattle.trace_text.specs.{shown};
+ghost use Rattle.trace_loop.specs.head_loop.{CanOpen, OpensIn};
+ghost use Rattle.trace_text.specs.{HasDigits, IsOther, shown};
 ghost use Rattle.takeover.specs.declared.standby.fault.Step.TheVariants as steps;
-ghost use Rattle.takeover.specs.standby.{IsSame, OpensIn, Stands, StandsSomewhere, Took, can_open, lacks_memory, count_of, turn_of};
+ghost use Rattle.takeover.specs.standby.{IsSame, Stands, StandsSomewhere, Took, count_of, turn_of};
 
 use crate::standby::fault::{FeedFault, Step};
 use arrayvec::ArrayVec;
 use channel_config::{Config, MOST_CHANNELS};
 use ram_io::NoMemory;
-use rams_model::{Channel, Mode};
-use server_hub::{AddFault, Heard, Hub};
+use rams_model::Mode;
+use server_hub::{Heard, Hub};
 use std::alloc::Global;
 use trace_loop::MOST_EVENTS;
-use trace_text::{Line, State};
+use trace_text::{Judged, Line, State};
 
 /// What the lines so far lead to.
 #[derive(Drop)]
@@ -58,14 +59,6 @@ pub fn next_number(channels: &Channels) -> u64
     heads + channels.ids.len() as u64 + channels.events + 1
 }
 
-/// Goes on behind a line that is accepted.
-fn go_on(state: &mut State, line: &Line<'_>)
-    requires { is_ok (accepted state.old (shown line.now)) ≡ true }
-    ensures { accepted state.old (shown line.now) ≡ Ok state.new }
-{
-    state.accept(line).unwrap();
-}
-
 /// The head line gives the hub.
 pub fn begin(
     alloc: Global,
@@ -85,69 +78,46 @@ pub fn begin(
     ensures step { IfOk result (λ step. step ≡ steps.GoesOn) }
 {
     *hub = Some(Hub::new(alloc, tick_ms, link)?);
-    go_on(
-        state,
-        &Line::Head {
-            version,
-            tick_ms,
-            link,
-        },
-    );
+    state.go_on(&Judged::Other(Line::Head {
+        version,
+        tick_ms,
+        link,
+    }));
     Ok(Step::GoesOn)
 }
 
-/// Adds a channel where the hub can have it.
-fn add(alloc: Global, hub: &mut Option<Hub>, channel: Channel) -> Result<(), NoMemory>
-    ensures added { OnOk result (can_open hub.old channel ≡ true → OpensIn channel hub.old hub.new) }
-    ensures refused { OnOk result (can_open hub.old channel ≡ false → hub.new ≡ hub.old) }
+/// Adds a channel. The lines before it have shown that it may stand there, so that only memory can be
+/// missing.
+fn add(alloc: Global, hub: &mut Option<Hub>, config: Config) -> Result<(), NoMemory>
+    requires { IsSomeAnd hub.old (λ v. CanOpen v config) }
+    ensures opens { OnOk result (OpensIn config hub.old hub.new) }
     ensures same { OnErr result (hub.new ≡ hub.old) }
 {
-    let Some(hub) = hub else {
-        return Ok(());
-    };
-    let Ok(config) = Config::check(channel, hub.tick_ms()) else {
-        return Ok(());
-    };
-    let added = hub.add(alloc, config);
-    if lacks_memory(&added) {
-        return Err(NoMemory);
-    }
-    Ok(())
+    let Some(hub) = hub else { unreachable!() };
+    hub.add(alloc, config).or(Err(NoMemory))
 }
 
-fn lacks_memory(added: &Result<(), AddFault>) -> bool
-    ensures { result ≡ lacks_memory added.now }
-{
-    matches!(added, Err(AddFault::NoMemory))
-}
-
-/// A channel line opens its channel, or is refused.
+/// A channel line opens its channel.
 pub fn open(
     alloc: Global,
     channels: &mut Channels,
     version: u8,
-    channel: Channel,
+    config: Config,
 ) -> Result<Step, FeedFault>
-    requires may { may_come channels.old.state (channel_line version channel) ≡ true }
+    requires accepted { is_ok (accepted channels.old.state (channel_line version config.channel)) ≡ true }
+    requires tick { config.tick ≡ tick_of channels.old.state.head }
     requires stands { StandsSomewhere channels.old.hub channels.old.ids.items channels.old.events channels.old.state }
     ensures turn { (stage : Stage (List Served)) (number : ℕ) → Stands channels.old.hub channels.old.ids.items channels.old.events channels.old.state stage
         → number ≡ count_of channels.old.hub channels.old.ids.items channels.old.events + 1
-        → Took result (turn_of stage number (channel_line version channel)) (Stands channels.new.hub channels.new.ids.items channels.new.events channels.new.state) number }
+        → Took result (turn_of stage number (channel_line version config.channel)) (Stands channels.new.hub channels.new.ids.items channels.new.events channels.new.state) number }
     ensures same { OnErr result (IsSame channels.old.hub channels.new.hub channels.old.ids.items channels.new.ids.items channels.old.events channels.new.events channels.old.state channels.new.state) }
     ensures count { OnOk result (count_of channels.new.hub channels.new.ids.items channels.new.events ≡ count_of channels.old.hub channels.old.ids.items channels.old.events + 1) }
     ensures step { IfOk result (λ step. step ≡ steps.GoesOn) }
 {
-    add(alloc, &mut channels.hub, channel)?;
-    match channels.state.accept(&Line::Channel { version, channel }) {
-        Ok(()) => {
-            channels.ids.push(channel.id);
-            Ok(Step::GoesOn)
-        }
-        Err(fault) => {
-            let line = next_number(channels);
-            Err(FeedFault::Line { line, fault })
-        }
-    }
+    add(alloc, &mut channels.hub, config)?;
+    channels.state.go_on(&Judged::Channel { version, config });
+    channels.ids.push(config.channel().id);
+    Ok(Step::GoesOn)
 }
 
 /// The event of a line, unless it is one too many. What the channels answer is let go.
@@ -161,6 +131,8 @@ pub fn serve(
 ) -> Result<Step, FeedFault>
     requires may { may_come state.old (shown line.now) ≡ true }
     requires range { line_in_range (shown line.now) ≡ true }
+    requires other { IsOther line.now }
+    requires digits { HasDigits line.now }
     requires brings { brought run (shown line.now) ≡ Some (event_of heard) }
     requires stands { (ids : List ℕ) × StandsSomewhere hub.old ids events.old state.old }
     ensures turn { (stage : Stage (List Served)) (ids : List ℕ) (number : ℕ) → Stands hub.old ids events.old state.old stage
@@ -176,6 +148,6 @@ pub fn serve(
     let Some(hub) = hub else { unreachable!() };
     hub.hear(alloc, heard)?;
     *events += 1;
-    go_on(state, line);
+    state.go_on(&Judged::Other(*line));
     Ok(Step::GoesOn)
 }

@@ -1,10 +1,10 @@
 //! A whole line of a journal.
-ghost use Rattle.std.specs.Prelude.{◌≡◌, ◌+◌, Ok, List, ℕ, true};
-ghost use Rattle.rams_model.specs.Texts.{TraceLine, Reached, may_come, line_in_range, judged};
+ghost use Rattle.std.specs.Prelude.{◌≡◌, ◌+◌, Ok, List, ℕ, is_ok, true};
+ghost use Rattle.rams_model.specs.Texts.{accepted, may_come, line_in_range, tick_of};
 ghost use Rattle.server_hub.specs.Served.{Served};
 ghost use Rattle.trace_loop.specs.trace_book.trace_serving.{Stage, turn};
 ghost use Rattle.trace_loop.specs.trace_book.{run};
-ghost use Rattle.trace_text.specs.{shown, HasDigits};
+ghost use Rattle.trace_text.specs.{shown, told, HasDigits, IsOther, IsSettled};
 ghost use Rattle.takeover.specs.declared.standby.fault.Step.TheVariants as steps;
 ghost use Rattle.takeover.specs.standby.{Halting, IsSame, Stands, StandsSomewhere, Took, count_of, turn_of};
 
@@ -12,7 +12,7 @@ use crate::standby::channels::{Channels, begin, next_number, open, serve};
 use crate::standby::fault::{FeedFault, Step};
 use server_hub::Heard;
 use std::alloc::Global;
-use trace_text::{Line, decode_to, read_line};
+use trace_text::{Judged, Line, decode_to};
 
 /// What a line does. Where it doesn't go on, nothing has changed.
 pub fn take_line(alloc: Global, channels: &mut Channels, line: &[u8]) -> Result<Step, FeedFault>
@@ -23,27 +23,8 @@ pub fn take_line(alloc: Global, channels: &mut Channels, line: &[u8]) -> Result<
     ensures same { Halting result (IsSame channels.old.hub channels.new.hub channels.old.ids.items channels.new.ids.items channels.old.events channels.new.events channels.old.state channels.new.state) }
     ensures count { result ≡ Ok steps.GoesOn → count_of channels.new.hub channels.new.ids.items channels.new.events ≡ count_of channels.old.hub channels.old.ids.items channels.old.events + 1 }
 {
-    let Ok(read) = read_line(line) else {
-        return refuse(channels, line);
-    };
-    if !channels.state.expects(line) {
-        return refuse(channels, line);
-    }
-    after_line(alloc, channels, read)
-}
-
-/// A line that isn't accepted is refused.
-fn refuse(channels: &mut Channels, line: &[u8]) -> Result<Step, FeedFault>
-    requires stands { StandsSomewhere channels.old.hub channels.old.ids.items channels.old.events channels.old.state }
-    requires refused { (read : TraceLine) (later : Reached) → judged channels.old.state line.now ≡ Ok (read, later) → ⊥ }
-    ensures turn { (stage : Stage (List Served)) (number : ℕ) → Stands channels.old.hub channels.old.ids.items channels.old.events channels.old.state stage
-        → number ≡ count_of channels.old.hub channels.old.ids.items channels.old.events + 1
-        → Took result (turn run stage number line.now) (Stands channels.new.hub channels.new.ids.items channels.new.events channels.new.state) number }
-    ensures same { Halting result (IsSame channels.old.hub channels.new.hub channels.old.ids.items channels.new.ids.items channels.old.events channels.new.events channels.old.state channels.new.state) }
-    ensures ends { result ≡ Ok steps.GoesOn → ⊥ }
-{
-    match channels.state.judge(line) {
-        Ok(_) => unreachable!(),
+    match channels.state.inspect(line) {
+        Ok(read) => after_line(alloc, channels, &read),
         Err(fault) => {
             let line = next_number(channels);
             Err(FeedFault::Line { line, fault })
@@ -52,9 +33,27 @@ fn refuse(channels: &mut Channels, line: &[u8]) -> Result<Step, FeedFault>
 }
 
 /// What a line does that may come next.
-fn after_line(alloc: Global, channels: &mut Channels, line: Line<'_>) -> Result<Step, FeedFault>
+fn after_line(alloc: Global, channels: &mut Channels, line: &Judged<'_>) -> Result<Step, FeedFault>
+    requires accepted { is_ok (accepted channels.old.state (told line.now)) ≡ true }
+    requires settled { IsSettled (tick_of channels.old.state.head) line.now }
+    requires stands { StandsSomewhere channels.old.hub channels.old.ids.items channels.old.events channels.old.state }
+    ensures turn { (stage : Stage (List Served)) (number : ℕ) → Stands channels.old.hub channels.old.ids.items channels.old.events channels.old.state stage
+        → number ≡ count_of channels.old.hub channels.old.ids.items channels.old.events + 1
+        → Took result (turn_of stage number (told line.now)) (Stands channels.new.hub channels.new.ids.items channels.new.events channels.new.state) number }
+    ensures same { Halting result (IsSame channels.old.hub channels.new.hub channels.old.ids.items channels.new.ids.items channels.old.events channels.new.events channels.old.state channels.new.state) }
+    ensures count { result ≡ Ok steps.GoesOn → count_of channels.new.hub channels.new.ids.items channels.new.events ≡ count_of channels.old.hub channels.old.ids.items channels.old.events + 1 }
+{
+    match line {
+        Judged::Channel { version, config } => open(alloc, channels, *version, *config),
+        Judged::Other(line) => after_other(alloc, channels, *line),
+    }
+}
+
+/// What a line does that opens no channel.
+fn after_other(alloc: Global, channels: &mut Channels, line: Line<'_>) -> Result<Step, FeedFault>
     requires may { may_come channels.old.state (shown line) ≡ true }
     requires range { line_in_range (shown line) ≡ true }
+    requires other { IsOther line }
     requires digits { HasDigits line }
     requires stands { StandsSomewhere channels.old.hub channels.old.ids.items channels.old.events channels.old.state }
     ensures turn { (stage : Stage (List Served)) (number : ℕ) → Stands channels.old.hub channels.old.ids.items channels.old.events channels.old.state stage
@@ -63,9 +62,6 @@ fn after_line(alloc: Global, channels: &mut Channels, line: Line<'_>) -> Result<
     ensures same { Halting result (IsSame channels.old.hub channels.new.hub channels.old.ids.items channels.new.ids.items channels.old.events channels.new.events channels.old.state channels.new.state) }
     ensures count { result ≡ Ok steps.GoesOn → count_of channels.new.hub channels.new.ids.items channels.new.events ≡ count_of channels.old.hub channels.old.ids.items channels.old.events + 1 }
 {
-    if let Line::Channel { version, channel } = line {
-        return open(alloc, channels, version, channel);
-    }
     let Channels {
         hub,
         events,
@@ -91,7 +87,7 @@ fn after_line(alloc: Global, channels: &mut Channels, line: Line<'_>) -> Result<
         }
         Line::Tick => serve(alloc, hub, events, state, Heard::Tick, &line),
         Line::End => Ok(Step::Ends),
-        // A channel's line was taken above, and no journal has the others.
+        // None of these is a channel's line, and no journal has the others.
         Line::Channel { .. }
         | Line::Tune { .. }
         | Line::Give { .. }

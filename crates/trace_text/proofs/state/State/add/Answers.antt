@@ -1,11 +1,19 @@
-use Rattle.std.proofs.Common.{Option, sym, ap, ◌∙◌}
-use Rattle.rams_model.specs.Service.{settings}
-use Rattle.rams_model.specs.Texts.{Head, tick_of}
-use Rattle.trace_text.proofs.Checks.{settled_same}
+use Rattle.std.proofs.Common.{◌≡◌, ℕ, ◌+◌, ◌<◌, ◌++◌, ◌∷◌, [], List, length, sum_by, refl, sym, ap, subst, ◌∙◌, arith, length-append}
+use Rattle.std.proofs.lemmas.List.Sums.{sum_by_push}
+use Rattle.rams_model.specs.Texts.{Reached}
+use Rattle.trace_text.specs.declared.state.Claim.{Claim}
+use Rattle.trace_text.proofs.GoingOn.{joins_few, joins_small}
 use Rattle.trace_text.proofs.state.State.add.Goals as goal
 
-pub returns-clause-config : goal.returns-clause-config
-returns-clause-config c =
-    settled_same c.args.self.now (settings c.args.channel.now c.head.inside.tick_ms) c.in_ok-config.config (sym c.check.ensures.settled ∙ c.in_ok-config.was)
-    ∙ ap (λ (h : Head). settings c.args.channel.now h.tick) c.head.view_is
-    ∙ ap (λ (o : Option Head). settings c.args.channel.now (tick_of o)) (sym c.in-Some.is)
+pub invariant_of-self : goal.invariant_of-self
+invariant_of-self c =
+    let r = c.args.self.now in
+    let few : length c.self.inside.channels.items < 64 =
+    subst (λ (x : Reached). length x.channels < 64) (sym c.self.view_is) (joins_few r r.head c.args.channel.now c.requires) in
+    let small = joins_small r r.head c.args.channel.now c.requires in
+    let size : length c.push.new.self.items ≡ length c.self.inside.channels.items + 1 = ap length c.push.ensures.items ∙ length-append c.self.inside.channels.items _ in
+    let i = c.self.invariant in (
+      ap (λ n. n + c.args.channel.now.share) i.0 ∙ sym (sum_by_push (λ (k : Claim). k.share) c.self.inside.channels.items _) ∙ ap (sum_by (λ (k : Claim). k.share)) (sym c.push.ensures.items),
+      omega (arith, i.1, small, size),
+      omega (arith, few, size),
+    )
