@@ -8,11 +8,8 @@ ghost use Rattle.channel_book.specs.{IsTwice};
 use crate::copies::{Room, copy_answer, copy_small};
 use ram_io::NoMemory;
 use rams_model::{Answer, Event};
-use server_hub::session_core::{Core, most_in};
+use server_hub::session_core::{Core, LONGEST_DATAGRAM, most_in};
 use std::alloc::Global;
-
-/// The most bytes of a datagram whose copy there can be memory for.
-const LONGEST_DATAGRAM: usize = 1 << 56;
 
 /// An answer, once for the book and once for the caller.
 #[derive(Drop)]

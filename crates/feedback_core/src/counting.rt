@@ -8,6 +8,10 @@ ghost use Rattle.feedback_core.specs.{shown_message, most_of_message, orders_of_
 use crate::framing::{Message, message_of};
 use wire_packets::rtcp_frame::{Packets, packets};
 
+/// The longest datagram whose answer there can be memory for, in bytes. An answer has at most five notes for each
+/// byte and four more: to this one they are fewer than 2^63, so that they can be counted.
+pub const LONGEST_DATAGRAM: usize = 1 << 56;
+
 /// How much an answer has at most.
 #[derive(Clone, Copy)]
 pub struct Most {
@@ -17,7 +21,7 @@ pub struct Most {
 
 /// How much the answer to a feedback datagram has at most, by its messages alone.
 pub fn most_in(datagram: &[u8]) -> Most
-    requires { length datagram.now ≤ 2 ^ 56 }
+    requires { length datagram.now ≤ LONGEST_DATAGRAM }
     ensures notes { result.notes ≡ most_notes_in datagram.now }
     ensures orders { result.orders ≡ most_orders_in datagram.now }
 {

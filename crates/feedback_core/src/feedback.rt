@@ -10,7 +10,7 @@ ghost use Rattle.feedback_core.specs.{most_notes, most_orders, most_notes_in, mo
 ghost use Rattle.client_table.specs.{entry_of};
 
 use crate::answering::answer_packets;
-use crate::counting::most_of_packets;
+use crate::counting::{LONGEST_DATAGRAM, most_of_packets};
 use crate::desk::Desk;
 use crate::page::Page;
 use crate::placing::{keep, make_place};
@@ -20,9 +20,6 @@ use ram_io::NoMemory;
 use rams_model::{Answer, Note};
 use std::alloc::Global;
 use wire_packets::rtcp_frame::{Packets, packets};
-
-/// The longest datagram whose notes there can be memory for, in bytes.
-const LONGEST_DATAGRAM: usize = 1 << 56;
 
 /// What the channel answers to a datagram that came to its feedback target (RFC 4585) from this client,
 /// an IPv4 address times 65536 plus its port.

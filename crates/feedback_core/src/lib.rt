@@ -22,7 +22,7 @@ mod said;
 mod visitor;
 
 pub use channel_parts::Parts;
-pub use counting::{Most, most_in};
+pub use counting::{LONGEST_DATAGRAM, Most, most_in};
 pub use feedback::answer_feedback;
 pub use ram_io::NoMemory;
 pub use rams_model::Answer;

@@ -9,7 +9,7 @@ mod live;
 pub use channel::Core;
 pub use channel_cache::Incoming;
 pub use channel_config::Config;
-pub use feedback_core::{Most, most_in};
+pub use feedback_core::{LONGEST_DATAGRAM, Most, most_in};
 pub use ram_io::NoMemory;
 pub use rams_model::{Answer, Event, LiveNote};
 pub use tick_core::TickPlan;
