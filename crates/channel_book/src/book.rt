@@ -30,7 +30,7 @@ impl Model for Book {
 
 impl Book {
     ghost use Rattle.std.specs.Prelude.{◌≡◌, ◌+◌, ◌^◌, ◌<◌, ◌≤◌, [], ◌∷◌, ◌++◌, length, IfOk, OnOk, OnErr, MatchResult};
-    ghost use Rattle.channel_book.specs.{IsLegal, HasTaken, HasTakenFront, calls_by, entry};
+    ghost use Rattle.channel_book.specs.{IsLegal, HasTaken, HasTakenFront, entry};
     ghost use Rattle.server_hub.specs.session_core.{StandsFor};
 
     /// The book of a channel to which nothing came yet. It keeps `alloc` for its entries, and takes no
@@ -107,15 +107,5 @@ impl Book {
         ensures legal { IsLegal self.now.settings self.now.entries }
     {
         &self.entries
-    }
-
-    /// How many entries are of this list.
-    pub fn count_of(&self, list: u16) -> u64
-        ensures { result ≡ length (calls_by list self.now.entries) }
-    {
-        self.entries
-            .iter()
-            .filter(|entry| entry.list == list)
-            .count() as u64
     }
 }

@@ -10,7 +10,7 @@ pub trait Shared {
     ghost use Rattle.std.specs.Prelude.{◌≡◌, ℕ, ◌+◌, ◌^◌, ◌<◌, ◌≤◌, List, length, IfOk, OnOk, MatchResult};
     ghost use Rattle.rams_model.specs.Service.{Settings};
     ghost use Rattle.channel_book.specs.declared.entry.Entry.{Entry};
-    ghost use Rattle.channel_book.specs.{IsLegal, Tells, HasAnsweredAll, HasAnsweredFront};
+    ghost use Rattle.channel_book.specs.{IsLegal, HasAnsweredAll, HasAnsweredFront};
 
     type Pass;
 
@@ -29,30 +29,10 @@ pub trait Shared {
     /// How many calls are left.
     ghost left: { Self.Pass → ℕ };
 
-    /// Takes an event: its place in the history, and the answer there. The history that the pass has
-    /// seen then begins with what it had seen, and ends with this entry; of the pass's own calls it has
-    /// this one more. After want of memory it may have seen more, none of it its own, and the event is
-    /// given up. May wait.
-    fn step<R: Wait>(
-        &self,
-        rt: &R,
-        alloc: Global,
-        pass: &mut Self::Pass,
-        event: Event,
-    ) -> Result<(u64, Answer), NoMemory>
-        requires made { made self.now pass.old }
-        requires left { 0 < left pass.old }
-        ensures made { made self.now pass.new }
-        ensures settings { settings pass.new ≡ settings pass.old }
-        ensures list { list pass.new ≡ list pass.old }
-        ensures left { left pass.old ≤ left pass.new + 1 }
-        ensures told { Tells (list pass.old) event (seen pass.old) result (seen pass.new) }
-        ensures legal { OnOk result (IsLegal (settings pass.new) (seen pass.new)) };
-
     /// Takes some events in one turn, one after another: the place of the first in the history, and the
     /// answers. The others stand behind the first, with nothing between. The history that the pass has
-    /// seen then ends with these entries; of the pass's own calls it has these more. After want of memory
-    /// a front of the events was taken, and the rest is given up. May wait.
+    /// seen then begins with what it had seen, and ends with these entries; of the pass's own calls it has
+    /// these more. After want of memory a front of the events was taken, and the rest is given up. May wait.
     fn step_all<R: Wait>(
         &self,
         rt: &R,

@@ -12,6 +12,7 @@ ghost use Rattle.rams_replay.specs.{IsOrLacksMemory, command_of, is_words};
 ghost use Rattle.rams_program.specs.{exit_number};
 
 use crate::report::Report;
+use channel_config::MOST_CHANNELS;
 use ram_io::{Clock, Gate, MemClock, MemWire, Octets, StdClock, StdSink, StdSource, Wire};
 use rams_replay::{CaptureWatch, Status, Watch, port_of, run};
 use std::alloc::{AllocError, Global};
@@ -83,7 +84,7 @@ fn octets_of(alloc: Global, given: Vec<String>) -> Result<Vec<Octets>, AllocErro
 }
 
 /// Most channels of a server.
-const CHANNELS: u16 = 64;
+const CHANNELS: u16 = MOST_CHANNELS as u16;
 
 /// Most time that a server waits for a datagram, in ms.
 const WAIT_MS: u32 = 1;
@@ -105,7 +106,7 @@ fn unserved<R: Threads + Wait + Sync + Input + Print + Eprint>(
     command(rt, alloc, words, &mut wire, &mut clock, &report)
 }
 
-/// Runs `serve` over the ports of 64 channels, since its head isn't read yet. Where one of them can't be
+/// Runs `serve` over the ports of as many channels as a server may have, since its head isn't read yet. Where one of them can't be
 /// had, its wire fails.
 fn served<R: Threads + Wait + Net + rt::Clock + Sync + Input + Print + Eprint>(
     rt: &R,

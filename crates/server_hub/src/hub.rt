@@ -76,14 +76,6 @@ impl Hub {
         self.tick_ms
     }
 
-    /// The bytes that the link takes in a tick.
-    pub fn link(&self) -> u64
-        ensures value { result ≡ self.now.link }
-        ensures lawful { IsHub self.now }
-    {
-        self.link
-    }
-
     /// The settings of a channel; `None` exactly where none has this number.
     pub fn config(&self, id: u16) -> Option<&Config>
         ensures value { option_copied result ≡ find (λ s. s.channel.id == id) (settings_of self.now) }

@@ -114,12 +114,22 @@ fn expect_its_book(
     expected
 }
 
+/// What so many workers write of each trace is so.
+fn expect_books(
+    rt: &(impl Threads + Wait + Abort + Sync),
+    alloc: Global,
+    workers: &str,
+) -> Result<(), Fail> {
+    for rest in [EARLY_AND_ALREADY, ONE_LIST, "end\n"] {
+        expect_its_book(rt, alloc, workers, rest)?;
+    }
+    Ok(())
+}
+
 #[test]
 fn threads_write_the_same_book(rt: HostRuntime) -> Result<(), Fail> {
     for workers in ["1", "4", "16"] {
-        for rest in [EARLY_AND_ALREADY, ONE_LIST, "end\n"] {
-            expect_its_book(&rt, rt.alloc(), workers, rest)?;
-        }
+        expect_books(&rt, rt.alloc(), workers)?;
     }
     Ok(())
 }

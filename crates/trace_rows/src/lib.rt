@@ -9,6 +9,7 @@ use rams_replay::{Octets, Status, plain};
 pub use rows::{ONE_PACKET_PER_TICK, STOP_ACROSS_THE_WRAP};
 use std::alloc::{AllocError, Global};
 use std::test::Fail;
+pub use test_fixtures::test_calls::let_go;
 
 /// The first two lines of a trace: its head, and channel 7.
 pub const OPENING: &str = "rams-trace 1 tick 10 link 100000
@@ -132,9 +133,6 @@ pub const PIECES: Calls<'static> = Calls {
     most: 100,
     fails: &[],
 };
-
-/// The value is dropped, by a call of its own: so a caller's proof doesn't go through its fields.
-pub fn let_go<T: Drop>(_value: T) {}
 
 /// The words of a command line.
 pub fn octets_of(alloc: Global, words: &[&str]) -> Result<Vec<Octets>, AllocError> {

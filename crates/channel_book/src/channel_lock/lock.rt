@@ -129,7 +129,7 @@ impl ChannelLock {
     }
 
     /// Draws a ticket, waits for its turn, steps the book and passes the turn on, whatever came of it.
-    pub(crate) fn ask<R: Wait>(
+    fn ask<R: Wait>(
         &self,
         rt: &R,
         alloc: Global,

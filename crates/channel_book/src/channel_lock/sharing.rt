@@ -20,16 +20,6 @@ impl Shared for ChannelLock {
 
     ghost left = { λ pass. pass.left };
 
-    fn step<R: Wait>(
-        &self,
-        rt: &R,
-        alloc: Global,
-        pass: &mut Pass,
-        event: Event,
-    ) -> Result<(u64, Answer), NoMemory> {
-        self.ask(rt, alloc, pass, event)
-    }
-
     fn step_all<R: Wait>(
         &self,
         rt: &R,

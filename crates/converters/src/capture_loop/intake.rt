@@ -5,18 +5,19 @@ ghost use Rattle.ram_io.specs.{HasCause};
 ghost use Rattle.line_io.specs.{IsGrown};
 ghost use Rattle.converters.specs.capture_loop.{BeginsWith};
 
+use crate::capture_loop::pcap_trace::{HEADER_SIZE, MOST_CAPTURED};
 use ram_io::{Failed, NoMemory, Source};
 use std::alloc::{AllocError, Global};
 use std::marker::Model;
 
-// Most bytes that are wanted together, and most that one call asks of a source: the header of a record
-// and the bytes of the longest one.
-const MOST: usize = 262_160;
+// The longest record with its header: most bytes that are wanted together, and most that one call asks of a
+// source.
+const LONGEST_RECORD: usize = HEADER_SIZE + MOST_CAPTURED as usize;
 
-// Bytes of the buffer: twice as many.
-const ROOM: usize = 524_320;
+// Bytes of the buffer.
+const ROOM: usize = 2 * LONGEST_RECORD;
 
-/// Bytes that were taken of a source and aren't used yet, at most 524,320, in a buffer that never grows.
+/// Bytes that were taken of a source and aren't used yet, at most `ROOM`, in a buffer that never grows.
 #[derive(Drop)]
 pub(crate) struct Intake {
     bytes: Vec<u8>,
@@ -50,35 +51,35 @@ fn copy_front(from: &[u8], to: &mut [u8])
     to[..from.len()].copy_from_slice(from);
 }
 
-// Moves the window to the front of the buffer if fewer than `MOST` bytes are free behind it, and says
+// Moves the window to the front of the buffer if fewer than `LONGEST_RECORD` bytes are free behind it, and says
 // where it begins now.
 fn make_room(bytes: &mut [u8], from: usize, to: usize) -> usize
     requires ordered { from ≤ to }
     requires within { to ≤ length bytes.old }
-    requires small { to - from + 262160 ≤ length bytes.old }
-    ensures room { result + (to - from) + 262160 ≤ length bytes.old }
+    requires small { to - from + LONGEST_RECORD ≤ length bytes.old }
+    ensures room { result + (to - from) + LONGEST_RECORD ≤ length bytes.old }
     ensures same { slice_range bytes.new result (result + (to - from)) ≡ slice_range bytes.old from to }
 {
-    if MOST <= bytes.len() - to {
+    if LONGEST_RECORD <= bytes.len() - to {
         return from;
     }
     bytes.copy_within(from..to, 0);
     0
 }
 
-// Takes up to `MOST` bytes of the source to this place of the buffer, and says how many. Where the
+// Takes up to `LONGEST_RECORD` bytes of the source to this place of the buffer, and says how many. Where the
 // source fails, nothing is taken.
 fn take_into<S: Source>(source: &mut S, bytes: &mut [u8], at: usize) -> Result<usize, Failed>
-    requires { at + 262160 ≤ length bytes.old }
+    requires { at + LONGEST_RECORD ≤ length bytes.old }
     ensures front { take at bytes.new ≡ take at bytes.old }
-    ensures bound { IfOk result (λ n. n ≤ 262160) }
+    ensures bound { IfOk result (λ n. n ≤ LONGEST_RECORD) }
     ensures bytes { IfOk result (λ n. Consumes (S.left source.old) (S.left source.new) (take n (drop at bytes.new))) }
     ensures end { IfOk result (λ n. n ≡ 0 → IsAtEnd (S.left source.new)) }
     ensures same { OnErr result (Keeps (S.left source.old) (S.left source.new)) }
     ensures cause { HasCause (S.faults source.old) (S.faults source.new) result }
     ensures steady { S.is_steady source.old → IsOkAnd result (λ _. S.is_steady source.new) }
 {
-    source.take(&mut bytes[at..at + MOST])
+    source.take(&mut bytes[at..at + LONGEST_RECORD])
 }
 
 impl Intake {
@@ -114,7 +115,7 @@ impl Intake {
     /// Takes bytes of the source until there are so many, and says whether there are; else the source
     /// has ended. Where the source fails, nothing is lost.
     pub(crate) fn fill<S: Source>(&mut self, source: &mut S, count: usize) -> Result<bool, Failed>
-        requires { count ≤ 262160 }
+        requires { count ≤ LONGEST_RECORD }
         ensures filled { IfOk result (λ full. MatchBool full (count ≤ length self.new) ((length self.new < count) × IsAtEnd (S.left source.new))) }
         ensures short { OnErr result (length self.new < count) }
         ensures grown { BeginsWith self.old self.new }
@@ -134,7 +135,7 @@ impl Intake {
 
     // Takes one piece of the source behind the others, and says how many bytes it has.
     fn refill<S: Source>(&mut self, source: &mut S) -> Result<usize, Failed>
-        requires { length self.old ≤ 262160 }
+        requires { length self.old ≤ LONGEST_RECORD }
         ensures grown { IfOk result (IsGrown self.old self.new) }
         ensures unread { OnErr result (self.new ≡ self.old) }
         ensures end { IfOk result (λ n. n ≡ 0 → IsAtEnd (S.left source.new)) }

@@ -4,14 +4,17 @@ ghost use Rattle.std.specs.Io.KnownBytes.{prepend_known};
 ghost use Rattle.trace_loop.specs.{IfTold, IsStoppedByRead, OnlyMemoryStops};
 ghost use Rattle.converters.specs.description_loop.{IsFrontOf, TakesPiece};
 
+use crate::description_loop::sdp_config::{LONGEST_LINE, MOST_LINES};
 use line_io::LineReader;
 use ram_io::{NoMemory, Source};
 use std::alloc::Global;
 use trace_loop::Stop;
 
-/// Most bytes of a description that are looked at: one more than 1,000 lines of 4,096 bytes can have,
-/// with their ends.
-const MOST: usize = 4_098_001;
+/// The end of a line, CR LF.
+const LINE_END: usize = 2;
+
+/// Most bytes of a description that are looked at: one more than its lines can have, with their ends.
+const MOST_LOOKED_AT: usize = MOST_LINES as usize * (LONGEST_LINE + LINE_END) + 1;
 
 /// Most bytes that are asked of a source at a time.
 const PIECE: usize = 4096;
@@ -52,7 +55,7 @@ fn take_piece<S: Source>(
     Ok(taken)
 }
 
-/// The bytes that are left behind the lines that were read, up to 4,098,001 of them.
+/// The bytes that are left behind the lines that were read, up to `MOST_LOOKED_AT` of them.
 pub fn read_rest<S: Source>(
     alloc: Global,
     reader: &LineReader,
@@ -65,8 +68,8 @@ pub fn read_rest<S: Source>(
     let mut text = Vec::new(alloc);
     append(&mut text, reader.kept())?;
     let mut piece = buffer(alloc)?;
-    'pieces: while text.len() < MOST {
-        let room = PIECE.min(MOST - text.len());
+    'pieces: while text.len() < MOST_LOOKED_AT {
+        let room = PIECE.min(MOST_LOOKED_AT - text.len());
         if take_piece(source, &mut piece[..room], &mut text)? == 0 {
             return Ok(text);
         }

@@ -15,7 +15,8 @@ mod section;
 mod write;
 
 pub use laws::{descriptions_are_read_back, long_texts_are_refused, settings_are_in_range};
+pub use lines::LONGEST_LINE;
 pub use ram_io::NoMemory;
-pub use read::read_sdp;
+pub use read::{MOST_LINES, read_sdp};
 pub use sdp::{Sdp, SdpFault};
 pub use write::write_sdp;

@@ -2,6 +2,7 @@
 use Rattle.std.specs.Prelude.{◌≡◌, ℕ, ◌≤◌, List, ◌++◌, reverse, length}
 use Rattle.rams_model.specs.declared.event.Event.{Event}
 use Rattle.rams_model.specs.declared.event.Event.TheVariants.{Live, Feedback, Tick}
+use Rattle.rams_model.specs.declared.wire.TheConstants.{MOST_ON_WIRE}
 use Rattle.server_hub.specs.session_core.{StandsFor}
 use Rattle.server_hub.specs.session_core.Seen.{Seen}
 use Rattle.generated.specs.summary.{Tallied, tally_of, answers_in}
@@ -9,8 +10,8 @@ use Rattle.generated.specs.trace_gen.{Place, config, left, made}
 
 -- its bytes are at most 1,500
 abbrev pub IsBrief : Event → Type 0
-IsBrief (Live bytes) = length bytes ≤ 1500
-IsBrief (Feedback client bytes) = length bytes ≤ 1500
+IsBrief (Live bytes) = length bytes ≤ MOST_ON_WIRE
+IsBrief (Feedback client bytes) = length bytes ≤ MOST_ON_WIRE
 IsBrief Tick = Unit {0}
 
 -- So many events of the seed have come, and the others are left: the core stands for them, and the answers of their one lawful book are counted.

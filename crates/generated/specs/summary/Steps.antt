@@ -2,6 +2,7 @@
 use Rattle.std.specs.Prelude.{ℕ, ◌+◌, ◌*◌, ◌^◌, ◌≤◌, Bool, if◌then◌else◌}
 use Rattle.rams_model.specs.declared.answer.Order.{Order}
 use Rattle.rams_model.specs.declared.note.Note.{Note}
+use Rattle.rams_model.specs.declared.wire.TheConstants.{MOST_ON_WIRE}
 use Rattle.generated.specs.declared.summary.counts.Counts.{Counts}
 use Rattle.generated.specs.summary.Counts.{took, accept, again, refuse, burst, repair, end, size_of, Tallied}
 
@@ -45,10 +46,10 @@ pub record AreAtMost (most : ℕ) (c : Counts) : Type 0 where
 
 -- a retransmission of at most 1,500 bytes on the wire
 abbrev pub IsShort : Order → Type 0
-IsShort o = size_of o ≤ 1500
+IsShort o = size_of o ≤ MOST_ON_WIRE
 
 -- each answer has fewer than 2^32 notes, and sends less than 2^32 packets
 pub record IsTally (t : Tallied) : Type 0 where
   pub answers : t.answers ≤ 1000000
   pub notes : AreAtMost (t.answers * 2 ^ 32) t.notes
-  pub bytes : t.bytes ≤ t.answers * (2 ^ 32 * 1500)
+  pub bytes : t.bytes ≤ t.answers * (2 ^ 32 * MOST_ON_WIRE)

@@ -2,6 +2,7 @@
 use Rattle.std.specs.Prelude.{ℕ, ◌*◌, ◌≤◌, List, [], ◌∷◌, length, flat_map}
 use Rattle.rams_model.specs.declared.answer.Order.{Order}
 use Rattle.rams_model.specs.declared.answer.Order.TheVariants.{Rtx, Info}
+use Rattle.rams_model.specs.declared.wire.TheConstants.{MOST_ON_WIRE}
 use Rattle.rams_model.specs.Formats.{wire_size}
 use Rattle.channel_book.specs.declared.entry.Entry.{Entry}
 use Rattle.pool.specs.declared.link_pool.claim.Claim.{Claim}
@@ -19,4 +20,4 @@ sizes_of entries = flat_map (λ (e : Entry). sizes e.answer.orders) entries
 
 -- the claims have together no more bytes than as many of the largest datagrams
 abbrev pub AreSmall : List Claim → Type 0
-AreSmall claims = claimed claims ≤ 1500 * length claims
+AreSmall claims = claimed claims ≤ MOST_ON_WIRE * length claims

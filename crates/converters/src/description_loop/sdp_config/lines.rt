@@ -4,8 +4,8 @@ ghost use Rattle.converters.specs.description_loop.sdp_config.{lines_in, lines_l
 
 use memchr::memchr;
 
-// Most bytes of a line, without its end.
-const LONGEST: usize = 4096;
+/// Most bytes of a line, without its end.
+pub const LONGEST_LINE: usize = 4096;
 
 /// The lines that are left of a text: each ends with LF or CR LF, and the last may lack it.
 #[derive(Clone, Copy)]
@@ -66,7 +66,7 @@ pub fn is_line(line: &[u8]) -> bool
     ensures { result ≡ is_line line.now }
 {
     match line {
-        [letter, b'=', ..] => letter.is_ascii_lowercase() && line.len() <= LONGEST,
+        [letter, b'=', ..] => letter.is_ascii_lowercase() && line.len() <= LONGEST_LINE,
         _ => false,
     }
 }

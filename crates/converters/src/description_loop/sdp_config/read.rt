@@ -6,8 +6,8 @@ use crate::description_loop::sdp_config::lines::{Lines, is_line};
 use crate::description_loop::sdp_config::sdp::{Sdp, SdpFault};
 use crate::description_loop::sdp_config::section::{Role, Sections, first_found};
 
-// Most lines of a description.
-const MOST_LINES: u32 = 1000;
+/// Most lines of a description.
+pub const MOST_LINES: u32 = 1000;
 
 /// The settings that a description gives, or its first fault: of its lines in their order, then of
 /// what they say.

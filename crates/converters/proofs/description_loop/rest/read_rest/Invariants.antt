@@ -1,5 +1,6 @@
 use Rattle.std.proofs.Common.{◌≡◌, ◌-◌, ◌≤◌, length}
 use Rattle.std.specs.Io.KnownBytes.{Consumes, prepend_known}
+use Rattle.converters.specs.declared.description_loop.rest.TheConstants.{MOST_LOOKED_AT}
 use Rattle.converters.proofs.description_loop.rest.read_rest.Given as goal
 
 abbrev pub invariant-pieces : goal.invariant-pieces
@@ -11,4 +12,4 @@ invariant-pieces g l = record {
 }
 
 abbrev pub decreases-pieces : goal.decreases-pieces
-decreases-pieces g l = 4098001 - length l.text.items
+decreases-pieces g l = MOST_LOOKED_AT - length l.text.items
