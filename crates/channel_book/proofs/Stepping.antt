@@ -3,7 +3,7 @@ use Rattle.std.proofs.Common.{◌≡◌, ℕ, List, [], ◌∷◌, ◌++◌, ref
 use Rattle.std.proofs.lemmas.Bool.{eq-eqb}
 use Rattle.std.proofs.lemmas.List.{map-append}
 use Rattle.std.proofs.lemmas.List.Elements.{filter-append}
-use Rattle.rams_model.specs.declared.event.Event.{Event}
+use Rattle.rams_model.specs.declared.Event.{Event}
 use Rattle.rams_model.specs.Service.{Settings, Answered}
 use Rattle.server_hub.specs.session_core.{StandsFor}
 use Rattle.server_hub.specs.session_core.Seen.{Seen}

@@ -1,6 +1,6 @@
 -- What the callers of one channel asked of it, and what it answered, oldest first.
 use Rattle.std.specs.Prelude.{◌≡◌, ℕ, Bool, ◌==◌, List, [], ◌∷◌, map, filter, slice_index_or}
-use Rattle.rams_model.specs.declared.event.Event.{Event}
+use Rattle.rams_model.specs.declared.Event.{Event}
 use Rattle.rams_model.specs.Service.{Settings, Answered, answer}
 use Rattle.channel_book.specs.declared.entry.Entry.{Entry}
 

@@ -1,7 +1,7 @@
 //! An answer with its copy.
 ghost use Rattle.std.specs.Prelude.{◌≡◌, ◌^◌, ◌≤◌, List, [], ◌∷◌, length, vec_len, vec_capacity, IfOk, OnErr};
-ghost use Rattle.rams_model.specs.declared.event.Event.{Event};
-ghost use Rattle.rams_model.specs.declared.event.Event.TheVariants.{Live, Feedback, Tick};
+ghost use Rattle.rams_model.specs.declared.Event.{Event};
+ghost use Rattle.rams_model.specs.declared.Event.TheVariants.{Live, Feedback, Tick};
 ghost use Rattle.server_hub.specs.session_core.{StandsFor, StandsForFewer, TellsAlone};
 ghost use Rattle.channel_book.specs.{IsTwice};
 

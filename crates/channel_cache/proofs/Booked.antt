@@ -1,7 +1,6 @@
 -- A live packet in a channel's book.
 use Rattle.std.proofs.Common.{◌≡◌, ◌∷◌, Some, None, refl, ap, ◌∙◌}
-use Rattle.rams_model.specs.declared.note.LiveNote.{LiveNote}
-use Rattle.rams_model.specs.declared.note.Note.TheVariants.{Live as LiveNoted}
+use Rattle.rams_model.specs.declared.{LiveNote.LiveNote, Note.TheVariants.Live as LiveNoted}
 use Rattle.rams_model.specs.Service.{Settings, Heard, live, dropped, feedback, unframed, tick, heard_live, heard_of, History, began, noted, arrivals, after_hearing}
 use Rattle.rams_model.specs.Packets.{stream_of, live_note}
 use Rattle.channel_cache.specs.{note_heard, arrivals_heard, NotesAreOfTheBook}

@@ -1,12 +1,11 @@
 -- A packet goes by the window into the ring.
 use Rattle.std.proofs.Common.{◌≡◌, ℕ, ◌^◌, ◌<◌, ◌≤◌, List, [], ◌∷◌, ◌++◌, length, refl, sym, ap, ◌∙◌, subst, append_assoc, arith}
-use Rattle.rams_model.specs.declared.held.Held.{Held}
+use Rattle.rams_model.specs.declared.Held.{Held}
 use Rattle.channel_cache.specs.packet_ring.{pushed}
 use Rattle.channel_cache.specs.packet_ring.Seen as rings
-use Rattle.channel_cache.specs.declared.reorder_window.window.Came.TheVariants.{Kept}
+use Rattle.channel_cache.specs.declared.{reorder_window.window.Came.TheVariants.Kept, intake.Intake.Intake}
 use Rattle.channel_cache.specs.reorder_window.{Start, start_after, released, keeping, came_of, GoesBy, WentBy}
 use Rattle.channel_cache.specs.reorder_window.Seen as windows
-use Rattle.channel_cache.specs.declared.intake.Intake.{Intake}
 use Rattle.channel_cache.specs.{IsWhole, packets_of, IsIntake, IsSettled, Holds}
 use Rattle.channel_cache.proofs.Placing.{kept_intake, kept_more}
 use Rattle.channel_cache.proofs.Draining.{GoesOut, goes_out, IsNext, is_next, one_out, packets-push}

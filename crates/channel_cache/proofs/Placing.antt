@@ -1,16 +1,15 @@
 -- A packet comes into the window, and a start ends.
 use Rattle.std.proofs.Common.{◌≡◌, ℕ, ◌+◌, ◌-◌, ◌^◌, ◌<◌, ◌≤◌, max, Bool, true, false, nat_lt, if◌then◌else◌, List, [], ◌∷◌, ◌++◌, length, refl, sym, ap, ◌∙◌, subst, arith}
 use Rattle.std.proofs.lemmas.Bool.Decides.{nat_tests}
-use Rattle.rams_model.specs.declared.held.Held.{Held}
+use Rattle.rams_model.specs.declared.Held.{Held}
 use Rattle.rams_model.specs.Packets.{hi}
 use Rattle.channel_cache.specs.packet_ring.Seen as rings
-use Rattle.channel_cache.specs.declared.reorder_window.window.Came.TheVariants.{Kept}
+use Rattle.channel_cache.specs.declared.{reorder_window.window.Came.TheVariants.Kept, intake.Intake.Intake}
 use Rattle.channel_cache.specs.reorder_window.{Start, has_number, with_item, released, keeping, came_of, RisesIn}
 use Rattle.channel_cache.specs.reorder_window.Seen as windows
 use Rattle.channel_cache.proofs.reorder_window.Passing.{kept_step}
 use Rattle.channel_cache.proofs.reorder_window.Rising.{rises-wider, rises-with_item, length-with_item}
 use Rattle.channel_cache.proofs.reorder_window.Searches.{next-from, next-end}
-use Rattle.channel_cache.specs.declared.intake.Intake.{Intake}
 use Rattle.channel_cache.specs.{IsWhole, packets_of, IsItem, AreItems, IsIntake}
 
 -- one more item

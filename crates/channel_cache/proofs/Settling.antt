@@ -1,6 +1,6 @@
 -- What stays as packets come, call by call.
 use Rattle.std.proofs.Common.{◌≡◌, ℕ, ◌+◌, ◌≤◌, length, refl, ◌∙◌, arith}
-use Rattle.rams_model.specs.declared.held.Held.{Held}
+use Rattle.rams_model.specs.declared.Held.{Held}
 use Rattle.channel_cache.specs.reorder_window.Seen as windows
 use Rattle.channel_cache.specs.declared.intake.Intake.{Intake}
 use Rattle.channel_cache.specs.{Grows}

@@ -1,8 +1,6 @@
 -- A cache stands for what its numbering and its packets in time stand for.
 use Rattle.std.proofs.Common.{◌≡◌, ℕ, zero, suc, ◌+◌, ◌-◌, ◌*◌, List, [], ◌∷◌, ◌++◌, drop, Some, refl, sym, ap, ◌∙◌, subst, ◌<◌, ◌≤◌, ◌^◌, length, IfSome, Option, None, arith}
-use Rattle.rams_model.specs.declared.channel.Channel.{Channel}
-use Rattle.rams_model.specs.declared.held.Held.{Held}
-use Rattle.rams_model.specs.declared.note.LiveNote.{LiveNote}
+use Rattle.rams_model.specs.declared.{Channel.Channel, Held.Held, LiveNote.LiveNote}
 use Rattle.rams_model.specs.Service.{Settings, Heard, live, dropped, heard_live, feedback, unframed, tick}
 use Rattle.rams_model.specs.Packets.{last_of, Arrival, Stream, stream_of, live_note, source, consecutive_end, hold}
 use Rattle.reckoning.specs.ext_seq.{new_numbering, IsWithin}

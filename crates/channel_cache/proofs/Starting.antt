@@ -2,17 +2,15 @@
 use Rattle.std.proofs.Common.{◌≡◌, ℕ, ◌+◌, ◌<◌, ◌≤◌, ◌⊎◌, max, Bool, true, false, nat_lt, if◌then◌else◌, List, [], ◌∷◌, ◌++◌, length, Option, refl, sym, ap, ◌∙◌, subst, inl, inr, arith}
 use Rattle.std.proofs.lemmas.Bool.{cases_lt}
 use Rattle.std.proofs.lemmas.Bool.Decides.{nat_tests}
-use Rattle.rams_model.specs.declared.held.Held.{Held}
-use Rattle.rams_model.specs.declared.note.LiveNote.{LiveNote}
+use Rattle.rams_model.specs.declared.{Held.Held, LiveNote.LiveNote}
 use Rattle.rams_model.specs.Packets.{Arrival, held_as, with_packet, in_time, stream_after}
 use Rattle.channel_cache.specs.packet_ring.Seen as rings
-use Rattle.channel_cache.specs.declared.reorder_window.window.Came.{Came}
+use Rattle.channel_cache.specs.declared.{reorder_window.window.Came.Came, intake.Intake.Intake}
 use Rattle.channel_cache.specs.reorder_window.{items_of, start_of, note_of, Start, has_number, came, start_after, released, begun, came_of, arrived}
 use Rattle.channel_cache.specs.declared.reorder_window.window.Came.TheVariants.{Kept, Late, Twice}
 use Rattle.channel_cache.specs.reorder_window.Seen as windows
 use Rattle.channel_cache.proofs.reorder_window.PacketLemmas.{notes_same, grows_same, from_same, released_same}
 use Rattle.channel_cache.proofs.reorder_window.Rising.{has-higher}
-use Rattle.channel_cache.specs.declared.intake.Intake.{Intake}
 use Rattle.channel_cache.specs.{packets_of, IsIntake, Holds, due, Brings}
 
 packets_again : (hs : List Held) → packets_of (items_of hs) ≡ hs

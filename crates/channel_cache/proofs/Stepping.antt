@@ -1,9 +1,8 @@
 -- A packet's number, and the packets in time after it.
 use Rattle.std.proofs.Common.{◌≡◌, ℕ, ◌+◌, ◌-◌, ◌^◌, ◌<◌, ◌≤◌, ◌⊎◌, max, Bool, true, false, nat_lt, if◌then◌else◌, List, [], ◌∷◌, ◌++◌, length, Option, Some, None, refl, sym, ap, ◌∙◌, subst, inl, inr, arith, append-nil, IfSome}
 use Rattle.std.proofs.lemmas.Bool.Decides.{nat_tests}
-use Rattle.rams_model.specs.declared.held.Held.{Held}
-use Rattle.rams_model.specs.declared.note.LiveNote.{LiveNote}
-use Rattle.rams_model.specs.declared.note.LiveNote.TheVariants.{Took, Restart as Restarted, Jump as Jumped}
+use Rattle.rams_model.specs.declared.{Held.Held, LiveNote.LiveNote}
+use Rattle.rams_model.specs.declared.LiveNote.TheVariants.{Took, Restart as Restarted, Jump as Jumped}
 use Rattle.rams_model.specs.Packets.{hi, Numbered, first, forward, backward, jump, restart, ahead, is_kept, numbered, Arrival, Stream, held_as, with_packet, greatest, in_time, note_of, live_note, stream_after, stream_of}
 use Rattle.channel_cache.specs.packet_ring.Seen as rings
 use Rattle.reckoning.specs.declared.ext_seq.numbering.Noted.{Noted}

@@ -1,7 +1,7 @@
 -- Packets that are held stay whole.
 use Rattle.std.proofs.Common.{◌≡◌, ℕ, zero, suc, ◌-◌, ◌≤◌, min, arith, Bool, true, false, if◌then◌else◌, List, [], ◌∷◌, ◌++◌, length, drop, Option, Some, None, Bor, refl, sym, subst, inl}
 use Rattle.std.specs.Prelude.{find, IfSome, option_copied}
-use Rattle.rams_model.specs.declared.held.Held.{Held}
+use Rattle.rams_model.specs.declared.Held.{Held}
 use Rattle.rams_model.specs.Packets.{last_of}
 use Rattle.rams_model.specs.Formats.{Packet, stripped, IsPacket}
 use Rattle.rams_model.proofs.RtpPackets.{read_so}

@@ -1,6 +1,6 @@
 -- What a live packet adds to those that came before it, and its note.
 use Rattle.std.specs.Prelude.{ℕ, List, ◌∷◌, Option, Some, None}
-use Rattle.rams_model.specs.declared.note.LiveNote.{LiveNote}
+use Rattle.rams_model.specs.declared.LiveNote.{LiveNote}
 use Rattle.rams_model.specs.Service.{Settings, Heard, live, dropped, feedback, unframed, tick, heard_live}
 use Rattle.rams_model.specs.Packets.{Arrival, stream_of, live_note}
 use Rattle.channel_cache.specs.declared.incoming.Incoming.{Incoming}

@@ -1,8 +1,6 @@
 -- The packets in time that were brought to a channel, as its definitions have them.
 use Rattle.std.specs.Prelude.{◌≡◌, ℕ, false, nat_lt, List, [], ◌∷◌, ◌++◌, filter}
-use Rattle.rams_model.specs.declared.held.Held.{Held}
-use Rattle.rams_model.specs.declared.note.LiveNote.{LiveNote}
-use Rattle.rams_model.specs.declared.note.LiveNote.TheVariants.{Took, Restart}
+use Rattle.rams_model.specs.declared.{Held.Held, LiveNote.LiveNote, LiveNote.TheVariants.Took, LiveNote.TheVariants.Restart}
 use Rattle.rams_model.specs.Packets.{Stream, awaited}
 use Rattle.channel_cache.specs.packet_ring.Seen as rings
 use Rattle.channel_cache.specs.reorder_window.{items_of, start_of}

@@ -1,8 +1,6 @@
 -- A live packet in the history of a channel.
 use Rattle.std.specs.Prelude.{◌≡◌, ℕ, List, ◌∷◌, Some, None}
-use Rattle.rams_model.specs.declared.event.Event.TheVariants.{Live}
-use Rattle.rams_model.specs.declared.note.LiveNote.{LiveNote}
-use Rattle.rams_model.specs.declared.note.Note.TheVariants.{Live as LiveNoted}
+use Rattle.rams_model.specs.declared.{Event.TheVariants.Live, LiveNote.LiveNote, Note.TheVariants.Live as LiveNoted}
 use Rattle.rams_model.specs.Service.{Settings, heard_live, History, began, noted, arrivals, after}
 use Rattle.channel_cache.specs.Arrivals.{live_note_of, arrivals_after}
 

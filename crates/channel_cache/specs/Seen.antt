@@ -1,7 +1,6 @@
 -- What contracts see of a cache, and the live packets that it stands for.
 use Rattle.std.specs.Prelude.{◌≡◌, ℕ, ◌*◌, ◌<◌, ◌≤◌, List, [], length}
-use Rattle.rams_model.specs.declared.held.Held.{Held}
-use Rattle.rams_model.specs.declared.wire.TheConstants.{MOST_ON_WIRE}
+use Rattle.rams_model.specs.declared.{Held.Held, wire.TheConstants.MOST_ON_WIRE}
 use Rattle.rams_model.specs.Service.{Settings}
 use Rattle.rams_model.specs.Packets.{Arrival, stream_of, hold}
 use Rattle.channel_cache.specs.packet_ring.Seen as rings

@@ -1,6 +1,6 @@
 -- The numbering and the packets in time, step by step.
 use Rattle.std.specs.Prelude.{◌≡◌, ℕ, false, List, [], Option, Some, None}
-use Rattle.rams_model.specs.declared.held.Held.{Held}
+use Rattle.rams_model.specs.declared.Held.{Held}
 use Rattle.rams_model.specs.Packets.{Arrival, stream_of}
 use Rattle.reckoning.specs.ext_seq.Numbers as numbers
 use Rattle.channel_cache.specs.reorder_window.{first_free}

@@ -1,14 +1,12 @@
 -- The packets of a channel that came in time: those that wait for others, and those that are held.
 use Rattle.std.specs.Prelude.{◌≡◌, ℕ, ◌+◌, ◌*◌, ◌^◌, ◌<◌, ◌≤◌, false, List, [], ◌∷◌, ◌++◌, length, map, None}
-use Rattle.rams_model.specs.declared.held.Held.{Held}
-use Rattle.rams_model.specs.declared.wire.TheConstants.{MOST_ON_WIRE}
+use Rattle.rams_model.specs.declared.{Held.Held, wire.TheConstants.MOST_ON_WIRE}
 use Rattle.rams_model.specs.Packets.{hi}
 use Rattle.channel_cache.specs.packet_ring.Seen as rings
-use Rattle.channel_cache.specs.declared.reorder_window.window.Came.{Came}
+use Rattle.channel_cache.specs.declared.{reorder_window.window.Came.Came, intake.Intake.Intake}
 use Rattle.channel_cache.specs.reorder_window.{Start, released, new_window, first_free, RisesIn}
 use Rattle.channel_cache.specs.declared.reorder_window.window.Came.TheVariants.{Kept, Late, Twice}
 use Rattle.channel_cache.specs.reorder_window.Seen as windows
-use Rattle.channel_cache.specs.declared.intake.Intake.{Intake}
 use Rattle.channel_cache.specs.Whole.{IsWhole}
 use Rattle.channel_cache.specs.Stocked.{empty_stock}
 

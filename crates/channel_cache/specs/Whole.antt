@@ -1,8 +1,7 @@
 -- Packets as they are held.
 use Rattle.std.specs.Prelude.{◌≡◌, ℕ, ◌≤◌, List, [], ◌∷◌, length, Ok}
 use Rattle.std.specs.List.{AllByRecursion}
-use Rattle.rams_model.specs.declared.held.Held.{Held}
-use Rattle.rams_model.specs.declared.wire.TheConstants.{MOST_PACKET}
+use Rattle.rams_model.specs.declared.{Held.Held, wire.TheConstants.MOST_PACKET}
 use Rattle.rams_model.specs.Formats.{Packet, wire_size, packet_at}
 
 -- The bytes are an RTP packet without padding (RFC 3550, 5.1), at most 1,470 of them.

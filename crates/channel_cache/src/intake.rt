@@ -1,6 +1,6 @@
 //! Packets that come in time, on their way into the stock.
 ghost use Rattle.std.specs.Prelude.{◌≡◌, ℕ, ◌+◌, ◌^◌, ◌<◌, ◌≤◌, List, [], ◌∷◌, ◌++◌, None, true, IfOk};
-ghost use Rattle.rams_model.specs.declared.held.Held.{Held};
+ghost use Rattle.rams_model.specs.declared.Held.{Held};
 ghost use Rattle.rams_model.specs.Packets.{hi};
 ghost use Rattle.channel_cache.specs.packet_ring.Seen as rings;
 ghost use Rattle.channel_cache.specs.reorder_window.{Start, came, start_after, begun, came_of, arrived, first_free, IsAwaited};

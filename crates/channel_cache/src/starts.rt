@@ -1,7 +1,7 @@
 //! Packets under their numbers, start by start.
 ghost use Rattle.std.specs.Prelude.{◌≡◌, ℕ, ◌+◌, ◌^◌, ◌<◌, ◌≤◌, max, List, [], ◌∷◌, Option, length};
-ghost use Rattle.rams_model.specs.declared.held.Held.{Held};
-ghost use Rattle.rams_model.specs.declared.note.LiveNote.TheVariants as notes;
+ghost use Rattle.rams_model.specs.declared.Held.{Held};
+ghost use Rattle.rams_model.specs.declared.LiveNote.TheVariants as notes;
 ghost use Rattle.rams_model.specs.Packets.{hi, Stream, held_as, in_time, stream_after};
 ghost use Rattle.channel_cache.specs.packet_ring.Seen as rings;
 ghost use Rattle.channel_cache.specs.reorder_window.{note_of};

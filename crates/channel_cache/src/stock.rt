@@ -1,6 +1,6 @@
 //! The packets that a channel holds, with the access points among them.
 ghost use Rattle.std.specs.Prelude.{◌≡◌, ◌+◌, ◌^◌, ◌<◌, ◌≤◌, ◌↔◌, List, [], ◌∷◌, ◌++◌, option_copied, IfOk, IfSome, IsSome};
-ghost use Rattle.rams_model.specs.declared.held.Held.{Held};
+ghost use Rattle.rams_model.specs.declared.Held.{Held};
 ghost use Rattle.rams_model.specs.Packets.{chosen, lo, hi};
 ghost use Rattle.channel_cache.specs.packet_ring.{packet_of, IsRing, StandsFor};
 ghost use Rattle.channel_cache.specs.access_index.{choice_of};

@@ -1,7 +1,7 @@
 -- The parts of a channel to which nothing came stand for no events.
 use Rattle.std.proofs.Common.{◌≡◌, ◌<◌, ◌^◌, true, List, [], refl, sym, subst, arith}
 use Rattle.std.proofs.lemmas.List.Elements.{All-nil}
-use Rattle.rams_model.specs.declared.channel.Channel.{Channel}
+use Rattle.rams_model.specs.declared.Channel.{Channel}
 use Rattle.rams_model.specs.Service.{Settings, arrivals, known, opened, is_among, bursts, Wanted, pending, channel_left, history_of}
 use Rattle.rams_model.specs.Packets.{Arrival, hi}
 use Rattle.channel_config.specs.{IsLawful}

@@ -8,15 +8,13 @@ use Rattle.std.specs.BTreeMap.{is_at}
 use Rattle.std.proofs.lemmas.Bool.{cond_both, cond-true, cond-false, both_ways, eq-eqb, ne_eqb}
 use Rattle.std.proofs.lemmas.List.Elements.{All-from_recursion}
 use Rattle.std.proofs.lemmas.List.Sums.{sum_by-cons}
-use Rattle.rams_model.specs.declared.event.Event.{Event}
-use Rattle.rams_model.specs.declared.held.Held.{Held}
+use Rattle.rams_model.specs.declared.{Event.Event, Held.Held}
 use Rattle.rams_model.specs.Service.{Settings, History, arrivals, hold, known, is_among, open_burst, has_open, most_of, reserved, history_of}
 use Rattle.rams_model.specs.Packets.{lo, Follows, stream_of}
 use Rattle.rams_model.specs.Packets.Source as sources
 use Rattle.rams_model.specs.Service.Bursts as model
 use Rattle.rams_model.proofs.Holding.{held_follow}
-use Rattle.client_table.specs.declared.entry.Burst.{Burst}
-use Rattle.client_table.specs.declared.entry.Entry.{Entry}
+use Rattle.client_table.specs.declared.{Burst.Burst, Entry.Entry}
 use Rattle.client_table.specs.{clients_of}
 use Rattle.service_laws.specs.book_laws.{IsMoment}
 use Rattle.rams_model.proofs.Legality.{legal_history}

@@ -3,7 +3,7 @@ use Rattle.std.proofs.Common.{◌≡◌, ℕ, ◌≤◌, Bool, true, false, not,
 use Rattle.std.specs.Prelude.{filter}
 use Rattle.std.specs.List.{list_any, AllByRecursion as Each}
 use Rattle.std.proofs.lemmas.Bool.{cond_both, cond-true, cases_Bool, or_left, or_right, or_parts, and_from, not_from_false, not-true, eqb-false, eq-eqb, ne_eqb}
-use Rattle.rams_model.specs.declared.note.Note.TheVariants as note
+use Rattle.rams_model.specs.declared.Note.TheVariants as note
 use Rattle.rams_model.specs.Service.{Settings, Item, began, told, noted, History, known, is_among, has_open, Wanted, wanted, is_wanted, pending, is_busy, quiet_ticks, idle}
 use Rattle.rams_model.specs.Laws.{makes_known, ends_known}
 use Rattle.rams_model.proofs.Since.{known_step}

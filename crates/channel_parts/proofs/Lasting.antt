@@ -2,12 +2,9 @@
 use Rattle.std.proofs.Common.{◌≡◌, ℕ, ◌-◌, ◌<◌, ◌≤◌, List, ◌∷◌, Option, Some, None, refl, sym, subst, arith, eqb, Bool, false}
 use Rattle.std.specs.Prelude.{◌≢◌}
 use Rattle.std.proofs.lemmas.Bool.{cond_both, eqb-false, true≢false}
-use Rattle.rams_model.specs.declared.event.Event.{Event}
-use Rattle.rams_model.specs.declared.held.Held.{Held}
-use Rattle.rams_model.specs.declared.note.Cause.{Cause}
-use Rattle.rams_model.specs.declared.note.Note.{Note}
-use Rattle.rams_model.specs.declared.note.Cause.TheVariants as cause
-use Rattle.rams_model.specs.declared.note.Note.TheVariants as note
+use Rattle.rams_model.specs.declared.{Event.Event, Held.Held, Cause.Cause, Note.Note}
+use Rattle.rams_model.specs.declared.Cause.TheVariants as cause
+use Rattle.rams_model.specs.declared.Note.TheVariants as note
 use Rattle.rams_model.specs.Service.{Settings, Heard, tick, heard_of, began, noted, History, hold, known, Burst, next, after_note, size_of, bursts, open_burst, pending, run, send, is_lost, is_stop, after_run, run_sent, burst_served, bursts_served, repairs_sent, after_tick, history_of, idle_forgotten, told, after_message}
 use Rattle.rams_model.specs.Packets.{from_number}
 use Rattle.rams_model.proofs.Legal.{is_tick}

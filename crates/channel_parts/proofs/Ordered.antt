@@ -7,7 +7,7 @@ use Rattle.std.specs.Ordering.{nat_cmp}
 use Rattle.std.specs.Cmp.{nat_cmp_is}
 use Rattle.std.specs.declared.cmp.Ordering.TheVariants.{Less}
 use Rattle.std.proofs.lemmas.Bool.{cond_both, cases_Bool, cases_order, or_left, or_from, or_parts, both_ways, eqb-true, eqb-false, eq-eqb, ne_eqb, ltb-true, ltb-false}
-use Rattle.rams_model.specs.declared.note.Note.TheVariants as note
+use Rattle.rams_model.specs.declared.Note.TheVariants as note
 use Rattle.rams_model.specs.Service.{began, told, noted, History, known, opened, is_among, placed, with_client}
 use Rattle.rams_model.proofs.Legality.{each_passed}
 use Rattle.rams_model.proofs.ListFacts.{each_weaker}

@@ -4,11 +4,8 @@ use Rattle.std.specs.Prelude.{All, Result, Ok, Err}
 use Rattle.std.specs.List.{AllByRecursion as Each}
 use Rattle.std.proofs.lemmas.Bool.{cond_both}
 use Rattle.std.proofs.lemmas.List.Elements.{All-cons, recursion_from_All}
-use Rattle.rams_model.specs.declared.channel.Channel.{Channel}
-use Rattle.rams_model.specs.declared.held.Held.{Held}
-use Rattle.rams_model.specs.declared.fault.RtpFault.{RtpFault}
-use Rattle.rams_model.specs.declared.note.LiveNote.{LiveNote}
-use Rattle.rams_model.specs.declared.note.LiveNote.TheVariants.{Took, Restart, Late, Twice, Jump, TooBig}
+use Rattle.rams_model.specs.declared.{Channel.Channel, Held.Held, RtpFault.RtpFault, LiveNote.LiveNote}
+use Rattle.rams_model.specs.declared.LiveNote.TheVariants.{Took, Restart, Late, Twice, Jump, TooBig}
 use Rattle.rams_model.specs.Service.{Settings, dropped, arrival, heard_packet, History, arrivals, hold}
 use Rattle.rams_model.specs.Formats.{Packet, packet_at}
 use Rattle.rams_model.specs.Packets.{hi, Numbered, forward, backward, jump, restart, ahead, is_kept, after_greatest, numbered, Arrival, Stream, held_as, has_number, with_packet, awaited, greatest, in_time, note_of, live_note, stream_after, stream_of, source}

@@ -4,14 +4,9 @@ use Rattle.std.specs.Prelude.{Result, Ok, Err}
 use Rattle.std.specs.List.{AllByRecursion as Each}
 use Rattle.std.proofs.lemmas.Bool.{cond_both}
 use Rattle.std.proofs.lemmas.List.Elements.{All-from_recursion}
-use Rattle.rams_model.specs.declared.channel.Channel.{Channel}
-use Rattle.rams_model.specs.declared.event.Event.{Event}
-use Rattle.rams_model.specs.declared.fault.FrameFault.{FrameFault}
-use Rattle.rams_model.specs.declared.fault.RtpFault.{RtpFault}
-use Rattle.rams_model.specs.declared.note.LiveNote.{LiveNote}
-use Rattle.rams_model.specs.declared.event.Event.TheVariants.{Live, Feedback, Tick}
-use Rattle.rams_model.specs.declared.note.LiveNote.TheVariants.{TooBig}
-use Rattle.rams_model.specs.declared.note.Note.TheVariants.{Live as LiveNoted}
+use Rattle.rams_model.specs.declared.{Channel.Channel, Event.Event, FrameFault.FrameFault, RtpFault.RtpFault, LiveNote.LiveNote}
+use Rattle.rams_model.specs.declared.{LiveNote.TheVariants.TooBig, Note.TheVariants.Live as LiveNoted}
+use Rattle.rams_model.specs.declared.Event.TheVariants.{Live, Feedback, Tick}
 use Rattle.rams_model.specs.Service.{Settings, messages, Heard, live, dropped, feedback, unframed, tick, heard_packet, heard_live, heard_feedback, heard_of, began, noted, History, arrivals, known, opened, sendings, ssrc, bursts, Wanted, pending, quiet_ticks, reserved, channel_left, after, after_hearing, history_of}
 use Rattle.rams_model.specs.Formats.{Packet, packet_at, Framed, framed}
 use Rattle.channel_config.specs.{IsLawful}

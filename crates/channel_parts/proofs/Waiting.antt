@@ -2,7 +2,7 @@
 use Rattle.std.proofs.Common.{◌≡◌, ℕ, ◌+◌, ◌≤◌, Bool, false, not, ⊎_elim, List, [], ◌∷◌, length, arith, eqb, leb, ltb}
 use Rattle.std.specs.Prelude.{filter}
 use Rattle.std.proofs.lemmas.Bool.{cond_both, and_cases, not-false, leb-false, both_ways}
-use Rattle.rams_model.specs.declared.note.Note.TheVariants as note
+use Rattle.rams_model.specs.declared.Note.TheVariants as note
 use Rattle.rams_model.specs.Service.{Settings, began, told, noted, History, known, is_among, placed, with_client, Wanted, is_wanted, pending, is_full}
 use Rattle.repair_queue.specs.{IsWithinLimits}
 use Rattle.repair_queue.proofs.Pending.{length-filter-le, filter-filter-le, limits_less, limits_push}

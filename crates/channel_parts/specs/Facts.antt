@@ -2,12 +2,8 @@
 use Rattle.std.specs.Prelude.{◌≡◌, ℕ, ◌+◌, ◌-◌, ◌^◌, ◌<◌, ◌≤◌, Bool, true, false, List, ◌∷◌, ◌++◌, length, filter, All, Option, Some, None}
 use Rattle.std.specs.Ordering.{nat_cmp}
 use Rattle.std.specs.List.Sorted.{IsStrictlySortedBy}
-use Rattle.rams_model.specs.declared.event.Event.{Event}
-use Rattle.rams_model.specs.declared.held.Held.{Held}
-use Rattle.rams_model.specs.declared.note.Note.{Note}
-use Rattle.rams_model.specs.declared.note.Cause.{Cause}
-use Rattle.rams_model.specs.declared.note.Note.TheVariants.{Accept, Update, End}
-use Rattle.rams_model.specs.declared.wire.TheConstants.{MOST_ON_WIRE}
+use Rattle.rams_model.specs.declared.{Event.Event, Held.Held, Note.Note, Cause.Cause, wire.TheConstants.MOST_ON_WIRE}
+use Rattle.rams_model.specs.declared.Note.TheVariants.{Accept, Update, End}
 use Rattle.rams_model.specs.Service.{Settings, Message, Heard, began, told, noted, History, arrivals, hold, known, opened, is_among, sequence, Burst, next, open_burst, has_open, pending, idle, reserved, channel_left, history_of}
 use Rattle.rams_model.specs.Packets.{hi, Arrival}
 use Rattle.channel_config.specs.{IsLawful}

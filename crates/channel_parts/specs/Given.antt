@@ -1,16 +1,12 @@
 -- What is true of the parts of a channel whenever they stand for some events.
 use Rattle.std.specs.Prelude.{◌≡◌, ℕ, ◌+◌, ◌^◌, ◌<◌, ◌≤◌, Bool, false, List, ◌∷◌, sum_by, All, Option, Some, None, IfSome, is_some}
-use Rattle.rams_model.specs.declared.event.Event.{Event}
-use Rattle.rams_model.specs.declared.held.Held.{Held}
-use Rattle.rams_model.specs.declared.note.LiveNote.{LiveNote}
-use Rattle.rams_model.specs.declared.event.Event.TheVariants.{Live, Feedback, Tick}
-use Rattle.rams_model.specs.declared.wire.TheConstants.{MOST_ON_WIRE}
+use Rattle.rams_model.specs.declared.{Event.Event, Held.Held, LiveNote.LiveNote, wire.TheConstants.MOST_ON_WIRE}
+use Rattle.rams_model.specs.declared.Event.TheVariants.{Live, Feedback, Tick}
 use Rattle.rams_model.specs.Service.{Settings, History, arrivals, hold, known, is_among, pending, is_busy, history_of}
 use Rattle.rams_model.specs.Packets.{lo, hi, Follows}
 use Rattle.channel_cache.specs.{live_note_of, arrivals_after}
 use Rattle.channel_cache.specs.Seen as caches
-use Rattle.client_table.specs.declared.entry.Burst.{Burst}
-use Rattle.client_table.specs.declared.entry.Entry.{Entry}
+use Rattle.client_table.specs.declared.{Burst.Burst, Entry.Entry}
 use Rattle.client_table.specs.{entry_of}
 use Rattle.channel_parts.specs.declared.parts.Parts.{Parts}
 use Rattle.channel_parts.specs.Standing.{IsEntry, IsTable, IsBudget, StandsFor}

@@ -2,8 +2,7 @@
 use Rattle.std.proofs.Common.{◌≡◌, ℕ, ◌+◌, ◌%◌, List, [], ◌∷◌, Option, Some, None, IsSome, ap, arith}
 use Rattle.std.specs.Option.{option_map}
 use Rattle.std.specs.Prelude.{is_some}
-use Rattle.client_table.specs.declared.entry.Entry.{Entry}
-use Rattle.client_table.specs.declared.stored.Stored.{Stored}
+use Rattle.client_table.specs.declared.{entry.Entry.Entry, stored.Stored.Stored}
 use Rattle.client_table.specs.{shown, slot_at, entry_at, aged, IsSlotChanged, AreSlotsChanged, AreJoined}
 
 pub shown_aged : (tick : ℕ) (s : Stored) → shown ((tick + 1) % 4294967296) s ≡ aged (shown tick s)

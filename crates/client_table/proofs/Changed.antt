@@ -6,8 +6,7 @@ use Rattle.std.specs.BTreeMap.{insert_entry, is_at}
 use Rattle.std.specs.Ordering.{nat_cmp, match_ordering}
 use Rattle.std.specs.declared.cmp.Ordering.{Ordering}
 use Rattle.std.specs.declared.cmp.Ordering.TheVariants.{Less, Equal, Greater}
-use Rattle.client_table.specs.declared.entry.Entry.{Entry}
-use Rattle.client_table.specs.declared.stored.Stored.{Stored}
+use Rattle.client_table.specs.declared.{entry.Entry.Entry, stored.Stored.Stored}
 use Rattle.client_table.specs.{shown, slot_at, entry_at, before, joined, IsFree, AreJoined}
 
 -- all keys but one have what they had

@@ -6,9 +6,7 @@ use Rattle.std.specs.BTreeMap.{BTreeMap, Updates, is_at}
 use Rattle.std.specs.Ordering.{nat_cmp}
 use Rattle.std.proofs.lemmas.Bool.{cond-false, cases_Bool, cases_eq, ltb-true, ltb-false}
 use Rattle.std.proofs.lemmas.Map.Views.{Contains-keys_from_lookup}
-use Rattle.client_table.specs.declared.due.Due.{Due}
-use Rattle.client_table.specs.declared.entry.Entry.{Entry}
-use Rattle.client_table.specs.declared.stored.Stored.{Stored}
+use Rattle.client_table.specs.declared.{due.Due.Due, entry.Entry.Entry, stored.Stored.Stored}
 use Rattle.client_table.specs.{shown, slot_at, entry_at, IsFree, AreJoined, IsSlotChanged, AreSlotsChanged, has_pair, times_of, times_at, MovesOnly, GoesOn, IsInTime, AreInTime, AreLater}
 use Rattle.client_table.proofs.Bounded.{shown_aged}
 use Rattle.client_table.proofs.Changed.{SameElsewhere, other_key, none_and_some, found_some, written_here, put_others}

@@ -11,8 +11,7 @@ use Rattle.std.specs.declared.cmp.Ordering.TheVariants.{Less, Equal, Greater}
 use Rattle.std.proofs.lemmas.Bool.{cond_both, cond-true, cond-false, eq-eqb, ne_eqb, lt-ltb, le-ltb, both_ways, cases_Bool, cases_eq}
 use Rattle.std.proofs.lemmas.Bool.Decides.{nat_tests}
 use Rattle.std.proofs.lemmas.Map.Keys.{sorted_head, sorted_tail}
-use Rattle.client_table.specs.declared.entry.Burst.{Burst}
-use Rattle.client_table.specs.declared.entry.Entry.{Entry}
+use Rattle.client_table.specs.declared.{entry.Burst.Burst, entry.Entry.Entry}
 use Rattle.client_table.specs.{before, joined, IsFree, AreJoined, AreReady, IsSlotChanged, AreSlotsChanged, has_burst, is_open_at, Rise, opened_at, closed_at, marked, IsBurstChangedBy, IsBurstChanged}
 use Rattle.client_table.proofs.Changed.{SameElsewhere, other_key}
 use Rattle.client_table.proofs.ChangedAll.{same_client, found_above}

@@ -1,10 +1,9 @@
 -- What a table shows, and what each call makes of it.
 use Rattle.std.proofs.Common.{◌≡◌, ℕ, Bool, List, Option, Some, None, MatchOption, Result, Ok, Err, ◌<◌, ◌≤◌, ◌+◌, refl, true, false, if◌then◌else◌, length, ap, sym, ◌∙◌, subst, arith}
 use Rattle.std.specs.Result.{IsErrAnd}
-use Rattle.client_table.specs.declared.entry.AdmitFault.{AdmitFault}
-use Rattle.client_table.specs.declared.entry.Entry.{Entry}
-use Rattle.client_table.specs.{clients_of, AreRising, entry_of, with_client, with_entry, without, changed, changed_by, joined, seen, AreJoined}
+use Rattle.client_table.specs.declared.{entry.AdmitFault.AdmitFault, entry.Entry.Entry}
 use Rattle.client_table.specs.declared.entry.AdmitFault.TheVariants.{Full, NoMemory}
+use Rattle.client_table.specs.{clients_of, AreRising, entry_of, with_client, with_entry, without, changed, changed_by, joined, seen, AreJoined}
 use Rattle.std.specs.Option.{option_and_then}
 use Rattle.std.specs.Map.{keys_of, lookup, remove_entry}
 use Rattle.std.specs.BTreeMap.{insert_entry, is_at}

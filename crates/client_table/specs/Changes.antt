@@ -1,7 +1,6 @@
 -- What a change of every entry makes of the known clients.
 use Rattle.std.specs.Prelude.{◌≡◌, ℕ, ◌+◌, ◌%◌, Option, Some, None}
-use Rattle.client_table.specs.declared.entry.Burst.{Burst}
-use Rattle.client_table.specs.declared.entry.Entry.{Entry}
+use Rattle.client_table.specs.declared.{entry.Burst.Burst, entry.Entry.Entry}
 use Rattle.client_table.specs.Clients.{Clients, clients_of, entry_of, with_entry}
 
 -- each known client, with its entry, is as asked

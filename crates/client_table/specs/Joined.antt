@@ -1,7 +1,6 @@
 -- An index from clients to keys, and the entries under these keys, as one list.
 use Rattle.std.specs.Prelude.{◌≢◌, ℕ, ◌+◌, ◌-◌, ◌%◌, Bool, false, List, [], ◌∷◌, Option, Some, None, option_map, is_some, IsSome, IsSomeAnd, slice_index_or}
-use Rattle.client_table.specs.declared.entry.Entry.{Entry}
-use Rattle.client_table.specs.declared.stored.Stored.{Stored}
+use Rattle.client_table.specs.declared.{entry.Entry.Entry, stored.Stored.Stored}
 use Rattle.client_table.specs.Clients.{Clients}
 
 -- an entry as it is in this tick: it is idle for the ticks since the one that is stored, modulo 2^32

@@ -2,11 +2,8 @@
 use Rattle.std.specs.Prelude.{ℕ, List}
 use Rattle.std.specs.Map.{keys_of}
 use Rattle.std.specs.Slice.Iter.{iter_rest}
-use Rattle.client_table.specs.declared.entry.Entry.{Entry}
-use Rattle.client_table.specs.declared.walk.KnownClients.{KnownClients}
-use Rattle.client_table.specs.declared.walk.OpenBursts.{OpenBursts}
-use Rattle.client_table.specs.declared.walk.DueClients.{DueClients}
-use Rattle.client_table.specs.declared.walk.DueLeft.{DueLeft}
+use Rattle.client_table.specs.declared.{entry.Entry.Entry, walk.KnownClients.KnownClients, walk.OpenBursts.OpenBursts}
+use Rattle.client_table.specs.declared.{walk.DueClients.DueClients, walk.DueLeft.DueLeft}
 use Rattle.client_table.specs.declared.walk.DueLeft.TheVariants.{All, At}
 use Rattle.client_table.specs.Joined.{entry_at, joined}
 use Rattle.client_table.specs.Timed.{clients_in}

@@ -5,8 +5,7 @@ use Rattle.std.specs.BTreeMap.{is_at}
 use Rattle.std.specs.BTreeSet.{BTreeSet, contains}
 use Rattle.std.specs.Ordering.{nat_cmp, ordering_then}
 use Rattle.std.specs.declared.cmp.Ordering.{Ordering}
-use Rattle.client_table.specs.declared.due.Due.{Due}
-use Rattle.client_table.specs.declared.stored.Stored.{Stored}
+use Rattle.client_table.specs.declared.{due.Due.Due, stored.Stored.Stored}
 use Rattle.client_table.specs.Joined.{shown, slot_at}
 
 -- the order of pairs

@@ -60,8 +60,7 @@ impl Table {
     ghost use Rattle.client_table.specs.Clients.{Clients, nobody, AreRising, entry_of, new_entry, with_client, with_entry, without, opened_of};
     ghost use Rattle.client_table.specs.Left.{clients_left, bursts_left, due_left};
     ghost use Rattle.client_table.specs.Changes.{AreAll, AreChanged, aged, awake, changed, IsBurstChanged};
-    ghost use Rattle.client_table.specs.declared.entry.Entry.{Entry};
-    ghost use Rattle.client_table.specs.declared.entry.AdmitFault.TheVariants.{Full};
+    ghost use Rattle.client_table.specs.declared.{entry.Entry.Entry, entry.AdmitFault.TheVariants.Full};
 
     /// A table in which nobody is known, for at most so many clients. It takes the room of their entries.
     /// It looks out for those that have been idle for `idle` ticks.

@@ -4,22 +4,19 @@ use Rattle.std.specs.Prelude.{is_some, option_map, option_to_list, IfSome, IsSom
 use Rattle.std.specs.List.{list_any, AllByRecursion as Each}
 use Rattle.std.proofs.lemmas.Bool.{cond-true, or_from, both_ways, eq-eqb, ne_eqb}
 use Rattle.std.proofs.lemmas.List.Elements.{recursion_from_All}
-use Rattle.rams_model.specs.declared.event.Event.{Event}
-use Rattle.rams_model.specs.declared.message.Info.{Info}
+use Rattle.rams_model.specs.declared.{Event.Event, Info.Info}
 use Rattle.rams_model.specs.Service.{Settings, Message, feedback, began, History, known, is_among, without, sendings, ssrc, bursts, open_burst, Wanted, pending, quiet_ticks, reserved, channel_left, info_order, newest_notes, newest_orders, history_of}
 use Rattle.rams_model.specs.Service.Bursts as model
 use Rattle.rams_model.proofs.Holding.{ends_at, few_held}
 use Rattle.reckoning.specs.link_budget.Amounts.{Amounts}
-use Rattle.client_table.specs.declared.entry.Burst.{Burst}
-use Rattle.client_table.specs.declared.entry.Entry.{Entry}
+use Rattle.client_table.specs.declared.{Burst.Burst, Entry.Entry}
 use Rattle.client_table.specs.{entry_of}
-use Rattle.channel_parts.specs.declared.parts.Parts.{Parts}
+use Rattle.channel_parts.specs.declared.Parts.{Parts}
 use Rattle.channel_parts.specs.{IsEntry, StandsFor, burst_kept, IsBurstInBounds}
 use Rattle.channel_parts.proofs.Facts.{events_reserve_nothing, each_burst_is_reserved}
 use Rattle.channel_parts.proofs.Given.{held_packets_are_in_order, entries_are_in_bounds}
 use Rattle.channel_parts.proofs.Tables.{has_entry, entry_among}
-use Rattle.feedback_core.specs.declared.page.Page.{Page}
-use Rattle.feedback_core.specs.declared.visitor.Visitor.{Visitor}
+use Rattle.feedback_core.specs.declared.{page.Page.Page, visitor.Visitor.Visitor}
 use Rattle.feedback_core.specs.{open_in, open_of, woken, IsClient, IsVisit, IsReady, IsSafeBurst, IsSafe, IsPage}
 use Rattle.feedback_core.proofs.Visiting.{as_itself, idle_none}
 use Rattle.feedback_core.proofs.Unsent.{unnamed, unsent}

@@ -2,16 +2,15 @@
 use Rattle.std.proofs.Common.{◌≡◌, ℕ, ◌+◌, ◌-◌, true, false, cond, not, ◌&&◌, List, ◌∷◌, Option, Some, None, refl, ap, sym, ◌∙◌, subst}
 use Rattle.std.specs.Prelude.{is_some}
 use Rattle.std.proofs.lemmas.Bool.{cond-true, cond-false, and_left, and_right, and_from, not_from_true, not_from_false}
-use Rattle.rams_model.specs.declared.channel.Channel.{Channel}
-use Rattle.rams_model.specs.declared.note.Cause.TheVariants as causes
-use Rattle.rams_model.specs.declared.note.Note.TheVariants as notes
+use Rattle.rams_model.specs.declared.Channel.{Channel}
+use Rattle.rams_model.specs.declared.Cause.TheVariants as causes
+use Rattle.rams_model.specs.declared.Note.TheVariants as notes
 use Rattle.rams_model.specs.Service.{Settings, noted, History, known, is_among, ssrc, end_order, order_of, after_bye, is_bye_of, bursts, has_open, Wanted}
 use Rattle.rams_model.specs.Formats.{Framed, bye_names}
 use Rattle.reckoning.specs.link_budget.Amounts.{Amounts}
-use Rattle.client_table.specs.declared.entry.Entry.{Entry}
+use Rattle.client_table.specs.declared.Entry.{Entry}
 use Rattle.repair_queue.specs.Queue as queues
-use Rattle.feedback_core.specs.declared.visitor.Open.{Open}
-use Rattle.feedback_core.specs.declared.visitor.Visitor.{Visitor}
+use Rattle.feedback_core.specs.declared.{visitor.Open.Open, visitor.Visitor.Visitor}
 use Rattle.feedback_core.specs.{open_of, IsKnown, IsClient, IsVisit, only, IsSaid}
 use Rattle.feedback_core.proofs.Sayings.{said_one, said_idle, said_two}
 use Rattle.feedback_core.proofs.Visiting.{is_opened, is_closed}

@@ -2,24 +2,19 @@
 use Rattle.std.proofs.Common.{◌≡◌, ◌≢◌, ℕ, true, List, [], ◌∷◌, None, Result, Ok, Err, refl, ap, sym, ◌∙◌, subst, eqb}
 use Rattle.std.specs.Prelude.{IsSome, All, option_map, option_to_list}
 use Rattle.std.proofs.lemmas.Bool.{cond-false, ne_eqb}
-use Rattle.rams_model.specs.declared.answer.Order.{Order}
-use Rattle.rams_model.specs.declared.event.Event.{Event}
-use Rattle.rams_model.specs.declared.fault.FrameFault.{FrameFault}
-use Rattle.rams_model.specs.declared.note.Note.{Note}
-use Rattle.rams_model.specs.declared.event.Event.TheVariants.{Feedback}
-use Rattle.rams_model.specs.declared.note.Note.TheVariants.{BadFeedback}
+use Rattle.rams_model.specs.declared.{Order.Order, Event.Event, FrameFault.FrameFault, Note.Note, Event.TheVariants.Feedback}
+use Rattle.rams_model.specs.declared.Note.TheVariants.{BadFeedback}
 use Rattle.rams_model.specs.Service.{answered, Settings, Message, messages, unframed, heard_feedback, heard_of, began, noted, History, arrivals, known, is_among, without, sendings, ssrc, bursts, Wanted, pending, quiet_ticks, channel_left, info_order, order_of, newest_notes, newest_orders, newest_answer, after_messages, after_hearing, history_of, answer}
 use Rattle.rams_model.specs.Formats.{Framed, framed}
 use Rattle.reckoning.specs.link_budget.Amounts.{Amounts}
 use Rattle.client_table.specs.Clients.{Clients}
 use Rattle.client_table.specs.{entry_of, awake, changed, changed_by}
-use Rattle.channel_parts.specs.declared.parts.Parts.{Parts}
+use Rattle.channel_parts.specs.declared.Parts.{Parts}
 use Rattle.channel_parts.specs.{IsTable, IsQueue, IsBudget, IsCache, StandsFor}
 use Rattle.channel_parts.proofs.Facts.{events_reserve_nothing, other_notes_reserve_nothing, only_known_clients_have_bursts, repairs_are_of_known_clients}
 use Rattle.channel_parts.proofs.Given.{moment}
 use Rattle.channel_parts.proofs.Staying.{cache_stays}
-use Rattle.feedback_core.specs.declared.page.Page.{Page}
-use Rattle.feedback_core.specs.declared.visitor.Visitor.{Visitor}
+use Rattle.feedback_core.specs.declared.{page.Page.Page, visitor.Visitor.Visitor}
 use Rattle.feedback_core.specs.{woken, IsAsBefore, IsClient, IsVisit, answered_of, IsTurned, has_place, with_place, with_kept}
 use Rattle.feedback_core.proofs.Beginning.{at_datagram}
 use Rattle.feedback_core.proofs.Places.{OthersAreClosed, place_is, table_ended, table_woken}

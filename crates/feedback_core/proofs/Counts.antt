@@ -9,7 +9,7 @@ use Rattle.std.proofs.lemmas.Bool.{cond_both, eqb-true, eqb-false}
 use Rattle.std.proofs.lemmas.List.{length-map}
 use Rattle.std.proofs.lemmas.Nat.{div_below, ones_le_self}
 use lib.Count.{ones_step}
-use Rattle.rams_model.specs.declared.message.Info.{Info}
+use Rattle.rams_model.specs.declared.Info.{Info}
 use Rattle.rams_model.specs.Service.{Message, named, message_of, with_one_rams}
 use Rattle.rams_model.specs.Service.Messages.{bye, nack, asks, stops}
 use Rattle.rams_model.specs.Formats.{Framed, counted_from, word_numbers, numbers_of, nack_numbers}

@@ -1,7 +1,6 @@
 -- The same desk.
 use Rattle.std.proofs.Common.{List, ◌∙◌, ap, subst, ℕ}
-use Rattle.rams_model.specs.declared.held.Held.{Held}
-use Rattle.rams_model.specs.declared.note.Note.{Note}
+use Rattle.rams_model.specs.declared.{Held.Held, Note.Note}
 use Rattle.rams_model.specs.Service.{Settings, Message, after_messages, room, number_answer}
 use Rattle.channel_cache.specs.Seen as caches
 use Rattle.feedback_core.specs.declared.desk.Desk.{Desk}

@@ -3,9 +3,8 @@ use Rattle.std.proofs.Common.{◌≡◌, ℕ, ◌+◌, ◌-◌, ◌*◌, ◌/◌
 use Rattle.std.specs.Int.{w16, w32, from_be_bytes}
 use Rattle.std.specs.Prelude.{◌==◌, nat_le, slice_index, if◌then◌else◌}
 use Rattle.std.proofs.lemmas.Bool.{cond_both, ltb-true, ltb-false}
-use Rattle.rams_model.specs.declared.fault.FrameFault.{FrameFault}
+use Rattle.rams_model.specs.declared.{FrameFault.FrameFault, rams.TheConstants.SFMT_RAMS_R, rams.TheConstants.SFMT_RAMS_T}
 use Rattle.rams_model.specs.declared.rtcp.TheConstants.{BYE, FMT_NACK, FMT_RAMS, RTPFB}
-use Rattle.rams_model.specs.declared.rams.TheConstants.{SFMT_RAMS_R, SFMT_RAMS_T}
 use Rattle.rams_model.specs.Formats.{unless_fault, onto, pieces_from, Framed, packet_size, rtcp_padding, framed_first, packet_fault, packet_format, framed, Feedback, feedback_of, nack_numbers, request_at, stop_at}
 use Rattle.rams_model.specs.Service.{Message, named, message_of, feedback_message, rams_message}
 use Rattle.rams_model.specs.Service.Messages.{bye, nack, asks, stops}

@@ -3,22 +3,18 @@ use Rattle.std.proofs.Common.{◌≡◌, ℕ, ◌+◌, ◌%◌, ◌≤◌, ◌<�
 use Rattle.std.specs.Prelude.{find, is_some}
 use Rattle.std.specs.List.{list_any}
 use Rattle.std.proofs.lemmas.Bool.{cond-true, cond-false, cases_Bool, and_parts, and_left, or_parts, or_from, not-true, eqb-true, eqb-false, ne_eqb}
-use Rattle.rams_model.specs.declared.channel.Channel.{Channel}
-use Rattle.rams_model.specs.declared.held.Held.{Held}
-use Rattle.rams_model.specs.declared.note.Note.{Note}
-use Rattle.rams_model.specs.declared.note.Note.TheVariants as notes
+use Rattle.rams_model.specs.declared.{Channel.Channel, Held.Held, Note.Note}
+use Rattle.rams_model.specs.declared.Note.TheVariants as notes
 use Rattle.rams_model.specs.Service.{Settings, noted, History, newest_sender, room, is_before, is_early, repair_note, held_answer, number_answer, open_burst, Wanted, wanted, is_wanted, pending, is_pending, pending_of, is_full}
 use Rattle.rams_model.specs.Packets.{lo, hi, Follows}
 use Rattle.rams_model.specs.Service.Bursts as model
-use Rattle.client_table.specs.declared.entry.Burst.{Burst}
-use Rattle.client_table.specs.declared.entry.Entry.{Entry}
+use Rattle.client_table.specs.declared.{Burst.Burst, Entry.Entry}
 use Rattle.reckoning.specs.ext_seq.{IsResolved}
-use Rattle.repair_queue.specs.declared.wanted.Asked.{Asked}
+use Rattle.repair_queue.specs.declared.Asked.{Asked}
 use Rattle.repair_queue.specs.{asked_of}
-use Rattle.repair_queue.specs.declared.wanted.Asked.TheVariants as asks
+use Rattle.repair_queue.specs.declared.Asked.TheVariants as asks
 use Rattle.repair_queue.specs.Queue as queues
-use Rattle.feedback_core.specs.declared.visitor.Open.{Open}
-use Rattle.feedback_core.specs.declared.visitor.Visitor.{Visitor}
+use Rattle.feedback_core.specs.declared.{visitor.Open.Open, visitor.Visitor.Visitor}
 use Rattle.feedback_core.specs.{open_of, entry_under, is_sent_later, IsClient, IsVisit, IsHeldRun, IsAnswered}
 use Rattle.feedback_core.proofs.Others.{IsOf}
 use Rattle.feedback_core.proofs.Visiting.{IsIdle, idle_visit, is_opened, is_closed}

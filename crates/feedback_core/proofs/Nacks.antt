@@ -4,11 +4,8 @@ use Rattle.std.specs.Prelude.{filter, ◌==◌}
 use Rattle.std.specs.Int.{w16, from_be_bytes, bit_at}
 use Rattle.std.proofs.lemmas.Bool.{cond_both, cond-true, cond-false, eq-eqb, ne_eqb}
 use Rattle.std.proofs.lemmas.List.{length-map}
-use Rattle.rams_model.specs.declared.channel.Channel.{Channel}
-use Rattle.rams_model.specs.declared.fault.NackFault.{NackFault}
-use Rattle.rams_model.specs.declared.held.Held.{Held}
-use Rattle.rams_model.specs.declared.note.Note.{Note}
-use Rattle.rams_model.specs.declared.note.Note.TheVariants as notes
+use Rattle.rams_model.specs.declared.{Channel.Channel, NackFault.NackFault, Held.Held, Note.Note}
+use Rattle.rams_model.specs.declared.Note.TheVariants as notes
 use Rattle.rams_model.specs.Service.{Settings, named, History, hold, order_of, after_numbers, after_nack, Wanted}
 use Rattle.rams_model.specs.Formats.{counted_from, word_numbers, numbers_of, nack_numbers}
 use Rattle.rams_model.proofs.ListFacts.{few_passed}

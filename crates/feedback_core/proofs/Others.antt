@@ -4,9 +4,8 @@ use Rattle.std.specs.Prelude.{◌≢◌, ◌==◌}
 use Rattle.std.specs.List.{list_any}
 use Rattle.std.proofs.lemmas.Bool.{cond_both, cond-true, cond-false, eqb-true, eq-eqb, ne_eqb, not_from_false}
 use Rattle.std.proofs.lemmas.Map.Views.{any-filter_same}
-use Rattle.rams_model.specs.declared.held.Held.{Held}
-use Rattle.rams_model.specs.declared.note.Note.{Note}
-use Rattle.rams_model.specs.declared.note.Note.TheVariants as note
+use Rattle.rams_model.specs.declared.{Held.Held, Note.Note}
+use Rattle.rams_model.specs.declared.Note.TheVariants as note
 use Rattle.rams_model.specs.Service.{Settings, noted, History, known, is_among, placed, with_client, without, sendings, ssrc, sequence, bursts, Wanted, wanted, pending, quiet_ticks, is_served, channel_left}
 use Rattle.rams_model.proofs.Since.{known_step}
 use Rattle.feedback_core.specs.{IsAsBefore}

@@ -4,9 +4,9 @@ use Rattle.std.specs.Prelude.{is_some, IsSome}
 use Rattle.std.specs.Map.{keys_of}
 use Rattle.std.proofs.lemmas.Bool.{cond_both, cond-true, cond-false, cases_Bool, cases_eq, or_from, or_left, or_right, or_cases, both_ways, eqb-true, eqb-false, ne_eqb, lt-ltb, le-ltb, not_from_true, not_from_false}
 use Rattle.std.proofs.lemmas.Map.Views.{any-filter_same}
-use Rattle.rams_model.specs.declared.note.Note.TheVariants as note
+use Rattle.rams_model.specs.declared.Note.TheVariants as note
 use Rattle.rams_model.specs.Service.{Settings, known, open_burst, is_among, with_client, without, noted, History}
-use Rattle.client_table.specs.declared.entry.Entry.{Entry}
+use Rattle.client_table.specs.declared.Entry.{Entry}
 use Rattle.client_table.specs.{clients_of, entry_of, new_entry, with_entry, awake, changed_by}
 use Rattle.client_table.specs.Clients.{Clients}
 use Rattle.client_table.specs.Clients as tables

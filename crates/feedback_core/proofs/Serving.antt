@@ -2,20 +2,18 @@
 use Rattle.std.proofs.Common.{◌≡◌, ℕ, ◌≤◌, Bool, true, not, List, [], ◌∷◌, length, Option, Some, None, Result, Ok, Err, refl, ap, sym, ◌∙◌, subst, arith}
 use Rattle.std.specs.Prelude.{IfOk, is_some, IsSome, option_map, option_to_list}
 use Rattle.std.proofs.lemmas.Bool.{or_left}
-use Rattle.rams_model.specs.declared.event.Event.{Event}
-use Rattle.rams_model.specs.declared.event.Event.TheVariants.{Feedback}
+use Rattle.rams_model.specs.declared.{Event.Event, Event.TheVariants.Feedback}
 use Rattle.rams_model.specs.Service.{Answered, answered, Settings, Message, History, arrivals, hold, info_order, newest_notes, newest_orders, newest_answer, after_messages, history_of, answer, Wanted}
 use Rattle.rams_model.specs.Formats.{Framed, framed}
 use Rattle.reckoning.specs.link_budget.Amounts.{Amounts}
-use Rattle.client_table.specs.declared.entry.Entry.{Entry}
+use Rattle.client_table.specs.declared.Entry.{Entry}
 use Rattle.client_table.specs.{entry_of, awake, changed}
 use Rattle.client_table.specs.Clients.{Clients}
-use Rattle.channel_parts.specs.declared.parts.Parts.{Parts}
+use Rattle.channel_parts.specs.declared.Parts.{Parts}
 use Rattle.channel_parts.specs.{StandsFor}
 use Rattle.channel_parts.proofs.Facts.{known_clients_are_few}
 use Rattle.channel_parts.proofs.Given.{moment, held_is}
-use Rattle.feedback_core.specs.declared.page.Page.{Page}
-use Rattle.feedback_core.specs.declared.visitor.Visitor.{Visitor}
+use Rattle.feedback_core.specs.declared.{page.Page.Page, visitor.Visitor.Visitor}
 use Rattle.feedback_core.specs.{woken, answered_of, IsVisit, IsPage, IsTurned, Holds, ServesAt, is_full_table, has_place, with_place, with_kept, IsReady, IsSafe, AreOfOne}
 use Rattle.feedback_core.proofs.Beginning.{at_datagram, visit_begun, page_begun, ready_is, safe_begun}
 use Rattle.feedback_core.proofs.Places.{place_counts}

@@ -1,18 +1,14 @@
 -- Which line a termination meets.
 use Rattle.std.proofs.Common.{◌≡◌, ℕ, ◌+◌, ◌-◌, List, ◌∷◌, Option, Some, None, Result, Err, option_map, refl, ap, sym, ◌∙◌, eqb}
 use Rattle.std.proofs.lemmas.Bool.{cond-true, cond-false, eq-eqb, ne_eqb}
-use Rattle.rams_model.specs.declared.channel.Channel.{Channel}
-use Rattle.rams_model.specs.declared.fault.TlvFault.{TlvFault}
-use Rattle.rams_model.specs.declared.message.Info.{Info}
-use Rattle.rams_model.specs.declared.message.Stop.{Stop}
-use Rattle.rams_model.specs.declared.note.Cause.TheVariants as causes
-use Rattle.rams_model.specs.declared.note.Note.TheVariants as notes
+use Rattle.rams_model.specs.declared.{Channel.Channel, TlvFault.TlvFault, Info.Info, Stop.Stop}
+use Rattle.rams_model.specs.declared.Cause.TheVariants as causes
+use Rattle.rams_model.specs.declared.Note.TheVariants as notes
 use Rattle.rams_model.specs.Service.{Settings, noted, History, refuse_info, end_info, info_order, end_order, order_of, stop_of, after_stop, stop_burst, on_stop, stop_set, next, open_burst, Wanted}
 use Rattle.rams_model.specs.Service.Bursts as model
 use Rattle.reckoning.specs.link_budget.Amounts.{Amounts}
-use Rattle.client_table.specs.declared.entry.Burst.{Burst}
-use Rattle.feedback_core.specs.declared.visitor.Open.{Open}
-use Rattle.feedback_core.specs.declared.visitor.Visitor.{Visitor}
+use Rattle.client_table.specs.declared.Burst.{Burst}
+use Rattle.feedback_core.specs.declared.{visitor.Open.Open, visitor.Visitor.Visitor}
 use Rattle.feedback_core.specs.{open_of, IsVisit, only, IsSaid}
 use Rattle.feedback_core.proofs.Sayings.{said_one, said_idle, said_two}
 use Rattle.feedback_core.proofs.Visiting.{IsOpen, is_opened, is_closed, idle_visit}

@@ -2,8 +2,7 @@
 use Rattle.std.proofs.Common.{◌≡◌, ℕ, [], Option, Some, None, sym, subst}
 use Rattle.std.specs.Prelude.{List, option_map, option_to_list}
 use Rattle.std.proofs.lemmas.List.Elements.{All-nil, All-cons}
-use Rattle.rams_model.specs.declared.message.Info.{Info}
-use Rattle.rams_model.specs.declared.note.Note.{Note}
+use Rattle.rams_model.specs.declared.{Info.Info, Note.Note}
 use Rattle.rams_model.specs.Service.{Answered, answered, info_order}
 use Rattle.feedback_core.specs.{IsInfo, TellsAlone}
 

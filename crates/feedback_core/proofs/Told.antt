@@ -2,17 +2,13 @@
 use Rattle.std.proofs.Common.{◌≡◌, ℕ, ◌+◌, ◌-◌, not, List, ◌∷◌, Option, Some, None, Result, Ok, Err, refl, ap, sym, ◌∙◌, subst, eqb}
 use Rattle.std.specs.Prelude.{option_map, unwrap_or}
 use Rattle.std.proofs.lemmas.Bool.{cond_both}
-use Rattle.rams_model.specs.declared.fault.TlvFault.{TlvFault}
-use Rattle.rams_model.specs.declared.held.Held.{Held}
-use Rattle.rams_model.specs.declared.message.Info.{Info}
-use Rattle.rams_model.specs.declared.note.Note.{Note}
-use Rattle.rams_model.specs.declared.note.Note.TheVariants as notes
+use Rattle.rams_model.specs.declared.{TlvFault.TlvFault, Held.Held, Info.Info, Note.Note}
+use Rattle.rams_model.specs.declared.Note.TheVariants as notes
 use Rattle.rams_model.specs.Service.{Settings, noted, History, hold, sequence, accept_info, refuse_info, info_order, update_order, again_order, order_of, Burst, begun, after_note, bursts, open_burst, reserved, Wanted, asked_rate, is_slow, is_too_much, is_full, begins, on_burst, on_request, verdict}
 use Rattle.rams_model.specs.Formats.{Request, names}
 use Rattle.rams_model.specs.Packets.{chosen}
 use Rattle.rams_model.proofs.OpenBurst.{open_updated}
-use Rattle.client_table.specs.declared.entry.Burst.{Burst as Kept}
-use Rattle.client_table.specs.declared.entry.Entry.{Entry}
+use Rattle.client_table.specs.declared.{Burst.Burst as Kept, Entry.Entry}
 use Rattle.channel_parts.specs.{burst_kept}
 use Rattle.feedback_core.specs.declared.visitor.Visitor.{Visitor}
 use Rattle.feedback_core.specs.{IsClient, IsVisit, IsSaid, last_of, info_for}

@@ -4,20 +4,18 @@ use Rattle.std.specs.Prelude.{◌==◌, length, option_map}
 use Rattle.std.specs.List.{list_any}
 use Rattle.std.proofs.lemmas.Bool.{cond-true, eq-eqb, not_from_true}
 use Rattle.std.proofs.lemmas.Map.Views.{any-filter_same}
-use Rattle.rams_model.specs.declared.note.Cause.{Cause}
-use Rattle.rams_model.specs.declared.note.Cause.TheVariants as cause
-use Rattle.rams_model.specs.declared.note.Note.TheVariants as note
+use Rattle.rams_model.specs.declared.Cause.{Cause}
+use Rattle.rams_model.specs.declared.Cause.TheVariants as cause
+use Rattle.rams_model.specs.declared.Note.TheVariants as note
 use Rattle.rams_model.specs.Service.{Settings, noted, History, arrivals, known, is_among, sendings, ssrc, newest_sender, or_sender, update_info, bursts, kept, open_burst, Wanted, wanted, pending, quiet_ticks, reserved}
 use Rattle.rams_model.proofs.OpenBurst.{open_updated, open_stopped, end_closes}
 use Rattle.rams_model.proofs.Since.{known_step}
 use Rattle.reckoning.specs.link_budget.Amounts.{Amounts}
-use Rattle.client_table.specs.declared.entry.Burst.{Burst}
-use Rattle.client_table.specs.declared.entry.Entry.{Entry}
+use Rattle.client_table.specs.declared.{Burst.Burst, Entry.Entry}
 use Rattle.repair_queue.specs.Queue as queues
 use Rattle.channel_parts.specs.{IsBudget, burst_kept}
 use Rattle.channel_parts.proofs.Knowing.{made_known}
-use Rattle.feedback_core.specs.declared.visitor.Open.{Open}
-use Rattle.feedback_core.specs.declared.visitor.Visitor.{Visitor}
+use Rattle.feedback_core.specs.declared.{visitor.Open.Open, visitor.Visitor.Visitor}
 use Rattle.feedback_core.specs.{entry_under, IsUnknown, IsKnown, IsClient, IsVisit}
 use Rattle.feedback_core.proofs.Others.{others_noted, rest_noted, left_noted, quiet_noted}
 use Rattle.channel_parts.proofs.Facts.{updates_reserve, ends_release, other_notes_reserve_nothing}

@@ -2,18 +2,13 @@
 use Rattle.std.proofs.Common.{◌≡◌, ℕ, Bool, true, false, cond, not, ◌&&◌, ◌||◌, ◌⊎◌, ⊎_elim, List, [], ◌∷◌, ◌++◌, Option, Some, None, refl, ap, sym, ◌∙◌, subst, append-nil}
 use Rattle.std.specs.Prelude.{option_map, option_to_list, filter, filter_map}
 use Rattle.std.specs.List.{cons_option}
-use Rattle.rams_model.specs.declared.answer.Order.{Order}
-use Rattle.rams_model.specs.declared.held.Held.{Held}
-use Rattle.rams_model.specs.declared.message.Info.{Info}
-use Rattle.rams_model.specs.declared.note.Note.{Note}
+use Rattle.rams_model.specs.declared.{Order.Order, Held.Held, Info.Info, Note.Note}
 use Rattle.rams_model.specs.Service.{Settings, Message, is_rams, message_of, with_one_rams, told, History, arrivals, hold, newest_sender, sender, info_order, newest_notes, newest_orders, after_message, after_messages, Wanted}
 use Rattle.rams_model.specs.Formats.{Framed}
 use Rattle.rams_model.specs.Packets.{Arrival, stream_of}
 use Rattle.rams_model.specs.Packets.Source as sources
 use Rattle.rams_model.proofs.Newest.{notes_behind, orders_behind}
-use Rattle.feedback_core.specs.declared.page.Page.{Page}
-use Rattle.feedback_core.specs.declared.said.Said.{Said}
-use Rattle.feedback_core.specs.declared.visitor.Visitor.{Visitor}
+use Rattle.feedback_core.specs.declared.{page.Page.Page, said.Said.Said, visitor.Visitor.Visitor}
 use Rattle.feedback_core.specs.{IsVisit, IsHeard, said_notes, said_orders, IsSaid, AreNoted, or_info, IsPage, IsTurned, turn_of, due_after, answered_of}
 use Rattle.feedback_core.proofs.Visiting.{told_visit}
 

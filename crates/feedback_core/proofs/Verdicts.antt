@@ -2,12 +2,8 @@
 use Rattle.std.proofs.Common.{◌≡◌, ℕ, ◌+◌, ◌-◌, ◌≤◌, ◌<◌, ◌^◌, Bool, true, false, not, ◌&&◌, ⊎_elim, List, [], ◌∷◌, Option, Some, None, Result, Ok, Err, refl, ap, sym, ◌∙◌, subst, arith, eqb, leb, ltb}
 use Rattle.std.specs.Prelude.{length, is_some, unwrap_or, ◌↔◌}
 use Rattle.std.proofs.lemmas.Bool.{cond_both, cond-true, cond-false, cases_Bool, lt-ltb, le-ltb, lt-leb, le-leb, ltb-true, ltb-false, not_from_false, not_from_true, eq-eqb, ne_eqb}
-use Rattle.rams_model.specs.declared.channel.Channel.{Channel}
-use Rattle.rams_model.specs.declared.held.Held.{Held}
-use Rattle.rams_model.specs.declared.message.Info.{Info}
-use Rattle.rams_model.specs.declared.note.Note.{Note}
-use Rattle.rams_model.specs.declared.fault.TlvFault.{TlvFault}
-use Rattle.rams_model.specs.declared.note.Note.TheVariants as note
+use Rattle.rams_model.specs.declared.{Channel.Channel, Held.Held, Info.Info, Note.Note, TlvFault.TlvFault}
+use Rattle.rams_model.specs.declared.Note.TheVariants as note
 use Rattle.rams_model.specs.Service.{Settings, rate_of, join_ticks, noted, History, hold, known, without, newest_sender, accept_info, update_info, next, open_burst, Wanted, reserved, verdict, is_slow, is_too_much, is_full, join_from, begins, changes, on_burst, on_request}
 use Rattle.rams_model.specs.Packets.{behind, is_at_most, age, newest, of_age, eligible, not_too_old, chosen_of, chosen, Follows, lo}
 use Rattle.rams_model.specs.Formats.Rams as rams
@@ -21,12 +17,10 @@ use Rattle.reckoning.specs.link_budget.Amounts.{Amounts}
 use Rattle.channel_cache.specs.declared.access_index.choice.Choice.{Choice}
 use Rattle.channel_cache.specs.access_index.{choice_of}
 use Rattle.channel_cache.specs.declared.access_index.choice.Choice.TheVariants.{Start, NoStart, MinUnmet, MaxUnmet}
-use Rattle.client_table.specs.declared.entry.Burst.{Burst}
-use Rattle.client_table.specs.declared.entry.Entry.{Entry}
+use Rattle.client_table.specs.declared.{Burst.Burst, Entry.Entry}
 use Rattle.channel_parts.specs.{IsBudget, burst_kept}
 use Rattle.channel_parts.proofs.Tables.{without_none}
-use Rattle.feedback_core.specs.declared.visitor.Open.{Open}
-use Rattle.feedback_core.specs.declared.visitor.Visitor.{Visitor}
+use Rattle.feedback_core.specs.declared.{visitor.Open.Open, visitor.Visitor.Visitor}
 use Rattle.feedback_core.specs.{open_of, entry_under, begun_burst, IsClient, IsVisit, IsHeldRun, rate_for, IsAnswered}
 use Rattle.feedback_core.proofs.Visiting.{idle_visit, accepted, is_closed, is_opened}
 use Rattle.feedback_core.proofs.Turning.{updated}

@@ -2,17 +2,15 @@
 use Rattle.std.proofs.Common.{◌≡◌, ℕ, ◌+◌, ◌%◌, ◌≤◌, Bool, false, cond, ◌||◌, List, ◌∷◌, Option, Some, None, refl, ap, sym, ◌∙◌, subst, arith, eqb, ltb}
 use Rattle.std.specs.Prelude.{length, min, option_map, is_some}
 use Rattle.std.proofs.lemmas.Bool.{cond_both, cond-true, eq-eqb}
-use Rattle.rams_model.specs.declared.note.Note.{Note}
-use Rattle.rams_model.specs.declared.note.Note.TheVariants as note
+use Rattle.rams_model.specs.declared.Note.{Note}
+use Rattle.rams_model.specs.declared.Note.TheVariants as note
 use Rattle.rams_model.specs.Service.{Settings, Message, told, noted, History, arrivals, known, opened, sendings, ssrc, newest_sender, sequence, accept_info, bursts, begun, newest_open, open_burst, Wanted, pending, is_busy, quiet_ticks, idle, reserved, channel_left}
 use Rattle.rams_model.specs.Service.Bursts as model
 use Rattle.reckoning.specs.link_budget.Amounts.{Amounts}
-use Rattle.client_table.specs.declared.entry.Burst.{Burst}
-use Rattle.client_table.specs.declared.entry.Entry.{Entry}
+use Rattle.client_table.specs.declared.{Burst.Burst, Entry.Entry}
 use Rattle.channel_parts.specs.{IsEntry, IsBudget, burst_kept, is_of_reserved}
 use Rattle.channel_parts.proofs.Knowing.{made_known}
-use Rattle.feedback_core.specs.declared.visitor.Open.{Open}
-use Rattle.feedback_core.specs.declared.visitor.Visitor.{Visitor}
+use Rattle.feedback_core.specs.declared.{visitor.Open.Open, visitor.Visitor.Visitor}
 use Rattle.feedback_core.specs.{open_in, open_of, entry_under, begun_burst, IsAsBefore, IsKnown, IsClient, IsVisit}
 use Rattle.feedback_core.proofs.Others.{IsOf, others_noted, rest_noted, left_noted, quiet_noted}
 use Rattle.channel_parts.proofs.Facts.{accepts_reserve, other_notes_reserve_nothing}

@@ -2,9 +2,7 @@
 use Rattle.std.proofs.Common.{◌≡◌, ℕ, ◌%◌, List, [], ◌∷◌, ◌++◌, Option, Some, None, refl, ap, sym, ◌∙◌, subst, length, leb}
 use Rattle.std.specs.Prelude.{◌==◌, option_to_list, find}
 use Rattle.std.proofs.lemmas.Bool.{cond_both}
-use Rattle.rams_model.specs.declared.answer.Order.{Order}
-use Rattle.rams_model.specs.declared.held.Held.{Held}
-use Rattle.rams_model.specs.declared.note.Note.{Note}
+use Rattle.rams_model.specs.declared.{Order.Order, Held.Held, Note.Note}
 use Rattle.rams_model.specs.Service.{Settings, noted, History, arrivals, newest_sender, order_of, newest_notes, newest_orders, Room, room, is_early, repair_note, held_answer, number_answer, after_numbers, open_burst, Wanted, pending, pending_of, is_pending, is_full}
 use Rattle.rams_model.proofs.Newest.{notes_behind}
 use Rattle.feedback_core.specs.declared.visitor.Visitor.{Visitor}

@@ -1,6 +1,6 @@
 -- How much the answers to a datagram have at most.
 use Rattle.std.specs.Prelude.{ℕ, ◌+◌, ◌-◌, ◌*◌, ◌/◌, max, nat_lt, if◌then◌else◌, List, [], ◌∷◌, length, Option, Some, None, Result, Ok, Err}
-use Rattle.rams_model.specs.declared.fault.FrameFault.{FrameFault}
+use Rattle.rams_model.specs.declared.FrameFault.{FrameFault}
 use Rattle.rams_model.specs.Formats.{Framed, framed, nack_numbers}
 use Rattle.rams_model.specs.Service.{Message, named, is_rams, message_of}
 use Rattle.rams_model.specs.Service.Messages.{bye, nack, asks, stops}

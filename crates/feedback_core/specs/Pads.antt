@@ -1,6 +1,6 @@
 -- Notes that are written one after another, as contracts see them.
 use Rattle.std.specs.Prelude.{ℕ, List, [], ◌∷◌, vec_capacity}
-use Rattle.rams_model.specs.declared.note.Note.{Note}
+use Rattle.rams_model.specs.declared.Note.{Note}
 use Rattle.feedback_core.specs.declared.pad.Kept.{Kept}
 use Rattle.feedback_core.specs.declared.pad.Kept.TheVariants.{Nothing, One, Many}
 

@@ -1,12 +1,10 @@
 -- What is noted of a datagram so far, and what its client is told.
 use Rattle.std.specs.Prelude.{◌≡◌, ℕ, true, List, [], length, Option, Some, None, option_map, option_to_list}
-use Rattle.rams_model.specs.declared.message.Info.{Info}
-use Rattle.rams_model.specs.declared.note.Note.{Note}
-use Rattle.rams_model.specs.declared.note.Note.TheVariants.{Accept, Update, Again, Refuse}
+use Rattle.rams_model.specs.declared.{Info.Info, Note.Note}
+use Rattle.rams_model.specs.declared.Note.TheVariants.{Accept, Update, Again, Refuse}
 use Rattle.rams_model.specs.Service.{Settings, refuse_info, History, info_order, newest_notes, newest_orders, Wanted}
-use Rattle.client_table.specs.declared.entry.Entry.{Entry}
-use Rattle.feedback_core.specs.declared.page.Page.{Page}
-use Rattle.feedback_core.specs.declared.visitor.Visitor.{Visitor}
+use Rattle.client_table.specs.declared.Entry.{Entry}
+use Rattle.feedback_core.specs.declared.{page.Page.Page, visitor.Visitor.Visitor}
 use Rattle.feedback_core.specs.Visits.{IsVisit}
 
 -- the first, or the other where there is none

@@ -1,6 +1,6 @@
 -- A client's place in the table while its datagram is answered.
 use Rattle.std.specs.Prelude.{ℕ, Bool, ◌||◌, ◌==◌, not, if◌then◌else◌, length, Option, Some, None, is_some}
-use Rattle.client_table.specs.declared.entry.Entry.{Entry}
+use Rattle.client_table.specs.declared.Entry.{Entry}
 use Rattle.client_table.specs.{entry_of, new_entry, with_client, with_entry, without}
 use Rattle.client_table.specs.Clients.{Clients}
 

@@ -1,13 +1,11 @@
 -- What makes the answers to a datagram safe, and what they are.
 use Rattle.std.specs.Prelude.{◌≡◌, ℕ, ◌+◌, ◌<◌, ◌≤◌, ◌^◌, true, List, ◌∷◌, length, Option, None, IsSome, IfSome}
-use Rattle.rams_model.specs.declared.held.Held.{Held}
-use Rattle.rams_model.specs.declared.note.Note.{Note}
+use Rattle.rams_model.specs.declared.{Held.Held, Note.Note}
 use Rattle.rams_model.specs.Service.{Settings, rate_of, noted, History, Wanted}
 use Rattle.rams_model.specs.Packets.{lo, hi, Follows}
 use Rattle.reckoning.specs.link_budget.Amounts.{Amounts}
 use Rattle.channel_cache.specs.Seen as caches
-use Rattle.feedback_core.specs.declared.visitor.Open.{Open}
-use Rattle.feedback_core.specs.declared.visitor.Visitor.{Visitor}
+use Rattle.feedback_core.specs.declared.{visitor.Open.Open, visitor.Visitor.Visitor}
 use Rattle.feedback_core.specs.Visitors.{open_of}
 use Rattle.feedback_core.specs.Visits.{IsVisit}
 

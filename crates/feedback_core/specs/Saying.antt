@@ -1,12 +1,8 @@
 -- What is noted of a message that gets one note, which may end the client's burst.
 use Rattle.std.specs.Prelude.{◌≡◌, ℕ, List, [], ◌∷◌, ◌++◌, Option, Some, None, option_map, option_to_list}
-use Rattle.rams_model.specs.declared.answer.Order.{Order}
-use Rattle.rams_model.specs.declared.note.Cause.{Cause}
-use Rattle.rams_model.specs.declared.note.Note.{Note}
-use Rattle.rams_model.specs.declared.note.Note.TheVariants.{End}
+use Rattle.rams_model.specs.declared.{Order.Order, Cause.Cause, Note.Note, Note.TheVariants.End}
 use Rattle.rams_model.specs.Service.{Settings, History, info_order, newest_notes, newest_orders, Wanted}
-use Rattle.feedback_core.specs.declared.said.Said.{Said}
-use Rattle.feedback_core.specs.declared.visitor.Visitor.{Visitor}
+use Rattle.feedback_core.specs.declared.{said.Said.Said, visitor.Visitor.Visitor}
 use Rattle.feedback_core.specs.Visits.{IsVisit}
 
 -- a note alone

@@ -1,7 +1,6 @@
 -- What is sent for a feedback datagram.
 use Rattle.std.specs.Prelude.{All}
-use Rattle.rams_model.specs.declared.answer.Order.{Order}
-use Rattle.rams_model.specs.declared.answer.Order.TheVariants.{Rtx, Info}
+use Rattle.rams_model.specs.declared.{Order.Order, Order.TheVariants.Rtx, Order.TheVariants.Info}
 use Rattle.rams_model.specs.Service.{Answered}
 
 -- it is a RAMS-I (RFC 6285, 7.3)

@@ -1,9 +1,8 @@
 -- What is kept of the client of a datagram while its messages are answered.
 use Rattle.std.specs.Prelude.{ℕ, Bool, false, ◌&&◌, nat_le, Option, Some, None}
-use Rattle.client_table.specs.declared.entry.Burst.{Burst}
-use Rattle.client_table.specs.declared.entry.Entry.{Entry}
+use Rattle.client_table.specs.declared.{Burst.Burst, Entry.Entry}
 use Rattle.client_table.specs.{new_entry}
-use Rattle.rams_model.specs.declared.message.Info.{Info}
+use Rattle.rams_model.specs.declared.Info.{Info}
 use Rattle.rams_model.specs.Service.{is_before}
 use Rattle.feedback_core.specs.declared.visitor.Open.{Open}
 

@@ -1,10 +1,10 @@
 -- What a channel's history says of the client of a datagram while its messages are answered.
 use Rattle.std.specs.Prelude.{◌≡◌, ◌≢◌, ℕ, true, false, ◌==◌, nat_lt, List, length, Option, Some, None}
-use Rattle.rams_model.specs.declared.held.Held.{Held}
+use Rattle.rams_model.specs.declared.Held.{Held}
 use Rattle.rams_model.specs.Service.Bursts as model
 use Rattle.std.specs.List.{list_any}
 use Rattle.rams_model.specs.Service.{Settings, History, hold, newest_sender, arrivals, known, is_among, without, sendings, ssrc, bursts, open_burst, Wanted, pending, quiet_ticks}
-use Rattle.client_table.specs.declared.entry.Entry.{Entry}
+use Rattle.client_table.specs.declared.Entry.{Entry}
 use Rattle.channel_parts.specs.{IsEntry, IsBudget}
 use Rattle.feedback_core.specs.declared.visitor.Visitor.{Visitor}
 

@@ -1,7 +1,6 @@
 //! The answer to a datagram.
 ghost use Rattle.std.specs.Prelude.{◌≡◌, ◌<◌, ◌≤◌, ◌^◌, ℕ, List, ◌∷◌, length, IfOk, OnErr, Ok, OnOk};
-ghost use Rattle.rams_model.specs.declared.event.Event.{Event};
-ghost use Rattle.rams_model.specs.declared.event.Event.TheVariants.{Feedback};
+ghost use Rattle.rams_model.specs.declared.{Event.Event, Event.TheVariants.Feedback};
 ghost use Rattle.rams_model.specs.Service.{answer};
 ghost use Rattle.rams_model.specs.Formats.{framed};
 ghost use Rattle.wire_packets.specs.rtcp_frame.{packets_left};

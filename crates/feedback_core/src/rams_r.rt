@@ -1,11 +1,10 @@
 //! The answer to a RAMS-R (RFC 6285, 6.2 and 7.2).
 ghost use Rattle.std.specs.Prelude.{◌≡◌, ℕ, ◌<◌, ◌^◌, IsSome, Some, None, Ok, unwrap_or, true, ◌≤◌, List, IsNone};
-ghost use Rattle.rams_model.specs.declared.held.Held.{Held};
+ghost use Rattle.rams_model.specs.declared.{Held.Held, Note.TheVariants.Refuse};
 ghost use Rattle.rams_model.specs.Formats.{request_at};
 ghost use Rattle.rams_model.specs.Packets.{behind as behind_of};
 ghost use Rattle.wire_packets.specs.rams_tlv.{shown_request};
 ghost use Rattle.feedback_core.specs.{open_of, begun_burst, IsReadyDesk, AreOfOne, IsAnswered, IsHeard, IsHeardOn, HasBurstOn, Serves, rate_for};
-ghost use Rattle.rams_model.specs.declared.note.Note.TheVariants.{Refuse};
 ghost use Rattle.rams_model.specs.Service.Verdict as verdicts;
 ghost use Rattle.rams_model.specs.Service.Bursts as model;
 ghost use Rattle.channel_parts.specs.{burst_kept};

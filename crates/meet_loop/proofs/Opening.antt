@@ -3,14 +3,14 @@ use Rattle.std.proofs.Common.{◌≡◌, ℕ, Bool, true, false, not, ◌&&◌, 
 use Rattle.std.specs.Prelude.{IsSomeAnd}
 use Rattle.std.proofs.lemmas.Bool.{and_parts, not-true}
 use Rattle.std.proofs.lemmas.List.{map-append}
-use Rattle.rams_model.specs.declared.channel.Channel.{Channel}
-use Rattle.rams_model.specs.declared.mode.LineKind.TheVariants as kind
+use Rattle.rams_model.specs.declared.Channel.{Channel}
+use Rattle.rams_model.specs.declared.LineKind.TheVariants as kind
 use Rattle.rams_model.specs.Service.{Settings, settings}
 use Rattle.rams_model.specs.Texts.{TraceLine, head_line, channel_line, Claim, Head, Reached, tick_of, may_come, may_come_next, kind_may_come, has_channel, has_one_channel}
 use Rattle.server_hub.specs.{served, refused}
 use Rattle.trace_loop.proofs.trace_book.trace_serving.Judged.{IsAccepted, IsJoined, judged_so, channel_so}
 use Rattle.trace_loop.specs.trace_book.trace_serving.{Stage, eventless, claim_of}
-use Rattle.trace_loop.specs.declared.turn.Turn.TheVariants.{GoesOn}
+use Rattle.trace_loop.specs.declared.Turn.TheVariants.{GoesOn}
 use Rattle.trace_loop.specs.trace_book.{settings_of}
 use Rattle.trace_loop.proofs.head_loop.Channels.{settings_stand}
 use Rattle.trace_loop.proofs.head_loop.Claims.{fits, none_before}

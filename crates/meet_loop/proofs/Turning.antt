@@ -1,15 +1,13 @@
 -- The turns of lines.
 use Rattle.std.proofs.Common.{◌≡◌, ℕ, ◌+◌, ◌-◌, ◌^◌, ◌<◌, Bool, true, false, not, ◌&&◌, List, [], map, Option, None, Some, Result, Ok, Err, is_some, refl, sym, subst, ap, ◌∙◌, arith, ltb, length}
 use Rattle.std.proofs.lemmas.Bool.{and_parts, lt-ltb}
-use Rattle.rams_model.specs.declared.fault.LineFault.{LineFault}
+use Rattle.rams_model.specs.declared.LineFault.{LineFault}
 use Rattle.rams_model.specs.Texts.{TraceLine, head_line, channel_line, live_line, feedback_line, tick_line, end_line, tune_line, give_line, mcast_line, ask_line, drop_line, Claim, Head, Reached, has_channel, has_events, has_receivers, judged, kind_of, kind_may_come, with_line}
 use Rattle.server_hub.specs.Served.{Served}
 use Rattle.trace_loop.specs.trace_book.trace_serving.{Stage, after_judging, after_line, counted, turn, brought, claim_of}
-use Rattle.trace_loop.specs.declared.turn.Turn.{Turn}
-use Rattle.trace_loop.specs.declared.turn.Turn.TheVariants.{Said, Refused}
+use Rattle.trace_loop.specs.declared.{Turn.Turn, Turn.TheVariants.Said, Turn.TheVariants.Refused}
 use Rattle.trace_loop.specs.trace_book.{settings_of}
-use Rattle.meet_loop.specs.declared.world_laws.world.WorldEvent.{WorldEvent}
-use Rattle.meet_loop.specs.declared.world_laws.world.WorldNote.{WorldNote}
+use Rattle.meet_loop.specs.declared.{world_laws.world.WorldEvent.WorldEvent, world_laws.world.WorldNote.WorldNote}
 use Rattle.meet_loop.specs.world_laws.World.{World}
 use Rattle.meet_loop.specs.world_laws.{happens}
 use Rattle.meet_loop.specs.world_net.{CameAtMost, Seen, StandsFor}

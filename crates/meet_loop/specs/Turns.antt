@@ -5,11 +5,10 @@ use Rattle.rams_model.specs.Texts.{TraceLine, Head, Reached, judged}
 use Rattle.server_hub.specs.{refused as refused_add}
 use Rattle.trace_loop.specs.trace_book.trace_serving.{Stage, claim_of}
 use Rattle.trace_loop.specs.trace_book.trace_serving.Text as text
-use Rattle.trace_loop.specs.declared.turn.Turn.{Turn}
+use Rattle.trace_loop.specs.declared.Turn.{Turn}
 use Rattle.trace_loop.specs.{ending, written, Took as TookSo}
 use Rattle.trace_loop.specs.trace_book.{settings_of}
-use Rattle.meet_loop.specs.declared.world_laws.world.WorldEvent.{WorldEvent}
-use Rattle.meet_loop.specs.declared.world_laws.world.WorldNote.{WorldNote}
+use Rattle.meet_loop.specs.declared.{world_laws.world.WorldEvent.WorldEvent, world_laws.world.WorldNote.WorldNote}
 use Rattle.meet_loop.specs.world_laws.{new_world, happens}
 use Rattle.meet_loop.specs.world_laws.World.{World}
 use Rattle.meet_loop.specs.world_net.{CameAtMost, StandsFor, Seen, with_channel}

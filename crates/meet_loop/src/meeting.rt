@@ -4,7 +4,7 @@ ghost use Rattle.rams_model.specs.Texts.{tick_of};
 ghost use Rattle.trace_text.specs.{shown, told, HasDigits, IsOther, IsSettled};
 ghost use Rattle.trace_loop.specs.trace_book.trace_serving.{Stage, opening, turn, after_line, eventless, counted, brought};
 ghost use Rattle.trace_loop.specs.{StandsSomewhere};
-ghost use Rattle.trace_loop.specs.declared.turn.Turn.TheVariants.{GoesOn};
+ghost use Rattle.trace_loop.specs.declared.Turn.TheVariants.{GoesOn};
 ghost use Rattle.meet_loop.specs.world_laws.World.{World as Worlds};
 ghost use Rattle.meet_loop.specs.declared.world_laws.world.WorldEvent.{WorldEvent};
 ghost use Rattle.meet_loop.specs.world_net.{CameAtMost, StandsFor};

@@ -3,7 +3,7 @@ ghost use Rattle.ram_io.specs.{Rose};
 ghost use Rattle.std.specs.Prelude.{◌≡◌, ◌⊎◌, Err, List, ℕ, IfOk, length};
 ghost use Rattle.std.specs.Io.KnownBytes.{Appends};
 ghost use Rattle.line_io.specs.Passes.{Passes};
-ghost use Rattle.trace_loop.specs.declared.stop.Stop.TheVariants.{Read};
+ghost use Rattle.trace_loop.specs.declared.Stop.TheVariants.{Read};
 ghost use Rattle.trace_loop.specs.{IsStopped, OnlyMemoryStops, IfTold, IfBothTold, HasReadText, IsEnd};
 ghost use Rattle.meet_loop.specs.world_book.{meet, meet_text};
 

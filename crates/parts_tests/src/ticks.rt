@@ -1,7 +1,6 @@
 //! Ticks of a channel's parts.
 ghost use Rattle.std.specs.Prelude.{List, [], ◌∷◌, IfOk, OnOk};
-ghost use Rattle.rams_model.specs.declared.event.Event.{Event};
-ghost use Rattle.rams_model.specs.declared.event.Event.TheVariants.{Tick};
+ghost use Rattle.rams_model.specs.declared.{Event.Event, Event.TheVariants.Tick};
 ghost use Rattle.channel_parts.specs.{StandsFor};
 
 use crate::fixtures::same;

@@ -2,8 +2,7 @@
 use Rattle.std.specs.Prelude.{◌≡◌, ◌⊎◌, ℕ, ◌+◌, ◌^◌, ◌<◌, ◌≤◌, ⊤, Some, List, [], ◌∷◌, ◌++◌, All, length, map, take, drop}
 use Rattle.ram_io.specs.Calls.{Counts, called, faulted}
 use Rattle.ram_io.specs.Wire.{Outgoing, outgoing}
-use Rattle.ram_io.specs.declared.wire.Incoming.{Incoming}
-use Rattle.ram_io.specs.declared.wire.Incoming.TheVariants.{Nothing, Datagram}
+use Rattle.ram_io.specs.declared.{wire.Incoming.Incoming, wire.Incoming.TheVariants.Nothing, wire.Incoming.TheVariants.Datagram}
 use Rattle.ram_io.specs.declared.mem_wire.Sent.{Sent}
 
 -- The counts of an object that was just made.

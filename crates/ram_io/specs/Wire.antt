@@ -1,8 +1,6 @@
 -- What a wire brings and takes.
 use Rattle.std.specs.Prelude.{◌≡◌, ℕ, Option, Some, None, Result, List, [], ◌∷◌, ◌++◌, take, drop, slice_index_or, IfSome, MatchResult}
-use Rattle.ram_io.specs.declared.failed.Failed.{Failed}
-use Rattle.ram_io.specs.declared.wire.Arrival.{Arrival}
-use Rattle.ram_io.specs.declared.wire.Incoming.{Incoming}
+use Rattle.ram_io.specs.declared.{failed.Failed.Failed, wire.Arrival.Arrival, wire.Incoming.Incoming}
 use Rattle.ram_io.specs.declared.wire.Incoming.TheVariants.{Nothing, Datagram}
 
 -- A datagram that goes to a client from a local port.

@@ -2,8 +2,7 @@
 use Rattle.std.proofs.Common.{◌≡◌, ℕ, ◌+◌, ◌≤◌, Bool, true, false, inl, inr, ⊎_elim, List, [], ◌∷◌, Option, Some, None, refl, sym, subst, arith, leb}
 use Rattle.std.specs.Prelude.{filter, Ok, Err}
 use Rattle.std.proofs.lemmas.Bool.{cond_both, both_ways, and_parts, and_from, false_from_ne_true}
-use Rattle.rams_model.specs.declared.channel.Channel.{Channel}
-use Rattle.rams_model.specs.declared.held.Held.{Held}
+use Rattle.rams_model.specs.declared.{channel.Channel.Channel, held.Held.Held}
 use Rattle.rams_model.specs.Packets.{age, is_eligible, eligible, of_age, newest, is_at_most, not_too_old, chosen_of, chosen}
 use Rattle.rams_model.specs.Laws.{Rises, IsAmong, IsNewest, NonePasses, is_old_enough, none, young, old, IsChoice}
 use Rattle.rams_model.proofs.Rising.{some_of, at_least}

@@ -2,9 +2,7 @@
 use Rattle.std.proofs.Common.{◌≡◌, ℕ, ◌+◌, ◌-◌, ◌≤◌, ◌<◌, false, not, ⊎_elim, List, [], ◌∷◌, Option, Some, None, refl, ap, subst, arith, zero-le, length, eqb, leb}
 use Rattle.std.specs.Prelude.{Result, Ok, Err, unwrap_or}
 use Rattle.std.proofs.lemmas.Bool.{cond_both, ltb-false, leb-false}
-use Rattle.rams_model.specs.declared.fault.TlvFault.{TlvFault}
-use Rattle.rams_model.specs.declared.held.Held.{Held}
-use Rattle.rams_model.specs.declared.note.Note.{Note}
+use Rattle.rams_model.specs.declared.{fault.TlvFault.TlvFault, held.Held.Held, note.Note.Note}
 use Rattle.rams_model.specs.declared.note.Note.TheVariants as note
 use Rattle.rams_model.specs.Service.{Settings, History, hold, Burst, next, open_burst, pending, is_pending, pending_of, reserved, rate_of, asked_rate, is_slow, is_too_much, is_full, join_from, begins, changes, on_burst, on_request, verdict, is_early, room, held_answer, number_answer}
 use Rattle.rams_model.specs.Formats.{Request, names}

@@ -1,11 +1,7 @@
 -- What each kind of note asks of the history in front of it. Each note of a channel's history does so: `Legality` proves it, and most laws of bursts, budgets and answers stand on it.
 use Rattle.std.proofs.Common.{◌≡◌, ℕ, ◌≤◌, Bool, true, false, List, [], ◌∷◌, ◌++◌, Option, Some, None}
 use Rattle.std.specs.Prelude.{◌==◌, ◌&&◌, if◌then◌else◌, Result, Ok, Err, ◌⊎◌, Contains, find}
-use Rattle.rams_model.specs.declared.fault.TlvFault.{TlvFault}
-use Rattle.rams_model.specs.declared.held.Held.{Held}
-use Rattle.rams_model.specs.declared.message.Stop.{Stop}
-use Rattle.rams_model.specs.declared.note.Cause.{Cause}
-use Rattle.rams_model.specs.declared.note.Note.{Note}
+use Rattle.rams_model.specs.declared.{fault.TlvFault.TlvFault, held.Held.Held, message.Stop.Stop, note.Cause.Cause, note.Note.Note}
 use Rattle.rams_model.specs.declared.note.Cause.TheVariants as cause
 use Rattle.rams_model.specs.declared.note.Note.TheVariants as note
 use Rattle.rams_model.specs.Service.{Settings, stop_of, Message, bye, nack, asks, stops, Heard, tick, began, told, noted, History, hold, known, is_among, sequence, ssrc, Burst, next, open_burst, wanted, pending, idle, channel_left, may_take, verdict, is_before, is_bye_of, room, number_answer, is_lost}

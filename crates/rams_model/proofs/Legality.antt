@@ -4,11 +4,7 @@ use Rattle.std.specs.Prelude.{◌==◌, filter, find, is_some, Result, Ok, Err, 
 use Rattle.std.specs.List.{list_any, AllByRecursion as Each}
 use Rattle.std.proofs.lemmas.Bool.{cond_both, and_parts, and_from, or_parts, or_from, or_left, or_right, or_cases, not-true, not-false, not_from_false, eqb-true, eq-eqb, leb-true, true≢false}
 use Rattle.std.proofs.lemmas.List.Elements.{All-contains_itself, recursion_from_All, Contains-append_right}
-use Rattle.rams_model.specs.declared.event.Event.{Event}
-use Rattle.rams_model.specs.declared.fault.TlvFault.{TlvFault}
-use Rattle.rams_model.specs.declared.held.Held.{Held}
-use Rattle.rams_model.specs.declared.message.Stop.{Stop}
-use Rattle.rams_model.specs.declared.note.Note.{Note}
+use Rattle.rams_model.specs.declared.{event.Event.Event, fault.TlvFault.TlvFault, held.Held.Held, message.Stop.Stop, note.Note.Note}
 use Rattle.rams_model.specs.declared.note.Cause.TheVariants as cause
 use Rattle.rams_model.specs.declared.note.Note.TheVariants as note
 use Rattle.rams_model.specs.Service.{Settings, stop_of, Message, bye, nack, asks, stops, Heard, live, dropped, feedback, unframed, tick, heard_of, began, told, noted, History, arrivals, hold, known, opened, is_among, placed, with_client, sequence, ssrc, Burst, next, after_note, bursts, open_burst, has_open, Wanted, wanted, is_wanted, pending, is_pending, pending_of, idle, channel_left, may_take, reserved, asked_rate, is_slow, is_too_much, is_full, begins, changes, on_burst, on_request, verdict, is_before, is_early, Room, room, held_answer, number_answer, after_numbers, after_nack, stop_set, on_stop, stop_burst, after_stop, is_bye_of, after_bye, after_message, after_messages, run, send, is_lost, is_stop, after_run, run_sent, burst_served, all_served, repaired, all_repaired, all_forgotten, bursts_served, repairs_sent, after_tick, after_hearing, history_of}

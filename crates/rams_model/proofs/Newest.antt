@@ -1,8 +1,7 @@
 -- The notes and orders of the newest event, in front of later ones.
 use Rattle.std.proofs.Common.{◌≡◌, List, [], ◌∷◌, ◌++◌, refl, ap, sym, ◌∙◌, append_assoc, append-nil}
 use Rattle.std.specs.Prelude.{option_to_list}
-use Rattle.rams_model.specs.declared.answer.Order.{Order}
-use Rattle.rams_model.specs.declared.note.Note.{Note}
+use Rattle.rams_model.specs.declared.{answer.Order.Order, note.Note.Note}
 use Rattle.rams_model.specs.Service.{Settings, began, told, noted, History, order_of, newest_notes, newest_orders}
 
 pub notes_behind : (history : History) (later : List Note) → newest_notes history later ≡ newest_notes history [] ++ later

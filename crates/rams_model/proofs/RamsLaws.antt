@@ -6,10 +6,7 @@ use Rattle.std.specs.List.{flat_map, AllByRecursion}
 use Rattle.std.specs.Int.{Width, w16, w32, w64, to_be_bytes, from_be_bytes}
 use Rattle.std.proofs.lemmas.Nat.{from_be_bytes-to_be_bytes_2, from_be_bytes-to_be_bytes_4, from_be_bytes-to_be_bytes_8}
 use Rattle.std.proofs.lemmas.Bool.{eqb-true, and_parts}
-use Rattle.rams_model.specs.declared.fault.TlvFault.{TlvFault}
-use Rattle.rams_model.specs.declared.message.Info.{Info}
-use Rattle.rams_model.specs.declared.message.Stop.{Stop}
-use Rattle.rams_model.specs.declared.fault.TlvFault.TheVariants.{Form}
+use Rattle.rams_model.specs.declared.{fault.TlvFault.TlvFault, message.Info.Info, message.Stop.Stop, fault.TlvFault.TheVariants.Form}
 use Rattle.rams_model.specs.Formats.{Joins, pieces_of, map_ok, words32, tlv, optional_tlv, info_fci, Tlv, IsTlv, IsMessage, tlv_format, tlvs_at, first_value, number_of, Request, request_of, request_at, request_fci, request_length, ssrcs_tlv, ssrcs_in, ssrcs_back, FitsIn, FitsRequest, FitsInfo, request_back, preamble_tlv, info_of, info_at, info_length, stop_of, stop_at, stop_fci, stop_length}
 use Rattle.rams_model.proofs.JoinedLaws.{spelled_as_read, read_as_spelled, joins_one, joins_append}
 use Rattle.rams_model.proofs.TlvLaws.{tlvs_are_spelled}

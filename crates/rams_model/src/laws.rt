@@ -3,8 +3,7 @@ ghost use Rattle.rams_model.specs.Laws.{CatchingUpEnds, EachPacketStandsOnce, Th
 ghost use Rattle.rams_model.specs.Formats.{PlainPacketsAreSpelledAgain, WhatIsReadIsSpelledSo, WhatIsSpelledSoIsRead, info_fci, Framed, framed, IsCompound, packet_text, least_body, FramesAs, nack_numbers, nack_words, Tlv, IsMessage, tlvs_at, Request, FitsRequest, request_at, request_fci, request_back, FitsInfo, info_at, FitsIn, stop_at, stop_fci};
 ghost use Rattle.std.specs.Prelude.{◌≡◌, ◌%◌, ◌^◌, ◌<◌, ◌≤◌, ℕ, Bool, List, [], ◌∷◌, length, Ok, All};
 ghost use Rattle.std.specs.List.{AllByRecursion};
-ghost use Rattle.rams_model.specs.declared.message.Info.{Info};
-ghost use Rattle.rams_model.specs.declared.message.Stop.{Stop};
+ghost use Rattle.rams_model.specs.declared.{message.Info.Info, message.Stop.Stop};
 
 /// A packet with a fixed header alone is spelled again, byte for byte, from what is read of it
 /// (RFC 3550, 5.1).

@@ -7,7 +7,7 @@ mod report;
 ghost use Rattle.std.specs.Prelude.{◌≡◌, ◌<◌, ◌≤◌, IfErr, IfOk, None, drop, is_none, map, true};
 ghost use Rattle.std.specs.Process.{exit_status};
 ghost use Rattle.std.specs.String.{string_bytes};
-ghost use Rattle.rams_model.specs.declared.status.Status.TheVariants.{Words};
+ghost use Rattle.rams_model.specs.declared.Status.TheVariants.{Words};
 ghost use Rattle.rams_replay.specs.{IsOrLacksMemory, command_of, is_words};
 ghost use Rattle.rams_program.specs.{exit_number};
 

@@ -10,7 +10,7 @@ use Rattle.server_hub.specs.Seen.{Seen}
 use Rattle.server_hub.specs.Served.{Served}
 use Rattle.trace_loop.proofs.trace_book.trace_serving.Judged.{IsAccepted, accepted_so, channel_so, IsJoined}
 use Rattle.trace_loop.specs.trace_book.trace_serving.{Stage, eventless}
-use Rattle.trace_loop.specs.declared.turn.Turn.TheVariants.{GoesOn}
+use Rattle.trace_loop.specs.declared.Turn.TheVariants.{GoesOn}
 use Rattle.trace_loop.specs.trace_book.{run}
 use Rattle.trace_loop.specs.head_loop.{CanOpen, OpensIn, claim_of}
 use Rattle.trace_loop.specs.trace_book.Stages.{settings_of as settings_all}

@@ -1,14 +1,13 @@
 -- How a server ends, as a status.
 use Rattle.std.proofs.Common.{◌≡◌, ℕ, List, Option, Some, Result, Ok, Err, IfOk, IfErr, sym, subst, ◌∙◌}
-use Rattle.rams_model.specs.declared.status.Status.{Status}
-use Rattle.rams_model.specs.declared.status.Status.TheVariants.{Done, NoMemory, Words, ReadFault, WriteFault, BadTrace, WireFault, TooLong, BadCapture, BadSdp}
-use Rattle.ram_io.specs.declared.wire.Incoming.{Incoming}
+use Rattle.rams_model.specs.declared.Status.{Status}
+use Rattle.rams_model.specs.declared.Status.TheVariants.{Done, NoMemory, Words, ReadFault, WriteFault, BadTrace, WireFault, TooLong, BadCapture, BadSdp}
+use Rattle.ram_io.specs.declared.Incoming.{Incoming}
 use Rattle.ram_io.specs.{Outgoing}
-use Rattle.trace_loop.specs.declared.stop.Stop.{Stop}
-use Rattle.trace_loop.specs.declared.stop.Stop.TheVariants.{Memory, Read, Write, Wire}
+use Rattle.trace_loop.specs.declared.Stop.{Stop}
+use Rattle.trace_loop.specs.declared.Stop.TheVariants.{Memory, Read, Write, Wire}
 use Rattle.serve_loop.specs.{Given, HasEnded, HasStopped, IsGiven, IsServeEnd, OnlyMemoryStops, served_text}
-use Rattle.rams_replay.specs.declared.words.Command.{Command}
-use Rattle.rams_replay.specs.declared.words.Command.TheVariants.{Serve}
+use Rattle.rams_replay.specs.declared.{words.Command.Command, words.Command.TheVariants.Serve}
 use Rattle.rams_replay.specs.{HasServed, IsOrLacksMemory, status_of}
 
 pub has_served : (g : Given) (held holds : Option (List ℕ)) (went sent : Option (List Outgoing)) (left : Option (List Incoming)) (r : Result Status Stop) → IfOk r IsServeEnd → IfOk r (HasEnded g held holds went sent left)

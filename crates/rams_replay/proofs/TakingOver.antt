@@ -1,15 +1,14 @@
 -- How a takeover ends, as a status.
 use Rattle.std.proofs.Common.{◌≡◌, ℕ, List, Option, Some, Result, Ok, Err, IfOk, IfErr, sym, subst}
-use Rattle.rams_model.specs.declared.status.Status.{Status}
-use Rattle.rams_model.specs.declared.status.Status.TheVariants.{Done, NoMemory, Words, ReadFault, WriteFault, BadTrace, WireFault, TooLong, BadCapture, BadSdp}
-use Rattle.ram_io.specs.declared.wire.Incoming.{Incoming}
+use Rattle.rams_model.specs.declared.Status.{Status}
+use Rattle.rams_model.specs.declared.Status.TheVariants.{Done, NoMemory, Words, ReadFault, WriteFault, BadTrace, WireFault, TooLong, BadCapture, BadSdp}
+use Rattle.ram_io.specs.declared.Incoming.{Incoming}
 use Rattle.ram_io.specs.{Outgoing}
-use Rattle.trace_loop.specs.declared.stop.Stop.{Stop}
-use Rattle.trace_loop.specs.declared.stop.Stop.TheVariants.{Memory, Read, Write, Wire}
+use Rattle.trace_loop.specs.declared.Stop.{Stop}
+use Rattle.trace_loop.specs.declared.Stop.TheVariants.{Memory, Read, Write, Wire}
 use Rattle.serve_loop.specs.{Given, OnlyMemoryStops}
 use Rattle.takeover.specs.takeover_loop.{HasEnded, HasStopped, IsTakeoverEnd, taken_text}
-use Rattle.rams_replay.specs.declared.words.Command.{Command}
-use Rattle.rams_replay.specs.declared.words.Command.TheVariants.{Takeover}
+use Rattle.rams_replay.specs.declared.{words.Command.Command, words.Command.TheVariants.Takeover}
 use Rattle.rams_replay.specs.{HasTakenOver, IsOrLacksMemory, status_of}
 
 module _ (g : Given) (held holds : Option (List ℕ)) (went sent : Option (List Outgoing)) (left : Option (List Incoming)) where

@@ -2,13 +2,11 @@
 use Rattle.std.proofs.Common.{◌≡◌, ◌≢◌, ℕ, List, [], ◌∷◌, ◌++◌, map, length, Option, None, Some, option_map, refl, sym, ap, subst, ◌∙◌, append_assoc, append-nil}
 use Rattle.std.specs.Prelude.{All, AllPairs, slice_get}
 use Rattle.std.specs.List.{flat_map}
-use Rattle.rams_model.specs.declared.event.Event.{Event}
-use Rattle.rams_model.specs.declared.event.Event.TheVariants as event
-use Rattle.server_hub.specs.declared.event.At.{At}
-use Rattle.server_hub.specs.declared.event.HubAnswer.{HubAnswer}
-use Rattle.server_hub.specs.declared.event.HubEvent.{HubEvent}
+use Rattle.rams_model.specs.declared.Event.{Event}
+use Rattle.rams_model.specs.declared.Event.TheVariants as event
+use Rattle.server_hub.specs.declared.{At.At, HubAnswer.HubAnswer, HubEvent.HubEvent}
 use Rattle.server_hub.specs.{IsHub, StandsFor, settings_of, ids_of, after_event, id_of, channel_of, answer_to, answer_of, answer_at, answers_to_tick, Told, says, told, told_of, told_to, answers_said}
-use Rattle.server_hub.specs.declared.event.HubEvent.TheVariants.{Live, Feedback, Tick}
+use Rattle.server_hub.specs.declared.HubEvent.TheVariants.{Live, Feedback, Tick}
 use Rattle.server_hub.specs.Seen.{Seen}
 use Rattle.server_hub.specs.Served.{Served}
 use Rattle.server_hub.proofs.Finding.{with_id, one_has, settings_found}

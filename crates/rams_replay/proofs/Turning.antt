@@ -1,27 +1,24 @@
 -- The turns of lines.
 use Rattle.std.proofs.Common.{◌≡◌, ℕ, ◌+◌, ◌<◌, true, List, [], Option, None, Some, Result, Ok, Err, is_some, refl, sym, subst, ap, ◌∙◌, arith, ◌⊎◌, inl, inr}
 use Rattle.std.proofs.lemmas.Bool.{and_parts, lt-ltb}
-use Rattle.rams_model.specs.declared.channel.Channel.{Channel}
-use Rattle.rams_model.specs.declared.fault.LineFault.{LineFault}
-use Rattle.rams_model.specs.declared.mode.LineKind.{LineKind}
+use Rattle.rams_model.specs.declared.{Channel.Channel, LineFault.LineFault, LineKind.LineKind}
 use Rattle.rams_model.specs.Texts.{TraceLine, Head, Reached, accepted, has_channel, judged, judged_line, kind_of, kind_may_come, with_line, with_reached}
-use Rattle.rams_model.specs.declared.mode.LineKind.TheVariants as kind
-use Rattle.server_hub.specs.declared.event.HubAnswer.{HubAnswer}
-use Rattle.server_hub.specs.declared.event.HubEvent.{HubEvent}
+use Rattle.rams_model.specs.declared.LineKind.TheVariants as kind
+use Rattle.server_hub.specs.declared.{HubAnswer.HubAnswer, HubEvent.HubEvent}
 use Rattle.server_hub.specs.{StandsFor, after_event}
 use Rattle.server_hub.specs.Seen.{Seen}
 use Rattle.server_hub.specs.Served.{Served}
 use Rattle.trace_loop.proofs.trace_book.trace_serving.Judged.{accepted_so}
 use Rattle.trace_loop.specs.trace_book.trace_serving.{Stage, goes_on, after_judging, after_line, counted, turn, brought}
 use Rattle.trace_loop.specs.trace_book.trace_serving.Text as text
-use Rattle.trace_loop.specs.declared.turn.Turn.{Turn}
-use Rattle.trace_loop.specs.declared.turn.Turn.TheVariants.{GoesOn, Said, Refused}
+use Rattle.trace_loop.specs.declared.Turn.{Turn}
+use Rattle.trace_loop.specs.declared.Turn.TheVariants.{GoesOn, Said, Refused}
 use Rattle.trace_loop.specs.trace_book.{run, most_events, event_text}
 use Rattle.trace_loop.proofs.head_loop.Claims.{claims_kept, no_channel}
 use Rattle.rams_replay.specs.{Comes, Stands, CountsOne, Tells, Took}
-use Rattle.trace_text.specs.declared.line.Line.{Line}
+use Rattle.trace_text.specs.declared.Line.{Line}
 use Rattle.trace_text.specs.{shown, IsOther}
-use Rattle.trace_text.specs.declared.line.Line.TheVariants.{Channel as ChannelLine, Tune, Give, Mcast, Ask, Drop}
+use Rattle.trace_text.specs.declared.Line.TheVariants.{Channel as ChannelLine, Tune, Give, Mcast, Ask, Drop}
 use Rattle.takeover.specs.standby.{HubServes}
 
 -- what is judged well was accepted

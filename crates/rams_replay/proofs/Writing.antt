@@ -2,7 +2,7 @@
 use Rattle.std.proofs.Common.{◌≡◌, ℕ, ◌+◌, ◌<◌, ◌≤◌, List, [], ◌++◌, length, get_or, drop, Option, sym, ap, ◌∙◌}
 use Rattle.std.proofs.lemmas.List.{drop_more, drop_all}
 use Rattle.rams_replay.specs.{at_text}
-use Rattle.server_hub.specs.declared.event.At.{At}
+use Rattle.server_hub.specs.declared.At.{At}
 use Rattle.server_hub.specs.Seen.{Seen}
 use Rattle.std.specs.List.{flat_map}
 

@@ -2,8 +2,8 @@
 use Rattle.std.specs.Prelude.{◌≡◌, ℕ, ◌⊎◌, List, length, Option}
 use Rattle.std.specs.Io.KnownBytes.{Appends}
 use Rattle.line_io.specs.Passes.{Passes}
-use Rattle.rams_model.specs.declared.status.Status.{Status}
-use Rattle.rams_model.specs.declared.status.Status.TheVariants.{Done, NoMemory, ReadFault, WriteFault, BadTrace, TooLong, BadCapture}
+use Rattle.rams_model.specs.declared.Status.{Status}
+use Rattle.rams_model.specs.declared.Status.TheVariants.{Done, NoMemory, ReadFault, WriteFault, BadTrace, TooLong, BadCapture}
 use Rattle.ram_io.specs.{Rose}
 use Rattle.trace_loop.specs.trace_book.trace_serving.{Outcome}
 use Rattle.trace_loop.specs.{IfTold, IfBothTold}

@@ -1,8 +1,8 @@
 -- What the status of `serve` says.
 use Rattle.std.specs.Prelude.{ℕ, ◌≤◌, List, Option}
-use Rattle.rams_model.specs.declared.status.Status.{Status}
-use Rattle.rams_model.specs.declared.status.Status.TheVariants.{Done, NoMemory, ReadFault, WriteFault, BadTrace, WireFault}
-use Rattle.ram_io.specs.declared.wire.Incoming.{Incoming}
+use Rattle.rams_model.specs.declared.Status.{Status}
+use Rattle.rams_model.specs.declared.Status.TheVariants.{Done, NoMemory, ReadFault, WriteFault, BadTrace, WireFault}
+use Rattle.ram_io.specs.declared.Incoming.{Incoming}
 use Rattle.ram_io.specs.{Outgoing, Rose}
 use Rattle.serve_loop.specs.{Given, HasEnded, HasStopped, Room}
 

@@ -3,11 +3,11 @@ use Rattle.std.specs.Prelude.{◌≡◌, ℕ, ◌≤◌, ◌⊎◌, Bool, true, 
 use Rattle.std.specs.Io.KnownBytes.{Appends}
 use Rattle.line_io.specs.Passes.{Passes}
 use Rattle.ram_io.specs.{Rose}
-use Rattle.rams_model.specs.declared.status.Status.{Status}
-use Rattle.rams_model.specs.declared.status.Status.TheVariants.{Done, NoMemory, Words, ReadFault, WriteFault, BadTrace, WireFault, TooLong}
+use Rattle.rams_model.specs.declared.Status.{Status}
+use Rattle.rams_model.specs.declared.Status.TheVariants.{Done, NoMemory, Words, ReadFault, WriteFault, BadTrace, WireFault, TooLong}
 use Rattle.trace_loop.specs.trace_book.trace_serving.{Serving, Outcome, served_text}
-use Rattle.trace_loop.specs.declared.stop.Stop.{Stop}
-use Rattle.trace_loop.specs.declared.stop.Stop.TheVariants.{Memory, Read, Write, Wire}
+use Rattle.trace_loop.specs.declared.Stop.{Stop}
+use Rattle.trace_loop.specs.declared.Stop.TheVariants.{Memory, Read, Write, Wire}
 use Rattle.trace_loop.specs.{IfTold, IfBothTold, HasReadText}
 
 -- the status of a run

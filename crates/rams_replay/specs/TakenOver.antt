@@ -1,8 +1,8 @@
 -- What the status of `takeover` says.
 use Rattle.std.specs.Prelude.{ℕ, List, Option}
-use Rattle.rams_model.specs.declared.status.Status.{Status}
-use Rattle.rams_model.specs.declared.status.Status.TheVariants.{Done, NoMemory, ReadFault, WriteFault, BadTrace, WireFault, TooLong}
-use Rattle.ram_io.specs.declared.wire.Incoming.{Incoming}
+use Rattle.rams_model.specs.declared.Status.{Status}
+use Rattle.rams_model.specs.declared.Status.TheVariants.{Done, NoMemory, ReadFault, WriteFault, BadTrace, WireFault, TooLong}
+use Rattle.ram_io.specs.declared.Incoming.{Incoming}
 use Rattle.ram_io.specs.{Outgoing}
 use Rattle.serve_loop.specs.{Given}
 use Rattle.takeover.specs.takeover_loop.{HasEnded, HasStopped}

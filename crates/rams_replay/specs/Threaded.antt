@@ -1,7 +1,7 @@
 -- What the status of `threads` and of `pool` says.
 use Rattle.std.specs.Prelude.{◌≡◌, ℕ, ◌⊎◌, List, All, Option}
-use Rattle.rams_model.specs.declared.status.Status.{Status}
-use Rattle.rams_model.specs.declared.status.Status.TheVariants.{Done, NoMemory, ReadFault, WriteFault, BadTrace, TooLong}
+use Rattle.rams_model.specs.declared.Status.{Status}
+use Rattle.rams_model.specs.declared.Status.TheVariants.{Done, NoMemory, ReadFault, WriteFault, BadTrace, TooLong}
 use Rattle.trace_loop.specs.trace_book.trace_serving.{served_text}
 use Rattle.trace_loop.specs.{IfTold}
 use Rattle.trace_loop.specs.trace_book.{EndsSo, IsServed, KeepsPromises, KeepsTheLink, served_by}

@@ -4,15 +4,13 @@ use Rattle.std.specs.List.{flat_map}
 use Rattle.rams_model.specs.Service.{Answered, Settings}
 use Rattle.rams_model.specs.Texts.{answer_text, TraceLine, Reached, accepted}
 use Rattle.book_text.specs.{no_channel_line}
-use Rattle.server_hub.specs.declared.event.At.{At}
-use Rattle.server_hub.specs.declared.event.HubEvent.{HubEvent}
-use Rattle.server_hub.specs.declared.event.HubAnswer.{HubAnswer}
+use Rattle.server_hub.specs.declared.{At.At, HubEvent.HubEvent, HubAnswer.HubAnswer}
 use Rattle.server_hub.specs.{StandsFor, Told, no_channel, says, told, answers_said, settings_of, after_event}
 use Rattle.server_hub.specs.Seen.{Seen}
 use Rattle.server_hub.specs.Served.{Served}
 use Rattle.trace_loop.specs.trace_book.trace_serving.{Stage}
 use Rattle.trace_loop.specs.trace_book.trace_serving.Text as text
-use Rattle.trace_loop.specs.declared.turn.Turn.{Turn}
+use Rattle.trace_loop.specs.declared.Turn.{Turn}
 use Rattle.trace_loop.specs.{ending, written, Took as TookSo}
 use Rattle.trace_loop.specs.trace_book.{event_text}
 use Rattle.trace_loop.specs.head_loop.{claim_of}

@@ -2,7 +2,7 @@
 ghost use Rattle.std.specs.Prelude.{◌≡◌, ◌≢◌, ◌≤◌, ◌<◌, ◌⊎◌, false, is_none, not, ℕ, All, None, length};
 ghost use Rattle.trace_loop.specs.trace_book.printed_books.{PrintsItsBooks};
 ghost use Rattle.trace_loop.specs.trace_book.{EndsSo, IsServed, KeepsTheLink, KeepsPromises, served_by, run as book};
-ghost use Rattle.rams_model.specs.declared.status.Status.TheVariants.{BadTrace, Done, ReadFault};
+ghost use Rattle.rams_model.specs.declared.Status.TheVariants.{BadTrace, Done, ReadFault};
 ghost use Rattle.serve_loop.specs.{Given, HasRoom, IfBothTold, IsGiven, served_datagrams, served_text};
 ghost use Rattle.converters.specs.description_loop.{DescribesItsHead, WritesATrace, description_outcome, settings_outcome};
 ghost use Rattle.generated.specs.summary.{made_summary};

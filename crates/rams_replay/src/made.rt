@@ -2,7 +2,7 @@
 ghost use Rattle.std.specs.Prelude.{◌≡◌, ◌≤◌, ℕ, List, length, OnOk, IfOk};
 ghost use Rattle.std.specs.Io.KnownBytes.{Appends};
 ghost use Rattle.line_io.specs.Passes.{Passes};
-ghost use Rattle.rams_model.specs.declared.status.Status.TheVariants.{Done};
+ghost use Rattle.rams_model.specs.declared.Status.TheVariants.{Done};
 ghost use Rattle.generated.specs.summary.{made_summary};
 ghost use Rattle.trace_loop.specs.{IsStoppedByWrite, OnlyMemoryStops};
 

@@ -1,13 +1,13 @@
 //! A trace, line by line.
 ghost use Rattle.std.specs.Prelude.{◌≡◌, ◌<◌, ◌^◌, ℕ, true, IfOk, OnOk, IsSomeAnd, None, is_some, List};
-ghost use Rattle.server_hub.specs.declared.event.HubEvent.{HubEvent};
+ghost use Rattle.server_hub.specs.declared.HubEvent.{HubEvent};
 ghost use Rattle.server_hub.specs.{StandsFor, event_of, told as said};
 ghost use Rattle.server_hub.specs.Served.{Served};
 ghost use Rattle.rams_model.specs.Texts.{tick_of};
 ghost use Rattle.trace_text.specs.{shown, told, HasDigits, IsOther, IsSettled};
 ghost use Rattle.trace_loop.specs.trace_book.trace_serving.{Stage, opening, turn, after_line, counted, brought};
 ghost use Rattle.trace_loop.specs.{StandsSomewhere, CanWrite, ending};
-ghost use Rattle.trace_loop.specs.declared.turn.Turn.TheVariants.{GoesOn};
+ghost use Rattle.trace_loop.specs.declared.Turn.TheVariants.{GoesOn};
 ghost use Rattle.trace_loop.specs.trace_book.{run};
 ghost use Rattle.trace_loop.specs.head_loop.{CanOpen, OpensIn};
 ghost use Rattle.rams_replay.specs.{Stands, Comes, CountsOne, Tells, Took, SaidRender, told_text};

@@ -1,6 +1,6 @@
 //! The commands `serve` and `takeover`: a server over a wire, and how it ends.
 ghost use Rattle.std.specs.Prelude.{◌≡◌, ◌≤◌, false};
-ghost use Rattle.rams_model.specs.declared.status.Status.TheVariants.{BadTrace, ReadFault};
+ghost use Rattle.rams_model.specs.declared.Status.TheVariants.{BadTrace, ReadFault};
 ghost use Rattle.serve_loop.specs.{Given, HasRoom, IfBothTold, IsGiven, served_datagrams, served_text};
 ghost use Rattle.takeover.specs.takeover_loop.{HoldsItsLines, taken_datagrams, taken_text};
 ghost use Rattle.rams_replay.specs.{HasServed, HasTakenOver, IsCausedOverWire, IsOrLacksMemory, is_words, no_room};

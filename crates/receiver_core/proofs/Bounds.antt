@@ -1,7 +1,7 @@
 -- The numbers of a receiver go no further than by one for each packet that comes.
 use Rattle.std.proofs.Common.{◌≡◌, ℕ, ◌+◌, ◌≤◌, List, Option, Some, None, IfSome, option_map, refl, arith}
-use Rattle.rams_model.specs.declared.reception.MediaCame.{MediaCame}
-use Rattle.rams_model.specs.declared.reception.MediaCame.TheVariants.{Took, Behind, Beyond, Twice, BeforeFirst, Foreign, Bad}
+use Rattle.rams_model.specs.declared.MediaCame.{MediaCame}
+use Rattle.rams_model.specs.declared.MediaCame.TheVariants.{Took, Behind, Beyond, Twice, BeforeFirst, Foreign, Bad}
 use Rattle.rams_model.specs.Packets.{ahead}
 use Rattle.rams_model.specs.Receiver.{Piece, Playing, piece, nearest, came, kept, joining, join_kept, presented, past, after_presenting, playing_from, or_begun, first_number, arrived, arrived_by_multicast}
 use Rattle.rams_model.proofs.PieceCounts.{one_more, one_less}

@@ -1,9 +1,7 @@
 -- What a receiver is after a call, by what was got.
 use Rattle.std.proofs.Common.{◌≡◌, ℕ, List, Option, option_map, refl, ap, ◌∙◌}
-use Rattle.rams_model.specs.declared.message.Info.{Info}
-use Rattle.rams_model.specs.declared.reception.InfoCame.{InfoCame}
-use Rattle.rams_model.specs.declared.reception.MediaCame.{MediaCame}
-use Rattle.rams_model.specs.declared.reception.InfoCame.TheVariants.{Taken, Repeated, Updated, Ended, Refused, Foreign, Bad}
+use Rattle.rams_model.specs.declared.{Info.Info, InfoCame.InfoCame, MediaCame.MediaCame}
+use Rattle.rams_model.specs.declared.InfoCame.TheVariants.{Taken, Repeated, Updated, Ended, Refused, Foreign, Bad}
 use Rattle.rams_model.specs.Receiver.{Playing, after_presenting, or_begun, first_number, arrived, arrived_by_multicast, Told, informs, unread, Media, again, multicast, unfit, Reception, info_came, with_info, after_told, after_media, after_shown}
 use Rattle.receiver_core.specs.{Seen, with_got}
 

@@ -1,8 +1,8 @@
 -- What becomes of a packet, by the tests of the code.
 use Rattle.std.proofs.Common.{◌≡◌, ℕ, ◌+◌, ◌<◌, ◌≤◌, true, false, cond, List, ap, ◌∙◌, ltb, leb}
 use Rattle.std.proofs.lemmas.Bool.{cond-true, cond-false, le-ltb, lt-leb}
-use Rattle.rams_model.specs.declared.reception.MediaCame.{MediaCame}
-use Rattle.rams_model.specs.declared.reception.MediaCame.TheVariants.{Took, Behind, Beyond, Twice}
+use Rattle.rams_model.specs.declared.MediaCame.{MediaCame}
+use Rattle.rams_model.specs.declared.MediaCame.TheVariants.{Took, Behind, Beyond, Twice}
 use Rattle.rams_model.specs.Receiver.{Playing, piece, room, has_piece, with_piece, came, kept, with_arrival}
 
 -- a packet whose number has room

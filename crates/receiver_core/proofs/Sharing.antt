@@ -4,8 +4,8 @@ use Rattle.std.specs.Int.{w16, to_be_bytes}
 use Rattle.std.proofs.lemmas.Bool.{and_parts, and_from, eq-eqb, eqb-true, le-ltb}
 use Rattle.std.proofs.lemmas.List.{nil_from_length}
 use Rattle.std.proofs.lemmas.Nat.{from_be_bytes-to_be_bytes_2}
-use Rattle.rams_model.specs.declared.reception.MediaCame.TheVariants as came
-use Rattle.rams_model.specs.declared.reception.Tuned.{Tuned}
+use Rattle.rams_model.specs.declared.MediaCame.TheVariants as came
+use Rattle.rams_model.specs.declared.Tuned.{Tuned}
 use Rattle.rams_model.specs.Formats.{Packet, header, spelling, stripped, packet_at, original, original_number, IsPacket}
 use Rattle.rams_model.specs.Receiver.{Media, again, unfit, is_of, again_of, read_again, brought_again}
 use Rattle.rams_model.specs.Service.{sent_again}

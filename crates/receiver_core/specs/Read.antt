@@ -1,9 +1,6 @@
 -- What was read, as the definitions have it.
 use Rattle.std.specs.Prelude.{ℕ, Option, None, Result, Ok, Err}
-use Rattle.rams_model.specs.declared.message.Info.{Info}
-use Rattle.rams_model.specs.declared.reception.InfoCame.{InfoCame}
-use Rattle.rams_model.specs.declared.reception.MediaCame.{MediaCame}
-use Rattle.rams_model.specs.declared.reception.Tuned.{Tuned}
+use Rattle.rams_model.specs.declared.{Info.Info, InfoCame.InfoCame, MediaCame.MediaCame, Tuned.Tuned}
 use Rattle.rams_model.specs.Formats.{Packet, spelling, stripped, original, original_number}
 use Rattle.rams_model.specs.Receiver.{Told, informs, unread, Media, again, multicast, unfit, Reception, distance_from}
 

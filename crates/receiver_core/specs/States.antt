@@ -1,6 +1,6 @@
 -- What contracts see of a receiver.
 use Rattle.std.specs.Prelude.{ℕ, ◌+◌, ◌-◌, ◌<◌, ◌≤◌, ◌^◌, false, length, Option, None, Some, option_and_then}
-use Rattle.rams_model.specs.declared.reception.Tuned.{Tuned}
+use Rattle.rams_model.specs.declared.Tuned.{Tuned}
 use Rattle.rams_model.specs.Receiver.{Playing, Reception, nothing_got, nearest, joining}
 
 pub record Seen : Type 0 where

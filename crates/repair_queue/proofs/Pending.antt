@@ -4,8 +4,7 @@ use Rattle.std.specs.List.{list_any, filter, AllByRecursion as Each}
 use Rattle.std.proofs.lemmas.Bool.{cond_both}
 use Rattle.std.proofs.lemmas.Bool.Decides.{nat_tests}
 use Rattle.rams_model.specs.Service.{Wanted, wanted, is_wanted}
-use Rattle.repair_queue.specs.declared.wanted.TheConstants.{MOST_PENDING}
-use Rattle.repair_queue.specs.declared.wanted.Asked.TheVariants.{Queued}
+use Rattle.repair_queue.specs.declared.{wanted.TheConstants.MOST_PENDING, wanted.Asked.TheVariants.Queued}
 use Rattle.repair_queue.specs.{is_of, count_of, asked_of, unmarked, without, IsWithinLimits}
 
 module _ (p : Wanted → Bool) where

@@ -6,8 +6,7 @@ use Rattle.std.proofs.lemmas.List.{take-append-drop, get_or-drop, drop-set-lt, d
 use Rattle.std.proofs.lemmas.List.Elements.{filter-append}
 use Rattle.std.proofs.Math.Seq.{take-suc-set, take-add}
 use Rattle.rams_model.specs.Service.{Wanted, is_wanted}
-use Rattle.repair_queue.specs.declared.index.Index.{Index}
-use Rattle.repair_queue.specs.declared.index.Run.{Run}
+use Rattle.repair_queue.specs.declared.{index.Index.Index, index.Run.Run}
 use Rattle.repair_queue.specs.{all_of, is_of, unmarked, without, AreOnce, Indexes, Owes}
 use Rattle.repair_queue.proofs.Indexed.{filter_append, rest_is}
 

@@ -1,15 +1,10 @@
 -- What the index beside the list says of it.
 use Rattle.std.specs.Prelude.{◌≡◌, ℕ, ◌+◌, ◌≤◌, Bool, true, false, cond, ◌&&◌, nat_eq, ◌/◌, ◌%◌, List, length, filter, unwrap_or, slice_index_or}
-use Rattle.std.specs.declared.option.Option.{Option}
-use Rattle.std.specs.declared.option.Option.TheVariants.{None, Some}
+use Rattle.std.specs.declared.{option.Option.Option, option.Option.TheVariants.None, option.Option.TheVariants.Some}
 use Rattle.std.specs.List.{list_any}
 use Rattle.std.specs.HashMap.{HashMap, get}
 use Rattle.rams_model.specs.Service.{Wanted, is_wanted}
-use Rattle.repair_queue.specs.declared.block.Block.{Block}
-use Rattle.repair_queue.specs.declared.counts.Counts.{Counts}
-use Rattle.repair_queue.specs.declared.index.Index.{Index}
-use Rattle.repair_queue.specs.declared.index.Run.{Run}
-use Rattle.repair_queue.specs.declared.marks.Marks.{Marks}
+use Rattle.repair_queue.specs.declared.{block.Block.Block, counts.Counts.Counts, index.Index.Index, index.Run.Run, marks.Marks.Marks}
 use Rattle.repair_queue.specs.Queue.{count_of}
 
 -- a client and a number are the same

@@ -2,8 +2,7 @@
 use Rattle.std.specs.Prelude.{ℕ, ◌≤◌, nat_le, Bool, true, false, ◌==◌, not, if◌then◌else◌, List, [], ◌∷◌, ◌++◌, length, filter}
 use Rattle.std.specs.List.{list_any}
 use Rattle.rams_model.specs.Service.{Wanted, wanted, is_wanted}
-use Rattle.repair_queue.specs.declared.wanted.TheConstants.{MOST_PENDING}
-use Rattle.repair_queue.specs.declared.wanted.Asked.{Asked}
+use Rattle.repair_queue.specs.declared.{wanted.TheConstants.MOST_PENDING, wanted.Asked.Asked}
 use Rattle.repair_queue.specs.declared.wanted.Asked.TheVariants.{Queued, Already, ClientFull, QueueFull}
 
 -- the repair is this client's

@@ -2,12 +2,9 @@
 use Rattle.std.proofs.Common.{◌≡◌, ℕ, ◌<◌, ◌≤◌, false, leb, List, [], ◌∷◌, take, drop, Option, None, Some, option_to_list, Result, Ok, refl, sym, ap, subst, ◌∙◌, arith}
 use Rattle.std.proofs.lemmas.Bool.{le-leb}
 use Rattle.std.proofs.lemmas.Bool.Decides.{nat_tests}
-use Rattle.ram_io.specs.declared.failed.Failed.{Failed}
-use Rattle.ram_io.specs.declared.wire.Arrival.{Arrival}
-use Rattle.ram_io.specs.declared.wire.Incoming.{Incoming}
+use Rattle.ram_io.specs.declared.{Failed.Failed, Arrival.Arrival, Incoming.Incoming}
 use Rattle.ram_io.specs.{GivesNext, Outgoing, TakesNext, cut, later, next_answer, seen}
-use Rattle.server_hub.specs.declared.event.HubEvent.{HubEvent}
-use Rattle.server_hub.specs.declared.event.HubEvent.TheVariants.{Tick}
+use Rattle.server_hub.specs.declared.{HubEvent.HubEvent, HubEvent.TheVariants.Tick}
 use Rattle.server_hub.specs.Seen.{Seen}
 use Rattle.trace_loop.specs.journal_book.{heard, heard_from, next_moment, tick_at}
 use Rattle.serve_loop.specs.{Begun, Ready, GoesOn, IsBetween, AnswersFrom, next_events}

@@ -1,7 +1,7 @@
 -- Why an event stopped a server.
 use Rattle.std.proofs.Common.{ℕ, ◌≤◌, Result, Ok, Err, IfErr, arith}
-use Rattle.trace_loop.specs.declared.stop.Stop.{Stop}
-use Rattle.trace_loop.specs.declared.stop.Stop.TheVariants.{Memory, Read, Write, Wire}
+use Rattle.trace_loop.specs.declared.Stop.{Stop}
+use Rattle.trace_loop.specs.declared.Stop.TheVariants.{Memory, Read, Write, Wire}
 use Rattle.trace_loop.proofs.Reading.{rose_since}
 use Rattle.serve_loop.specs.{IsOutStop, IsWireStop, IsWriteStop, IsStoppedByWire, IsStoppedByWrite, IsStoppedOutside}
 

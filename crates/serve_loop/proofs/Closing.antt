@@ -7,20 +7,19 @@ use Rattle.std.proofs.KnownBytes.{Appends-trans}
 use Rattle.std.proofs.lemmas.List.Elements.{All-take}
 use Rattle.line_io.specs.Passes.{Passes}
 use Rattle.line_io.proofs.Passing.{Passes-none, Passes-then}
-use Rattle.rams_model.specs.declared.status.Status.{Status}
-use Rattle.rams_model.specs.declared.status.Status.TheVariants.{Done}
+use Rattle.rams_model.specs.declared.{Status.Status, Status.TheVariants.Done}
 use Rattle.rams_model.specs.Texts.{tick_of}
-use Rattle.ram_io.specs.declared.wire.Incoming.{Incoming}
+use Rattle.ram_io.specs.declared.Incoming.{Incoming}
 use Rattle.server_hub.specs.{StandsFor}
 use Rattle.server_hub.specs.Seen.{Seen}
 use Rattle.ram_io.specs.{Outgoing}
-use Rattle.server_hub.specs.declared.event.HubEvent.{HubEvent}
+use Rattle.server_hub.specs.declared.HubEvent.{HubEvent}
 use Rattle.server_hub.specs.Served.{Served}
 use Rattle.trace_loop.specs.trace_book.trace_serving.{Outcome, done, ended}
 use Rattle.trace_loop.specs.trace_book.{trace_text}
 use Rattle.trace_loop.specs.journal_book.{HasLine, IsJournal, event_lines, events_of, journal_of, replayed, sent_for, behind, FrontsReplay, HeadsOpenNewChannels, JournalsReplay, RunsWriteJournals}
-use Rattle.trace_loop.specs.declared.stop.Stop.{Stop}
-use Rattle.trace_loop.specs.declared.stop.Stop.TheVariants.{Memory, Read, Write, Wire}
+use Rattle.trace_loop.specs.declared.Stop.{Stop}
+use Rattle.trace_loop.specs.declared.Stop.TheVariants.{Memory, Read, Write, Wire}
 use Rattle.trace_loop.proofs.Reading.{passes_whole}
 use Rattle.trace_loop.proofs.journal_book.EventLines.{lines_append}
 use Rattle.serve_loop.specs.{Begun, Broken, Ending, EndsAs, Given, GoOut, HasEnded, HasRoom, HasStopped, IsBetween, IsHeadOf, OnlyMemoryStops, Room, Serving, Stopping, StopsIn, WaitsIn, datagrams_by, given_events, given_journal, head_end, head_stage, head_text, sent_by, served_datagrams, served_text, text_by}

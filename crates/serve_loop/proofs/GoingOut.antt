@@ -1,12 +1,12 @@
 -- How datagrams go out, one after another.
 use Rattle.std.proofs.Common.{Result, Ok, Err, ◌≡◌, ℕ, ◌+◌, ◌<◌, ◌≤◌, List, [], ◌∷◌, ◌++◌, length, get_or, drop, Option, None, Some, refl, sym, ap, ◌∙◌, subst, append_assoc, append-nil}
 use Rattle.std.proofs.lemmas.List.{drop_more, drop_all}
-use Rattle.rams_model.specs.declared.answer.Order.{Order}
+use Rattle.rams_model.specs.declared.Order.{Order}
 use Rattle.rams_model.specs.Service.{Settings}
 use Rattle.std.specs.Prelude.{IfSome}
-use Rattle.ram_io.specs.declared.failed.Failed.{Failed}
+use Rattle.ram_io.specs.declared.Failed.{Failed}
 use Rattle.ram_io.specs.{Outgoing, outgoing, SendsOne}
-use Rattle.server_hub.specs.declared.event.At.{At}
+use Rattle.server_hub.specs.declared.At.{At}
 use Rattle.serve_loop.specs.{GoOut, Sends, order_datagrams, at_datagrams, said_datagrams}
 
 -- nothing goes out

@@ -7,20 +7,18 @@ use Rattle.std.proofs.KnownBytes.{Appends-trans}
 use Rattle.std.proofs.lemmas.Bool.{eqb-true}
 use Rattle.line_io.specs.Passes.{Passes}
 use Rattle.line_io.proofs.Passing.{Passes-then}
-use Rattle.rams_model.specs.declared.answer.Order.{Order}
+use Rattle.rams_model.specs.declared.Order.{Order}
 use Rattle.rams_model.specs.Service.{Answered, Settings}
 use Rattle.ram_io.specs.{Outgoing}
-use Rattle.server_hub.specs.declared.event.At.{At}
-use Rattle.server_hub.specs.declared.event.HubAnswer.{HubAnswer}
-use Rattle.server_hub.specs.declared.event.HubEvent.{HubEvent}
+use Rattle.server_hub.specs.declared.{At.At, HubAnswer.HubAnswer, HubEvent.HubEvent}
 use Rattle.server_hub.specs.{StandsFor, settings_of, ids_of, after_event, Told, told, told_to, answers_said}
 use Rattle.server_hub.specs.Seen.{Seen}
 use Rattle.server_hub.proofs.Finding.{with_id}
 use Rattle.trace_loop.specs.trace_book.Stages.{settings_of as settings_all}
 use Rattle.trace_loop.specs.journal_book.{behind, datagrams_of, event_line, event_lines}
 use Rattle.trace_loop.proofs.journal_book.Served.{journal_grows}
-use Rattle.trace_loop.specs.declared.stop.Stop.{Stop}
-use Rattle.trace_loop.specs.declared.stop.Stop.TheVariants.{Memory, Read, Write, Wire}
+use Rattle.trace_loop.specs.declared.Stop.{Stop}
+use Rattle.trace_loop.specs.declared.Stop.TheVariants.{Memory, Read, Write, Wire}
 use Rattle.serve_loop.specs.{Begun, Ready, Serving, Broken, WaitsIn, sent_by, AnswersFrom, Sends, StopsIn, GoOut, order_datagrams, settled_datagrams, said_datagrams}
 use Rattle.serve_loop.proofs.GoingOut.{GoOut-then}
 use Rattle.trace_loop.proofs.head_loop.Channels.{settings_stand}

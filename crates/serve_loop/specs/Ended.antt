@@ -1,18 +1,17 @@
 -- What a server has written and sent when it ends.
 use Rattle.std.specs.Prelude.{◌≡◌, ℕ, ◌+◌, ◌≤◌, List, [], ◌++◌, drop, length, All, Option, Some, Result, Ok, Err, IfErr, MatchResult, codes}
 use Rattle.std.specs.Io.KnownBytes.{Appends}
-use Rattle.rams_model.specs.declared.status.Status.{Status}
-use Rattle.rams_model.specs.declared.status.Status.TheVariants.{Done, BadTrace}
+use Rattle.rams_model.specs.declared.{Status.Status, Status.TheVariants.Done, Status.TheVariants.BadTrace}
 use Rattle.rams_model.specs.Texts.{tick_of}
-use Rattle.ram_io.specs.declared.wire.Incoming.{Incoming}
+use Rattle.ram_io.specs.declared.Incoming.{Incoming}
 use Rattle.ram_io.specs.{Outgoing, Rose}
-use Rattle.server_hub.specs.declared.event.HubEvent.{HubEvent}
+use Rattle.server_hub.specs.declared.HubEvent.{HubEvent}
 use Rattle.trace_loop.specs.trace_book.trace_serving.{Outcome, done, ended}
 use Rattle.trace_loop.specs.trace_book.{first_line, trace_text}
 use Rattle.line_io.specs.Passes.{Passes}
 use Rattle.trace_loop.specs.journal_book.{CanArrive, IsJournal, event_lines, events_of, journal_of, replayed, sent_for, text_for}
-use Rattle.trace_loop.specs.declared.stop.Stop.{Stop}
-use Rattle.trace_loop.specs.declared.stop.Stop.TheVariants.{Memory, Read, Write, Wire}
+use Rattle.trace_loop.specs.declared.Stop.{Stop}
+use Rattle.trace_loop.specs.declared.Stop.TheVariants.{Memory, Read, Write, Wire}
 use Rattle.trace_loop.specs.head_loop.{head_end, head_stage, head_text}
 use Rattle.serve_loop.specs.Progress.{Begun, WaitsIn, sent_by}
 use Rattle.trace_loop.specs.{IsWriteStop}

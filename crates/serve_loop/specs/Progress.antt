@@ -1,16 +1,16 @@
 -- What the sink and the wire have while a server serves, and where it stops.
 use Rattle.std.specs.Prelude.{◌≡◌, ℕ, ◌+◌, ◌≤◌, List, length, option_to_list, ◌++◌, Option, Result, IfErr}
 use Rattle.std.specs.Io.KnownBytes.{Appends}
-use Rattle.ram_io.specs.declared.wire.Incoming.{Incoming}
+use Rattle.ram_io.specs.declared.Incoming.{Incoming}
 use Rattle.ram_io.specs.{Outgoing, Rose, cut, next_answer}
-use Rattle.server_hub.specs.declared.event.HubEvent.{HubEvent}
+use Rattle.server_hub.specs.declared.HubEvent.{HubEvent}
 use Rattle.server_hub.specs.{StandsFor}
 use Rattle.server_hub.specs.Seen.{Seen}
 use Rattle.server_hub.specs.Served.{Served}
 use Rattle.trace_loop.specs.journal_book.{AreApart, heard, behind, event_lines, sent_for}
 use Rattle.trace_loop.specs.head_loop.{numbers, AnswersFrom, StandsSomewhere}
-use Rattle.trace_loop.specs.declared.stop.Stop.{Stop}
-use Rattle.trace_loop.specs.declared.stop.Stop.TheVariants.{Memory, Read, Write, Wire}
+use Rattle.trace_loop.specs.declared.Stop.{Stop}
+use Rattle.trace_loop.specs.declared.Stop.TheVariants.{Memory, Read, Write, Wire}
 use Rattle.serve_loop.specs.Sending.{GoOut}
 
 -- With what a server began its turns: the live port of the first channel, the head and the channels that it opens, what the sink held in front of the head, and what the wire had sent.

@@ -1,11 +1,10 @@
 -- What goes out on a wire, and why a server stops.
 use Rattle.std.specs.Prelude.{◌≡◌, ℕ, ◌+◌, ◌==◌, ◌≤◌, List, [], ◌∷◌, ◌++◌, map, find, Option, None, Some, Result, IfErr, IfSome}
-use Rattle.rams_model.specs.declared.answer.Order.{Order}
+use Rattle.rams_model.specs.declared.Order.{Order}
 use Rattle.rams_model.specs.Service.{Answered, Settings, client_of, datagram}
 use Rattle.ram_io.specs.{Outgoing, outgoing, Rose}
-use Rattle.server_hub.specs.declared.event.At.{At}
-use Rattle.trace_loop.specs.declared.stop.Stop.{Stop}
-use Rattle.trace_loop.specs.declared.stop.Stop.TheVariants.{Memory, Wire}
+use Rattle.server_hub.specs.declared.At.{At}
+use Rattle.trace_loop.specs.declared.{Stop.Stop, Stop.TheVariants.Memory, Stop.TheVariants.Wire}
 
 -- these datagrams went out, where the wire tells them
 abbrev pub GoOut : Option (List Outgoing) → Option (List Outgoing) → List Outgoing → Type 0

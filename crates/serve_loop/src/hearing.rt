@@ -1,7 +1,7 @@
 //! One event of a server: its step, its line and its datagrams.
 ghost use Rattle.std.specs.Prelude.{◌≡◌, ◌+◌, ◌^◌, ◌<◌, ◌≤◌, ℕ, List, ◌∷◌, [], ◌++◌, IfErr, IfOk, OnOk, length, not, ◌==◌};
 ghost use Rattle.std.specs.List.{list_any};
-ghost use Rattle.server_hub.specs.declared.event.HubEvent.{HubEvent};
+ghost use Rattle.server_hub.specs.declared.HubEvent.{HubEvent};
 ghost use Rattle.server_hub.specs.{event_of};
 ghost use Rattle.trace_loop.specs.journal_book.{behind, datagrams_of, event_line};
 ghost use Rattle.serve_loop.specs.{Begun, Ready, Broken, GoesOn, HasRoom, IsStoppedOutside, OnlyMemoryStops, Room, StandsSomewhere};

@@ -2,11 +2,11 @@
 ghost use Rattle.std.specs.Prelude.{◌≡◌, ◌+◌, ◌≤◌, ℕ, List, [], ◌++◌, Err, Ok, IfErr, IfOk, OnOk, Some, drop, length, codes};
 ghost use Rattle.std.specs.Io.KnownBytes.{Appends};
 ghost use Rattle.line_io.specs.Passes.{Passes};
-ghost use Rattle.rams_model.specs.declared.status.Status.TheVariants.{BadTrace, Done};
+ghost use Rattle.rams_model.specs.declared.Status.TheVariants.{BadTrace, Done};
 ghost use Rattle.rams_model.specs.Texts.{refused_line};
-ghost use Rattle.ram_io.specs.declared.wire.Incoming.{Incoming};
+ghost use Rattle.ram_io.specs.declared.Incoming.{Incoming};
 ghost use Rattle.trace_loop.specs.journal_book.{event_lines, events_of, sent_for};
-ghost use Rattle.trace_loop.specs.declared.stop.Stop.TheVariants.{Read, Write};
+ghost use Rattle.trace_loop.specs.declared.Stop.TheVariants.{Read, Write};
 ghost use Rattle.serve_loop.specs.{Begun, Ending, EndsAs, Given, HasEnded, HasRoom, HasStopped, IsBetween, IsGiven, IsHeadOf, IsServeEnd, IsServer, IsStopped, IsStoppedByWrite, IsStoppedOutside, OnlyMemoryStops, Room, StandsSomewhere, Stopping, served_datagrams, served_text};
 
 use crate::head::read_head;

@@ -1,8 +1,8 @@
 //! The turns of a server.
 ghost use Rattle.std.specs.Prelude.{◌≡◌, ◌+◌, ◌^◌, ◌<◌, ◌≤◌, ℕ, List, [], ◌++◌, IfErr, IfOk, OnOk, Some, drop, length};
-ghost use Rattle.ram_io.specs.declared.wire.Incoming.{Incoming};
+ghost use Rattle.ram_io.specs.declared.Incoming.{Incoming};
 ghost use Rattle.ram_io.specs.{later};
-ghost use Rattle.server_hub.specs.declared.event.HubEvent.{HubEvent};
+ghost use Rattle.server_hub.specs.declared.HubEvent.{HubEvent};
 ghost use Rattle.trace_loop.specs.journal_book.{next_moment, tick_at, due_after, event_lines, events_of, sent_for, behind};
 ghost use Rattle.serve_loop.specs.{Begun, Broken, HasRoom, IsBetween, IsServer, IsStoppedOutside, OnlyMemoryStops, Room, Serving, next_events};
 

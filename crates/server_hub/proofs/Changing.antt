@@ -5,8 +5,7 @@ use Rattle.std.proofs.lemmas.Bool.{eq-eqb, ne_eqb}
 use Rattle.std.proofs.lemmas.List.Elements.{All-cons, All-set}
 use Rattle.std.proofs.Math.Seq.{map-set_same}
 use Rattle.std.proofs.lemmas.Option.{slice_get-map, slice_get_within, get_or_from_slice_get}
-use Rattle.rams_model.specs.declared.event.Event.{Event}
-use Rattle.rams_model.specs.declared.event.Event.TheVariants.{Tick}
+use Rattle.rams_model.specs.declared.{Event.Event, Event.TheVariants.Tick}
 use Rattle.rams_model.specs.Service.{Answered, Settings}
 use Rattle.server_hub.specs.session_core.Seen as cores
 use Rattle.server_hub.specs.declared.event.At.{At}

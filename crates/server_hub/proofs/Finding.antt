@@ -2,10 +2,9 @@
 use Rattle.std.proofs.Common.{◌≡◌, ◌≢◌, ℕ, zero, suc, Bool, true, false, cond, List, [], ◌∷◌, Option, Some, None, map, option_map, refl, sym, ◌∙◌, ap, subst, arith, eqb}
 use Rattle.std.specs.Prelude.{All, AllPairs, find, option_and_then, slice_get, ◌||◌}
 use Rattle.std.proofs.lemmas.Bool.{eq-eqb, ne_eqb}
-use Rattle.rams_model.specs.declared.event.Event.{Event}
+use Rattle.rams_model.specs.declared.{Event.Event, Held.Held}
 use Rattle.rams_model.specs.Service.{Settings, hold, history_of}
 use Rattle.rams_model.specs.Packets.{hi}
-use Rattle.rams_model.specs.declared.held.Held.{Held}
 use Rattle.channel_cache.specs.packet_ring.{packet_of}
 use Rattle.server_hub.specs.session_core.Seen as cores
 use Rattle.server_hub.specs.{id_of, channel_of, hi_of, held_of, ids_of, has_id, Serves}

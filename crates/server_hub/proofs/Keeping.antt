@@ -4,8 +4,7 @@ use Rattle.std.specs.Prelude.{All, AllPairs, map, option_map, slice_get}
 use Rattle.std.proofs.Math.Seq.{take-append_seam}
 use Rattle.std.proofs.lemmas.List.{length-map}
 use Rattle.std.proofs.lemmas.Option.{slice_get_within, slice_get-map, slice_get-get_or}
-use Rattle.rams_model.specs.declared.event.Event.{Event}
-use Rattle.rams_model.specs.declared.event.Event.TheVariants.{Tick}
+use Rattle.rams_model.specs.declared.{Event.Event, Event.TheVariants.Tick}
 use Rattle.rams_model.specs.Service.{Answered}
 use Rattle.server_hub.specs.session_core.Seen as cores
 use Rattle.server_hub.specs.declared.event.At.{At}

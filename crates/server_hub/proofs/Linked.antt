@@ -3,13 +3,10 @@ use Rattle.std.proofs.Common.{◌≡◌, ◌≢◌, ℕ, ◌+◌, ◌*◌, ◌�
 use Rattle.std.specs.Prelude.{◌==◌, not, if◌then◌else◌, sum_by, Result, Ok, Err}
 use Rattle.std.proofs.lemmas.Bool.{true≢false, cond_both}
 use Rattle.std.proofs.lemmas.List.Sums.{sum_by-cons}
-use Rattle.rams_model.specs.declared.event.Event.{Event}
-use Rattle.rams_model.specs.declared.channel.Channel.{Channel}
-use Rattle.rams_model.specs.declared.fault.FrameFault.{FrameFault}
-use Rattle.rams_model.specs.declared.fault.RtpFault.{RtpFault}
-use Rattle.rams_model.specs.declared.event.Event.TheVariants as event
+use Rattle.rams_model.specs.declared.{Event.Event, Channel.Channel, FrameFault.FrameFault, RtpFault.RtpFault}
+use Rattle.rams_model.specs.declared.Event.TheVariants as event
 use Rattle.rams_model.specs.Service.{Settings, Heard, live, dropped, tick, arrival, heard_packet, heard_feedback, heard_of, began, told, noted, History, channel_left, newest_orders, history_of}
-use Rattle.rams_model.specs.declared.note.LiveNote.TheVariants.{TooBig, ForeignSsrc, ForeignType}
+use Rattle.rams_model.specs.declared.LiveNote.TheVariants.{TooBig, ForeignSsrc, ForeignType}
 use Rattle.rams_model.specs.Formats.{Packet, packet_at, Framed, framed}
 use Rattle.rams_model.specs.Laws.{NoneIs, is_event, is_sending, sizes_sent, ticks_begun}
 use Rattle.rams_model.proofs.Legal.{is_tick, IsLegal}

@@ -4,13 +4,9 @@ use Rattle.std.specs.Prelude.{sum_by}
 use Rattle.std.specs.Option.{option_to_list}
 use Rattle.std.proofs.lemmas.Bool.{true≢false}
 use Rattle.std.proofs.lemmas.List.Sums.{sum_by-append}
-use Rattle.rams_model.specs.declared.answer.Order.{Order}
-use Rattle.rams_model.specs.declared.held.Held.{Held}
-use Rattle.rams_model.specs.declared.message.Info.{Info}
-use Rattle.rams_model.specs.declared.note.Cause.{Cause}
-use Rattle.rams_model.specs.declared.note.Note.{Note}
-use Rattle.rams_model.specs.declared.answer.Order.TheVariants as order
-use Rattle.rams_model.specs.declared.note.Note.TheVariants as note
+use Rattle.rams_model.specs.declared.{Order.Order, Held.Held, Info.Info, Cause.Cause, Note.Note}
+use Rattle.rams_model.specs.declared.Order.TheVariants as order
+use Rattle.rams_model.specs.declared.Note.TheVariants as note
 use Rattle.rams_model.specs.Service.{Settings, end_info, Heard, began, told, noted, History, Burst, size_of, open_burst, order_of, again_order, update_order, end_order, packet_order, newest_orders}
 use Rattle.rams_model.specs.Laws.{NoneIs, is_event, is_sending, sizes_sent}
 use Rattle.rams_model.proofs.Legal.{Allows, IsLegal}

@@ -2,7 +2,7 @@
 use Rattle.std.proofs.Common.{◌≡◌, ℕ, ◌<◌, List, ◌∷◌, length, refl, ◌∙◌, subst, get_or}
 use Rattle.std.specs.Prelude.{IfOk, Result, Ok, Err, slice_set}
 use Rattle.std.proofs.lemmas.Option.{slice_get-get_or}
-use Rattle.rams_model.specs.declared.event.Event.{Event}
+use Rattle.rams_model.specs.declared.Event.{Event}
 use Rattle.rams_model.specs.Service.{Answered, Settings, answer}
 use Rattle.server_hub.specs.session_core.Seen as cores
 use Rattle.server_hub.specs.{StepsAt}

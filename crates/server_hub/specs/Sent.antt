@@ -1,12 +1,9 @@
 -- What the channels of a server send together, and what the link gives them.
 use Rattle.std.specs.Prelude.{◌≡◌, ◌≢◌, ℕ, ◌+◌, ◌*◌, ◌≤◌, min, List, [], ◌∷◌, map, sum_by}
-use Rattle.rams_model.specs.declared.answer.Order.{Order}
-use Rattle.rams_model.specs.declared.answer.Order.TheVariants.{Rtx, Info}
+use Rattle.rams_model.specs.declared.{Order.Order, Order.TheVariants.Rtx, Order.TheVariants.Info}
 use Rattle.rams_model.specs.Service.{Answered, channel_left, history_of}
 use Rattle.rams_model.specs.Formats.{wire_size}
-use Rattle.server_hub.specs.declared.event.At.{At}
-use Rattle.server_hub.specs.declared.event.HubEvent.{HubEvent}
-use Rattle.server_hub.specs.declared.event.HubEvent.TheVariants.{Tick}
+use Rattle.server_hub.specs.declared.{event.At.At, event.HubEvent.HubEvent, event.HubEvent.TheVariants.Tick}
 use Rattle.server_hub.specs.Served.{Served, Told, no_channel, says, told_to, answers_to_tick, after_event}
 use Rattle.server_hub.specs.Seen.{shares_of}
 

@@ -1,17 +1,13 @@
 -- The channels of a server: what came to each, and what they answer.
 use Rattle.std.specs.Prelude.{ℕ, ◌==◌, if◌then◌else◌, List, [], ◌∷◌, map, find, Option, Some, None, option_map}
-use Rattle.rams_model.specs.declared.event.Event.{Event}
-use Rattle.rams_model.specs.declared.event.Event.TheVariants as event
+use Rattle.rams_model.specs.declared.{Event.Event, Held.Held}
+use Rattle.rams_model.specs.declared.Event.TheVariants as event
 use Rattle.rams_model.specs.Service.{Answered, Settings, hold, history_of, answer}
 use Rattle.rams_model.specs.Packets.{hi}
-use Rattle.rams_model.specs.declared.held.Held.{Held}
 use Rattle.channel_cache.specs.packet_ring.{packet_of}
-use Rattle.server_hub.specs.declared.event.At.{At}
-use Rattle.server_hub.specs.declared.event.Heard.{Heard}
+use Rattle.server_hub.specs.declared.{event.At.At, event.Heard.Heard, event.HubAnswer.HubAnswer, event.HubEvent.HubEvent}
 use Rattle.server_hub.specs.declared.event.Heard.TheVariants as heard
-use Rattle.server_hub.specs.declared.event.HubAnswer.{HubAnswer}
 use Rattle.server_hub.specs.declared.event.HubAnswer.TheVariants as answers
-use Rattle.server_hub.specs.declared.event.HubEvent.{HubEvent}
 use Rattle.server_hub.specs.declared.event.HubEvent.TheVariants.{Live, Feedback, Tick}
 
 -- A channel: its settings, and what came to it.

@@ -1,7 +1,6 @@
 -- What an event makes of the cores.
 use Rattle.std.specs.Prelude.{◌≡◌, ℕ, List, [], ◌∷◌, Some, slice_get, slice_set}
-use Rattle.rams_model.specs.declared.event.Event.{Event}
-use Rattle.rams_model.specs.declared.event.Event.TheVariants.{Tick}
+use Rattle.rams_model.specs.declared.{Event.Event, Event.TheVariants.Tick}
 use Rattle.rams_model.specs.Service.{Answered}
 use Rattle.server_hub.specs.session_core.Seen as cores
 use Rattle.server_hub.specs.declared.event.At.{At}

@@ -1,10 +1,8 @@
 -- A worked example: two channels, events of each, of another number, and a tick. The checker computes it.
 use Rattle.std.specs.Prelude.{◌≡◌, ℕ, true, List, [], ◌∷◌, map, Option, Some, None}
-use Rattle.rams_model.specs.declared.event.Event.{Event}
-use Rattle.rams_model.specs.declared.note.Note.{Note}
-use Rattle.rams_model.specs.declared.event.Event.TheVariants as event
-use Rattle.rams_model.specs.declared.note.LiveNote.TheVariants.{Took}
-use Rattle.rams_model.specs.declared.note.Note.TheVariants.{Live as LiveNoted, Accept, Burst}
+use Rattle.rams_model.specs.declared.{Event.Event, Note.Note, LiveNote.TheVariants.Took}
+use Rattle.rams_model.specs.declared.Event.TheVariants as event
+use Rattle.rams_model.specs.declared.Note.TheVariants.{Live as LiveNoted, Accept, Burst}
 use Rattle.rams_model.specs.Service.{settings}
 use Rattle.rams_model.specs.Worked.Setting.{channel, packet}
 use Rattle.server_hub.specs.declared.event.HubEvent.{HubEvent}

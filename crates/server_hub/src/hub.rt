@@ -43,7 +43,7 @@ impl Model for Hub {
 
 impl Hub {
     ghost use Rattle.std.specs.Prelude.{◌≡◌, ◌+◌, ◌^◌, ◌<◌, ◌≤◌, ◌++◌, ◌==◌, List, [], ◌∷◌, Err, IfNone, IfOk, IfSome, IsOkUnless, OnErr, OnOk, find, is_some, option_and_then, option_copied, option_map};
-    ghost use Rattle.rams_model.specs.declared.event.Event.TheVariants as events;
+    ghost use Rattle.rams_model.specs.declared.Event.TheVariants as events;
     ghost use Rattle.server_hub.specs.declared.event.AddFault.TheVariants as faults;
     ghost use Rattle.server_hub.specs.{served, hi_of, held_of, channel_of, answer_of, after_event_of, answers_to_tick, after_tick, event_of, told, told_to, after_event, AllKeepJoinTimes, IsHub, StandsFor, KeepsSettings, AddsSettings, new_hub, settings_of, has_id, refused};
     ghost use Rattle.server_hub.specs.Served.{Served};

@@ -1,6 +1,6 @@
 //! An event of one channel.
 ghost use Rattle.std.specs.Prelude.{◌≡◌, ◌^◌, ◌<◌, All, IfOk, OnErr, length};
-ghost use Rattle.rams_model.specs.declared.event.Event.TheVariants.{Live, Feedback};
+ghost use Rattle.rams_model.specs.declared.Event.TheVariants.{Live, Feedback};
 ghost use Rattle.server_hub.specs.session_core.{StandsForFewer};
 ghost use Rattle.server_hub.specs.{StepsAt};
 

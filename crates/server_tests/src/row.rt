@@ -1,6 +1,6 @@
 //! What a row of a table is, and how it is run.
 ghost use Rattle.std.specs.Prelude.{◌+◌, ◌<◌, ◌^◌, List, [], ◌∷◌, IfOk, OnOk, length};
-ghost use Rattle.rams_model.specs.declared.event.Event.{Event};
+ghost use Rattle.rams_model.specs.declared.Event.{Event};
 ghost use Rattle.server_hub.specs.session_core.{StandsFor, StandsForFewer};
 
 use crate::fixtures::REQUEST;

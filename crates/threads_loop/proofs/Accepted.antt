@@ -2,10 +2,8 @@
 use Rattle.std.proofs.Common.{◌≡◌, ℕ, Bool, true, false, cond, not, ◌&&◌, ◌||◌, eqb, ltb, List, [], ◌∷◌, map, length, Some, Result, Ok, Err, refl, sym, ap, subst, ◌∙◌}
 use Rattle.std.specs.List.{list_any}
 use Rattle.std.proofs.lemmas.Bool.{cond_both, and_parts, not-false, eqb-true}
-use Rattle.rams_model.specs.declared.fault.LineFault.{LineFault}
-use Rattle.rams_model.specs.declared.fault.LineFault.TheVariants.{Order, Range}
-use Rattle.rams_model.specs.declared.mode.Mode.{Mode}
-use Rattle.rams_model.specs.declared.mode.Mode.TheVariants.{Threads}
+use Rattle.rams_model.specs.declared.{LineFault.LineFault, LineFault.TheVariants.Order, LineFault.TheVariants.Range, Mode.Mode}
+use Rattle.rams_model.specs.declared.Mode.TheVariants.{Threads}
 use Rattle.rams_model.specs.Service.{Settings}
 use Rattle.rams_model.specs.Texts.{TraceLine, line_in_range, line_of, line_at, ranged, Reached, Claim, is_spelled, may_come, line_is_served, is_served, has_channel, has_one_channel, with_line, accepted, with_reached, judged_line, judged}
 use Rattle.server_hub.specs.Served.{Served}

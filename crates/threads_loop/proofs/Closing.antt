@@ -1,9 +1,8 @@
 -- How a trace for threads ends, by what was read of it.
 use Rattle.std.proofs.Common.{◌≡◌, ℕ, List, Option, Some, None, Result, Ok, Err, IfErr, sym, subst}
 use Rattle.std.specs.Prelude.{◌⊎◌, IfOk, OnOk}
-use Rattle.rams_model.specs.declared.status.Status.{Status}
-use Rattle.rams_model.specs.declared.status.Status.TheVariants.{Done}
-use Rattle.trace_loop.specs.declared.stop.Stop.{Stop}
+use Rattle.rams_model.specs.declared.{Status.Status, Status.TheVariants.Done}
+use Rattle.trace_loop.specs.declared.Stop.{Stop}
 use Rattle.trace_loop.specs.{IfTold, OnlyMemoryStops}
 use Rattle.threads_loop.specs.declared.dealing.Dealt.{Dealt}
 use Rattle.threads_loop.specs.{IsReadOf, HasEnded, HasStopped, HasRoomFor}

@@ -3,16 +3,13 @@ use Rattle.std.proofs.Common.{◌≡◌, ℕ, ◌+◌, Bool, true, false, cond, 
 use Rattle.std.specs.Prelude.{◌⊎◌, ◌==◌, sum_by}
 use Rattle.std.proofs.lemmas.Bool.{and_parts, lt-ltb, le-leb}
 use Rattle.std.proofs.lemmas.List.{map-append}
-use Rattle.rams_model.specs.declared.channel.Channel.{Channel}
-use Rattle.rams_model.specs.declared.event.Event.{Event}
-use Rattle.rams_model.specs.declared.event.Event.TheVariants as event
-use Rattle.rams_model.specs.declared.fault.LineFault.{LineFault}
-use Rattle.rams_model.specs.declared.mode.Mode.{Mode}
-use Rattle.rams_model.specs.declared.mode.Mode.TheVariants.{Threads, Serve}
+use Rattle.rams_model.specs.declared.{Channel.Channel, Event.Event, LineFault.LineFault, Mode.Mode}
+use Rattle.rams_model.specs.declared.Mode.TheVariants.{Threads, Serve}
+use Rattle.rams_model.specs.declared.Event.TheVariants as event
 use Rattle.rams_model.specs.Service.{settings}
 use Rattle.rams_model.specs.Texts.{TraceLine, head_line, channel_line, live_line, feedback_line, tick_line, end_line, tune_line, give_line, mcast_line, ask_line, drop_line, line_of, Head, Reached, tick_of, version_of, bytes_in, has_one_channel, has_channel, has_receivers, may_come, with_channel, with_line, judged}
-use Rattle.server_hub.specs.declared.event.HubEvent.{HubEvent}
-use Rattle.server_hub.specs.declared.event.HubEvent.TheVariants.{Live, Feedback, Tick}
+use Rattle.server_hub.specs.declared.HubEvent.{HubEvent}
+use Rattle.server_hub.specs.declared.HubEvent.TheVariants.{Live, Feedback, Tick}
 use Rattle.server_hub.specs.{served, id_of, with_event, after_event, after_event_of, after_tick}
 use Rattle.server_hub.specs.Served.{Served}
 use Rattle.trace_loop.specs.trace_book.trace_serving.{Stage, Outcome, Turn, goes_on, ends, too_long, turn, brought, event_at, eventless, after_line, after_judging, counted}

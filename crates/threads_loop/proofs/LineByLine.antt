@@ -5,12 +5,10 @@ use Rattle.std.specs.Io.KnownBytes.{prepend_known}
 use Rattle.std.specs.List.{flat_map}
 use Rattle.std.proofs.lemmas.Bool.{and_parts}
 use Rattle.line_io.specs.{HasNoFeed, TakesNext}
-use Rattle.line_io.specs.declared.reader.Next.TheVariants.{Line, Long}
-use Rattle.rams_model.specs.declared.fault.LineFault.{LineFault}
-use Rattle.rams_model.specs.declared.fault.LineFault.TheVariants.{Form}
-use Rattle.rams_model.specs.declared.mode.Mode.TheVariants.{Serve}
+use Rattle.line_io.specs.declared.Next.TheVariants.{Line, Long}
+use Rattle.rams_model.specs.declared.{LineFault.LineFault, LineFault.TheVariants.Form, Mode.TheVariants.Serve}
 use Rattle.rams_model.specs.Texts.{TraceLine, Reached, judged, lines_of, may_come, end_line}
-use Rattle.server_hub.specs.declared.event.HubEvent.{HubEvent}
+use Rattle.server_hub.specs.declared.HubEvent.{HubEvent}
 use Rattle.server_hub.specs.Served.{Served}
 use Rattle.trace_loop.specs.trace_book.trace_serving.{Stage, Outcome, Turn, goes_on, ends, opening, done, refused, too_long, turn, after_line, after_judging, text_from, served_text, stage_from, last_stage, taken_from, brought, event_at}
 use Rattle.trace_loop.specs.trace_book.{run, new_channels}

@@ -2,14 +2,13 @@
 use Rattle.std.proofs.Common.{◌≡◌, ℕ, ◌+◌, ◌≤◌, ◌<◌, List, [], ◌++◌, get_or, map, length, drop, codes, sym, ap, ◌∙◌, arith}
 use Rattle.std.specs.Global.{Vec}
 use Rattle.std.proofs.lemmas.List.{drop_more, drop_all, get_or-map, length-map}
-use Rattle.rams_model.specs.declared.octets.Octets.{Octets}
+use Rattle.rams_model.specs.declared.Octets.{Octets}
 use Rattle.rams_model.specs.Service.{Settings}
-use Rattle.channel_book.specs.declared.entry.Entry.{Entry}
+use Rattle.channel_book.specs.declared.Entry.{Entry}
 use Rattle.threads_loop.specs.session_worker.live_writer.{datagrams_of}
 use Rattle.threads_loop.specs.session_worker.{answered_with}
 use Rattle.trace_loop.specs.trace_book.trace_serving.{done}
-use Rattle.threads_loop.specs.declared.writing.Part.{Part}
-use Rattle.threads_loop.specs.declared.writing.Part.TheVariants.{Trace, Book}
+use Rattle.threads_loop.specs.declared.{writing.Part.Part, writing.Part.TheVariants.Trace, writing.Part.TheVariants.Book}
 use Rattle.threads_loop.specs.{piece_text, part_text}
 
 -- ---- the entries of a history

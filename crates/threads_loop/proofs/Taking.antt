@@ -4,23 +4,19 @@ use Rattle.std.specs.Prelude.{◌==◌, if◌then◌else◌, slice_index_or}
 use Rattle.std.proofs.lemmas.Bool.{and_parts, lt-ltb, le-ltb}
 use Rattle.std.proofs.lemmas.List.{reverse-append}
 use Rattle.std.proofs.lemmas.List.Elements.{filter-append}
-use Rattle.rams_model.specs.declared.channel.Channel.{Channel}
-use Rattle.rams_model.specs.declared.event.Event.{Event}
-use Rattle.rams_model.specs.declared.event.Event.TheVariants as event
-use Rattle.rams_model.specs.declared.fault.LineFault.{LineFault}
-use Rattle.rams_model.specs.declared.mode.Mode.{Mode}
-use Rattle.rams_model.specs.declared.mode.Mode.TheVariants.{Threads}
+use Rattle.rams_model.specs.declared.{Channel.Channel, Event.Event, LineFault.LineFault, Mode.Mode, Mode.TheVariants.Threads}
+use Rattle.rams_model.specs.declared.Event.TheVariants as event
 use Rattle.rams_model.specs.Service.{Settings, settings}
 use Rattle.rams_model.specs.Texts.{TraceLine, head_line, channel_line, live_line, feedback_line, tick_line, end_line, Claim, Reached, tick_of, has_channel, has_one_channel, has_events, is_served, may_come, with_line, is_hex, is_spelled, bytes_in, hex_word}
-use Rattle.server_hub.specs.declared.event.HubEvent.TheVariants.{Live, Feedback}
+use Rattle.server_hub.specs.declared.HubEvent.TheVariants.{Live, Feedback}
 use Rattle.server_hub.specs.{served, after_event}
 use Rattle.server_hub.specs.Served.{Served}
 use Rattle.trace_loop.specs.trace_book.trace_serving.{Stage, claim_of, after_line, brought}
 use Rattle.trace_loop.proofs.trace_book.trace_serving.Judged.{channel_so, claim}
 use Rattle.trace_loop.specs.trace_book.{settings_of}
-use Rattle.trace_text.specs.declared.line.Line.{Line}
+use Rattle.trace_text.specs.declared.Line.{Line}
 use Rattle.trace_text.specs.{shown, IsOther}
-use Rattle.trace_text.specs.declared.line.Line.TheVariants as line
+use Rattle.trace_text.specs.declared.Line.TheVariants as line
 use Rattle.trace_loop.specs.journal_book.{HasLine}
 use Rattle.threads_loop.specs.declared.dealing.Dealt.{Dealt}
 use Rattle.trace_loop.specs.declared.whole_trace.Does.{Does}

@@ -1,8 +1,6 @@
 -- What may come of a trace for threads.
 use Rattle.std.specs.Prelude.{◌≡◌, ℕ, List, [], ◌∷◌, ◌++◌, map, reverse, Option}
-use Rattle.rams_model.specs.declared.event.Event.{Event}
-use Rattle.rams_model.specs.declared.status.Status.{Status}
-use Rattle.rams_model.specs.declared.status.Status.TheVariants.{Done}
+use Rattle.rams_model.specs.declared.{Event.Event, Status.Status, Status.TheVariants.Done}
 use Rattle.rams_model.specs.Service.{Settings}
 use Rattle.server_hub.specs.{served}
 use Rattle.trace_loop.specs.{HasEndedSo, HasStoppedSo, HasRoomSo}

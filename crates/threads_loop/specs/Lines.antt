@@ -1,11 +1,10 @@
 -- What the lines of a trace for threads leave, one after another.
 use Rattle.std.specs.Prelude.{◌≡◌, ℕ, ◌+◌, ◌<◌, ◌≤◌, ◌==◌, if◌then◌else◌, true, List, [], ◌∷◌, ◌++◌, map, reverse, length, slice_index_or, Option, None, Some, Ok}
 use Rattle.std.specs.List.{AllByRecursion as Each}
-use Rattle.rams_model.specs.declared.event.Event.{Event}
-use Rattle.rams_model.specs.declared.mode.Mode.TheVariants.{Threads}
+use Rattle.rams_model.specs.declared.{Event.Event, Mode.TheVariants.Threads}
 use Rattle.rams_model.specs.Service.{Settings}
 use Rattle.rams_model.specs.Texts.{TraceLine, end_line, judged, may_come}
-use Rattle.server_hub.specs.declared.event.HubEvent.{HubEvent}
+use Rattle.server_hub.specs.declared.HubEvent.{HubEvent}
 use Rattle.server_hub.specs.{served}
 use Rattle.server_hub.specs.Served.{Served}
 use Rattle.trace_loop.specs.trace_book.trace_serving.{Stage, Turn, goes_on, ends, done, refused, too_long, claim_of}

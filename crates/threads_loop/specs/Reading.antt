@@ -8,9 +8,8 @@ use Rattle.trace_loop.specs.trace_book.trace_serving.{Stage, goes_on, done, refu
 use Rattle.trace_loop.specs.trace_book.{new_channels}
 use Rattle.trace_loop.specs.journal_book.{Opens}
 use Rattle.threads_loop.specs.declared.dealing.Dealt.{Dealt}
-use Rattle.trace_loop.specs.declared.whole_trace.Does.{Does}
+use Rattle.trace_loop.specs.declared.{whole_trace.Does.Does, whole_trace.ReadTrace.ReadTrace}
 use Rattle.trace_loop.specs.declared.whole_trace.Does.TheVariants.{GoesOn, Ends, Refused, TooLong}
-use Rattle.trace_loop.specs.declared.whole_trace.ReadTrace.{ReadTrace}
 use Rattle.trace_loop.specs.declared.whole_trace.ReadTrace.TheVariants as read
 use Rattle.threads_loop.specs.Dealing.{threads, head_part, head_lines}
 use Rattle.threads_loop.specs.Lines.{HasDealt, HasDealtBy}

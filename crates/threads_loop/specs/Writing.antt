@@ -2,11 +2,10 @@
 use Rattle.std.specs.Prelude.{ℕ, ◌+◌, List, [], ◌∷◌, ◌++◌, length, codes}
 use Rattle.rams_model.specs.Service.{Settings}
 use Rattle.rams_model.specs.Texts.{answer_text}
-use Rattle.channel_book.specs.declared.entry.Entry.{Entry}
+use Rattle.channel_book.specs.declared.Entry.{Entry}
 use Rattle.trace_loop.specs.trace_book.trace_serving.{done}
 use Rattle.trace_loop.specs.journal_book.{event_line}
-use Rattle.threads_loop.specs.declared.writing.Part.{Part}
-use Rattle.threads_loop.specs.declared.writing.Part.TheVariants.{Trace, Book}
+use Rattle.threads_loop.specs.declared.{writing.Part.Part, writing.Part.TheVariants.Trace, writing.Part.TheVariants.Book}
 use Rattle.threads_loop.specs.Dealing.{hub_event}
 
 -- what is written for the entry of the event of this number

@@ -1,9 +1,9 @@
 //! The command for threads, from the source's bytes to the sink's.
 ghost use Rattle.std.specs.Prelude.{◌≡◌, ◌⊎◌, ◌<◌, ◌≤◌, ℕ, List, Err, IfErr, IfOk, OnOk, is_some, true};
-ghost use Rattle.rams_model.specs.declared.status.Status.TheVariants.{Done};
+ghost use Rattle.rams_model.specs.declared.Status.TheVariants.{Done};
 ghost use Rattle.server_hub.specs.Served.{Served};
 ghost use Rattle.trace_loop.specs.trace_book.trace_serving.{Stage};
-ghost use Rattle.trace_loop.specs.declared.stop.Stop.TheVariants.{Read};
+ghost use Rattle.trace_loop.specs.declared.Stop.TheVariants.{Read};
 ghost use Rattle.trace_loop.specs.{IfTold, IsEnd, IsStopped, IsStoppedByWrite, OnlyMemoryStops};
 ghost use Rattle.threads_loop.specs.{HasDealt, HasEnded, HasRoomFor, HasStopped, IsReadOf};
 

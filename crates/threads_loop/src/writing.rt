@@ -2,7 +2,7 @@
 ghost use Rattle.std.specs.Prelude.{◌≡◌, ◌+◌, ◌++◌, ℕ, List, [], map, IfErr, IfOk, OnOk, length};
 ghost use Rattle.std.specs.Io.KnownBytes.{Appends};
 ghost use Rattle.line_io.specs.Passes.{Passes};
-ghost use Rattle.rams_model.specs.declared.status.Status.TheVariants.{Done};
+ghost use Rattle.rams_model.specs.declared.Status.TheVariants.{Done};
 ghost use Rattle.threads_loop.specs.session_worker.live_writer.{datagrams_of};
 ghost use Rattle.threads_loop.specs.session_worker.{answered_with};
 ghost use Rattle.trace_loop.specs.trace_book.trace_serving.{done};

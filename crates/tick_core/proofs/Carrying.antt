@@ -1,7 +1,7 @@
 -- The notes of a plan are carried out, one after another.
 use Rattle.std.proofs.Common.{◌≡◌, ℕ, ◌+◌, ◌<◌, ◌≤◌, List, length, get_or, drop, ap, sym, ◌∙◌, subst}
 use Rattle.std.proofs.lemmas.List.{drop_more, drop_all}
-use Rattle.rams_model.specs.declared.note.Note.{Note}
+use Rattle.rams_model.specs.declared.Note.{Note}
 use Rattle.rams_model.specs.Service.{Settings}
 use Rattle.tick_core.specs.{MayCommit, first_size, sizes_behind, with_sized, with_all_sized, MayCommitSized}
 use Rattle.tick_core.specs.Committed.{Committed}

@@ -5,11 +5,8 @@ use Rattle.std.specs.Map.{keys_of}
 use Rattle.std.proofs.lemmas.Bool.{cond-true, cond-false}
 use Rattle.std.proofs.lemmas.List.Folds.{list_any-append}
 use Rattle.std.proofs.lemmas.List.{length-map}
-use Rattle.rams_model.specs.declared.event.Event.{Event}
-use Rattle.rams_model.specs.declared.held.Held.{Held}
-use Rattle.rams_model.specs.declared.note.Note.{Note}
-use Rattle.rams_model.specs.declared.event.Event.TheVariants.{Tick}
-use Rattle.rams_model.specs.declared.note.Note.TheVariants.{Burst as BurstNote, Repair, Gone, End, Forgot}
+use Rattle.rams_model.specs.declared.{Event.Event, Held.Held, Note.Note, Event.TheVariants.Tick}
+use Rattle.rams_model.specs.declared.Note.TheVariants.{Burst as BurstNote, Repair, Gone, End, Forgot}
 use Rattle.rams_model.specs.Service.{Settings, tick, heard_of, began, noted, History, arrivals, hold, known, is_among, sendings, ssrc, in_tick, open_burst, Wanted, pending, idle, channel_left, all_served, all_repaired, all_forgotten, after_tick, newest_notes, Answered, after_hearing, history_of}
 use Rattle.rams_model.specs.Packets.{Arrival, hi, stream_of}
 use Rattle.rams_model.specs.Packets.Source as sources
@@ -17,12 +14,11 @@ use Rattle.rams_model.specs.Service.Bursts as model
 use Rattle.rams_model.proofs.Newest.{notes_behind}
 use Rattle.reckoning.specs.link_budget.{amounts}
 use Rattle.reckoning.specs.link_budget.Amounts.{Amounts}
-use Rattle.client_table.specs.declared.entry.Burst.{Burst}
-use Rattle.client_table.specs.declared.entry.Entry.{Entry}
+use Rattle.client_table.specs.declared.{Burst.Burst, Entry.Entry}
 use Rattle.client_table.specs.{entry_of}
 use Rattle.client_table.specs.Clients.{Clients}
 use Rattle.repair_queue.specs.{unmarked}
-use Rattle.channel_parts.specs.declared.parts.Parts.{Parts}
+use Rattle.channel_parts.specs.declared.Parts.{Parts}
 use Rattle.channel_parts.specs.{burst_kept, IsEntry, IsTable, StandsFor}
 use Rattle.channel_parts.proofs.Facts.{known_clients_are_idle_for_less, opened_are_the_known_with_bursts, only_known_clients_have_bursts, repairs_are_of_known_clients, events_reserve_nothing}
 use Rattle.channel_parts.proofs.Ordered.{known_rise}

@@ -12,9 +12,9 @@ use Rattle.std.proofs.lemmas.List.Elements.{All-head, All-tail}
 use Rattle.std.proofs.lemmas.List.Kept.{IsStrictlySortedBy-filter}
 use Rattle.std.proofs.lemmas.Map.Lookups.{btree_set_from_contains, exact_unsigned}
 use Rattle.std.proofs.lemmas.Map.Views.{any-filter_same, list_any-from_Contains, Contains-keys_from_lookup, tells_apart}
-use Rattle.rams_model.specs.declared.note.Note.TheVariants.{Forgot}
+use Rattle.rams_model.specs.declared.Note.TheVariants.{Forgot}
 use Rattle.rams_model.specs.Service.{Settings, Wanted}
-use Rattle.client_table.specs.declared.entry.Entry.{Entry}
+use Rattle.client_table.specs.declared.Entry.{Entry}
 use Rattle.client_table.specs.{clients_of, AreRising, entry_of}
 use Rattle.client_table.specs.Clients.{Clients}
 use Rattle.client_table.proofs.ChangedAll.{each_found}

@@ -3,14 +3,13 @@ use Rattle.std.proofs.Common.{◌≡◌, ℕ, ◌+◌, ◌-◌, ◌<◌, ◌≤�
 use Rattle.std.specs.Option.{option_copied}
 use Rattle.std.specs.Borrow.{Bor}
 use Rattle.std.proofs.lemmas.Bool.{cond_both, cond-true, cond-false, eq-eqb, leb-true, and_parts, and_left}
-use Rattle.rams_model.specs.declared.held.Held.{Held}
+use Rattle.rams_model.specs.declared.{Held.Held, Note.TheVariants.Burst}
 use Rattle.rams_model.specs.Packets.{lo, hi, from_number, has_number, following}
 use Rattle.rams_model.specs.Service.{is_before, run, is_lost}
 use Rattle.channel_cache.proofs.packet_ring.Following.{stand_in_order}
 use Rattle.channel_cache.specs.packet_ring.{packet_of}
 use Rattle.tick_core.specs.declared.runs.Sent.{Sent}
 use Rattle.tick_core.specs.{Drafted, with_packet, AreInOrder, IsNext, run_from, after_packet, sent_after, with_run}
-use Rattle.rams_model.specs.declared.note.Note.TheVariants.{Burst}
 
 -- a packet of another number isn't sent
 other_stops : (stop : Option ℕ) (n left : ℕ) (h : Held) (hs : List Held) → eqb h.n n ≡ false → run stop n left (h ∷ hs) ≡ []

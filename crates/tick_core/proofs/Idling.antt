@@ -4,12 +4,11 @@ use Rattle.std.specs.Option.{option_map}
 use Rattle.std.specs.List.{list_any, AllByRecursion as Each}
 use Rattle.std.specs.Map.{keys_of}
 use Rattle.std.proofs.lemmas.Bool.{cond-true, cond-false, cases_Bool, not_from_false, or_parts, eqb-false, lt-ltb, false≢true}
-use Rattle.rams_model.specs.declared.held.Held.{Held}
-use Rattle.rams_model.specs.declared.note.Note.{Note}
-use Rattle.rams_model.specs.declared.note.Note.TheVariants.{Burst, Repair, Gone, End, Forgot}
+use Rattle.rams_model.specs.declared.{Held.Held, Note.Note}
+use Rattle.rams_model.specs.declared.Note.TheVariants.{Burst, Repair, Gone, End, Forgot}
 use Rattle.rams_model.specs.Service.{Settings, tick, began, noted, History, is_among, in_tick, newest_open, bursts, open_burst, has_open, Wanted, pending, is_busy, is_served, quiet_ticks, idle, all_forgotten}
 use Rattle.rams_model.specs.Service.Bursts as model
-use Rattle.client_table.specs.declared.entry.Entry.{Entry}
+use Rattle.client_table.specs.declared.Entry.{Entry}
 use Rattle.repair_queue.specs.{is_of, count_of}
 use Rattle.tick_core.specs.{Drafted, with_note, idle_after, with_all_forgotten, counted_on}
 use Rattle.tick_core.proofs.Sparing.{GoesOn, same, more, one, spares, serves, IsSpared, spared}

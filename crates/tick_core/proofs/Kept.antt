@@ -1,8 +1,7 @@
 -- What changes of entries and of open bursts make of a table.
 use Rattle.std.proofs.Common.{◌≡◌, ℕ, Option, Some, None, IfSome, refl, ap, sym, ◌∙◌, subst}
 use Rattle.std.specs.Option.{option_map}
-use Rattle.client_table.specs.declared.entry.Burst.{Burst}
-use Rattle.client_table.specs.declared.entry.Entry.{Entry}
+use Rattle.client_table.specs.declared.{Burst.Burst, Entry.Entry}
 use Rattle.client_table.specs.{entry_of, AreAll, IsChanged, AreChanged, aged, IsBurstChangedBy, IsBurstChanged}
 use Rattle.client_table.specs.Clients.{Clients}
 use Rattle.tick_core.specs.{opened_for_tick, entry_begun, IsSmallBurst, IsSmallIfOpen, IsSmallIfKnown, AreSmall, AreAllChanged}

@@ -3,8 +3,7 @@ use Rattle.std.proofs.Common.{◌≡◌, ℕ, ◌+◌, ◌-◌, ◌<◌, Bool, t
 use Rattle.std.specs.Option.{option_map}
 use Rattle.std.specs.List.{AllByRecursion as Each}
 use Rattle.std.proofs.lemmas.Bool.{cond_both, cond-true, eq-eqb, eqb-true, eqb-false}
-use Rattle.rams_model.specs.declared.held.Held.{Held}
-use Rattle.rams_model.specs.declared.note.Note.TheVariants.{Repair, Gone}
+use Rattle.rams_model.specs.declared.{Held.Held, Note.TheVariants.Repair, Note.TheVariants.Gone}
 use Rattle.rams_model.specs.Service.{Settings, noted, History, as_tick_began, is_among, sendings, sequence, after_note, size_of, bursts, open_burst, Wanted, sent_now, is_repair_of, run_left, kept_from_repairs, may_take, channel_left, repaired, all_repaired}
 use Rattle.rams_model.specs.Packets.{following}
 use Rattle.rams_model.specs.Service.Bursts as model

@@ -1,7 +1,7 @@
 -- The pending repairs, piece by piece.
 use Rattle.std.proofs.Common.{◌≡◌, ℕ, ◌+◌, ◌<◌, ◌≤◌, Bool, false, List, [], ◌∷◌, ◌++◌, length, drop, get_or, replicate, refl, ap, sym, ◌∙◌, append_assoc, append-nil}
 use Rattle.std.proofs.lemmas.List.{replicate-append-replicate}
-use Rattle.rams_model.specs.declared.held.Held.{Held}
+use Rattle.rams_model.specs.declared.Held.{Held}
 use Rattle.rams_model.specs.Service.{Wanted}
 use Rattle.channel_cache.specs.packet_ring.{packet_of}
 use Rattle.repair_queue.specs.{all_of}

@@ -6,7 +6,7 @@ use Rattle.std.specs.Map.{keys_of, lookup}
 use Rattle.std.specs.BTreeMap.{is_at}
 use Rattle.std.specs.Ordering.{nat_cmp}
 use Rattle.std.proofs.lemmas.Bool.{cond_both, cond-true, cond-false, cases_Bool, eq-eqb, eqb-true, eqb-false, ne_eqb}
-use Rattle.client_table.specs.declared.entry.Entry.{Entry}
+use Rattle.client_table.specs.declared.Entry.{Entry}
 use Rattle.client_table.specs.{AreRising, entry_of}
 use Rattle.client_table.specs.Clients.{Clients}
 use Rattle.channel_parts.proofs.Tables.{at_is}

@@ -8,23 +8,19 @@ use Rattle.std.specs.Ordering.{nat_cmp}
 use Rattle.std.proofs.lemmas.Bool.{cond_both, cond-true, cond-false, both_ways, or_from, or_parts, ne_eqb, false≢true}
 use Rattle.std.proofs.lemmas.Bool.Decides.{nat_tests}
 use Rattle.std.proofs.lemmas.List.Elements.{All-head, All-tail}
-use Rattle.rams_model.specs.declared.event.Event.{Event}
-use Rattle.rams_model.specs.declared.held.Held.{Held}
-use Rattle.rams_model.specs.declared.note.Note.{Note}
-use Rattle.rams_model.specs.declared.event.Event.TheVariants.{Tick}
-use Rattle.rams_model.specs.declared.note.Note.TheVariants.{Burst as BurstNote, End}
+use Rattle.rams_model.specs.declared.{Event.Event, Held.Held, Note.Note, Event.TheVariants.Tick}
+use Rattle.rams_model.specs.declared.Note.TheVariants.{Burst as BurstNote, End}
 use Rattle.rams_model.specs.Service.{Settings, tick, heard_of, began, noted, History, arrivals, hold, as_tick_began, known, opened, is_among, sendings, in_tick, open_burst, has_open, Wanted, pending, idle, sent_now, budget_of, channel_left, all_served, all_repaired, all_forgotten, after_tick, bursts_served, repairs_sent, idle_forgotten, newest_notes, newest_orders, answered, after_hearing, history_of, answer}
 use Rattle.rams_model.specs.Packets.{Arrival, stream_of}
 use Rattle.rams_model.specs.Packets.Source as sources
 use Rattle.rams_model.specs.Service.Bursts as model
 use Rattle.rams_model.proofs.ListFacts.{each_weaker}
-use Rattle.client_table.specs.declared.entry.Burst.{Burst}
-use Rattle.client_table.specs.declared.entry.Entry.{Entry}
+use Rattle.client_table.specs.declared.{Burst.Burst, Entry.Entry}
 use Rattle.client_table.specs.{entry_of}
 use Rattle.client_table.proofs.ChangedAll.{same_key}
 use Rattle.reckoning.specs.link_budget.Amounts.{Amounts}
 use Rattle.repair_queue.specs.{IsWithinLimits}
-use Rattle.channel_parts.specs.declared.parts.Parts.{Parts}
+use Rattle.channel_parts.specs.declared.Parts.{Parts}
 use Rattle.channel_parts.specs.{burst_kept, IsEntry, StandsFor}
 use Rattle.channel_parts.proofs.Given.{held_is as held_are}
 use Rattle.tick_core.specs.{new_draft, allowances_of, Repaired, Rise, clients_of, idle_after, begun_left, drafted_runs, drafted_repairs, drafted_tick, planned_answer, planned_flags, is_over}

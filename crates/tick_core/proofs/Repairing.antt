@@ -3,8 +3,7 @@ use Rattle.std.proofs.Common.{◌≡◌, ℕ, ◌+◌, ◌<◌, ◌≤◌, Bool,
 use Rattle.std.proofs.lemmas.Bool.{cond-true, cond-false}
 use Rattle.std.proofs.lemmas.List.{drop_more, drop_all}
 use Rattle.channel_cache.specs.packet_ring.{packet_of}
-use Rattle.rams_model.specs.declared.held.Held.{Held}
-use Rattle.rams_model.specs.declared.note.Note.TheVariants.{Repair}
+use Rattle.rams_model.specs.declared.{Held.Held, Note.TheVariants.Repair}
 use Rattle.rams_model.specs.Service.{Wanted, wanted}
 use Rattle.tick_core.specs.declared.allowance.Allowance.{Allowance}
 use Rattle.tick_core.specs.{Drafted, with_packet, Repaired, fits, waiting, with_repair, with_taken, with_wanted, with_all_wanted}

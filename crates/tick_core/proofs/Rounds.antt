@@ -3,15 +3,13 @@ use Rattle.std.proofs.Common.{◌≡◌, ℕ, ◌+◌, ◌-◌, ◌%◌, ◌<◌
 use Rattle.std.specs.List.{AllByRecursion as Each}
 use Rattle.std.specs.Map.{keys_of}
 use Rattle.std.proofs.lemmas.Bool.{cond_both, not_from_false, ne_eqb}
-use Rattle.rams_model.specs.declared.held.Held.{Held}
-use Rattle.rams_model.specs.declared.note.Cause.{Cause}
-use Rattle.rams_model.specs.declared.note.Note.{Note}
-use Rattle.rams_model.specs.declared.note.Cause.TheVariants.{Stopped, Lost, Limit}
-use Rattle.rams_model.specs.declared.note.Note.TheVariants.{Burst as BurstNote, Repair, Gone, End}
+use Rattle.rams_model.specs.declared.{Held.Held, Cause.Cause, Note.Note}
+use Rattle.rams_model.specs.declared.Cause.TheVariants.{Stopped, Lost, Limit}
+use Rattle.rams_model.specs.declared.Note.TheVariants.{Burst as BurstNote, Repair, Gone, End}
 use Rattle.rams_model.specs.Service.{Settings, noted, History, sequence, next, newest_open, open_burst, has_open, Wanted, sent_now, is_burst_of, is_repair_of, kept_from_repairs, budget_of, cap, may_take, run, send, is_lost, is_stop, after_run, burst_served, all_served, repaired, all_repaired}
 use Rattle.rams_model.specs.Service.Bursts as model
 use Rattle.rams_model.specs.Packets.{from_number}
-use Rattle.client_table.specs.declared.entry.Entry.{Entry}
+use Rattle.client_table.specs.declared.Entry.{Entry}
 use Rattle.tick_core.specs.declared.allowance.Allowance.{Allowance}
 use Rattle.tick_core.specs.{Drafted, Rise, allowance_of, allowances_of, with_all_served}
 use Rattle.tick_core.proofs.Sparing.{GoesOn, same, then, one, spares, serves, IsSpared, spared}

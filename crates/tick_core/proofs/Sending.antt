@@ -5,8 +5,7 @@ use Rattle.std.specs.Map.{set_value}
 use Rattle.std.specs.BTreeMap.{is_at}
 use Rattle.std.specs.Ordering.{nat_cmp}
 use Rattle.std.proofs.lemmas.Bool.{cond_both, cond-true, cond-false}
-use Rattle.client_table.specs.declared.entry.Burst.{Burst}
-use Rattle.client_table.specs.declared.entry.Entry.{Entry}
+use Rattle.client_table.specs.declared.{Burst.Burst, Entry.Entry}
 use Rattle.client_table.specs.{entry_of, with_entry, changed, changed_by}
 use Rattle.client_table.specs.Clients.{Clients}
 use Rattle.reckoning.specs.link_budget.Amounts.{Amounts}

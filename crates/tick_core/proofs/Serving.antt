@@ -2,20 +2,16 @@
 use Rattle.std.proofs.Common.{◌≡◌, ℕ, ◌+◌, ◌-◌, ◌%◌, min, Bool, true, false, cond, List, [], ◌∷◌, Option, Some, None, refl, ap, sym, ◌∙◌, subst, arith, eqb, ltb}
 use Rattle.std.specs.Option.{option_map}
 use Rattle.std.proofs.lemmas.Bool.{cond-true, eq-eqb}
-use Rattle.rams_model.specs.declared.held.Held.{Held}
-use Rattle.rams_model.specs.declared.message.Info.{Info}
-use Rattle.rams_model.specs.declared.note.Cause.{Cause}
-use Rattle.rams_model.specs.declared.note.Cause.TheVariants.{Stopped, Lost, Limit}
-use Rattle.rams_model.specs.declared.note.Note.TheVariants.{Burst as BurstNote, Repair, End}
+use Rattle.rams_model.specs.declared.{Held.Held, Info.Info, Cause.Cause}
+use Rattle.rams_model.specs.declared.Cause.TheVariants.{Stopped, Lost, Limit}
+use Rattle.rams_model.specs.declared.Note.TheVariants.{Burst as BurstNote, Repair, End}
 use Rattle.rams_model.specs.Service.{Settings, tick, began, noted, History, as_tick_began, sendings, sequence, next, in_tick, after_note, newest_changed, if_open, newest_open, size_of, bursts, open_burst, sent_now, is_burst_of, is_repair_of, cap, run_left, kept_from_repairs, may_take, run, send, is_lost, is_stop, burst_served}
 use Rattle.rams_model.specs.Packets.{hi, from_number, following}
 use Rattle.rams_model.specs.Service.Bursts as model
 use Rattle.rams_model.specs.Service.Tick as ticks
 use Rattle.rams_model.proofs.OpenBurst.{changed_open}
-use Rattle.client_table.specs.declared.entry.Burst.{Burst}
-use Rattle.client_table.specs.declared.entry.Entry.{Entry}
-use Rattle.tick_core.specs.declared.allowance.Allowance.{Allowance}
-use Rattle.tick_core.specs.declared.runs.Sent.{Sent}
+use Rattle.client_table.specs.declared.{Burst.Burst, Entry.Entry}
+use Rattle.tick_core.specs.declared.{allowance.Allowance.Allowance, runs.Sent.Sent}
 use Rattle.tick_core.specs.{Drafted, with_packet, with_end, unsent, after_packet, sent_after, with_run, run_of, after_run, end_of, allowance, left_by_run, allowance_of, with_served}
 use Rattle.tick_core.proofs.Shown.{Shows, shows_burst, shows_end}
 

@@ -4,9 +4,8 @@ use Rattle.std.specs.Prelude.{All}
 use Rattle.std.specs.List.{AllByRecursion}
 use Rattle.std.proofs.lemmas.Bool.{cond_both}
 use Rattle.std.proofs.lemmas.List.Elements.{All-cons, All-append, All-filter, All-drop, recursion_from_All}
-use Rattle.rams_model.specs.declared.held.Held.{Held}
-use Rattle.rams_model.specs.declared.note.LiveNote.{LiveNote}
-use Rattle.rams_model.specs.declared.note.LiveNote.TheVariants.{Took, Restart, Jump}
+use Rattle.rams_model.specs.declared.{Held.Held, LiveNote.LiveNote}
+use Rattle.rams_model.specs.declared.LiveNote.TheVariants.{Took, Restart, Jump}
 use Rattle.rams_model.specs.Formats.{wire_size}
 use Rattle.rams_model.specs.Service.{Settings, History, arrivals, hold}
 use Rattle.rams_model.specs.Packets.{Arrival, Stream, held_as, with_packet, awaited, live_note, stream_after, stream_of, consecutive_end, source}

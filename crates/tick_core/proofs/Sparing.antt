@@ -2,9 +2,8 @@
 use Rattle.std.proofs.Common.{◌≡◌, ℕ, Bool, true, false, not, ◌||◌, List, [], ◌∷◌, Option, refl, ap, sym, ◌∙◌, eqb}
 use Rattle.std.specs.List.{filter, list_any}
 use Rattle.std.proofs.lemmas.Bool.{cond_both, cond-false, not-true, not-false, and_parts, false≢true, eqb-true}
-use Rattle.rams_model.specs.declared.held.Held.{Held}
-use Rattle.rams_model.specs.declared.note.Note.{Note}
-use Rattle.rams_model.specs.declared.note.Note.TheVariants.{Burst, Repair, Gone, End, Forgot}
+use Rattle.rams_model.specs.declared.{Held.Held, Note.Note}
+use Rattle.rams_model.specs.declared.Note.TheVariants.{Burst, Repair, Gone, End, Forgot}
 use Rattle.rams_model.specs.Service.{Settings, noted, History, arrivals, as_tick_began, sendings, ssrc, known, bursts, Wanted, is_wanted, pending, quiet_ticks, sent_now, is_burst_of, is_repair_of}
 use Rattle.rams_model.specs.Packets.{Arrival}
 use Rattle.rams_model.specs.Service.Bursts as model

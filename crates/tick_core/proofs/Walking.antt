@@ -8,12 +8,11 @@ use Rattle.std.specs.List.Sorted.{IsStrictlySortedBy}
 use Rattle.std.proofs.lemmas.Bool.{cond_both, cond-true, cond-false, cases_Bool, eqb-true, eq-eqb}
 use Rattle.std.proofs.lemmas.List.Elements.{All-head, All-rest, All-same}
 use Rattle.std.proofs.lemmas.Map.Keys.{sorted_head, sorted_tail}
-use Rattle.client_table.specs.declared.entry.Entry.{Entry}
-use Rattle.client_table.specs.declared.entry.Burst.{Burst}
+use Rattle.client_table.specs.declared.{Entry.Entry, Burst.Burst}
 use Rattle.client_table.specs.{entry_of, opened_of}
 use Rattle.client_table.specs.Clients.{Clients}
 use Rattle.client_table.proofs.Opened.{below}
-use Rattle.rams_model.specs.declared.held.Held.{Held}
+use Rattle.rams_model.specs.declared.Held.{Held}
 use Rattle.rams_model.specs.Service.{Settings, is_lost}
 use Rattle.tick_core.specs.declared.allowance.Allowance.{Allowance}
 use Rattle.tick_core.specs.{Drafted, Rise, clients_of, allowance_of, allowances_of, with_served, with_all_served}

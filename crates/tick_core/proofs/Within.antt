@@ -1,7 +1,7 @@
 -- The packets that a ring holds, by their numbers.
 use Rattle.std.proofs.Common.{◌≡◌, ℕ, ◌-◌, ◌<◌, ◌≤◌, true, List, [], ◌∷◌, inl, inr, Option, Some, None, IsSome, is_some, refl, ap, sym, ◌∙◌, subst, arith, leb, ltb}
 use Rattle.std.proofs.lemmas.Bool.{lt-leb, lt-ltb, le-ltb, cases_lt}
-use Rattle.rams_model.specs.declared.held.Held.{Held}
+use Rattle.rams_model.specs.declared.Held.{Held}
 use Rattle.rams_model.specs.Packets.{lo, hi}
 use Rattle.rams_model.specs.Service.{Wanted}
 use Rattle.channel_cache.specs.packet_ring.{packet_of, IsRing}

@@ -3,8 +3,7 @@ use Rattle.std.specs.Prelude.{ℕ, ◌==◌, if◌then◌else◌, nat_eq, Option
 use Rattle.std.specs.HashMap.{get}
 use Rattle.client_table.specs.{entry_of}
 use Rattle.client_table.specs.Clients.{Clients}
-use Rattle.tick_core.specs.declared.allowance.Allowance.{Allowance}
-use Rattle.tick_core.specs.declared.allowances.Allowances.{Allowances}
+use Rattle.tick_core.specs.declared.{allowance.Allowance.Allowance, allowances.Allowances.Allowances}
 
 -- an allowance in place of what is told of its client
 abbrev pub in_place : Option Allowance → (ℕ → Option Allowance) → ℕ → Option Allowance

@@ -1,12 +1,10 @@
 -- What the known clients and the budget of a channel are as a tick goes on, note by note.
 use Rattle.std.specs.Prelude.{◌≡◌, ℕ, ◌+◌, ◌-◌, ◌%◌, ◌^◌, ◌<◌, ◌≤◌, min, List, [], ◌∷◌, Option, Some, None, option_map}
-use Rattle.rams_model.specs.declared.held.Held.{Held}
-use Rattle.rams_model.specs.declared.note.Note.{Note}
-use Rattle.rams_model.specs.declared.note.Note.TheVariants.{Burst as BurstNote, Repair, Gone, End, Forgot}
+use Rattle.rams_model.specs.declared.{Held.Held, Note.Note}
+use Rattle.rams_model.specs.declared.Note.TheVariants.{Burst as BurstNote, Repair, Gone, End, Forgot}
 use Rattle.rams_model.specs.Service.{Settings, size_of}
 use Rattle.rams_model.specs.Packets.{following}
-use Rattle.client_table.specs.declared.entry.Burst.{Burst}
-use Rattle.client_table.specs.declared.entry.Entry.{Entry}
+use Rattle.client_table.specs.declared.{Burst.Burst, Entry.Entry}
 use Rattle.client_table.specs.{clients_of, entry_of, awake, changed, without}
 use Rattle.client_table.specs.Clients.{Clients}
 use Rattle.reckoning.specs.link_budget.Amounts.{Amounts}

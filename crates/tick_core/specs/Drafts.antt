@@ -1,12 +1,7 @@
 -- The notes and orders of a tick so far.
 use Rattle.std.specs.Prelude.{ℕ, ◌-◌, List, [], ◌∷◌, ◌++◌, Option, Some, None, option_map, option_to_list}
-use Rattle.rams_model.specs.declared.answer.Order.{Order}
-use Rattle.rams_model.specs.declared.held.Held.{Held}
-use Rattle.rams_model.specs.declared.message.Info.{Info}
-use Rattle.rams_model.specs.declared.note.Cause.{Cause}
-use Rattle.rams_model.specs.declared.note.Note.{Note}
-use Rattle.rams_model.specs.declared.answer.Order.TheVariants.{Rtx}
-use Rattle.rams_model.specs.declared.note.Note.TheVariants.{End}
+use Rattle.rams_model.specs.declared.{Order.Order, Held.Held, Info.Info, Cause.Cause, Note.Note, Order.TheVariants.Rtx}
+use Rattle.rams_model.specs.declared.Note.TheVariants.{End}
 use Rattle.rams_model.specs.Service.{end_info, info_order}
 
 -- What a tick has noted so far, the orders of these notes, and what the channel's budget has left.

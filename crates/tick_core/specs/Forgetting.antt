@@ -1,8 +1,8 @@
 -- Who is forgotten in a tick.
 use Rattle.std.specs.Prelude.{ℕ, ◌+◌, ◌||◌, ◌==◌, nat_lt, if◌then◌else◌, List, [], ◌∷◌, Option, Some, None, is_some}
-use Rattle.rams_model.specs.declared.note.Note.TheVariants.{Forgot}
+use Rattle.rams_model.specs.declared.Note.TheVariants.{Forgot}
 use Rattle.rams_model.specs.Service.{Settings, Wanted}
-use Rattle.client_table.specs.declared.entry.Entry.{Entry}
+use Rattle.client_table.specs.declared.Entry.{Entry}
 use Rattle.client_table.specs.{entry_of}
 use Rattle.client_table.specs.Clients.{Clients}
 use Rattle.repair_queue.specs.{count_of}

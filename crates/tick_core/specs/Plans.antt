@@ -1,12 +1,9 @@
 -- What a tick does, planned before any of it is done.
 use Rattle.std.specs.Prelude.{◌≡◌, ℕ, ◌+◌, min, Bool, List, [], map}
 use Rattle.std.specs.List.{list_any}
-use Rattle.rams_model.specs.declared.event.Event.{Event}
-use Rattle.rams_model.specs.declared.note.Note.{Note}
-use Rattle.rams_model.specs.declared.event.Event.TheVariants.{Tick}
-use Rattle.rams_model.specs.declared.note.Note.TheVariants.{Repair, Gone}
+use Rattle.rams_model.specs.declared.{Event.Event, Note.Note, Event.TheVariants.Tick, Note.TheVariants.Repair, Note.TheVariants.Gone}
 use Rattle.rams_model.specs.Service.{Answered, answered, Wanted, is_wanted, pending, answer, history_of}
-use Rattle.channel_parts.specs.declared.parts.Parts.{Parts}
+use Rattle.channel_parts.specs.declared.Parts.{Parts}
 use Rattle.tick_core.specs.Drafts.{Drafted, new_draft}
 use Rattle.tick_core.specs.Runs.{allowances_of, with_all_served}
 use Rattle.tick_core.specs.Repairs.{Repaired, with_all_wanted}

@@ -1,13 +1,12 @@
 -- What the pending repairs come to in a tick.
 use Rattle.std.specs.Prelude.{◌≡◌, ℕ, ◌<◌, ◌-◌, Bool, true, false, ◌&&◌, ◌==◌, nat_le, if◌then◌else◌, List, [], ◌∷◌, ◌++◌, Option, Some, None, IsSome, IfSome, find, map, replicate}
 use Rattle.std.specs.List.{AllByRecursion}
-use Rattle.rams_model.specs.declared.held.Held.{Held}
-use Rattle.rams_model.specs.declared.note.Note.TheVariants.{Repair, Gone}
+use Rattle.rams_model.specs.declared.{Held.Held, Note.TheVariants.Repair, Note.TheVariants.Gone}
 use Rattle.rams_model.specs.Packets.{following}
 use Rattle.rams_model.specs.Service.{Wanted}
 use Rattle.channel_cache.specs.packet_ring.{packet_of}
 use Rattle.tick_core.specs.declared.allowance.Allowance.{Allowance}
-use Rattle.client_table.specs.declared.entry.Entry.{Entry}
+use Rattle.client_table.specs.declared.Entry.{Entry}
 use Rattle.tick_core.specs.Runs.{idle_allowance}
 use Rattle.tick_core.specs.Drafts.{Drafted, with_note, with_packet}
 

@@ -1,18 +1,14 @@
 -- What bursts are sent in a tick, and what they leave to repairs.
 use Rattle.std.specs.Prelude.{◌≡◌, ℕ, ◌+◌, ◌<◌, ◌≤◌, ◌^◌, ◌-◌, min, ◌==◌, nat_lt, if◌then◌else◌, List, [], ◌∷◌, Option, Some, None, IsSome}
 use Rattle.std.specs.List.{AllByRecursion}
-use Rattle.rams_model.specs.declared.held.Held.{Held}
-use Rattle.rams_model.specs.declared.note.Cause.{Cause}
-use Rattle.rams_model.specs.declared.note.Cause.TheVariants.{Stopped, Lost, Limit}
-use Rattle.rams_model.specs.declared.note.Note.TheVariants.{Burst as BurstNote}
+use Rattle.rams_model.specs.declared.{Held.Held, Cause.Cause, Note.TheVariants.Burst as BurstNote}
+use Rattle.rams_model.specs.declared.Cause.TheVariants.{Stopped, Lost, Limit}
 use Rattle.rams_model.specs.Service.{Settings, run, is_lost, is_stop}
 use Rattle.rams_model.specs.Packets.{lo, hi, from_number, following, Follows}
-use Rattle.client_table.specs.declared.entry.Burst.{Burst}
-use Rattle.client_table.specs.declared.entry.Entry.{Entry}
+use Rattle.client_table.specs.declared.{Burst.Burst, Entry.Entry}
 use Rattle.client_table.specs.{entry_of, opened_of}
 use Rattle.client_table.specs.Clients.{Clients}
-use Rattle.tick_core.specs.declared.allowance.Allowance.{Allowance}
-use Rattle.tick_core.specs.declared.runs.Sent.{Sent}
+use Rattle.tick_core.specs.declared.{allowance.Allowance.Allowance, runs.Sent.Sent}
 use Rattle.tick_core.specs.Drafts.{Drafted, with_packet, with_end}
 
 -- a burst as a tick begins: nothing of its budget is spent

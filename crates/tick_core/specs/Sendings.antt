@@ -1,9 +1,9 @@
 -- Packets that were sent to one client, and are written down together.
 use Rattle.std.specs.Prelude.{ℕ, ◌+◌, ◌-◌, ◌%◌, Option, Some, None, option_map}
-use Rattle.rams_model.specs.declared.note.Note.{Note}
-use Rattle.rams_model.specs.declared.note.Note.TheVariants.{Burst as BurstNote, Repair, Gone, End, Forgot}
+use Rattle.rams_model.specs.declared.Note.{Note}
+use Rattle.rams_model.specs.declared.Note.TheVariants.{Burst as BurstNote, Repair, Gone, End, Forgot}
 use Rattle.rams_model.specs.Service.{Settings}
-use Rattle.client_table.specs.declared.entry.Entry.{Entry}
+use Rattle.client_table.specs.declared.Entry.{Entry}
 use Rattle.client_table.specs.{entry_of, awake, changed, without}
 use Rattle.tick_core.specs.declared.sendings.Sendings.{Sendings}
 use Rattle.tick_core.specs.Committed.{Committed, burst_sent, with_closed, IsNextSmallIfKnown}

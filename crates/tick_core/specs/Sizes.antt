@@ -1,11 +1,8 @@
 -- The sizes on the wire of the packets that a tick sends.
 use Rattle.std.specs.Prelude.{ℕ, List, [], ◌∷◌}
 use Rattle.std.specs.Slice.Iter.{iter_rest}
-use Rattle.rams_model.specs.declared.answer.Order.{Order}
-use Rattle.rams_model.specs.declared.answer.Order.TheVariants.{Rtx, Info}
-use Rattle.rams_model.specs.declared.held.Held.{Held}
-use Rattle.rams_model.specs.declared.note.Note.{Note}
-use Rattle.rams_model.specs.declared.note.Note.TheVariants.{Burst as BurstNote, Repair}
+use Rattle.rams_model.specs.declared.{Order.Order, Order.TheVariants.Rtx, Order.TheVariants.Info, Held.Held, Note.Note}
+use Rattle.rams_model.specs.declared.Note.TheVariants.{Burst as BurstNote, Repair}
 use Rattle.rams_model.specs.Formats.{wire_size}
 use Rattle.rams_model.specs.Service.{Settings, size_of}
 use Rattle.channel_cache.specs.packet_ring.{packet_of}

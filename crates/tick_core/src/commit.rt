@@ -1,7 +1,6 @@
 //! A planned tick is done.
 ghost use Rattle.std.specs.Prelude.{◌≡◌, ◌-◌, ◌<◌, ◌^◌, List, ◌∷◌};
-ghost use Rattle.rams_model.specs.declared.event.Event.{Event};
-ghost use Rattle.rams_model.specs.declared.event.Event.TheVariants.{Tick};
+ghost use Rattle.rams_model.specs.declared.{Event.Event, Event.TheVariants.Tick};
 ghost use Rattle.channel_parts.specs.{StandsFor};
 ghost use Rattle.tick_core.specs.{IsPlanFor, committing, amount_of, amount_for, with_sendings, MaySend, with_sent, MaySendIfAny, sending_of, with_other, with_closed, sizes, sizes_left, first_size, later_sizes, sizes_behind, with_sized, with_all_sized, MayEnd, MayCommit, MayCommitSized};
 ghost use Rattle.client_table.specs.{entry_of, without};

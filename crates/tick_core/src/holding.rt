@@ -25,7 +25,7 @@ pub struct Holding<'a> {
 
 impl<'a> Model for Holding<'a> {
     ghost use Rattle.std.specs.Prelude.{◌≡◌, List};
-    ghost use Rattle.rams_model.specs.declared.held.Held.{Held};
+    ghost use Rattle.rams_model.specs.declared.Held.{Held};
     ghost use Rattle.rams_model.specs.Packets.{lo, hi};
     ghost use Rattle.channel_cache.specs.packet_ring.{IsRing};
     ghost use Rattle.channel_cache.specs.{ring_of, AreAtLeast};

@@ -1,6 +1,6 @@
 //! What a tick does, planned before any of it is done.
 ghost use Rattle.std.specs.Prelude.{List, IfOk};
-ghost use Rattle.rams_model.specs.declared.event.Event.{Event};
+ghost use Rattle.rams_model.specs.declared.Event.{Event};
 ghost use Rattle.channel_parts.specs.{StandsFor};
 ghost use Rattle.client_table.specs.{AreRising};
 ghost use Rattle.tick_core.specs.{AreInOrder, AreInTime, IsPlanOf, IsPlanFor};

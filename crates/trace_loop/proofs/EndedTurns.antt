@@ -1,10 +1,9 @@
 -- Turns that end a trace, and what is read of a trace whose first line is one of them.
 use Rattle.std.proofs.Common.{◌≡◌, ℕ, ◌+◌, ◌<◌, List, [], ◌∷◌, length, Option, None, Some, Err, sym, ap, ◌∙◌}
 use Rattle.line_io.specs.{TakesNext}
-use Rattle.line_io.specs.declared.reader.Next.TheVariants.{End}
-use Rattle.rams_model.specs.declared.fault.LineFault.{LineFault}
-use Rattle.rams_model.specs.declared.fault.LineFault.TheVariants.{Form, Order}
-use Rattle.rams_model.specs.declared.status.Status.TheVariants.{Done, BadTrace, TooLong}
+use Rattle.line_io.specs.declared.Next.TheVariants.{End}
+use Rattle.rams_model.specs.declared.{LineFault.LineFault, LineFault.TheVariants.Form, LineFault.TheVariants.Order}
+use Rattle.rams_model.specs.declared.Status.TheVariants.{Done, BadTrace, TooLong}
 use Rattle.rams_model.specs.Texts.{judged, lines_of}
 use Rattle.trace_loop.specs.trace_book.trace_serving.{Serving, Stage, Outcome, Turn, goes_on, ends, refused, turn, after_judging, after_turn, text_from, stage_after, stage_from, taken_with, taken_from}
 use Rattle.trace_loop.specs.{IfBothTold}

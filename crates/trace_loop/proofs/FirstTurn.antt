@@ -1,10 +1,8 @@
 -- The next line and its turn.
 use Rattle.std.proofs.Common.{◌≡◌, ℕ, ◌+◌, ◌<◌, List, [], ◌∷◌, length, take, Option, None, Some, MatchOption, refl, sym, ap, ◌∙◌, subst}
 use Rattle.line_io.specs.{IsCutOff, TakesNext}
-use Rattle.line_io.specs.declared.reader.Next.TheVariants.{Line, Long, End}
-use Rattle.rams_model.specs.declared.fault.LineFault.TheVariants.{Order}
-use Rattle.rams_model.specs.declared.status.Status.{Status}
-use Rattle.rams_model.specs.declared.status.Status.TheVariants.{BadTrace}
+use Rattle.line_io.specs.declared.Next.TheVariants.{Line, Long, End}
+use Rattle.rams_model.specs.declared.{LineFault.TheVariants.Order, Status.Status, Status.TheVariants.BadTrace}
 use Rattle.rams_model.specs.Texts.{lines_of}
 use Rattle.trace_loop.specs.trace_book.trace_serving.{Serving, Stage, Turn, Outcome, goes_on, ends, refused, after_turn, turn, text_from}
 use Rattle.trace_loop.specs.{IfBothTold, IsFirstTurn, StandsSomewhere, Took}

@@ -1,7 +1,7 @@
 -- A line that is too long does what its front does.
 use Rattle.std.proofs.Common.{◌≡◌, ℕ, ◌<◌, List, length, take, Err, refl, sym, ap, ◌∙◌, arith, length-take}
 use Rattle.std.proofs.lemmas.Bool.{lt-ltb}
-use Rattle.rams_model.specs.declared.fault.LineFault.TheVariants.{Form}
+use Rattle.rams_model.specs.declared.LineFault.TheVariants.{Form}
 use Rattle.rams_model.specs.Texts.{Reached, judged}
 use Rattle.trace_loop.specs.trace_book.trace_serving.{Serving, Stage, Outcome, ends, refused, after_judging, turn}
 

@@ -7,7 +7,7 @@ use Rattle.line_io.specs.{HasNoFeed}
 use Rattle.line_io.specs.Passes.{Passes}
 use Rattle.line_io.proofs.LineFeeds.{lines_read-cut, whole_lines-kept}
 use Rattle.line_io.proofs.Passing.{Passes-none, Passes-put, Passes-then}
-use Rattle.rams_model.specs.declared.status.Status.{Status}
+use Rattle.rams_model.specs.declared.Status.{Status}
 use Rattle.rams_model.specs.Texts.{lines_of, lines_read, whole_lines}
 use Rattle.trace_loop.specs.trace_book.trace_serving.{Serving, Stage, Turn, opening, goes_on, turn, text_after, lines_text}
 use Rattle.trace_loop.specs.declared.stop.Stop.{Stop}

@@ -3,7 +3,7 @@ use Rattle.std.proofs.Common.{◌≡◌, ℕ, ◌+◌, ◌≤◌, List, [], ◌+
 use Rattle.std.specs.Io.KnownBytes.{Keeps, prepend_known}
 use Rattle.line_io.specs.{HasNoFeed}
 use Rattle.line_io.specs.Passes.{Passes}
-use Rattle.rams_model.specs.declared.status.Status.{Status}
+use Rattle.rams_model.specs.declared.Status.{Status}
 use Rattle.rams_model.specs.Texts.{lines_of}
 use Rattle.trace_loop.specs.trace_book.trace_serving.{Serving, Stage, Turn, Outcome, opening, after_text, after_turn, text_from}
 use Rattle.trace_loop.specs.declared.stop.Stop.{Stop}

@@ -2,8 +2,7 @@
 use Rattle.std.proofs.Common.{◌≡◌, ℕ, ◌+◌, ◌≤◌, List, [], ◌++◌, length, Option, refl, sym, ap, ◌∙◌, subst, append_assoc, append-nil, length-append, arith}
 use Rattle.line_io.specs.Passes.{Passes}
 use Rattle.line_io.proofs.Passing.{Passes-none, Passes-put, Passes-more}
-use Rattle.trace_loop.specs.declared.stop.Stop.{Stop}
-use Rattle.trace_loop.specs.declared.turn.Turn.{Turn}
+use Rattle.trace_loop.specs.declared.{stop.Stop.Stop, turn.Turn.Turn}
 use Rattle.trace_loop.specs.{StopsIn, last_line, written}
 use Rattle.trace_loop.specs.declared.turn.Turn.TheVariants.{GoesOn, Said, Refused, TooLong, Done}
 use Rattle.trace_loop.specs.declared.stop.Stop.TheVariants.{Memory, Read, Write, Wire}

@@ -3,7 +3,7 @@ use Rattle.std.specs.Prelude.{◌≡◌, ℕ, ◌⊎◌, List, [], ◌∷◌, �
 use Rattle.std.specs.Io.KnownBytes.{Appends}
 use Rattle.line_io.specs.{IsCutOff}
 use Rattle.line_io.specs.Passes.{Passes}
-use Rattle.rams_model.specs.declared.status.Status.{Status}
+use Rattle.rams_model.specs.declared.Status.{Status}
 use Rattle.rams_model.specs.Texts.{lines_of, whole_lines}
 use Rattle.trace_loop.specs.trace_book.trace_serving.{Serving, Stage, Outcome, opening, goes_on, turn, text_from, lines_text}
 

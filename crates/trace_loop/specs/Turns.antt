@@ -1,7 +1,7 @@
 -- What a line of a trace does, as code has it.
 use Rattle.std.specs.Prelude.{◌≡◌, ℕ, List, [], Option, Some, None}
-use Rattle.rams_model.specs.declared.status.Status.{Status}
-use Rattle.rams_model.specs.declared.status.Status.TheVariants as statuses
+use Rattle.rams_model.specs.declared.Status.{Status}
+use Rattle.rams_model.specs.declared.Status.TheVariants as statuses
 use Rattle.trace_loop.specs.trace_book.trace_serving.{Stage, goes_on, ends, refused, too_long, done}
 use Rattle.trace_loop.specs.trace_book.trace_serving.Text as text
 use Rattle.trace_loop.specs.declared.turn.Turn.{Turn}

@@ -2,7 +2,7 @@
 use Rattle.std.specs.Prelude.{◌≡◌, ℕ, List, length, Option}
 use Rattle.std.specs.Io.KnownBytes.{Appends}
 use Rattle.line_io.specs.Passes.{Passes}
-use Rattle.rams_model.specs.declared.status.Status.{Status}
+use Rattle.rams_model.specs.declared.Status.{Status}
 use Rattle.trace_loop.specs.declared.whole_trace.ReadTrace.{ReadTrace}
 use Rattle.trace_loop.specs.declared.whole_trace.ReadTrace.TheVariants as read
 use Rattle.trace_loop.specs.trace_book.trace_serving.{Serving, served_text, refused, too_long}

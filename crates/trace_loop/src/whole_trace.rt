@@ -2,7 +2,7 @@
 ghost use Rattle.std.specs.Prelude.{◌≡◌, ℕ, List, IfOk, OnOk, codes, length};
 ghost use Rattle.std.specs.Io.KnownBytes.{Appends};
 ghost use Rattle.line_io.specs.Passes.{Passes};
-ghost use Rattle.rams_model.specs.declared.status.Status.TheVariants.{BadTrace, TooLong};
+ghost use Rattle.rams_model.specs.declared.Status.TheVariants.{BadTrace, TooLong};
 ghost use Rattle.rams_model.specs.Texts.{refused_line};
 ghost use Rattle.trace_loop.specs.{IsStoppedByWrite, OnlyMemoryStops};
 

@@ -2,15 +2,11 @@
 use Rattle.std.proofs.Common.{◌≡◌, ℕ, true, ◌&&◌, ◌||◌, ◌==◌, [], ◌∷◌, codes, decimal, Option, Some, option_map, option_and_then, refl, sym, ap, subst, ◌∙◌, inl, inr}
 use Rattle.std.proofs.lemmas.Bool.{and_parts, eqb-true}
 use Rattle.std.specs.List.{list_all}
-use Rattle.rams_model.specs.declared.channel.Channel.{Channel}
+use Rattle.rams_model.specs.declared.Channel.{Channel}
 use Rattle.rams_model.specs.Texts.{number_in, word32_in, word32, channel_line, access_in, access_word, channel_in, line_has_form, channel_words, is_short, is_word32}
 use Rattle.rams_model.specs.Texts.TraceLines.{Words}
-use Rattle.trace_text.specs.declared.channel_line.Numbers.{Numbers}
-use Rattle.trace_text.specs.declared.channel_line.Names.{Names}
-use Rattle.trace_text.specs.declared.channel_line.Places.{Places}
-use Rattle.trace_text.specs.declared.channel_line.Amounts.{Amounts}
-use Rattle.trace_text.specs.declared.channel_line.Bounds.{Bounds}
-use Rattle.trace_text.specs.declared.channel_line.Keeping.{Keeping}
+use Rattle.trace_text.specs.declared.{channel_line.Numbers.Numbers, channel_line.Names.Names, channel_line.Places.Places}
+use Rattle.trace_text.specs.declared.{channel_line.Amounts.Amounts, channel_line.Bounds.Bounds, channel_line.Keeping.Keeping}
 use Rattle.trace_text.specs.{names_in, places_in, amounts_in, bounds_in, keeping_in, numbers_in, line_of_numbers}
 use Rattle.trace_text.proofs.ChannelWords.{named, placed, amounting, bounded, kept, names_fit, places_fit, amounts_fit, bounds_fit, Fits, Formed, formed, all_words}
 use Rattle.trace_text.proofs.Joins.{has_no_space}

@@ -2,10 +2,9 @@
 use Rattle.std.proofs.Common.{◌≡◌, ℕ, ◌≤◌, Bool, true, false, ◌&&◌, ◌==◌, not, if◌then◌else◌, Result, Ok, Err, refl, sym, ap, ◌∙◌, arith}
 use Rattle.std.proofs.lemmas.Bool.Decides.{nat_tests}
 use Rattle.std.specs.List.{list_any}
-use Rattle.rams_model.specs.declared.fault.ConfigFault.{ConfigFault}
-use Rattle.rams_model.specs.declared.fault.ConfigFault.TheVariants as config
-use Rattle.rams_model.specs.declared.fault.LineFault.{LineFault}
-use Rattle.rams_model.specs.declared.fault.LineFault.TheVariants.{Range, Twice, Rule}
+use Rattle.rams_model.specs.declared.{ConfigFault.ConfigFault, LineFault.LineFault}
+use Rattle.rams_model.specs.declared.ConfigFault.TheVariants as config
+use Rattle.rams_model.specs.declared.LineFault.TheVariants.{Range, Twice, Rule}
 use Rattle.rams_model.specs.Service.{Settings, checked, tick_in_range, channel_in_range}
 use Rattle.rams_model.specs.Texts.{Reached}
 use Rattle.channel_config.proofs.Laws.{IsLawful-from_checked}

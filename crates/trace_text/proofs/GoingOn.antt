@@ -3,10 +3,8 @@ use Rattle.std.proofs.Common.{◌≡◌, ℕ, ◌<◌, ◌≤◌, ltb, ◌+◌, 
 use Rattle.std.specs.Prelude.{is_ok, nat_le}
 use Rattle.std.proofs.lemmas.Bool.{ltb-true}
 use Rattle.std.specs.List.{list_any}
-use Rattle.rams_model.specs.declared.channel.Channel.{Channel}
-use Rattle.rams_model.specs.declared.fault.ConfigFault.{ConfigFault}
-use Rattle.rams_model.specs.declared.fault.LineFault.{LineFault}
-use Rattle.rams_model.specs.declared.fault.LineFault.TheVariants.{Order, Range, Twice, Rule}
+use Rattle.rams_model.specs.declared.{Channel.Channel, ConfigFault.ConfigFault, LineFault.LineFault}
+use Rattle.rams_model.specs.declared.LineFault.TheVariants.{Order, Range, Twice, Rule}
 use Rattle.rams_model.specs.Service.{Settings, settings, checked}
 use Rattle.rams_model.specs.Texts.{TraceLine, Head, Reached, joined, line_in_range, line_is_served, may_come, with_channel, with_line, accepted}
 use Rattle.trace_text.proofs.Checks.{checked_share}

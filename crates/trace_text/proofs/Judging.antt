@@ -3,15 +3,12 @@ use Rattle.std.proofs.Common.{◌≡◌, ℕ, Bool, true, false, not, ◌&&◌, 
 use Rattle.std.proofs.lemmas.Bool.{and_parts}
 use Rattle.std.specs.List.{list_any}
 use Rattle.std.specs.Result.{IfErr, IfOk, OnOk}
-use Rattle.rams_model.specs.declared.channel.Channel.{Channel}
-use Rattle.rams_model.specs.declared.fault.ConfigFault.{ConfigFault}
-use Rattle.rams_model.specs.declared.fault.LineFault.{LineFault}
-use Rattle.rams_model.specs.declared.fault.LineFault.TheVariants.{Form, Order, Range, Twice, Rule}
-use Rattle.rams_model.specs.declared.mode.LineKind.TheVariants as kind
+use Rattle.rams_model.specs.declared.{Channel.Channel, ConfigFault.ConfigFault, LineFault.LineFault}
+use Rattle.rams_model.specs.declared.LineFault.TheVariants.{Form, Order, Range, Twice, Rule}
+use Rattle.rams_model.specs.declared.LineKind.TheVariants as kind
 use Rattle.rams_model.specs.Service.{Settings, settings, channel_in_range, checked}
 use Rattle.rams_model.specs.Texts.{Head, joined, with_channel, front, TraceLine, head_line, channel_line, live_line, feedback_line, tick_line, end_line, tune_line, give_line, mcast_line, ask_line, drop_line, line_of, line_words, channel_words, line_in_range, line_has_form, is_version, Reached, version_of, version_spelled, kind_named, kind_may_come, named_may_come, may_come, expected, line_is_served, with_line, accepted, with_reached, judged_line, judged, tick_of}
-use Rattle.trace_text.specs.declared.line.Judged.{Judged}
-use Rattle.trace_text.specs.declared.line.Line.{Line}
+use Rattle.trace_text.specs.declared.{line.Judged.Judged, line.Line.Line}
 use Rattle.trace_text.specs.declared.line.Line.TheVariants as line
 use Rattle.trace_text.specs.{shown, is_ranged, Unread, HasDigits, told, judged_as, IsJudged, IsSettled, by_rules, with_settled, with_ranged}
 use Rattle.trace_text.proofs.Spelling.{is_text}

@@ -2,12 +2,9 @@
 use Rattle.std.proofs.Common.{◌≡◌, ℕ, List, [], ◌∷◌, Option, Some, None, option_map, option_and_then, refl, ◌∙◌, codes}
 use Rattle.rams_model.specs.Texts.{TraceLine, field, whole, access_in, channel_line, rest_in, kept_in, channel_in, ◌>>=◌, number_in, word32_in}
 use Rattle.rams_model.specs.Texts.TraceLines.{Words}
-use Rattle.rams_model.specs.declared.channel.Channel.{Channel}
-use Rattle.trace_text.specs.declared.channel_line.Names.{Names}
-use Rattle.trace_text.specs.declared.channel_line.Places.{Places}
-use Rattle.trace_text.specs.declared.channel_line.Amounts.{Amounts}
-use Rattle.trace_text.specs.declared.channel_line.Bounds.{Bounds}
-use Rattle.trace_text.specs.declared.channel_line.Keeping.{Keeping}
+use Rattle.rams_model.specs.declared.Channel.{Channel}
+use Rattle.trace_text.specs.declared.{channel_line.Names.Names, channel_line.Places.Places, channel_line.Amounts.Amounts}
+use Rattle.trace_text.specs.declared.{channel_line.Bounds.Bounds, channel_line.Keeping.Keeping}
 use Rattle.trace_text.specs.{names_in, places_in, amounts_in, bounds_in, keeping_in, numbers_in, line_of_numbers, channel_of}
 
 -- a field in front of two readings of the rest that agree

@@ -3,8 +3,7 @@ use Rattle.std.proofs.Common.{◌≡◌, ℕ, Bool, true, false, ◌==◌, not, 
 use Rattle.std.proofs.lemmas.Bool.{and_parts}
 use Rattle.std.proofs.lemmas.Bool.Decides.{nat_tests}
 use Rattle.std.specs.List.{list_all}
-use Rattle.rams_model.specs.declared.channel.Access.{Access}
-use Rattle.rams_model.specs.declared.channel.Access.TheVariants.{Marker, Ts}
+use Rattle.rams_model.specs.declared.{Access.Access, Access.TheVariants.Marker, Access.TheVariants.Ts}
 use Rattle.rams_model.specs.Texts.{is_digit, is_hex_digit, is_hex, word32, access_word, is_short, is_word32, is_version}
 use Rattle.trace_text.proofs.Hexes.{word_digits}
 use Rattle.trace_text.proofs.Joins.{has_no_space}

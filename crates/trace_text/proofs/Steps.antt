@@ -2,8 +2,7 @@
 use Rattle.std.proofs.Common.{◌≡◌, ◌⊎◌, ℕ, Bool, true, false, ◌||◌, ◌==◌, if◌then◌else◌, List, [], ◌∷◌, codes, bytes_eq, decimal, Option, Some, None, option_map, option_and_then, refl, sym, ap, subst, ◌∙◌, arith, inl, inr}
 use Rattle.std.proofs.lemmas.Bool.{eqb-true}
 use Rattle.std.proofs.lemmas.Fmt.{decimal_digit}
-use Rattle.rams_model.specs.declared.channel.Access.{Access}
-use Rattle.rams_model.specs.declared.channel.Access.TheVariants.{Marker, Ts}
+use Rattle.rams_model.specs.declared.{Access.Access, Access.TheVariants.Marker, Access.TheVariants.Ts}
 use Rattle.rams_model.specs.Texts.{is_hex, field, one, whole, hex_in, access_in, access_word, version_in, is_version}
 use Rattle.rams_model.specs.Texts.TraceLines.{Words}
 use Rattle.trace_text.proofs.Spelled.{some_if, if_some, is_word, same_word}

@@ -1,7 +1,7 @@
 -- A number of a channel that doesn't fit its type is out of its range.
 use Rattle.std.proofs.Common.{◌≡◌, ◌<◌, false, arith}
 use Rattle.std.proofs.lemmas.Bool.Decides.{nat_tests}
-use Rattle.rams_model.specs.declared.channel.Channel.{Channel}
+use Rattle.rams_model.specs.declared.Channel.{Channel}
 use Rattle.rams_model.specs.Service.{channel_in_range}
 
 pub wide_id : (c : Channel) → 65535 < c.id → channel_in_range c ≡ false

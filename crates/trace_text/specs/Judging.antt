@@ -1,15 +1,12 @@
 -- What a line is that was judged.
 use Rattle.std.specs.Prelude.{◌≡◌, ℕ, ◌==◌, not, if◌then◌else◌, List, Option, None, Some, Result, Ok, Err}
 use Rattle.std.specs.List.{list_any}
-use Rattle.rams_model.specs.declared.channel.Channel.{Channel}
-use Rattle.rams_model.specs.declared.fault.ConfigFault.{ConfigFault}
-use Rattle.rams_model.specs.declared.fault.LineFault.{LineFault}
-use Rattle.rams_model.specs.declared.fault.LineFault.TheVariants.{Order, Range, Twice}
+use Rattle.rams_model.specs.declared.{Channel.Channel, ConfigFault.ConfigFault, LineFault.LineFault}
+use Rattle.rams_model.specs.declared.LineFault.TheVariants.{Order, Range, Twice}
 use Rattle.rams_model.specs.Service.{Settings, settings, channel_in_range, checked}
 use Rattle.rams_model.specs.Texts.{TraceLine, channel_line, Head, Reached, accepted, judged, line_fault, joined}
-use Rattle.trace_text.specs.declared.line.Judged.{Judged}
+use Rattle.trace_text.specs.declared.{line.Judged.Judged, line.Line.Line}
 use Rattle.trace_text.specs.declared.line.Judged.TheVariants as judged_line
-use Rattle.trace_text.specs.declared.line.Line.{Line}
 use Rattle.trace_text.specs.declared.line.Line.TheVariants as line
 use Rattle.trace_text.specs.Shown.{shown, HasDigits}
 

@@ -1,14 +1,10 @@
 -- The numbers of a channel line, before their ranges are known, in the parts that they are read in.
 use Rattle.std.specs.Prelude.{[], ◌∷◌, Option, Some, codes}
-use Rattle.rams_model.specs.declared.channel.Channel.{Channel}
+use Rattle.rams_model.specs.declared.Channel.{Channel}
 use Rattle.rams_model.specs.Texts.{TraceLine, channel_line, field, whole, access_in, ◌>>=◌, number_in, word32_in}
 use Rattle.rams_model.specs.Texts.TraceLines.{Words}
-use Rattle.trace_text.specs.declared.channel_line.Numbers.{Numbers}
-use Rattle.trace_text.specs.declared.channel_line.Names.{Names}
-use Rattle.trace_text.specs.declared.channel_line.Places.{Places}
-use Rattle.trace_text.specs.declared.channel_line.Amounts.{Amounts}
-use Rattle.trace_text.specs.declared.channel_line.Bounds.{Bounds}
-use Rattle.trace_text.specs.declared.channel_line.Keeping.{Keeping}
+use Rattle.trace_text.specs.declared.{channel_line.Numbers.Numbers, channel_line.Names.Names, channel_line.Places.Places}
+use Rattle.trace_text.specs.declared.{channel_line.Amounts.Amounts, channel_line.Bounds.Bounds, channel_line.Keeping.Keeping}
 
 unfoldable pub names_in : Words → Option (Names × Words)
 names_in words = do

@@ -1,6 +1,6 @@
 -- The words of a channel line, in the parts that they are written in.
 use Rattle.std.specs.Prelude.{◌∷◌, [], codes, decimal}
-use Rattle.rams_model.specs.declared.channel.Channel.{Channel}
+use Rattle.rams_model.specs.declared.Channel.{Channel}
 use Rattle.rams_model.specs.Texts.{access_word, word32}
 use Rattle.rams_model.specs.Texts.TraceLines.{Words}
 

@@ -1,6 +1,6 @@
 //! The ranges of a line's numbers.
 ghost use Rattle.std.specs.Prelude.{◌≡◌, false, MatchResult};
-ghost use Rattle.rams_model.specs.declared.fault.LineFault.TheVariants.{Range};
+ghost use Rattle.rams_model.specs.declared.LineFault.TheVariants.{Range};
 ghost use Rattle.rams_model.specs.Service.{tick_in_range};
 ghost use Rattle.rams_model.specs.Texts.{id_in_range, client_in_range, line_in_range};
 ghost use Rattle.trace_text.specs.{shown};

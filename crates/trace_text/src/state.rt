@@ -1,6 +1,6 @@
 //! Which line may come where in a trace.
 ghost use Rattle.std.specs.Prelude.{◌≡◌, ◌≤◌, Ok, Err, Some, true, ◌==◌, if◌then◌else◌, is_ok, is_some, IfErr, IfOk, OnErr, OnOk};
-ghost use Rattle.rams_model.specs.declared.fault.LineFault.TheVariants.{Rule, Twice};
+ghost use Rattle.rams_model.specs.declared.LineFault.TheVariants.{Rule, Twice};
 ghost use Rattle.rams_model.specs.Service.{settings, tick_in_range};
 ghost use Rattle.rams_model.specs.Texts.{line_of, nothing_reached, tick_of, version_of, has_channel, kind_may_come, may_come_next, may_come, has_version, spells_version, line_is_served, line_in_range, with_line, with_channel, expected, accepted, judged, words_of};
 ghost use Rattle.trace_text.specs.{shown, told, judged_as, settled, with_ranged, IsJudged, IsOther, IsSettled, Unread};

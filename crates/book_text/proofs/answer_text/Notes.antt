@@ -1,8 +1,7 @@
 -- The texts of the notes of an answer, from one on.
 use Rattle.std.proofs.Common.{◌≡◌, ℕ, ◌+◌, ◌<◌, ◌≤◌, List, [], ◌++◌, length, get_or, drop, sym, ap, ◌∙◌}
 use Rattle.std.proofs.lemmas.List.{drop_more, drop_all}
-use Rattle.rams_model.specs.declared.answer.Order.{Order}
-use Rattle.rams_model.specs.declared.note.Note.{Note}
+use Rattle.rams_model.specs.declared.{Order.Order, Note.Note}
 use Rattle.rams_model.specs.Service.{Settings}
 use Rattle.rams_model.specs.Texts.{order_count, notes_text}
 use Rattle.book_text.specs.answer_text.{entry_text}

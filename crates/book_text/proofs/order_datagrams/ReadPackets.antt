@@ -3,19 +3,11 @@ use Rattle.std.proofs.Common.{◌≡◌, ℕ, Bool, cond, not, List, [], ◌∷�
 use Rattle.std.specs.Prelude.{filter, option_map, option_to_list, All, IsOk, Contains}
 use Rattle.std.proofs.lemmas.Bool.{cond_both}
 use Rattle.std.proofs.lemmas.List.Elements.{All-nil, All-cons, All-head, All-tail, All-contains, All-append, All-filter, All-drop}
-use Rattle.rams_model.specs.declared.answer.Order.{Order}
-use Rattle.rams_model.specs.declared.channel.Channel.{Channel}
-use Rattle.rams_model.specs.declared.event.Event.{Event}
-use Rattle.rams_model.specs.declared.fault.FrameFault.{FrameFault}
-use Rattle.rams_model.specs.declared.fault.RtpFault.{RtpFault}
-use Rattle.rams_model.specs.declared.held.Held.{Held}
-use Rattle.rams_model.specs.declared.message.Info.{Info}
-use Rattle.rams_model.specs.declared.note.Cause.{Cause}
-use Rattle.rams_model.specs.declared.note.LiveNote.{LiveNote}
-use Rattle.rams_model.specs.declared.note.Note.{Note}
-use Rattle.rams_model.specs.declared.event.Event.TheVariants.{Live, Feedback, Tick}
-use Rattle.rams_model.specs.declared.note.LiveNote.TheVariants.{Took, Restart, Jump, ForeignSsrc, ForeignType, TooBig}
-use Rattle.rams_model.specs.declared.note.Note.TheVariants as note
+use Rattle.rams_model.specs.declared.{Order.Order, Channel.Channel, Event.Event, FrameFault.FrameFault, RtpFault.RtpFault, Held.Held}
+use Rattle.rams_model.specs.declared.{Info.Info, Cause.Cause, LiveNote.LiveNote, Note.Note}
+use Rattle.rams_model.specs.declared.Event.TheVariants.{Live, Feedback, Tick}
+use Rattle.rams_model.specs.declared.LiveNote.TheVariants.{Took, Restart, Jump, ForeignSsrc, ForeignType, TooBig}
+use Rattle.rams_model.specs.declared.Note.TheVariants as note
 use Rattle.rams_model.specs.Service.{Settings, Heard, live, dropped, arrival, heard_packet, heard_feedback, heard_of, began, told, noted, History, arrivals, hold, Burst, open_burst, end_info, history_of, answer, Entry, Book, IsLawful, events_of, info_order, packet_order, again_order, update_order, end_order, order_of, newest_orders}
 use Rattle.rams_model.specs.Formats.{Packet, packet_at, Framed, framed}
 use Rattle.rams_model.specs.Packets.{Arrival, Stream, held_as, with_packet, awaited, is_consecutive, consecutive_end, live_note, stream_after, stream_of, source}

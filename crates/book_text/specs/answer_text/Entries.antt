@@ -1,8 +1,7 @@
 -- The text of one note with the datagram that it asks for.
 use Rattle.std.specs.Prelude.{ℕ, List, ◌++◌, take}
 use Rattle.std.specs.List.{flat_map}
-use Rattle.rams_model.specs.declared.answer.Order.{Order}
-use Rattle.rams_model.specs.declared.note.Note.{Note}
+use Rattle.rams_model.specs.declared.{Order.Order, Note.Note}
 use Rattle.rams_model.specs.Service.{Settings}
 use Rattle.rams_model.specs.Texts.{note_line, order_count, order_line}
 

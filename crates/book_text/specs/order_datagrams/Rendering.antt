@@ -1,8 +1,6 @@
 -- Which orders have a datagram.
 use Rattle.std.specs.Prelude.{◌∷◌, List, All, IsOk}
-use Rattle.rams_model.specs.declared.answer.Order.{Order}
-use Rattle.rams_model.specs.declared.event.Event.{Event}
-use Rattle.rams_model.specs.declared.answer.Order.TheVariants.{Rtx, Info}
+use Rattle.rams_model.specs.declared.{Order.Order, Event.Event, Order.TheVariants.Rtx, Order.TheVariants.Info}
 use Rattle.rams_model.specs.Service.{Settings, answer, Entry, Book, IsLawful}
 use Rattle.rams_model.specs.Formats.{packet_at}
 

@@ -8,10 +8,9 @@ use mathlib.Core.Option.{some, some-injective}
 use lib.ListN.{get_elem?}
 use Rattle.atomic_table.specs.Table.{Final, Seen}
 use Rattle.rams_model.specs.Service.{Settings}
-use Rattle.channel_book.specs.declared.entry.Entry.{Entry}
+use Rattle.channel_book.specs.declared.{entry.Entry.Entry, channel_lock.turns.View.View}
 use Rattle.channel_book.specs.{IsLegal, calls_by, Kept}
 use Rattle.channel_book.specs.channel_lock.{Known, IsOfPass, NotAmong, times}
-use Rattle.channel_book.specs.declared.channel_lock.turns.View.{View}
 use Rattle.channel_book.specs.channel_lock.Turns.{gathering, kept, IsPast, Turns}
 use Rattle.channel_book.specs.channel_lock.Passes.{pasts_of}
 use Rattle.channel_book.proofs.channel_lock.Gathering.{closes}

@@ -9,9 +9,8 @@ use native.Mathlib.Decide.{ℕ_discrete}
 use lib.ListN.{get_elem?}
 use Rattle.atomic_table.specs.Table.{State, Enters, Joins, Final, Seen, step}
 use Rattle.rams_model.specs.Service.{Settings}
-use Rattle.channel_book.specs.declared.entry.Entry.{Entry}
+use Rattle.channel_book.specs.declared.{entry.Entry.Entry, channel_lock.turns.View.View}
 use Rattle.channel_book.specs.{IsLegal, calls_by, Kept}
-use Rattle.channel_book.specs.declared.channel_lock.turns.View.{View}
 use Rattle.channel_book.specs.channel_lock.Turns.{view, blank, gathering, has_list, lists_past, lists_of, is_taken, kept, IsPast, Turns, Fits}
 use Rattle.channel_book.specs.channel_lock.Steps.{with_pass, Sat}
 use Rattle.channel_book.proofs.channel_lock.Lists.{times_append, two_le, all_zero, no_times, stands_first, each_snoc}

@@ -6,9 +6,8 @@ use mathlib.Core.Logic.{◌⊎◌}
 use lib.ListN.{get_elem?}
 use Rattle.atomic_table.specs.Table.{State, Act, Valid, Allows, Splits, Joins, step, stepped, carried_after, keeps}
 use Rattle.rams_model.specs.Service.{Settings}
-use Rattle.channel_book.specs.declared.entry.Entry.{Entry}
+use Rattle.channel_book.specs.declared.{entry.Entry.Entry, channel_lock.turns.View.View}
 use Rattle.channel_book.specs.{IsLegal, calls_by, StartsWith, Kept}
-use Rattle.channel_book.specs.declared.channel_lock.turns.View.{View}
 use Rattle.channel_book.specs.channel_lock.Turns.{view, blank, Fits, Turns}
 use Rattle.channel_book.specs.channel_lock.Steps.{Mine, note_of, told, Learnt}
 use Rattle.channel_book.proofs.channel_lock.Beginnings.{starts_same, starts_empty, starts_shorter, legal_starts, calls_between}

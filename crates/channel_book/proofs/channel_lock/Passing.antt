@@ -7,9 +7,8 @@ use mathlib.Core.Option.{none, some}
 use Rattle.atomic_table.specs.Table.{Allows, step, gives, rest}
 use Rattle.atomic_table.proofs.Lists.{set_here}
 use Rattle.rams_model.specs.Service.{Settings}
-use Rattle.channel_book.specs.declared.entry.Entry.{Entry}
+use Rattle.channel_book.specs.declared.{entry.Entry.Entry, channel_lock.turns.View.View}
 use Rattle.channel_book.specs.{IsLegal, calls_by, StartsWith, Kept}
-use Rattle.channel_book.specs.declared.channel_lock.turns.View.{View}
 use Rattle.channel_book.specs.channel_lock.Turns.{has_list, lists_of, calls_left, is_taken, among, has_ticket, waits, kept, IsPast, Fits, Turns}
 use Rattle.channel_book.specs.channel_lock.Steps.{Mine, Grew, PassedOn}
 use Rattle.channel_book.proofs.channel_lock.Lists.{total_set, term_le, two_le, stands_first}

@@ -1,7 +1,7 @@
 -- A pass that drew tickets, was served and had its turn.
 use Rattle.std.proofs.Common.{◌≡◌, ℕ, ◌-◌, ◌<◌, List, [], length, Some, sym, ap, ◌∙◌, subst}
 use Rattle.rams_model.specs.Service.{Answered, Settings}
-use Rattle.rams_model.specs.declared.event.Event.{Event}
+use Rattle.rams_model.specs.declared.Event.{Event}
 use Rattle.channel_book.specs.declared.entry.Entry.{Entry}
 use Rattle.channel_book.specs.{IsLegal, StartsWith, calls_by, HasTaken, HasTakenFront, HasAnsweredAll, HasAnsweredFront}
 use Rattle.channel_book.specs.channel_lock.Steps.{IsServed, Mine, rested}

@@ -3,11 +3,10 @@ use Rattle.std.proofs.Common.{◌≡◌, ◌≢◌, ℕ, ◌≤◌, ◌==◌, Bo
 use Rattle.std.specs.Prelude.{if◌then◌else◌, Result, Ok, Err, MatchResult}
 use Rattle.std.proofs.lemmas.Bool.Decides.{nat_tests}
 use Rattle.std.proofs.lemmas.List.{append-nil, length-append, length-map}
-use Rattle.rams_model.specs.declared.event.Event.{Event}
+use Rattle.rams_model.specs.declared.Event.{Event}
 use Rattle.rams_model.specs.Service.{Answered}
-use Rattle.channel_book.specs.declared.entry.Entry.{Entry}
+use Rattle.channel_book.specs.declared.{entry.Entry.Entry, channel_lock.turns.View.View}
 use Rattle.channel_book.specs.{IsLegal, calls_by, Kept, StartsWith, HasTaken, HasTakenFront, HasAnsweredAll, HasAnsweredFront}
-use Rattle.channel_book.specs.declared.channel_lock.turns.View.{View}
 use Rattle.channel_book.specs.channel_lock.Steps.{Grew}
 use Rattle.channel_book.proofs.channel_lock.Beginnings.{calls_append, starts_more}
 use Rattle.channel_book.specs.channel_lock.{times}

@@ -2,9 +2,8 @@
 use Rattle.std.specs.Prelude.{◌≡◌, ◌≢◌, ℕ, ◌^◌, max, List, [], ◌∷◌, map, length, All, Some}
 use Rattle.atomic_table.specs.Seated.{TableId}
 use Rattle.rams_model.specs.Service.{Settings}
-use Rattle.channel_book.specs.declared.entry.Entry.{Entry}
+use Rattle.channel_book.specs.declared.{entry.Entry.Entry, channel_lock.turns.View.View}
 use Rattle.channel_book.specs.{IsLegal, calls_by, StartsWith}
-use Rattle.channel_book.specs.declared.channel_lock.turns.View.{View}
 use Rattle.channel_book.specs.channel_lock.Turns.{view}
 use Rattle.channel_book.specs.channel_lock.Steps.{Mine}
 use Rattle.channel_book.specs.channel_lock.Counts.{numbers}

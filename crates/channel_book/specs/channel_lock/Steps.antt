@@ -3,9 +3,8 @@ use Rattle.std.specs.Prelude.{◌≡◌, ℕ, ◌+◌, ◌-◌, ◌^◌, ◌<◌
 use mathlib.Core.Logic.{◌⊎◌}
 use Rattle.atomic_table.specs.Table.{Step, Me}
 use Rattle.rams_model.specs.Service.{Settings}
-use Rattle.channel_book.specs.declared.entry.Entry.{Entry}
+use Rattle.channel_book.specs.declared.{entry.Entry.Entry, channel_lock.turns.View.View}
 use Rattle.channel_book.specs.{IsLegal, calls_by, StartsWith, Kept}
-use Rattle.channel_book.specs.declared.channel_lock.turns.View.{View}
 use Rattle.channel_book.specs.channel_lock.Turns.{view, blank, kept}
 use Rattle.channel_book.specs.channel_lock.Counts.{times}
 

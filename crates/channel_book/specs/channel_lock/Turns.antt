@@ -5,9 +5,8 @@ use mathlib.Core.Option.{some}
 use lib.ListN.{get_elem?}
 use Rattle.atomic_table.specs.Table.{State}
 use Rattle.rams_model.specs.Service.{Settings}
-use Rattle.channel_book.specs.declared.entry.Entry.{Entry}
+use Rattle.channel_book.specs.declared.{entry.Entry.Entry, channel_lock.turns.View.View}
 use Rattle.channel_book.specs.{IsLegal, calls_by, StartsWith, Kept}
-use Rattle.channel_book.specs.declared.channel_lock.turns.View.{View}
 use Rattle.channel_book.specs.channel_lock.Counts.{total, times, numbers}
 
 -- ---- views

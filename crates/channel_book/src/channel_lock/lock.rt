@@ -39,7 +39,7 @@ pub enum CloseFault {
 
 impl ChannelLock {
     ghost use Rattle.std.specs.Prelude.{◌≡◌, ℕ, ◌+◌, ◌^◌, ◌<◌, ◌≤◌, ◌↔◌, [], length, All, IsOk, IfOk, OnOk, IfErr, MatchResult};
-    ghost use Rattle.rams_model.specs.declared.event.Event.TheVariants.{Live, Feedback, Tick};
+    ghost use Rattle.rams_model.specs.declared.Event.TheVariants.{Live, Feedback, Tick};
     ghost use Rattle.server_hub.specs.session_core.{StandsFor};
     ghost use Rattle.channel_book.specs.{IsLegal, calls_by, Tells, HasAnsweredAll, HasAnsweredFront};
     ghost use Rattle.channel_book.specs.declared.channel_lock.lock.CloseFault.TheVariants.{Passes};

@@ -5,8 +5,7 @@ use Rattle.std.proofs.lemmas.List.{map-append}
 use Rattle.std.proofs.lemmas.List.Elements.{filter-append}
 use Rattle.rams_model.specs.Packets.{age_ms}
 use Rattle.channel_cache.specs.declared.access_index.choice.Choice.TheVariants.{NoStart, MinUnmet}
-use Rattle.channel_cache.specs.declared.access_index.point.Ask.{Ask}
-use Rattle.channel_cache.specs.declared.access_index.point.Point.{Point}
+use Rattle.channel_cache.specs.declared.{access_index.point.Ask.Ask, access_index.point.Point.Point}
 use Rattle.channel_cache.specs.access_index.{AccessPoint, leaves_room, age_at, newest, start_unless, start_at, choice_among, shown, RiseIn, roomy, start_of, choice_for}
 use Rattle.channel_cache.proofs.access_index.Rising.{rise_numbers, rise_bytes}
 

@@ -2,8 +2,7 @@
 use Rattle.std.proofs.Common.{◌≡◌, ℕ, ◌+◌, ◌-◌, ◌^◌, ◌<◌, ◌≤◌, List, [], ◌∷◌, ◌++◌, length, get_or, take, sym, ◌∙◌, ap, subst, take-suc, true, false, suc, arith}
 use Rattle.std.proofs.lemmas.List.{get_or_default}
 use Rattle.rams_model.specs.Packets.{age_ms}
-use Rattle.channel_cache.specs.declared.access_index.point.Ask.{Ask}
-use Rattle.channel_cache.specs.declared.access_index.point.Point.{Point}
+use Rattle.channel_cache.specs.declared.{access_index.point.Ask.Ask, access_index.point.Point.Point}
 use Rattle.channel_cache.specs.declared.access_index.choice.Choice.TheVariants.{MinUnmet}
 use Rattle.channel_cache.specs.access_index.{leaves_room, start_unless, shown, start_of, RiseIn, RiseLast, AreAtMost}
 use Rattle.channel_cache.proofs.access_index.Choosing.{no_point, start_passed, start_old, start_full, before_last, rise_take}

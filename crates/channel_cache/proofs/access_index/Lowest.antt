@@ -5,10 +5,8 @@ use Rattle.std.proofs.lemmas.Bool.Decides.{nat_tests}
 use Rattle.std.proofs.lemmas.List.{get_or_append_left, take_at}
 use Rattle.std.proofs.lemmas.List.Elements.{filter-append}
 use Rattle.rams_model.specs.Packets.{age_ms}
-use Rattle.channel_cache.specs.declared.access_index.point.Ask.{Ask}
-use Rattle.channel_cache.specs.declared.access_index.point.Point.{Point}
+use Rattle.channel_cache.specs.declared.{access_index.point.Ask.Ask, access_index.point.Point.Point, access_index.lid.Lid.Lid}
 use Rattle.channel_cache.specs.access_index.{AccessPoint, leaves_room, age_at, newest, start_at, choice_among, shown, RiseIn, above, roomy, start_of, choice_for, RiseLast, AreAtMost, are_over, lows_of, under, IsLid}
-use Rattle.channel_cache.specs.declared.access_index.lid.Lid.{Lid}
 use Rattle.channel_cache.proofs.access_index.Choosing.{of_age, room_last}
 use Rattle.channel_cache.proofs.access_index.Rising.{rise_wider}
 use Rattle.channel_cache.proofs.access_index.Halving.{age_falls}

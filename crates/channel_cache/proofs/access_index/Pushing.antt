@@ -1,8 +1,7 @@
 -- The fields of an index while a packet comes.
 use Rattle.std.proofs.Common.{◌≡◌, ℕ, ◌+◌, ◌^◌, ◌<◌, Bool, true, false, ◌==◌, if◌then◌else◌, List, [], ◌∷◌, ◌++◌, subst, sym, ◌∙◌, ap, append-nil, arith}
-use Rattle.channel_cache.specs.declared.access_index.index.Index.TheInside.{Inside}
+use Rattle.channel_cache.specs.declared.{access_index.index.Index.TheInside.Inside, access_index.point.Point.Point}
 use Rattle.channel_cache.specs.access_index.{pushed, since, seen_of, AreTimes, RiseIn, Row}
-use Rattle.channel_cache.specs.declared.access_index.point.Point.{Point}
 use Rattle.channel_cache.proofs.access_index.Edge.{pushed_is, times_own}
 use Rattle.channel_cache.proofs.access_index.Rising.{own, rise_pushed}
 

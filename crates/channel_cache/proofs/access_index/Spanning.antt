@@ -2,9 +2,7 @@
 use Rattle.std.proofs.Common.{◌≡◌, ℕ, ◌+◌, ◌-◌, ◌*◌, ◌/◌, ◌<◌, ◌≤◌, ◌⊎◌, List, [], ◌∷◌, ◌++◌, length, min, get_or, take, drop, inl, inr, sym, ◌∙◌, ap, subst, length-append, length-drop, get_or-drop, lt_of_not-le, arith}
 use Rattle.std.proofs.lemmas.Bool.{cases_lt}
 use Rattle.std.proofs.lemmas.List.{get_or_append_left, get_or_push, take_min}
-use Rattle.channel_cache.specs.declared.access_index.point.Ask.{Ask}
-use Rattle.channel_cache.specs.declared.access_index.point.Point.{Point}
-use Rattle.channel_cache.specs.declared.access_index.span.Span.{Span}
+use Rattle.channel_cache.specs.declared.{access_index.point.Ask.Ask, access_index.point.Point.Point, access_index.span.Span.Span}
 use Rattle.channel_cache.specs.access_index.{start_of, IsIn, Reaches, Spanned, IsNoted}
 use Rattle.channel_cache.proofs.access_index.Choosing.{no_point, start_passed}
 

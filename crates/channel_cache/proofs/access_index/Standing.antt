@@ -1,8 +1,7 @@
 -- An index goes on to stand for its marks, and chooses among them.
 use Rattle.std.proofs.Common.{◌≡◌, ℕ, ◌+◌, ◌*◌, ◌<◌, min, max, Bool, true, false, ◌&&◌, ◌==◌, nat_le, if◌then◌else◌, List, [], ◌∷◌, ◌++◌, length, map, filter, Option, Ok, Err, refl, sym, ◌∙◌, ap, subst, length-append, arith}
 use Rattle.std.proofs.lemmas.Bool.Decides.{nat_tests}
-use Rattle.rams_model.specs.declared.channel.Channel.{Channel}
-use Rattle.rams_model.specs.declared.held.Held.{Held}
+use Rattle.rams_model.specs.declared.{Channel.Channel, Held.Held}
 use Rattle.rams_model.specs.Packets.{from_number, behind, last_timestamp, age, is_eligible, is_at_most, not_too_old, chosen_of, chosen, Follows}
 use Rattle.rams_model.specs.Packets.Access as access
 use Rattle.channel_cache.specs.declared.access_index.choice.Choice.TheVariants.{Start, MaxUnmet}

@@ -4,7 +4,7 @@ use Rattle.std.proofs.lemmas.Bool.{cond_both, cond-true, cond-false, eqb-true, e
 use Rattle.std.proofs.lemmas.List.{length-drop, drop-drop, drop-append-le}
 use Rattle.std.proofs.Math.Seq.{drop-nil}
 use Rattle.std.proofs.Math.Bool.{and-true, and-false, and_assoc}
-use Rattle.rams_model.specs.declared.held.Held.{Held}
+use Rattle.rams_model.specs.declared.Held.{Held}
 use Rattle.rams_model.specs.Packets.{hi, last_of, is_consecutive, consecutive_end}
 use Rattle.rams_model.specs.Laws.{Rises}
 use Rattle.rams_model.proofs.HeldEnds.{hi-consecutive_end, hi-last_of}

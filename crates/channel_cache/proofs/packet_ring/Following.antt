@@ -4,7 +4,7 @@ use Rattle.std.specs.Option.{option_copied, MatchOption}
 use Rattle.std.specs.Borrow.{Bor}
 use Rattle.std.proofs.lemmas.Bool.{cond_both, eqb-true, eqb-false, le-leb, eq-eqb, ne_eqb, cond-true, cond-false}
 use Rattle.std.proofs.lemmas.List.{length-drop}
-use Rattle.rams_model.specs.declared.held.Held.{Held}
+use Rattle.rams_model.specs.declared.Held.{Held}
 use Rattle.rams_model.specs.Packets.{lo, hi, last_of, from_number, Follows}
 use Rattle.rams_model.proofs.Holding.{later_ones, all_from, one_behind, ends_at}
 use Rattle.rams_model.proofs.Rising.{hi_of_end, not_from}

@@ -1,9 +1,8 @@
 -- Where the items are packets, the definitions of items and of packets say the same.
 use Rattle.std.proofs.Common.{◌≡◌, ℕ, zero, suc, ◌+◌, ◌-◌, ◌≤◌, Bool, true, false, ◌==◌, ◌||◌, ◌&&◌, not, nat_lt, nat_le, if◌then◌else◌, List, [], ◌∷◌, filter, refl, ◌∙◌, ap, arith}
 use Rattle.std.proofs.lemmas.Bool.Decides.{nat_tests}
-use Rattle.rams_model.specs.declared.held.Held.{Held}
-use Rattle.rams_model.specs.declared.note.LiveNote.TheVariants.{Took}
-use Rattle.rams_model.specs.declared.note.LiveNote.TheVariants as notes
+use Rattle.rams_model.specs.declared.{Held.Held, LiveNote.TheVariants.Took}
+use Rattle.rams_model.specs.declared.LiveNote.TheVariants as notes
 use Rattle.rams_model.specs.Packets.{lo, hi, least, with_packet}
 use Rattle.rams_model.specs.Packets.Source as sources
 use Rattle.rams_model.proofs.Waiting.{least_from_start}

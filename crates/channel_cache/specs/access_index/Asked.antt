@@ -1,8 +1,6 @@
 -- What is asked of the points as they are kept.
 use Rattle.std.specs.Prelude.{nat_le, List, map, filter}
-use Rattle.channel_cache.specs.declared.access_index.choice.Choice.{Choice}
-use Rattle.channel_cache.specs.declared.access_index.point.Ask.{Ask}
-use Rattle.channel_cache.specs.declared.access_index.point.Point.{Point}
+use Rattle.channel_cache.specs.declared.{access_index.choice.Choice.Choice, access_index.point.Ask.Ask, access_index.point.Point.Point}
 use Rattle.channel_cache.specs.access_index.Kept.{shown}
 use Rattle.channel_cache.specs.access_index.Seen.{AccessPoint, leaves_room, age_at, newest, start_at, choice_among}
 

@@ -1,8 +1,6 @@
 -- The points whose timestamps are below those of all points behind them, and what no timestamp is above.
 use Rattle.std.specs.Prelude.{ℕ, ◌+◌, ◌<◌, ◌≤◌, Bool, true, ◌&&◌, nat_lt, if◌then◌else◌, List, [], ◌∷◌, length, filter, get_or}
-use Rattle.channel_cache.specs.declared.access_index.lid.Lid.{Lid}
-use Rattle.channel_cache.specs.declared.access_index.lid.Lids.{Lids}
-use Rattle.channel_cache.specs.declared.access_index.point.Point.{Point}
+use Rattle.channel_cache.specs.declared.{access_index.lid.Lid.Lid, access_index.lid.Lids.Lids, access_index.point.Point.Point}
 
 -- the timestamps of all of them are above this one
 unfoldable pub are_over : ℕ → List Point → Bool

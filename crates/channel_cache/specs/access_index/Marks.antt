@@ -1,6 +1,6 @@
 -- The packets that an index stands for.
 use Rattle.std.specs.Prelude.{◌≡◌, ℕ, ◌+◌, ◌<◌, ◌==◌, if◌then◌else◌, List, length, map, filter, Result, Ok, Err}
-use Rattle.rams_model.specs.declared.held.Held.{Held}
+use Rattle.rams_model.specs.declared.Held.{Held}
 use Rattle.rams_model.specs.Packets.{behind, last_timestamp, Follows}
 use Rattle.channel_cache.specs.declared.access_index.choice.Choice.{Choice}
 use Rattle.channel_cache.specs.declared.access_index.choice.Choice.TheVariants.{Start, NoStart, MinUnmet, MaxUnmet}

@@ -1,8 +1,7 @@
 -- The points side by side, and the timestamps of each 64 of them.
 use Rattle.std.specs.Prelude.{ℕ, ◌+◌, ◌-◌, ◌*◌, ◌/◌, ◌<◌, ◌≤◌, ◌≡◌, List, length, get_or}
 use Rattle.rams_model.specs.Packets.{age_ms}
-use Rattle.channel_cache.specs.declared.access_index.point.Point.{Point}
-use Rattle.channel_cache.specs.declared.access_index.span.Span.{Span}
+use Rattle.channel_cache.specs.declared.{access_index.point.Point.Point, access_index.span.Span.Span}
 
 -- the points that are kept, and for how many there is room
 pub record Row : Type 0 where

@@ -1,6 +1,6 @@
 -- What is held of a source as it grows, and the packets from a number on.
 use Rattle.std.specs.Prelude.{◌≡◌, ℕ, ◌+◌, ◌≤◌, List, [], ◌∷◌, ◌++◌, MatchOption}
-use Rattle.rams_model.specs.declared.held.Held.{Held}
+use Rattle.rams_model.specs.declared.Held.{Held}
 use Rattle.rams_model.specs.Packets.{lo, hi, last_of, from_number, Follows, consecutive_end}
 use Rattle.rams_model.specs.Laws.{Rises}
 use Rattle.channel_cache.specs.packet_ring.Seen.{Seen, with_next, packet_of, StandsFor}

@@ -1,9 +1,7 @@
 -- A window whose items are the packets of a channel, each under its own number.
 use Rattle.std.specs.Prelude.{◌≡◌, ℕ, ◌≤◌, true, false, nat_lt, List, ◌∷◌, map, filter}
-use Rattle.rams_model.specs.declared.held.Held.{Held}
-use Rattle.rams_model.specs.declared.note.LiveNote.{LiveNote}
-use Rattle.rams_model.specs.declared.note.LiveNote.TheVariants.{Took}
-use Rattle.rams_model.specs.declared.note.LiveNote.TheVariants as notes
+use Rattle.rams_model.specs.declared.{Held.Held, LiveNote.LiveNote, LiveNote.TheVariants.Took}
+use Rattle.rams_model.specs.declared.LiveNote.TheVariants as notes
 use Rattle.rams_model.specs.Packets.{lo, with_packet, in_time}
 use Rattle.rams_model.specs.Packets.Source as sources
 use Rattle.channel_cache.specs.declared.reorder_window.window.Came.{Came}

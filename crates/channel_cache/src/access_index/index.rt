@@ -1,7 +1,6 @@
 //! The index of one channel's access points.
 ghost use Rattle.std.specs.Prelude.{◌≡◌, ◌+◌, ◌-◌, ◌*◌, ◌^◌, ◌<◌, ◌≤◌, List, [], ◌∷◌, ◌++◌, false, IfOk};
-ghost use Rattle.rams_model.specs.declared.channel.Channel.{Channel};
-ghost use Rattle.rams_model.specs.declared.held.Held.{Held};
+ghost use Rattle.rams_model.specs.declared.{Channel.Channel, Held.Held};
 ghost use Rattle.rams_model.specs.Packets.{from_number, chosen};
 ghost use Rattle.channel_cache.specs.access_index.{new_index, since, pushed, left_from, choice, StandsFor, choice_of};
 

@@ -1,6 +1,6 @@
 //! The ring of one channel.
 ghost use Rattle.std.specs.Prelude.{◌≡◌, ◌+◌, ◌^◌, ◌<◌, ◌≤◌, List, [], ◌∷◌, ◌++◌, ◌↔◌, option_copied, IfOk, IfSome, IsSome};
-ghost use Rattle.rams_model.specs.declared.held.Held.{Held};
+ghost use Rattle.rams_model.specs.declared.Held.{Held};
 ghost use Rattle.rams_model.specs.Packets.{lo, hi};
 ghost use Rattle.channel_cache.specs.packet_ring.{empty_ring, pushed, let_go, packet_of, IsRing, StandsFor};
 

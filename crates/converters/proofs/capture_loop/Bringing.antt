@@ -4,8 +4,7 @@ use Rattle.std.specs.Prelude.{All, IfSome}
 use Rattle.std.proofs.lemmas.List.Elements.{All-nil, All-cons, All-append}
 use Rattle.converters.specs.declared.capture_loop.pcap_trace.header.Record.{Record}
 use Rattle.converters.specs.capture_loop.pcap_trace.{Elapsed, ticks_between}
-use Rattle.server_hub.specs.declared.event.HubEvent.{HubEvent}
-use Rattle.server_hub.specs.declared.event.HubEvent.TheVariants.{Tick}
+use Rattle.server_hub.specs.declared.{HubEvent.HubEvent, HubEvent.TheVariants.Tick}
 use Rattle.server_hub.specs.Served.{Served}
 use Rattle.trace_loop.specs.journal_book.{CanCome, EventsAreSpelled, HasLine, event_line, event_lines}
 use Rattle.trace_loop.proofs.journal_book.EventLines.{lines_append}

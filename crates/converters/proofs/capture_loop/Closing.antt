@@ -3,19 +3,17 @@ use Rattle.std.proofs.Common.{◌≡◌, ℕ, List, [], ◌++◌, Option, None, 
 use Rattle.std.specs.Io.KnownBytes.{Appends}
 use Rattle.line_io.specs.Passes.{Passes}
 use Rattle.line_io.proofs.Passing.{Passes-more, Passes-put, Passes-then}
-use Rattle.rams_model.specs.declared.status.Status.{Status}
-use Rattle.rams_model.specs.declared.status.Status.TheVariants.{Done}
-use Rattle.server_hub.specs.declared.event.HubEvent.{HubEvent}
+use Rattle.rams_model.specs.declared.{Status.Status, Status.TheVariants.Done}
+use Rattle.server_hub.specs.declared.HubEvent.{HubEvent}
 use Rattle.trace_loop.specs.journal_book.{event_lines}
 use Rattle.trace_loop.specs.trace_book.trace_serving.{Outcome, after_text}
-use Rattle.trace_loop.specs.declared.stop.Stop.{Stop}
-use Rattle.trace_loop.specs.declared.stop.Stop.TheVariants.{Memory, Read, Write, Wire}
+use Rattle.trace_loop.specs.declared.Stop.{Stop}
+use Rattle.trace_loop.specs.declared.Stop.TheVariants.{Memory, Read, Write, Wire}
 use Rattle.std.specs.Prelude.{◌≤◌, MatchResult}
 use Rattle.trace_loop.specs.{EndsAs, Ends, IfBothTold, IsStop, IsStoppedByWrite, IsWriteStop, StopsIn}
-use Rattle.converters.specs.declared.capture_loop.pcap_trace.head.CaptureFault.{CaptureFault}
+use Rattle.converters.specs.declared.{capture_loop.pcap_trace.head.CaptureFault.CaptureFault, capture_loop.last.End.End}
 use Rattle.trace_loop.proofs.Reading.{passes_whole}
 use Rattle.trace_loop.proofs.Stopping.{err_so, write_since}
-use Rattle.converters.specs.declared.capture_loop.last.End.{End}
 use Rattle.converters.specs.declared.capture_loop.last.End.TheVariants.{Whole, Refused, TooLong}
 use Rattle.converters.specs.capture_loop.{ComesTo, HasLinesOf, last}
 

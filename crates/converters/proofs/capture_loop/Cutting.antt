@@ -6,8 +6,7 @@ use Rattle.std.proofs.lemmas.Bool.Decides.{nat_tests}
 use Rattle.std.proofs.lemmas.List.{take-append-le, drop-append-le}
 use Rattle.converters.specs.declared.capture_loop.pcap_trace.head.CaptureFault.{CaptureFault}
 use Rattle.converters.specs.declared.capture_loop.pcap_trace.head.CaptureFault.TheVariants.{Cut, Short}
-use Rattle.converters.specs.declared.capture_loop.pcap_trace.head.Endian.{Endian}
-use Rattle.converters.specs.declared.capture_loop.pcap_trace.header.Record.{Record}
+use Rattle.converters.specs.declared.{capture_loop.pcap_trace.head.Endian.Endian, capture_loop.pcap_trace.header.Record.Record}
 use Rattle.converters.specs.capture_loop.pcap_trace.{head_at, record_at}
 use Rattle.trace_loop.specs.{IfTold}
 use Rattle.converters.specs.capture_loop.{Captured, Records, whole, broken, too_many, captured_in, cut_by, record_in, ended_by, with_first, records_in, order_in}

@@ -4,11 +4,10 @@ use Rattle.std.specs.Io.KnownBytes.{IsAtEnd, Keeps, prepend_known}
 use Rattle.std.proofs.lemmas.List.{take-append-le, drop-append-le}
 use Rattle.converters.specs.declared.capture_loop.pcap_trace.head.CaptureFault.{CaptureFault}
 use Rattle.converters.specs.declared.capture_loop.pcap_trace.head.CaptureFault.TheVariants.{Short}
-use Rattle.converters.specs.declared.capture_loop.pcap_trace.head.Endian.{Endian}
-use Rattle.converters.specs.declared.capture_loop.pcap_trace.header.Record.{Record}
-use Rattle.converters.specs.capture_loop.pcap_trace.{head_at, record_at}
-use Rattle.ram_io.specs.declared.failed.Failed.{Failed}
+use Rattle.converters.specs.declared.{capture_loop.pcap_trace.head.Endian.Endian, capture_loop.pcap_trace.header.Record.Record}
 use Rattle.converters.specs.declared.capture_loop.records.Next.{Next}
+use Rattle.converters.specs.capture_loop.pcap_trace.{head_at, record_at}
+use Rattle.ram_io.specs.declared.Failed.{Failed}
 use Rattle.converters.specs.declared.capture_loop.records.Next.TheVariants as next
 use Rattle.converters.specs.capture_loop.{BeginsWith, HasOrder, IsNext, IsNextWithin, most_records, order_in}
 use Rattle.converters.proofs.capture_loop.Cutting.{short_head, told_at_end}

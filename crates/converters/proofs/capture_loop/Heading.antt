@@ -9,18 +9,17 @@ use Rattle.line_io.specs.Passes.{Passes}
 use Rattle.line_io.proofs.Passing.{Passes-none}
 use Rattle.converters.specs.declared.capture_loop.pcap_trace.head.CaptureFault.{CaptureFault}
 use Rattle.converters.specs.declared.capture_loop.pcap_trace.head.CaptureFault.TheVariants.{Short}
-use Rattle.converters.specs.declared.capture_loop.pcap_trace.head.Endian.{Endian}
+use Rattle.converters.specs.declared.{capture_loop.pcap_trace.head.Endian.Endian, capture_loop.last.End.End}
+use Rattle.converters.specs.declared.capture_loop.last.End.TheVariants.{Refused}
 use Rattle.converters.specs.capture_loop.pcap_trace.{Elapsed, head_at}
-use Rattle.server_hub.specs.declared.event.HubEvent.{HubEvent}
+use Rattle.server_hub.specs.declared.HubEvent.{HubEvent}
 use Rattle.server_hub.specs.Served.{Served}
 use Rattle.trace_loop.specs.trace_book.trace_serving.{Outcome}
-use Rattle.trace_loop.specs.declared.stop.Stop.{Stop}
-use Rattle.trace_loop.specs.declared.stop.Stop.TheVariants.{Memory, Read, Write, Wire}
+use Rattle.trace_loop.specs.declared.Stop.{Stop}
+use Rattle.trace_loop.specs.declared.Stop.TheVariants.{Memory, Read, Write, Wire}
 use Rattle.trace_loop.specs.{IfBothTold, IfTold, IsStop, IsStopped, StopsIn}
 use Rattle.trace_loop.proofs.Reading.{rose_since}
 use Rattle.trace_loop.specs.journal_book.{event_lines}
-use Rattle.converters.specs.declared.capture_loop.last.End.{End}
-use Rattle.converters.specs.declared.capture_loop.last.End.TheVariants.{Refused}
 use Rattle.converters.specs.capture_loop.{AreWritten, ComesTo, HasLinesOf, HasOrder, file_events, file_text, last, new_clock, order_in, records_events, records_outcome, text_by_order, events_by}
 use Rattle.converters.proofs.capture_loop.Cutting.{short_head}
 use Rattle.converters.proofs.capture_loop.Limits.{fits_or_not}

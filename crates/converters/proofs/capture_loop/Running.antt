@@ -7,20 +7,18 @@ use Rattle.std.proofs.lemmas.Slice.{between_is}
 use Rattle.line_io.specs.Passes.{Passes}
 use Rattle.line_io.proofs.Passing.{Passes-none, Passes-put}
 use Rattle.converters.specs.declared.capture_loop.pcap_trace.head.CaptureFault.{CaptureFault}
-use Rattle.converters.specs.declared.capture_loop.pcap_trace.head.CaptureFault.TheVariants.{Cut}
-use Rattle.converters.specs.declared.capture_loop.pcap_trace.head.Endian.{Endian}
-use Rattle.converters.specs.declared.capture_loop.pcap_trace.header.Record.{Record}
+use Rattle.converters.specs.declared.{capture_loop.pcap_trace.head.CaptureFault.TheVariants.Cut, capture_loop.pcap_trace.head.Endian.Endian}
+use Rattle.converters.specs.declared.{capture_loop.pcap_trace.header.Record.Record, capture_loop.last.End.End}
 use Rattle.converters.specs.capture_loop.pcap_trace.{Elapsed, record_at}
-use Rattle.server_hub.specs.declared.event.HubEvent.{HubEvent}
+use Rattle.server_hub.specs.declared.HubEvent.{HubEvent}
 use Rattle.server_hub.specs.Served.{Served}
 use Rattle.trace_loop.specs.trace_book.trace_serving.{Outcome, after_text, too_long}
-use Rattle.trace_loop.specs.declared.stop.Stop.{Stop}
+use Rattle.trace_loop.specs.declared.Stop.{Stop}
 use Rattle.trace_loop.specs.{IfBothTold, IfTold, StopsIn}
 use Rattle.trace_loop.proofs.Writing.{IsWriting, writing_breaks, writing_stops, writing_has_room}
 use Rattle.trace_loop.specs.trace_book.{most_events}
 use Rattle.trace_loop.specs.journal_book.{HasLine, event_lines}
 use Rattle.trace_loop.proofs.journal_book.EventLines.{lines_append}
-use Rattle.converters.specs.declared.capture_loop.last.End.{End}
 use Rattle.converters.specs.declared.capture_loop.last.End.TheVariants.{Whole, Refused, TooLong}
 use Rattle.converters.specs.capture_loop.{AreWritten, Captured, ComesTo, HasLinesOf, Records, broken, captured_in, clock_told, ended_by, ending, event_room, events_in, last, limited, most_records, record_events, record_in, records_in, records_text, too_many, whole}
 use Rattle.converters.proofs.capture_loop.Limits.{fits_or_not, limited_full, limited_none, limited_past}

@@ -1,9 +1,8 @@
 -- How a call ends that calls others.
 use Rattle.std.proofs.Common.{◌≡◌, ℕ, ◌+◌, ◌≤◌, List, ◌++◌, length, Option, Result, Ok, Err, IfOk, IfErr, OnOk, sym, ap, subst, ◌∙◌, arith, append_assoc, length-append}
-use Rattle.rams_model.specs.declared.status.Status.{Status}
-use Rattle.rams_model.specs.declared.status.Status.TheVariants.{Done}
-use Rattle.trace_loop.specs.declared.stop.Stop.{Stop}
-use Rattle.trace_loop.specs.declared.stop.Stop.TheVariants.{Memory, Read, Write, Wire}
+use Rattle.rams_model.specs.declared.{Status.Status, Status.TheVariants.Done}
+use Rattle.trace_loop.specs.declared.Stop.{Stop}
+use Rattle.trace_loop.specs.declared.Stop.TheVariants.{Memory, Read, Write, Wire}
 use Rattle.trace_loop.specs.{IsStop, IsStopped, IsStoppedByWrite, IsWriteStop, StopsIn}
 use Rattle.trace_loop.proofs.Reading.{rose_since}
 use Rattle.converters.specs.declared.capture_loop.last.End.{End}

@@ -1,6 +1,6 @@
 -- Lines `tick`, one after another.
 use Rattle.std.proofs.Common.{◌≡◌, ℕ, suc, ◌+◌, ◌-◌, ◌<◌, ◌≤◌, [], ◌++◌, replicate, ap, arith}
-use Rattle.server_hub.specs.declared.event.HubEvent.TheVariants.{Tick}
+use Rattle.server_hub.specs.declared.HubEvent.TheVariants.{Tick}
 use Rattle.trace_loop.specs.journal_book.{event_line, event_lines}
 
 -- one of the ticks that are left

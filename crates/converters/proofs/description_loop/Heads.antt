@@ -1,14 +1,12 @@
 -- How the three lines of a head are read, one after another.
 use Rattle.std.proofs.Common.{◌≡◌, ℕ, List, Option, None, Some, Result, refl, sym, ap, ◌∙◌}
-use Rattle.rams_model.specs.declared.fault.LineFault.{LineFault}
-use Rattle.rams_model.specs.declared.fault.LineFault.TheVariants.{Order}
-use Rattle.rams_model.specs.declared.mode.Mode.TheVariants.{Describe}
+use Rattle.rams_model.specs.declared.{LineFault.LineFault, LineFault.TheVariants.Order, Mode.TheVariants.Describe}
 use Rattle.rams_model.specs.Service.{Settings, settings}
 use Rattle.rams_model.specs.Texts.{TraceLine, head_line, channel_line, live_line, feedback_line, tick_line, end_line, tune_line, give_line, mcast_line, ask_line, drop_line, Reached, nothing_reached}
 use Rattle.trace_loop.specs.{IfBothTold}
 use Rattle.converters.specs.declared.description_loop.said.Said.{Said}
-use Rattle.converters.specs.declared.description_loop.said.Said.TheVariants as said
 use Rattle.converters.specs.declared.description_loop.said.Head.TheVariants.{Lawful, Unlawful}
+use Rattle.converters.specs.declared.description_loop.said.Said.TheVariants as said
 use Rattle.converters.specs.declared.description_loop.said.Heading as code
 use Rattle.converters.specs.description_loop.{Heading, says, refuses, behind_line, next_judged, by_judging, behind_second, behind_first, behind_none, head_of, IsOfNoHead, SaysOf, IsNext, said_fault, said_by, HasRead}
 

@@ -2,12 +2,11 @@
 use Rattle.std.proofs.Common.{◌≡◌, ℕ, List, [], ◌∷◌, ◌++◌, Option, None, Some, Result, Err, refl, sym, ap, ◌∙◌, subst, inl, inr}
 use Rattle.std.specs.Prelude.{◌⊎◌}
 use Rattle.line_io.specs.{HasNoFeed, IsCutOff, TakesNext}
-use Rattle.line_io.specs.declared.reader.Next.TheVariants.{Line, Long, End}
-use Rattle.rams_model.specs.declared.fault.LineFault.{LineFault}
-use Rattle.rams_model.specs.declared.fault.LineFault.TheVariants.{Form, Order}
+use Rattle.line_io.specs.declared.Next.TheVariants.{Line, Long, End}
+use Rattle.rams_model.specs.declared.{LineFault.LineFault, LineFault.TheVariants.Form, LineFault.TheVariants.Order}
 use Rattle.rams_model.specs.Texts.{TraceLine, Reached, judged, lines_of}
-use Rattle.trace_text.specs.declared.line.Line as code
-use Rattle.trace_text.specs.declared.line.Line.TheVariants as line
+use Rattle.trace_text.specs.declared.Line as code
+use Rattle.trace_text.specs.declared.Line.TheVariants as line
 use Rattle.trace_text.specs.{shown, IsOther}
 use Rattle.trace_loop.specs.{IfBothTold}
 use Rattle.trace_loop.proofs.LongLines.{judged_by}

@@ -3,15 +3,14 @@ use Rattle.std.proofs.Common.{◌≡◌, ℕ, List, [], ◌++◌, length, Option
 use Rattle.std.specs.Io.KnownBytes.{Appends, prepend_known}
 use Rattle.line_io.specs.Passes.{Passes}
 use Rattle.line_io.proofs.Passing.{Passes-none}
-use Rattle.rams_model.specs.declared.fault.LineFault.{LineFault}
-use Rattle.rams_model.specs.declared.status.Status.{Status}
+use Rattle.rams_model.specs.declared.{LineFault.LineFault, Status.Status}
 use Rattle.converters.specs.description_loop.sdp_config.{sdp_at}
 use Rattle.trace_loop.specs.{IfTold, IfBothTold}
 use Rattle.trace_loop.specs.trace_book.trace_serving.{Outcome, refused}
 use Rattle.trace_loop.proofs.Whole.{told_all}
 use Rattle.converters.specs.declared.description_loop.said.Head.TheVariants.{Lawful, Unlawful}
-use Rattle.converters.specs.declared.description_loop.said.Heading as code
 use Rattle.converters.specs.declared.description_loop.reply.Reply.{Reply}
+use Rattle.converters.specs.declared.description_loop.said.Heading as code
 use Rattle.converters.specs.description_loop.{HeadSays, behind_head, head_of, said_by, HasRead, IsFrontOf, settings_by, described_by, by_head, settings_outcome, description_outcome, answered, HasWritten}
 use Rattle.converters.proofs.description_loop.Rests.{front_says}
 

@@ -2,9 +2,7 @@
 use Rattle.std.proofs.Common.{◌≡◌, ℕ, ◌≤◌, arith, Bool, true, false, ◌==◌, if◌then◌else◌, List, [], ◌∷◌, Some, Result, Ok, Err, refl, sym, ap, ◌∙◌, subst}
 use Rattle.std.specs.Prelude.{sum_by}
 use Rattle.std.proofs.lemmas.Bool.{and_parts, eqb-true}
-use Rattle.rams_model.specs.declared.channel.Channel.{Channel}
-use Rattle.rams_model.specs.declared.fault.LineFault.{LineFault}
-use Rattle.rams_model.specs.declared.mode.Mode.TheVariants.{Describe}
+use Rattle.rams_model.specs.declared.{Channel.Channel, LineFault.LineFault, Mode.TheVariants.Describe}
 use Rattle.rams_model.specs.Service.{settings}
 use Rattle.rams_model.specs.Texts.{TraceLine, head_line, channel_line, live_line, feedback_line, tick_line, end_line, tune_line, give_line, mcast_line, ask_line, drop_line, onto_first, lines_of, line_in_range, line_text, line_has_form, Head, Reached, nothing_reached, tick_of, version_of, kind_may_come, kind_of, has_version, may_come}
 use Rattle.trace_text.proofs.Spelling.{is_text}

@@ -4,12 +4,10 @@ use Rattle.std.proofs.lemmas.Bool.{cond_both, eq-eqb, ltb-true}
 use Rattle.channel_config.proofs.Laws.{checked-from_IsLawful}
 use Rattle.line_io.specs.{HasNoFeed}
 use Rattle.line_io.proofs.LineFeeds.{lines_of-cut}
-use Rattle.rams_model.specs.declared.fault.LineFault as fault
-use Rattle.rams_model.specs.declared.mode.Mode.TheVariants.{Run}
-use Rattle.rams_model.specs.declared.status.Status.TheVariants.{Done}
+use Rattle.rams_model.specs.declared.LineFault as fault
+use Rattle.rams_model.specs.declared.{Mode.TheVariants.Run, Status.TheVariants.Done}
 use Rattle.rams_model.specs.Texts.{TraceLine, head_line, channel_line, end_line, lines_of, line_of, line_at, ranged, line_in_range, line_text, is_spelled, Reached, nothing_reached, line_is_served, may_come, joined, with_line, accepted, with_reached, judged_line, judged}
-use Rattle.converters.specs.declared.description_loop.sdp_config.sdp.Sdp.{Sdp}
-use Rattle.converters.specs.declared.description_loop.sdp_config.sdp.SdpFault.{SdpFault}
+use Rattle.converters.specs.declared.{description_loop.sdp_config.sdp.Sdp.Sdp, description_loop.sdp_config.sdp.SdpFault.SdpFault}
 use Rattle.converters.specs.description_loop.sdp_config.{sdp_at, IsDescribable}
 use Rattle.converters.proofs.description_loop.sdp_config.InRange as in_range
 use Rattle.converters.proofs.description_loop.sdp_config.ReadBack.{read_back}

@@ -3,7 +3,7 @@ use Rattle.std.proofs.Common.{◌≡◌, ℕ, ◌^◌, ◌≤◌, true, nat_le, 
 use Rattle.std.proofs.lemmas.Bool.{lt-ltb}
 use Rattle.std.proofs.lemmas.Bool.Decides.{nat_tests}
 use Rattle.channel_config.specs.{IsLawful}
-use Rattle.rams_model.specs.declared.channel.Channel.{Channel}
+use Rattle.rams_model.specs.declared.Channel.{Channel}
 use Rattle.rams_model.specs.Service.{Settings, settings, channel_in_range}
 use Rattle.rams_model.specs.Texts.{head_line, channel_line, line_in_range, line_has_form, line_text, is_spelled, version_says}
 use Rattle.converters.specs.declared.description_loop.sdp_config.sdp.Sdp.{Sdp}

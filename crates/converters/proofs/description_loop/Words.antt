@@ -6,9 +6,7 @@ use Rattle.std.proofs.lemmas.Bool.{and_parts, eqb-true, ltb-true}
 use Rattle.std.proofs.lemmas.Bool.Decides.{nat_tests}
 use Rattle.std.proofs.lemmas.Fmt.{length-decimal-le}
 use Rattle.std.proofs.lemmas.List.Folds.{list_all-append}
-use Rattle.rams_model.specs.declared.channel.Access.{Access}
-use Rattle.rams_model.specs.declared.channel.Access.TheVariants.{Marker, Ts}
-use Rattle.rams_model.specs.declared.channel.Channel.{Channel}
+use Rattle.rams_model.specs.declared.{Access.Access, Access.TheVariants.Marker, Access.TheVariants.Ts, Channel.Channel}
 use Rattle.rams_model.specs.Texts.{text_of, spaced_words, bytes_in, word32, word32_in, is_digit, is_hex_digit, head_line, channel_line, line_words, kept_words, channel_words, access_word, line_has_form, is_short, is_word32, is_version, version_says, channel_has_form}
 use Rattle.rams_model.specs.Texts.TraceLines.{Words}
 use Rattle.line_io.specs.{HasNoFeed}

@@ -1,10 +1,8 @@
 -- What the records of a capture are to channels.
 use Rattle.std.specs.Prelude.{ℕ, nat_le, if◌then◌else◌, List, [], ◌∷◌, ◌++◌, length, replicate, Option, Some, None, option_to_list, Result, Ok, Err}
-use Rattle.converters.specs.declared.capture_loop.pcap_trace.head.CaptureFault.{CaptureFault}
-use Rattle.converters.specs.declared.capture_loop.pcap_trace.head.Endian.{Endian}
+use Rattle.converters.specs.declared.{capture_loop.pcap_trace.head.CaptureFault.CaptureFault, capture_loop.pcap_trace.head.Endian.Endian}
 use Rattle.converters.specs.capture_loop.pcap_trace.{Datagram, Elapsed, datagram_at, ticks_between, widened}
-use Rattle.server_hub.specs.declared.event.HubEvent.{HubEvent}
-use Rattle.server_hub.specs.declared.event.HubEvent.TheVariants.{Tick}
+use Rattle.server_hub.specs.declared.{HubEvent.HubEvent, HubEvent.TheVariants.Tick}
 use Rattle.server_hub.specs.Served.{Served}
 use Rattle.trace_loop.specs.journal_book.{heard_from}
 use Rattle.converters.specs.capture_loop.Files.{Captured, order_in, file_records}

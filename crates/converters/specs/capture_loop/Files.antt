@@ -1,8 +1,7 @@
 -- The records of a capture file, as its bytes are cut into them.
 use Rattle.std.specs.Prelude.{ℕ, zero, suc, ◌+◌, nat_lt, if◌then◌else◌, List, [], ◌∷◌, length, take, drop, Result, Ok, Err}
 use Rattle.converters.specs.declared.capture_loop.pcap_trace.head.CaptureFault.{CaptureFault}
-use Rattle.converters.specs.declared.capture_loop.pcap_trace.head.CaptureFault.TheVariants.{Cut}
-use Rattle.converters.specs.declared.capture_loop.pcap_trace.head.Endian.{Endian}
+use Rattle.converters.specs.declared.{capture_loop.pcap_trace.head.CaptureFault.TheVariants.Cut, capture_loop.pcap_trace.head.Endian.Endian}
 use Rattle.converters.specs.declared.capture_loop.pcap_trace.header.Record.{Record}
 use Rattle.converters.specs.capture_loop.pcap_trace.{head_at, record_at}
 

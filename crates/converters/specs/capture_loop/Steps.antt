@@ -2,11 +2,11 @@
 use Rattle.std.specs.Prelude.{◌≡◌, ℕ, ◌+◌, ◌^◌, ◌<◌, ◌≤◌, List, [], ◌++◌, length, take, drop, All, Option, Result, Ok, Err, IfOk, codes}
 use Rattle.std.specs.Io.KnownBytes.{IsAtEnd, prepend_known}
 use Rattle.line_io.specs.Passes.{Passes}
-use Rattle.rams_model.specs.declared.status.Status.TheVariants.{Done}
-use Rattle.converters.specs.declared.capture_loop.pcap_trace.head.CaptureFault.{CaptureFault}
-use Rattle.converters.specs.declared.capture_loop.pcap_trace.head.Endian.{Endian}
+use Rattle.rams_model.specs.declared.Status.TheVariants.{Done}
+use Rattle.converters.specs.declared.{capture_loop.pcap_trace.head.CaptureFault.CaptureFault, capture_loop.pcap_trace.head.Endian.Endian}
+use Rattle.converters.specs.declared.{capture_loop.last.End.End, capture_loop.records.Next.Next}
 use Rattle.converters.specs.capture_loop.pcap_trace.{record_at}
-use Rattle.server_hub.specs.declared.event.HubEvent.{HubEvent}
+use Rattle.server_hub.specs.declared.HubEvent.{HubEvent}
 use Rattle.server_hub.specs.Served.{Served}
 use Rattle.server_hub.specs.{id_of}
 use Rattle.trace_loop.specs.trace_book.trace_serving.{Outcome, ended, after_text, too_long}
@@ -14,9 +14,7 @@ use Rattle.trace_loop.specs.{IfBothTold, IfTold}
 use Rattle.trace_loop.specs.trace_book.{most_events}
 use Rattle.trace_loop.specs.journal_book.{HasLine, IsNumber, event_lines}
 use Rattle.trace_loop.specs.head_loop.{numbers}
-use Rattle.converters.specs.declared.capture_loop.last.End.{End}
 use Rattle.converters.specs.declared.capture_loop.last.End.TheVariants.{Whole, Refused, TooLong}
-use Rattle.converters.specs.declared.capture_loop.records.Next.{Next}
 use Rattle.converters.specs.declared.capture_loop.records.Next.TheVariants as next
 use Rattle.converters.specs.capture_loop.Files.{most_records, order_in, record_in, records_in}
 use Rattle.converters.specs.capture_loop.Events.{events_in, new_clock}

@@ -1,8 +1,8 @@
 -- What is promised of a capture that is written.
 use Rattle.std.specs.Prelude.{◌≡◌, ℕ, ◌⊎◌, List, [], ◌++◌, length, Option}
 use Rattle.std.specs.Io.KnownBytes.{Appends}
-use Rattle.rams_model.specs.declared.status.Status.{Status}
-use Rattle.rams_model.specs.declared.status.Status.TheVariants.{Done, BadTrace, BadCapture, TooLong}
+use Rattle.rams_model.specs.declared.Status.{Status}
+use Rattle.rams_model.specs.declared.Status.TheVariants.{Done, BadTrace, BadCapture, TooLong}
 use Rattle.trace_loop.specs.trace_book.trace_serving.{done, ended}
 use Rattle.trace_loop.specs.trace_book.{first_line, trace_text}
 use Rattle.trace_loop.specs.journal_book.{IsJournal, event_lines, journal_of, text_for}

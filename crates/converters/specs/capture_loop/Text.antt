@@ -1,13 +1,11 @@
 -- The text of a capture: a head, a line for each event, and how it ends.
 use Rattle.std.specs.Prelude.{ℕ, ◌+◌, nat_le, if◌then◌else◌, List, ◌∷◌, ◌++◌, length, take, Result, Ok, Err, codes}
-use Rattle.rams_model.specs.declared.status.Status.{Status}
-use Rattle.rams_model.specs.declared.status.Status.TheVariants.{Done, BadCapture}
+use Rattle.rams_model.specs.declared.{Status.Status, Status.TheVariants.Done, Status.TheVariants.BadCapture}
 use Rattle.rams_model.specs.Texts.{spaced, tick_of}
-use Rattle.converters.specs.declared.capture_loop.pcap_trace.head.CaptureFault.{CaptureFault}
+use Rattle.converters.specs.declared.{capture_loop.pcap_trace.head.CaptureFault.CaptureFault, capture_loop.pcap_trace.head.Endian.Endian}
 use Rattle.converters.specs.declared.capture_loop.pcap_trace.head.CaptureFault.TheVariants.{Short, Magic, Version, Link, Cut, Long}
-use Rattle.converters.specs.declared.capture_loop.pcap_trace.head.Endian.{Endian}
 use Rattle.converters.specs.capture_loop.pcap_trace.{Elapsed}
-use Rattle.server_hub.specs.declared.event.HubEvent.{HubEvent}
+use Rattle.server_hub.specs.declared.HubEvent.{HubEvent}
 use Rattle.server_hub.specs.Served.{Served}
 use Rattle.trace_loop.specs.trace_book.trace_serving.{Outcome, ended, after_text, too_long}
 use Rattle.trace_loop.specs.trace_book.{most_events}

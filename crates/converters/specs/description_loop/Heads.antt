@@ -1,8 +1,6 @@
 -- The head of a description: a head line, one channel line of its version, and `end`.
 use Rattle.std.specs.Prelude.{ℕ, ◌==◌, if◌then◌else◌, List, [], ◌∷◌, Result, Ok, Err}
-use Rattle.rams_model.specs.declared.fault.LineFault.{LineFault}
-use Rattle.rams_model.specs.declared.fault.LineFault.TheVariants.{Order}
-use Rattle.rams_model.specs.declared.mode.Mode.TheVariants.{Describe}
+use Rattle.rams_model.specs.declared.{LineFault.LineFault, LineFault.TheVariants.Order, Mode.TheVariants.Describe}
 use Rattle.rams_model.specs.Service.{Settings, settings}
 use Rattle.rams_model.specs.Texts.{TraceLine, head_line, channel_line, end_line, Reached, nothing_reached, tick_of, lines_of, judged}
 

@@ -1,6 +1,6 @@
 -- Laws of heads, of their settings and of their descriptions.
 use Rattle.std.specs.Prelude.{◌≡◌, ℕ, ◌≤◌, List, ◌∷◌, ◌++◌, Ok}
-use Rattle.rams_model.specs.declared.status.Status.TheVariants.{Done}
+use Rattle.rams_model.specs.declared.Status.TheVariants.{Done}
 use Rattle.rams_model.specs.Texts.{lines_of, head_line, channel_line, end_line, line_text}
 use Rattle.channel_config.specs.{IsLawful}
 use Rattle.converters.specs.description_loop.sdp_config.{sdp_at, description, shown_channel}

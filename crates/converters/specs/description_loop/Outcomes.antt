@@ -1,17 +1,15 @@
 -- What `sdp` and `describe` write, and with what status.
 use Rattle.std.specs.Prelude.{◌≡◌, ℕ, List, ◌++◌, Option, Result, Ok, Err, codes}
 use Rattle.std.specs.Io.KnownBytes.{Appends}
-use Rattle.rams_model.specs.declared.channel.Channel.{Channel}
-use Rattle.rams_model.specs.declared.status.Status.{Status}
-use Rattle.rams_model.specs.declared.status.Status.TheVariants.{Done, BadTrace, BadSdp}
+use Rattle.rams_model.specs.declared.{Channel.Channel, Status.Status}
+use Rattle.rams_model.specs.declared.Status.TheVariants.{Done, BadTrace, BadSdp}
 use Rattle.rams_model.specs.Texts.{head_line, channel_line, end_line, line_text, spaced}
-use Rattle.converters.specs.declared.description_loop.sdp_config.sdp.Sdp.{Sdp}
-use Rattle.converters.specs.declared.description_loop.sdp_config.sdp.SdpFault.{SdpFault}
+use Rattle.converters.specs.declared.{description_loop.sdp_config.sdp.Sdp.Sdp, description_loop.sdp_config.sdp.SdpFault.SdpFault}
+use Rattle.converters.specs.declared.description_loop.reply.Reply.{Reply}
 use Rattle.converters.specs.declared.description_loop.sdp_config.sdp.SdpFault.TheVariants.{Form, Version, Long, NoChannel, NoSsrc, NoRtx, Same}
 use Rattle.converters.specs.description_loop.sdp_config.{sdp_at, description}
 use Rattle.trace_loop.specs.trace_book.trace_serving.{Outcome, ended, refused}
 use Rattle.trace_loop.specs.head_loop.{with_feed}
-use Rattle.converters.specs.declared.description_loop.reply.Reply.{Reply}
 use Rattle.converters.specs.description_loop.Heads.{Heading, HeadSays, says, refuses, behind_head, head_of}
 
 -- the three lines of a head: a trace of one channel, to which nothing comes

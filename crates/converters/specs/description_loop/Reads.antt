@@ -1,13 +1,11 @@
 -- What is read of a head and behind it, as code has it.
 use Rattle.std.specs.Prelude.{◌≡◌, ℕ, ◌<◌, ◌⊎◌, List, [], ◌++◌, length, Option, Result, Ok, Err}
 use Rattle.std.specs.Io.KnownBytes.{Consumes, IsAtEnd}
-use Rattle.rams_model.specs.declared.fault.LineFault.{LineFault}
-use Rattle.rams_model.specs.declared.fault.LineFault.TheVariants.{Order}
+use Rattle.rams_model.specs.declared.{LineFault.LineFault, LineFault.TheVariants.Order}
 use Rattle.rams_model.specs.Texts.{TraceLine, head_line, channel_line, end_line, Reached, tick_of, judged}
-use Rattle.converters.specs.declared.description_loop.said.Said.{Said}
-use Rattle.converters.specs.declared.description_loop.said.Said.TheVariants as said
-use Rattle.converters.specs.declared.description_loop.said.Head.{Head}
+use Rattle.converters.specs.declared.{description_loop.said.Said.Said, description_loop.said.Head.Head}
 use Rattle.converters.specs.declared.description_loop.said.Head.TheVariants.{Lawful, Unlawful}
+use Rattle.converters.specs.declared.description_loop.said.Said.TheVariants as said
 use Rattle.converters.specs.declared.description_loop.said.Heading as code
 use Rattle.converters.specs.description_loop.Heads.{Heading, says, refuses, behind_line, behind_head, next_judged, head_of}
 

@@ -1,9 +1,9 @@
 //! A capture file, from its head to its last record.
 ghost use Rattle.std.specs.Prelude.{◌≡◌, ℕ, ◌+◌, ◌++◌, ◌≤◌, List, Err, Ok, IfErr, IfOk, MatchResult, length};
 ghost use Rattle.std.specs.Io.KnownBytes.{IsAtEnd, prepend_known};
-ghost use Rattle.rams_model.specs.declared.status.Status.TheVariants.{Done};
+ghost use Rattle.rams_model.specs.declared.Status.TheVariants.{Done};
 ghost use Rattle.server_hub.specs.Served.{Served};
-ghost use Rattle.trace_loop.specs.declared.stop.Stop.TheVariants.{Memory, Read};
+ghost use Rattle.trace_loop.specs.declared.Stop.TheVariants.{Memory, Read};
 ghost use Rattle.trace_loop.specs.{Ends, IfBothTold, IfTold, IsStopped, OnlyMemoryStops, StopsIn};
 ghost use Rattle.converters.specs.declared.capture_loop.last.End.TheVariants.{Whole};
 ghost use Rattle.converters.specs.capture_loop.{AreWritten, ComesTo, HasLinesOf, IsCaptureEnd, Numbered, file_events, file_text, last, new_clock, records_events, records_outcome};

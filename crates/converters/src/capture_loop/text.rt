@@ -2,12 +2,12 @@
 ghost use Rattle.std.specs.Prelude.{◌≡◌, ◌⊎◌, ℕ, ◌+◌, ◌++◌, ◌≤◌, List, [], Err, Ok, IfErr, IfOk, OnOk, length};
 ghost use Rattle.std.specs.Io.KnownBytes.{Appends, IsAtEnd, prepend_known};
 ghost use Rattle.line_io.specs.Passes.{Passes};
-ghost use Rattle.rams_model.specs.declared.status.Status.TheVariants.{BadTrace, Done};
+ghost use Rattle.rams_model.specs.declared.Status.TheVariants.{BadTrace, Done};
 ghost use Rattle.rams_model.specs.Texts.{refused_line};
 ghost use Rattle.ram_io.specs.{Rose};
 ghost use Rattle.server_hub.specs.Served.{Served};
 ghost use Rattle.trace_loop.specs.trace_book.trace_serving.{after_text};
-ghost use Rattle.trace_loop.specs.declared.stop.Stop.TheVariants.{Read};
+ghost use Rattle.trace_loop.specs.declared.Stop.TheVariants.{Read};
 ghost use Rattle.trace_loop.specs.{Ends, IfBothTold, IfTold, IsStopped, IsStoppedByWrite, OnlyMemoryStops, StopsIn};
 ghost use Rattle.converters.specs.capture_loop.{AreWritten, HasLinesOf, HasReadCapture, IsCaptureEnd, IsTrace, Numbered, capture_text, file_events, file_text, new_clock};
 

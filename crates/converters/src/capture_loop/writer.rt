@@ -1,7 +1,7 @@
 //! The lines of events on their way to the sink.
 ghost use Rattle.std.specs.Prelude.{ℕ, ◌+◌, ◌++◌, IfErr, OnOk, length, replicate};
 ghost use Rattle.line_io.specs.Passes.{Passes};
-ghost use Rattle.server_hub.specs.declared.event.HubEvent.TheVariants.{Tick};
+ghost use Rattle.server_hub.specs.declared.HubEvent.TheVariants.{Tick};
 ghost use Rattle.server_hub.specs.{event_of};
 ghost use Rattle.trace_loop.specs.{IsStoppedByWrite, OnlyMemoryStops, StopsIn};
 ghost use Rattle.trace_loop.specs.journal_book.{event_line, event_lines};

@@ -1,6 +1,6 @@
 //! What is written in the end, and with what status.
 ghost use Rattle.std.specs.Prelude.{◌≡◌, ◌≤◌, ◌++◌, IfOk, OnOk, codes};
-ghost use Rattle.rams_model.specs.declared.status.Status.TheVariants.{Done, BadSdp};
+ghost use Rattle.rams_model.specs.declared.Status.TheVariants.{Done, BadSdp};
 ghost use Rattle.rams_model.specs.Texts.{line_text};
 ghost use Rattle.trace_text.specs.{shown};
 ghost use Rattle.converters.specs.description_loop.sdp_config.{sdp_at};

@@ -2,7 +2,7 @@
 ghost use Rattle.std.specs.Prelude.{◌≡◌, ◌≤◌, ℕ, List, Err, IfOk, OnOk, length};
 ghost use Rattle.std.specs.Io.KnownBytes.{Appends};
 ghost use Rattle.line_io.specs.Passes.{Passes};
-ghost use Rattle.trace_loop.specs.declared.stop.Stop.TheVariants.{Read};
+ghost use Rattle.trace_loop.specs.declared.Stop.TheVariants.{Read};
 ghost use Rattle.trace_loop.specs.{IfTold, IsStopped, IsStoppedByRead, IsStoppedByWrite, OnlyMemoryStops};
 ghost use Rattle.converters.specs.description_loop.{answered, description_outcome, settings_outcome, HasWritten, IsReplyEnd};
 

@@ -4,8 +4,7 @@ use Rattle.std.specs.List.{flat_map, range_with_len}
 use Rattle.std.proofs.lemmas.List.{length-replicate}
 use Rattle.std.proofs.lemmas.List.Concat.{flat_map-cons}
 use Rattle.std.proofs.lemmas.List.Elements.{All-nil, All-cons, All-head, All-append, All-drop}
-use Rattle.rams_model.specs.declared.event.Event.{Event}
-use Rattle.rams_model.specs.declared.event.Event.TheVariants.{Tick}
+use Rattle.rams_model.specs.declared.{Event.Event, Event.TheVariants.Tick}
 use Rattle.rams_model.specs.Formats.{rams_request, rams_stop, words_from}
 use Rattle.generated.specs.trace_gen.{Place, packet, request, nack, stop, feedback, block, left, size}
 use Rattle.generated.proofs.trace_gen.Texts.{packet_length}

@@ -2,7 +2,7 @@
 use Rattle.std.proofs.Common.{◌≡◌, ℕ, ◌≤◌, Bool, false, nat_lt, if◌then◌else◌, [], length, replicate, refl, sym, ap, subst, ◌∙◌, inl, arith, length-append}
 use Rattle.std.proofs.lemmas.Bool.Decides.{nat_tests}
 use Rattle.std.proofs.lemmas.List.{length-replicate}
-use Rattle.rams_model.specs.declared.note.LiveNote.TheVariants.{TooBig}
+use Rattle.rams_model.specs.declared.LiveNote.TheVariants.{TooBig}
 use Rattle.rams_model.specs.Formats.{spelling, packet_at, IsPacket}
 use Rattle.rams_model.specs.Packets.{Arrival}
 use Rattle.rams_model.specs.Service.{arrival, heard_packet, heard_live, live, dropped}

@@ -1,8 +1,7 @@
 -- What a core sends is short enough to be counted.
 use Rattle.std.proofs.Common.{All, List, arith}
 use Rattle.std.proofs.lemmas.List.Elements.{All-weaker}
-use Rattle.rams_model.specs.declared.answer.Order.{Order}
-use Rattle.rams_model.specs.declared.answer.Order.TheVariants.{Rtx, Info}
+use Rattle.rams_model.specs.declared.{Order.Order, Order.TheVariants.Rtx, Order.TheVariants.Info}
 use Rattle.server_hub.specs.session_core as core
 use Rattle.server_hub.specs.session_core.{SendsShort}
 use Rattle.generated.specs.summary.{IsShort}

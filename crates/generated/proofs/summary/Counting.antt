@@ -2,7 +2,7 @@
 use Rattle.std.proofs.Common.{◌≡◌, ℕ, ◌+◌, ◌≤◌, cond, List, [], ◌∷◌, ◌++◌, ◌<◌, length, take, get_or, refl, ap, sym, ◌∙◌, subst, arith}
 use Rattle.std.proofs.lemmas.List.{take_more, length-take-le}
 use Rattle.std.proofs.lemmas.List.Sums.{sum_by_push, sum_by-append, count_by-le-length}
-use Rattle.rams_model.specs.declared.note.Note.{Note}
+use Rattle.rams_model.specs.declared.Note.{Note}
 use Rattle.generated.specs.declared.summary.counts.Counts.{Counts}
 use Rattle.generated.specs.summary.Counts.{took, accept, again, refuse, burst, repair, end, counts_of}
 use Rattle.generated.specs.summary.Steps.{with_note, sum_of, AreAtMost}

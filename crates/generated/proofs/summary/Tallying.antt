@@ -3,11 +3,7 @@ use Rattle.std.proofs.Common.{◌≡◌, ℕ, ◌+◌, List, [], ◌∷◌, leng
 use Rattle.std.specs.List.{flat_map, count_by}
 use Rattle.std.proofs.lemmas.List.Concat.{flat_map-cons}
 use Rattle.std.proofs.lemmas.List.Sums.{sum_by-append}
-use Rattle.rams_model.specs.declared.answer.Order.{Order}
-use Rattle.rams_model.specs.declared.event.Event.{Event}
-use Rattle.rams_model.specs.declared.note.LiveNote.{LiveNote}
-use Rattle.rams_model.specs.declared.note.Note.{Note}
-use Rattle.rams_model.specs.declared.note.Note.TheVariants.{Live}
+use Rattle.rams_model.specs.declared.{Order.Order, Event.Event, LiveNote.LiveNote, Note.Note, Note.TheVariants.Live}
 use Rattle.rams_model.specs.Service.{Answered, answered, Settings, answer, book}
 use Rattle.generated.specs.declared.summary.counts.Counts.{Counts}
 use Rattle.generated.specs.summary.Counts.{Tallied, took, accept, again, refuse, burst, repair, end, counts_of, size_of, bytes_of, tally_of}

@@ -1,8 +1,7 @@
 -- A generated trace on its way through a core.
 use Rattle.std.specs.Prelude.{◌≡◌, ℕ, ◌≤◌, List, ◌++◌, reverse, length}
-use Rattle.rams_model.specs.declared.event.Event.{Event}
-use Rattle.rams_model.specs.declared.event.Event.TheVariants.{Live, Feedback, Tick}
-use Rattle.rams_model.specs.declared.wire.TheConstants.{MOST_ON_WIRE}
+use Rattle.rams_model.specs.declared.{Event.Event, wire.TheConstants.MOST_ON_WIRE}
+use Rattle.rams_model.specs.declared.Event.TheVariants.{Live, Feedback, Tick}
 use Rattle.server_hub.specs.session_core.{StandsFor}
 use Rattle.server_hub.specs.session_core.Seen.{Seen}
 use Rattle.generated.specs.summary.{Tallied, tally_of, answers_in}

@@ -1,11 +1,8 @@
 -- What a summary counts of a channel's answers.
 use Rattle.std.specs.Prelude.{ℕ, Bool, true, List, length, sum_by}
 use Rattle.std.specs.List.{flat_map, count_by}
-use Rattle.rams_model.specs.declared.answer.Order.{Order}
-use Rattle.rams_model.specs.declared.answer.Order.TheVariants.{Rtx, Info}
-use Rattle.rams_model.specs.declared.note.LiveNote.TheVariants.{Took}
-use Rattle.rams_model.specs.declared.note.Note.{Note}
-use Rattle.rams_model.specs.declared.note.Note.TheVariants.{Live, Accept, Again, Refuse, Burst, Repair, End}
+use Rattle.rams_model.specs.declared.{Order.Order, Order.TheVariants.Rtx, Order.TheVariants.Info, LiveNote.TheVariants.Took, Note.Note}
+use Rattle.rams_model.specs.declared.Note.TheVariants.{Live, Accept, Again, Refuse, Burst, Repair, End}
 use Rattle.rams_model.specs.Formats.{wire_size}
 use Rattle.rams_model.specs.Service.{Answered}
 use Rattle.generated.specs.declared.summary.counts.Counts.{Counts}

@@ -1,8 +1,6 @@
 -- How counts go up.
 use Rattle.std.specs.Prelude.{ℕ, ◌+◌, ◌*◌, ◌^◌, ◌≤◌, Bool, if◌then◌else◌}
-use Rattle.rams_model.specs.declared.answer.Order.{Order}
-use Rattle.rams_model.specs.declared.note.Note.{Note}
-use Rattle.rams_model.specs.declared.wire.TheConstants.{MOST_ON_WIRE}
+use Rattle.rams_model.specs.declared.{Order.Order, Note.Note, wire.TheConstants.MOST_ON_WIRE}
 use Rattle.generated.specs.declared.summary.counts.Counts.{Counts}
 use Rattle.generated.specs.summary.Counts.{took, accept, again, refuse, burst, repair, end, size_of, Tallied}
 

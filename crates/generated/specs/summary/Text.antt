@@ -1,6 +1,6 @@
 -- The summary of a generated trace.
 use Rattle.std.specs.Prelude.{ℕ, List, ◌++◌, map, reverse, length, codes, decimal}
-use Rattle.rams_model.specs.declared.event.Event.{Event}
+use Rattle.rams_model.specs.declared.Event.{Event}
 use Rattle.rams_model.specs.Texts.{spaced}
 use Rattle.rams_model.specs.Service.{Settings, Answered, book}
 use Rattle.generated.specs.trace_gen.{config, made}

@@ -1,10 +1,8 @@
 -- The channel and the events of a generated trace: blocks of ten packets, a feedback datagram in three of four blocks, and a tick.
 use Rattle.std.specs.Prelude.{ℕ, ◌+◌, ◌-◌, ◌*◌, ◌/◌, ◌%◌, ◌^◌, ◌==◌, if◌then◌else◌, false, List, [], ◌∷◌, ◌++◌, map, replicate, None}
 use Rattle.std.specs.List.{flat_map, range_with_len}
-use Rattle.rams_model.specs.declared.channel.Access.TheVariants.{Marker}
-use Rattle.rams_model.specs.declared.channel.Channel.{Channel}
-use Rattle.rams_model.specs.declared.event.Event.{Event}
-use Rattle.rams_model.specs.declared.event.Event.TheVariants.{Live, Feedback, Tick}
+use Rattle.rams_model.specs.declared.{Access.TheVariants.Marker, Channel.Channel, Event.Event}
+use Rattle.rams_model.specs.declared.Event.TheVariants.{Live, Feedback, Tick}
 use Rattle.rams_model.specs.Formats.{Packet, spelling, rams_request, rams_stop, nack_packet}
 use Rattle.rams_model.specs.Service.{Settings, settings}
 use Rattle.generated.specs.trace_gen.Draws.{drawn}

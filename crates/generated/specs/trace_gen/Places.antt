@@ -1,14 +1,12 @@
 -- How far the events of a seed have come.
 use Rattle.std.specs.Prelude.{◌≡◌, ◌≢◌, ℕ, ◌+◌, ◌-◌, ◌*◌, ◌%◌, ◌^◌, ◌<◌, ◌≤◌, length, min, ◌&&◌, ◌||◌, ◌==◌, if◌then◌else◌, List, ◌∷◌, drop, Option, Some, None}
 use Rattle.std.specs.List.{flat_map, range_with_len}
-use Rattle.rams_model.specs.declared.event.Event.{Event}
-use Rattle.rams_model.specs.declared.event.Event.TheVariants.{Live, Feedback, Tick}
-use Rattle.generated.specs.declared.trace_gen.page.Kind.{Kind}
+use Rattle.rams_model.specs.declared.Event.{Event}
+use Rattle.rams_model.specs.declared.Event.TheVariants.{Live, Feedback, Tick}
+use Rattle.generated.specs.declared.{trace_gen.page.Kind.Kind, trace_gen.page.Next.Next, trace_gen.page.Packet.Packet}
 use Rattle.generated.specs.declared.trace_gen.page.Kind.TheVariants as kind
 use Rattle.rams_model.specs.Formats.{spelling}
-use Rattle.generated.specs.declared.trace_gen.page.Next.{Next}
 use Rattle.generated.specs.declared.trace_gen.page.Next.TheVariants as next
-use Rattle.generated.specs.declared.trace_gen.page.Packet.{Packet}
 use Rattle.generated.specs.trace_gen.Draws.{state}
 use Rattle.generated.specs.trace_gen.Generated.{draws_before, client, block, numbered, texts_from}
 

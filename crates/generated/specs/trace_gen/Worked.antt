@@ -1,8 +1,7 @@
 -- Worked examples: draws, packets and blocks, the numbers from an independent model.
 use Rattle.std.specs.Prelude.{◌≡◌, ℕ, List, [], ◌∷◌, map, length, codes}
 use Rattle.std.specs.List.{range_with_len}
-use Rattle.rams_model.specs.declared.event.Event.{Event}
-use Rattle.rams_model.specs.declared.event.Event.TheVariants.{Feedback}
+use Rattle.rams_model.specs.declared.{Event.Event, Event.TheVariants.Feedback}
 use Rattle.rams_model.specs.Formats.{header}
 use Rattle.rams_model.specs.Texts.{bytes_in}
 use Rattle.generated.specs.trace_gen.Draws.{drawn}

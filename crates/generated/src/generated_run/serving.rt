@@ -1,8 +1,6 @@
 //! What a core answers to one generated event.
 ghost use Rattle.std.specs.Prelude.{◌≡◌, ◌^◌, ◌<◌, All, List, [], ◌∷◌, IfOk, OnOk, length};
-ghost use Rattle.rams_model.specs.declared.event.Event.{Event};
-ghost use Rattle.rams_model.specs.declared.event.Event.TheVariants.{Live};
-ghost use Rattle.rams_model.specs.declared.note.Note.TheVariants.{Live as LiveNoted};
+ghost use Rattle.rams_model.specs.declared.{Event.Event, Event.TheVariants.Live, Note.TheVariants.Live as LiveNoted};
 ghost use Rattle.rams_model.specs.Service.{Answered, answer, answered};
 ghost use Rattle.server_hub.specs.session_core.{StandsFor, StandsForFewer};
 ghost use Rattle.generated.specs.summary.{IsShort, tally_of};

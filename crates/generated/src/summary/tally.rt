@@ -35,7 +35,7 @@ impl Model for Tally {
 impl Tally {
     ghost use Rattle.std.specs.Prelude.{List, [], ◌∷◌, reverse};
     ghost use Rattle.rams_model.specs.Service.{Answered, answered};
-    ghost use Rattle.rams_model.specs.declared.note.Note.TheVariants.{Live};
+    ghost use Rattle.rams_model.specs.declared.Note.TheVariants.{Live};
     ghost use Rattle.generated.specs.summary.Counts.{tally_of};
     ghost use Rattle.generated.specs.summary.Text.{summary, answers_in, made_summary};
     ghost use Rattle.generated.specs.trace_gen.{config, made};

@@ -52,7 +52,7 @@ impl Model for Made {
 
 impl Made {
     ghost use Rattle.std.specs.Prelude.{ℕ};
-    ghost use Rattle.rams_model.specs.declared.event.Event.TheVariants.{Live};
+    ghost use Rattle.rams_model.specs.declared.Event.TheVariants.{Live};
     ghost use Rattle.generated.specs.trace_gen.{Place, place, left, made, packet, request, nack, stop, IsReady, IsRead};
 
     /// The place before the first event of this seed.

@@ -4,8 +4,7 @@ use Rattle.std.specs.Prelude.{◌^◌, All, Ok, Err, filter_map, option_and_then
 use Rattle.std.specs.List.{cons_option}
 use Rattle.std.proofs.lemmas.Bool.{and_parts, ltb-true}
 use Rattle.std.proofs.lemmas.List.Elements.{All-nil, All-cons, All-head, All-tail, All-weaker, All-contains}
-use Rattle.rams_model.specs.declared.channel.Channel.{Channel}
-use Rattle.rams_model.specs.declared.fault.LineFault.TheVariants.{Range}
+use Rattle.rams_model.specs.declared.{Channel.Channel, LineFault.TheVariants.Range}
 use Rattle.rams_model.specs.Service.{Settings, channel_in_range}
 use Rattle.rams_model.specs.Texts.{TraceLine, channel_line, line_of, ranged, line_at, is_spelled}
 use Rattle.rams_model.proofs.Legality.{found}

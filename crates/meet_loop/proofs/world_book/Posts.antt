@@ -4,8 +4,7 @@ use Rattle.std.specs.Prelude.{All, option_to_list, option_map}
 use Rattle.std.specs.Int.{byte_at, bytes_high_first, to_be_bytes}
 use Rattle.std.proofs.lemmas.Bool.{cond_both, and_parts, ltb-true}
 use Rattle.std.proofs.lemmas.List.Elements.{All-nil, All-cons, All-append}
-use Rattle.rams_model.specs.declared.message.Stop.{Stop}
-use Rattle.rams_model.specs.declared.reception.Tuned.{Tuned}
+use Rattle.rams_model.specs.declared.{Stop.Stop, Tuned.Tuned}
 use Rattle.rams_model.specs.Formats.{Request, rr_packet, sdes_packet, bye_packet, transport_feedback, distance, words_from, nack_words, nack_packet, tlv, request_fci, stop_fci, rams_request, rams_stop}
 use Rattle.rams_model.specs.Receiver.{Playing, Reception, compound, request_datagram, join_datagram, nack_datagram, bye_datagram, missing, most_named, nack_of, join_again, asked_in_play, asked_since, asked}
 

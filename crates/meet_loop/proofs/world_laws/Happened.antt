@@ -5,14 +5,14 @@ use Rattle.std.specs.List.{list_any, AllByRecursion}
 use Rattle.std.proofs.lemmas.Bool.{cond_both, cases_Bool, true≢false, eqb-true}
 use Rattle.std.proofs.lemmas.List.Elements.{All-nil, All-head, All-tail, All-weaker, All-contains, Contains-append_right, Contains-get_or}
 use Rattle.std.proofs.lemmas.Option.{slice_get_within, get_or_from_slice_get}
-use Rattle.rams_model.specs.declared.held.Held.{Held}
+use Rattle.rams_model.specs.declared.Held.{Held}
 use Rattle.rams_model.specs.Packets.{has_number}
 use Rattle.rams_model.specs.Receiver.{Media, multicast, brought_again, brought_by_multicast, told_by, reception, asked}
 use Rattle.service_laws.specs.receiver_laws.{IsMedia}
 use Rattle.service_laws.specs.receiver_laws.Fair.{IsFair}
 use Rattle.service_laws.specs.byte_laws.{HasBytes}
 use Rattle.rams_model.proofs.Legality.{found}
-use Rattle.server_hub.specs.declared.event.HubEvent.TheVariants as hub
+use Rattle.server_hub.specs.declared.HubEvent.TheVariants as hub
 use Rattle.server_hub.specs.{id_of, channel_of}
 use Rattle.server_hub.specs.Served.{Served}
 use Rattle.meet_loop.specs.declared.world_laws.world.WorldEvent.{WorldEvent}

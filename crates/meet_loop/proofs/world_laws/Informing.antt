@@ -4,9 +4,8 @@ use Rattle.std.specs.Option.{option_or}
 use Rattle.std.specs.Int.{w16, w32, w64}
 use Rattle.std.proofs.lemmas.Bool.{eq-eqb}
 use Rattle.std.proofs.lemmas.List.{length-append}
-use Rattle.rams_model.specs.declared.message.Info.{Info}
-use Rattle.rams_model.specs.declared.reception.InfoCame.TheVariants as came
-use Rattle.rams_model.specs.declared.reception.Tuned.{Tuned}
+use Rattle.rams_model.specs.declared.{Info.Info, Tuned.Tuned}
+use Rattle.rams_model.specs.declared.InfoCame.TheVariants as came
 use Rattle.rams_model.specs.Formats.{optional_tlv, info_fci, rams_info, Feedback}
 use Rattle.rams_model.specs.Receiver.{informs, unread, if_info, first_info, read_told, read_first, read_framed, told_by}
 use Rattle.rams_model.specs.Service.{Settings}

@@ -4,17 +4,11 @@ use Rattle.std.specs.Prelude.{◌&&◌, is_some, Result, Ok, Err, All, option_to
 use Rattle.std.proofs.lemmas.Bool.{cond_both, and_parts, not-false, leb-true}
 use Rattle.std.proofs.lemmas.List.Elements.{All-nil, All-cons}
 use Rattle.std.proofs.Math.Nat.{mul-le-mul, div-le_self}
-use Rattle.rams_model.specs.declared.answer.Order.{Order}
-use Rattle.rams_model.specs.declared.event.Event.{Event}
-use Rattle.rams_model.specs.declared.fault.ConfigFault.{ConfigFault}
-use Rattle.rams_model.specs.declared.fault.ConfigFault.TheVariants.{Range}
-use Rattle.rams_model.specs.declared.held.Held.{Held}
-use Rattle.rams_model.specs.declared.message.Info.{Info}
-use Rattle.rams_model.specs.declared.note.Cause.{Cause}
-use Rattle.rams_model.specs.declared.note.Note.{Note}
-use Rattle.rams_model.specs.declared.answer.Order.TheVariants as order
-use Rattle.rams_model.specs.declared.note.Cause.TheVariants as cause
-use Rattle.rams_model.specs.declared.note.Note.TheVariants as note
+use Rattle.rams_model.specs.declared.{Order.Order, Event.Event, ConfigFault.ConfigFault, ConfigFault.TheVariants.Range, Held.Held}
+use Rattle.rams_model.specs.declared.{Info.Info, Cause.Cause, Note.Note}
+use Rattle.rams_model.specs.declared.Order.TheVariants as order
+use Rattle.rams_model.specs.declared.Cause.TheVariants as cause
+use Rattle.rams_model.specs.declared.Note.TheVariants as note
 use Rattle.rams_model.specs.Formats.{FitsIn, FitsInfo}
 use Rattle.rams_model.specs.Receiver.{tells_of_burst}
 use Rattle.rams_model.specs.Service.{Settings, tick_in_range, names_in_range, bytes_in_range, bounds_in_range, channel_in_range, checked, burst_info, update_info, bare_info, next_msn, packet_order, again_order, update_order, end_order, tick, began, told, noted, History, sequence, Burst, bursts, open_burst, order_of, newest_orders, history_of, answer}

@@ -4,14 +4,9 @@ use Rattle.std.specs.Prelude.{Result, Ok, Err, All, Contains}
 use Rattle.std.specs.List.{AllByRecursion}
 use Rattle.std.proofs.lemmas.Bool.{cases_Bool, cond_both, not-false, eqb-true, eq-eqb}
 use Rattle.std.proofs.lemmas.List.Elements.{Contains-append_left, Contains-append_right, Contains-append_cases, Contains-push_cases}
-use Rattle.rams_model.specs.declared.channel.Channel.{Channel}
-use Rattle.rams_model.specs.declared.event.Event.{Event}
-use Rattle.rams_model.specs.declared.event.Event.TheVariants.{Live, Feedback, Tick}
-use Rattle.rams_model.specs.declared.fault.FrameFault.{FrameFault}
-use Rattle.rams_model.specs.declared.fault.RtpFault.{RtpFault}
-use Rattle.rams_model.specs.declared.held.Held.{Held}
-use Rattle.rams_model.specs.declared.note.LiveNote.{LiveNote}
-use Rattle.rams_model.specs.declared.note.LiveNote.TheVariants.{Took, Restart, TooBig, ForeignSsrc, ForeignType}
+use Rattle.rams_model.specs.declared.{Channel.Channel, Event.Event, FrameFault.FrameFault, RtpFault.RtpFault, Held.Held, LiveNote.LiveNote}
+use Rattle.rams_model.specs.declared.Event.TheVariants.{Live, Feedback, Tick}
+use Rattle.rams_model.specs.declared.LiveNote.TheVariants.{Took, Restart, TooBig, ForeignSsrc, ForeignType}
 use Rattle.rams_model.specs.Formats.{Packet, stripped, packet_at, Framed, framed}
 use Rattle.rams_model.specs.Packets.{Arrival, Stream, held_as, with_packet, live_note, stream_after, stream_of}
 use Rattle.rams_model.specs.Service.{Settings, Heard, live, dropped, feedback, unframed, tick, arrival, heard_packet, heard_live, heard_feedback, heard_of, began, History, arrivals, stream, history_of}

@@ -2,13 +2,8 @@
 use Rattle.std.proofs.Common.{◌≡◌, ℕ, List, [], ◌∷◌, ◌++◌, Option, Some, None, refl, sym, subst, arith}
 use Rattle.std.specs.Prelude.{option_map, option_to_list, All, Contains}
 use Rattle.std.proofs.lemmas.List.Elements.{All-nil, All-cons}
-use Rattle.rams_model.specs.declared.answer.Order.{Order}
-use Rattle.rams_model.specs.declared.event.Event.{Event}
-use Rattle.rams_model.specs.declared.held.Held.{Held}
-use Rattle.rams_model.specs.declared.message.Info.{Info}
-use Rattle.rams_model.specs.declared.note.Cause.{Cause}
-use Rattle.rams_model.specs.declared.note.Note.{Note}
-use Rattle.rams_model.specs.declared.note.Note.TheVariants as note
+use Rattle.rams_model.specs.declared.{Order.Order, Event.Event, Held.Held, Info.Info, Cause.Cause, Note.Note}
+use Rattle.rams_model.specs.declared.Note.TheVariants as note
 use Rattle.rams_model.specs.Laws.{source}
 use Rattle.rams_model.specs.Service.{Settings, began, told, noted, History, arrivals, sequence, Burst, open_burst, end_info, info_order, packet_order, again_order, update_order, end_order, order_of, newest_orders, heard_of, history_of, answer}
 use Rattle.rams_model.proofs.Adding.{adds_hearing}

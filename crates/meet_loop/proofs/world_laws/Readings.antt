@@ -4,11 +4,9 @@ use Rattle.std.specs.Prelude.{◌^◌, unwrap_or}
 use Rattle.std.specs.Int.{w16, to_be_bytes}
 use Rattle.std.proofs.lemmas.Bool.{and_from, eq-eqb, le-ltb}
 use Rattle.std.proofs.lemmas.Nat.{from_be_bytes-to_be_bytes_2}
-use Rattle.rams_model.specs.declared.answer.Order.TheVariants as order
-use Rattle.rams_model.specs.declared.channel.Channel.{Channel}
-use Rattle.rams_model.specs.declared.held.Held.{Held}
-use Rattle.rams_model.specs.declared.reception.MediaCame.TheVariants as came
-use Rattle.rams_model.specs.declared.reception.Tuned.{Tuned}
+use Rattle.rams_model.specs.declared.Order.TheVariants as order
+use Rattle.rams_model.specs.declared.{Channel.Channel, Held.Held, Tuned.Tuned}
+use Rattle.rams_model.specs.declared.MediaCame.TheVariants as came
 use Rattle.rams_model.specs.Formats.{Packet, spelling, stripped, packet_at, original, original_number, IsPacket}
 use Rattle.rams_model.specs.Receiver.{Media, again, multicast, unfit, is_of, again_of, read_again, read_multicast, brought_again, brought_by_multicast}
 use Rattle.rams_model.specs.Service.{Settings, sent_again, datagram}

@@ -4,11 +4,8 @@ use Rattle.std.specs.Prelude.{All, Contains}
 use Rattle.std.specs.List.{AllByRecursion}
 use Rattle.std.proofs.lemmas.Bool.{cond_both}
 use Rattle.std.proofs.lemmas.List.Elements.{All-weaker, All-map}
-use Rattle.rams_model.specs.declared.event.Event.{Event}
-use Rattle.rams_model.specs.declared.event.Event.TheVariants as event
-use Rattle.rams_model.specs.declared.held.Held.{Held}
-use Rattle.rams_model.specs.declared.reception.Tuned.{Tuned}
-use Rattle.rams_model.specs.declared.message.Info.{Info}
+use Rattle.rams_model.specs.declared.{Event.Event, Held.Held, Tuned.Tuned, Info.Info}
+use Rattle.rams_model.specs.declared.Event.TheVariants as event
 use Rattle.rams_model.specs.Receiver.{informs, told_by, Media, again, multicast, unfit, brought_again, Turn, hears, delivers, presents, reception, shown_now}
 use Rattle.service_laws.specs.receiver_laws.Fair.{IsOf, IsFair, AreFair}
 use Rattle.service_laws.specs.byte_laws.{HasBytes}

@@ -4,16 +4,14 @@ use Rattle.std.specs.Prelude.{All, Contains}
 use Rattle.std.specs.List.{AllByRecursion, flat_map}
 use Rattle.std.proofs.lemmas.List.Concat.{flat_map-cons}
 use Rattle.std.proofs.lemmas.List.Elements.{All-nil, All-head, All-tail, All-weaker, All-map, All-append, All-contains}
-use Rattle.rams_model.specs.declared.answer.Order.{Order}
-use Rattle.rams_model.specs.declared.event.Event.{Event}
-use Rattle.rams_model.specs.declared.answer.Order.TheVariants as order
-use Rattle.rams_model.specs.declared.event.Event.TheVariants as event
-use Rattle.rams_model.specs.declared.held.Held.{Held}
+use Rattle.rams_model.specs.declared.{Order.Order, Event.Event, Held.Held}
+use Rattle.rams_model.specs.declared.Order.TheVariants as order
+use Rattle.rams_model.specs.declared.Event.TheVariants as event
 use Rattle.rams_model.specs.Receiver.{again, brought_again}
 use Rattle.rams_model.specs.Service.{datagram, answer, history_of}
 use Rattle.rams_model.proofs.Legality.{found}
-use Rattle.server_hub.specs.declared.event.HubEvent.{HubEvent}
-use Rattle.server_hub.specs.declared.event.HubEvent.TheVariants as hub
+use Rattle.server_hub.specs.declared.HubEvent.{HubEvent}
+use Rattle.server_hub.specs.declared.HubEvent.TheVariants as hub
 use Rattle.server_hub.specs.{id_of, with_event, channel_of, after_event}
 use Rattle.server_hub.specs.Served.{Served}
 use Rattle.meet_loop.specs.world_laws.{Datagram, IsAgain, EachPacketOfTheSourceCame, source_of, as_it_came, IsTunedTo, HasFields, sent, sent_by, sent_where, all_sent, serving}

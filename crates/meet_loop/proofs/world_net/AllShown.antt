@@ -3,7 +3,7 @@ use Rattle.std.proofs.Common.{◌≡◌, ℕ, zero, suc, ◌<◌, List, [], ◌�
 use Rattle.std.specs.Option.{option_to_list}
 use Rattle.rams_model.specs.Receiver.{Piece, Playing, presented, past, after_presenting, Reception, shown_now, after_shown, without_piece}
 use Rattle.rams_model.proofs.PieceCounts.{one_less}
-use Rattle.receiver_core.specs.declared.shown.Shown.{Shown}
+use Rattle.receiver_core.specs.declared.Shown.{Shown}
 use Rattle.receiver_core.specs.{reach, with_got, as_shown}
 use Rattle.receiver_core.specs.States.{Seen}
 use Rattle.service_laws.specs.receiver_laws.{presented_often}

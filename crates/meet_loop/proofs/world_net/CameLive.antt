@@ -2,17 +2,14 @@
 use Rattle.std.proofs.Common.{◌≡◌, ℕ, Bool, true, false, ◌&&◌, not, cond, eqb, ltb, length, arith, List, [], ◌∷◌, Option, None, Some, option_map, Result, Ok, Err, refl, sym, ap, ◌∙◌}
 use Rattle.std.proofs.lemmas.Bool.{eqb-true}
 use Rattle.std.proofs.lemmas.Bool.Decides.{nat_tests}
-use Rattle.rams_model.specs.declared.event.Event.{Event}
-use Rattle.rams_model.specs.declared.event.Event.TheVariants as event
-use Rattle.rams_model.specs.declared.fault.RtpFault.{RtpFault}
-use Rattle.rams_model.specs.declared.note.LiveNote.{LiveNote}
-use Rattle.rams_model.specs.declared.note.LiveNote.TheVariants.{Took, Restart, Late, Twice, Jump, ForeignSsrc, ForeignType, TooBig, Bad}
-use Rattle.rams_model.specs.declared.note.Note.TheVariants.{Live as LiveNoted}
-use Rattle.rams_model.specs.declared.channel.Channel.{Channel}
+use Rattle.rams_model.specs.declared.{Event.Event, RtpFault.RtpFault, LiveNote.LiveNote, Note.TheVariants.Live as LiveNoted}
+use Rattle.rams_model.specs.declared.Channel.{Channel}
+use Rattle.rams_model.specs.declared.Event.TheVariants as event
+use Rattle.rams_model.specs.declared.LiveNote.TheVariants.{Took, Restart, Late, Twice, Jump, ForeignSsrc, ForeignType, TooBig, Bad}
 use Rattle.rams_model.specs.Formats.{Packet, packet_at}
 use Rattle.rams_model.specs.Packets.{live_note}
 use Rattle.rams_model.specs.Service.{Settings, Heard, live, dropped, feedback, unframed, tick, stream, heard_of, heard_live, heard_packet, arrival, history_of, after_hearing, newest_notes}
-use Rattle.server_hub.specs.declared.event.HubEvent.TheVariants as hub
+use Rattle.server_hub.specs.declared.HubEvent.TheVariants as hub
 use Rattle.server_hub.specs.{id_of, with_event, answer_to, channel_of, after_event, told_of, told_to, answers_said}
 use Rattle.server_hub.specs.Served.{Served}
 use Rattle.meet_loop.specs.world_laws.{takes, hears_number, as_it_came}

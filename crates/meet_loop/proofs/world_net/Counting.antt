@@ -1,8 +1,8 @@
 -- A receiver's next number is as far above its first as packets were presented, and so is the source's.
 use Rattle.std.proofs.Common.{◌≡◌, ℕ, ◌+◌, ◌-◌, List, [], ◌∷◌, length, Option, None, Some, option_map, refl, sym, ap, ◌∙◌, subst, arith, length-append}
 use Rattle.std.specs.Option.{option_or, option_to_list, option_and_then}
-use Rattle.rams_model.specs.declared.reception.MediaCame.{MediaCame}
-use Rattle.rams_model.specs.declared.reception.MediaCame.TheVariants.{Took, Behind, Beyond, Twice, BeforeFirst, Foreign, Bad}
+use Rattle.rams_model.specs.declared.MediaCame.{MediaCame}
+use Rattle.rams_model.specs.declared.MediaCame.TheVariants.{Took, Behind, Beyond, Twice, BeforeFirst, Foreign, Bad}
 use Rattle.rams_model.specs.Receiver.{Piece, piece, Playing, playing_from, nearest, came, kept, joining, join_kept, presented, past, after_presenting, Reception, again, multicast, unfit, Turn, hears, delivers, presents, reception, shown, source_first, distance_from, or_begun, arrived, arrived_by_multicast, after_shown, shown_now, after_media}
 use Rattle.rams_model.specs.Packets.{ahead}
 use Rattle.receiver_core.specs.States.{Seen}

@@ -2,7 +2,7 @@
 use Rattle.std.proofs.Common.{◌≡◌, ℕ, Bool, true, false, cond, eqb, List, [], ◌∷◌, ◌++◌, None, Some, refl, sym, ap}
 use Rattle.std.specs.Prelude.{All}
 use Rattle.std.proofs.lemmas.List.Elements.{All-head, All-tail}
-use Rattle.rams_model.specs.declared.event.Event.{Event}
+use Rattle.rams_model.specs.declared.Event.{Event}
 use Rattle.rams_model.specs.Service.{Settings}
 use Rattle.server_hub.specs.{id_of, channel_of, served}
 use Rattle.server_hub.specs.Served.{Served}

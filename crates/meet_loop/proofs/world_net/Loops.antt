@@ -1,7 +1,7 @@
 -- Lists that grow by what is left of others.
 use Rattle.std.proofs.Common.{◌≡◌, ℕ, ◌+◌, ◌<◌, ◌≤◌, List, [], ◌∷◌, ◌++◌, map, length, get_or, take, drop, sym, ap, ◌∙◌, append_assoc, append-nil}
 use Rattle.std.proofs.lemmas.List.{drop_more, drop_all}
-use Rattle.rams_model.specs.declared.note.Note.{Note}
+use Rattle.rams_model.specs.declared.Note.{Note}
 use Rattle.rams_model.specs.Texts.{order_count}
 use Rattle.meet_loop.specs.world_laws.World.{Datagram}
 use Rattle.meet_loop.specs.declared.world_laws.world.WorldNote.{WorldNote}

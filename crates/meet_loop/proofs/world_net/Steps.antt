@@ -8,27 +8,24 @@ use Rattle.std.proofs.lemmas.List.{length-map, map-append}
 use Rattle.std.proofs.lemmas.Option.{slice_get_within, slice_get-get_or}
 use Rattle.rams_model.specs.Service.{Settings}
 use Rattle.rams_model.specs.Packets.{has_number}
-use Rattle.rams_model.specs.declared.fault.RtpFault.{RtpFault}
-use Rattle.rams_model.specs.declared.reception.MediaCame.TheVariants as came
-use Rattle.rams_model.specs.declared.reception.Tuned.{Tuned}
+use Rattle.rams_model.specs.declared.{RtpFault.RtpFault, Tuned.Tuned}
+use Rattle.rams_model.specs.declared.MediaCame.TheVariants as came
 use Rattle.rams_model.specs.Formats.{Packet, packet_at, spelling, original, original_number}
 use Rattle.rams_model.specs.Receiver.{Turn, Media, again, unfit, delivers, Reception, reception, source_first, brought_again, read_again, is_of, media_answer, join_answer, join_datagram, asked, bye_datagram, request_datagram}
 use Rattle.receiver_core.specs.{reach, just_tuned}
 use Rattle.receiver_core.specs.States.{Seen}
-use Rattle.server_hub.specs.declared.event.HubEvent.{HubEvent}
-use Rattle.server_hub.specs.declared.event.HubEvent.TheVariants as hub
+use Rattle.server_hub.specs.declared.HubEvent.{HubEvent}
+use Rattle.server_hub.specs.declared.HubEvent.TheVariants as hub
 use Rattle.server_hub.specs.Seen as hubs
 use Rattle.server_hub.specs.{IsHub, KeepsSettings, settings_of, Pairwise, Told, told_to, after_event, channel_of, hi_of, id_of}
 use Rattle.server_hub.specs.Served.{Served}
 use Rattle.server_hub.proofs.Changing.{same_settings}
 use Rattle.server_hub.proofs.Pairing.{pair_more, pair_set, same_length}
 use Rattle.meet_loop.specs.world_laws.World.{Way, Datagram, Listener, World, Step, note}
-use Rattle.meet_loop.specs.declared.world_laws.world.WorldItem.{WorldItem}
+use Rattle.meet_loop.specs.declared.{world_laws.world.WorldItem.WorldItem, world_laws.world.WorldNote.WorldNote}
+use Rattle.meet_loop.specs.declared.{world_net.parts.Parts.Parts, world_net.seat.Seat.Seat}
 use Rattle.meet_loop.specs.declared.world_laws.world.WorldItem.TheVariants as item
-use Rattle.meet_loop.specs.declared.world_laws.world.WorldNote.{WorldNote}
 use Rattle.meet_loop.specs.world_laws.{listener_of, listens, first_replaced, presented_all, posted, after_turns, all_sent, serving, refused, if_listening, next_number, is_too_far, delivering, delivering_near, source_of, packet_of_source, as_it_came, post_all, leave, is_listener, tuned_to, new_listener, with_listener, tuning, datagram_at, giving, giving_by}
-use Rattle.meet_loop.specs.declared.world_net.parts.Parts.{Parts}
-use Rattle.meet_loop.specs.declared.world_net.seat.Seat.{Seat}
 use Rattle.meet_loop.specs.world_net.{kept_of, CameAtMost, Goes, EndsAt, EndsSo, packet_below, seat_is_too_far, Kept, KeptFor, at_pair, if_there, listening_at, came_at, place_of, key_of, AreApart, Follows, FollowsBy, IsAt, Hears, HasFew, Took, KeepsHeard, told_notes, told_sent, post_at, posted_at}
 use Rattle.meet_loop.proofs.world_net.Answered.{settings_all, told_is_said}
 use Rattle.meet_loop.proofs.world_net.CameLive.{found_id, live_kept, feedback_kept, tick_kept}

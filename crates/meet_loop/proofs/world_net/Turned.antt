@@ -2,22 +2,17 @@
 use Rattle.std.proofs.Common.{◌≡◌, ℕ, zero, suc, ◌-◌, Bool, true, false, cond, List, [], ◌∷◌, ◌++◌, map, Option, None, Some, option_map, Result, Ok, Err, refl, sym, ap, ◌∙◌, subst, append_assoc}
 use Rattle.std.specs.Prelude.{OnOk}
 use Rattle.std.specs.Option.{option_or, option_to_list}
-use Rattle.rams_model.specs.declared.fault.RtpFault.{RtpFault}
-use Rattle.rams_model.specs.declared.reception.InfoCame.{InfoCame}
-use Rattle.rams_model.specs.declared.reception.MediaCame.{MediaCame}
-use Rattle.rams_model.specs.declared.reception.Tuned.{Tuned}
-use Rattle.rams_model.specs.declared.reception.MediaCame.TheVariants as came
+use Rattle.rams_model.specs.declared.{RtpFault.RtpFault, InfoCame.InfoCame, MediaCame.MediaCame, Tuned.Tuned}
+use Rattle.rams_model.specs.declared.MediaCame.TheVariants as came
 use Rattle.rams_model.specs.Formats.{Packet, packet_at, stripped}
 use Rattle.rams_model.specs.Receiver.{Piece, Reception, Media, again, multicast, unfit, Turn, hears, delivers, presents, reception, source_first, first_by, shown_now, after_told, after_media, told_by, told_answer, brought_again, brought_by_multicast, read_multicast, is_of, media_answer, join_answer, join_datagram}
 use Rattle.receiver_core.specs.{with_got, distance_of}
 use Rattle.receiver_core.specs.States.{Seen}
 use Rattle.meet_loop.specs.world_laws.World.{Datagram, Listener, note}
 use Rattle.meet_loop.specs.world_laws.{presenting, pieces_in, turns_to_present}
-use Rattle.meet_loop.specs.declared.world_laws.world.WorldItem.{WorldItem}
+use Rattle.meet_loop.specs.declared.{world_laws.world.WorldItem.WorldItem, world_laws.world.WorldNote.WorldNote, world_net.seat.Seat.Seat}
 use Rattle.meet_loop.specs.declared.world_laws.world.WorldItem.TheVariants as item
-use Rattle.meet_loop.specs.declared.world_laws.world.WorldNote.{WorldNote}
 use Rattle.meet_loop.proofs.world_laws.Listening.{as_often}
-use Rattle.meet_loop.specs.declared.world_net.seat.Seat.{Seat}
 use Rattle.meet_loop.specs.world_net.{shown_in, all_shown, all_presented, FollowsBy, Follows, Hears, IsAt, Took, first_with, show_at, post_at, posted_at}
 
 -- presenting changes no first number, and presents what the receiver has

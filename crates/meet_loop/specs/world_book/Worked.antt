@@ -1,6 +1,6 @@
 -- Worked examples: small traces with their whole text.
 use Rattle.std.specs.Prelude.{◌≡◌, ℕ, Bool, [], ◌++◌, codes}
-use Rattle.rams_model.specs.declared.status.Status.TheVariants.{Done, BadTrace, TooLong}
+use Rattle.rams_model.specs.declared.Status.TheVariants.{Done, BadTrace, TooLong}
 use Rattle.trace_loop.specs.trace_book.trace_serving.{Stage, goes_on, ends, ended, turn, last_stage}
 use Rattle.trace_loop.specs.trace_book.Worked.{head_text, plain_line}
 use Rattle.meet_loop.specs.world_laws.World.{World}

@@ -1,8 +1,8 @@
 -- The command `meet`: what serves its traces, and the text that it writes for one.
 use Rattle.std.specs.Prelude.{ℕ, nat_le, List, [], ◌∷◌, ◌++◌, length, Option, None, Some}
-use Rattle.rams_model.specs.declared.mode.Mode.TheVariants.{Meet}
+use Rattle.rams_model.specs.declared.Mode.TheVariants.{Meet}
 use Rattle.rams_model.specs.Texts.{bytes_in, TraceLine, live_line, feedback_line, tick_line, tune_line, give_line, mcast_line, ask_line, drop_line}
-use Rattle.server_hub.specs.declared.event.HubEvent.TheVariants as hub
+use Rattle.server_hub.specs.declared.HubEvent.TheVariants as hub
 use Rattle.server_hub.specs.{served}
 use Rattle.meet_loop.specs.declared.world_laws.world.WorldEvent.{WorldEvent}
 use Rattle.meet_loop.specs.declared.world_laws.world.WorldEvent.TheVariants.{Hub, Tune, Give, Mcast, Ask, Drop}

@@ -1,10 +1,7 @@
 -- What is true of the source of a channel, whatever came to it.
 use Rattle.std.specs.Prelude.{◌≡◌, ℕ, ◌%◌, ◌≤◌, ◌<◌, List, Some, Ok, All, Contains}
 use Rattle.std.specs.List.{AllByRecursion}
-use Rattle.rams_model.specs.declared.answer.Order.{Order}
-use Rattle.rams_model.specs.declared.answer.Order.TheVariants.{Rtx, Info}
-use Rattle.rams_model.specs.declared.event.Event.{Event}
-use Rattle.rams_model.specs.declared.held.Held.{Held}
+use Rattle.rams_model.specs.declared.{Order.Order, Order.TheVariants.Rtx, Order.TheVariants.Info, Event.Event, Held.Held}
 use Rattle.rams_model.specs.Formats.{Packet, stripped, packet_at}
 use Rattle.server_hub.specs.{answer_to, with_event}
 use Rattle.server_hub.specs.Served.{Served}

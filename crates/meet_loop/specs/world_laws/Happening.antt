@@ -1,23 +1,19 @@
 -- The events of a world, and what becomes of each.
 use Rattle.std.specs.Prelude.{ℕ, true, false, if◌then◌else◌, List, [], ◌∷◌, ◌++◌, map, take, drop, Option, Some, None}
 use Rattle.std.specs.List.{list_any, flat_map}
-use Rattle.rams_model.specs.declared.answer.Order.{Order}
-use Rattle.rams_model.specs.declared.event.Event.{Event}
-use Rattle.rams_model.specs.declared.note.Note.{Note}
-use Rattle.rams_model.specs.declared.reception.Tuned.{Tuned}
-use Rattle.rams_model.specs.declared.answer.Order.TheVariants as order
-use Rattle.rams_model.specs.declared.event.Event.TheVariants as event
+use Rattle.rams_model.specs.declared.{Order.Order, Event.Event, Note.Note, Tuned.Tuned}
+use Rattle.rams_model.specs.declared.Order.TheVariants as order
+use Rattle.rams_model.specs.declared.Event.TheVariants as event
 use Rattle.rams_model.specs.Service.{Settings, Answered, client_of, datagram}
 use Rattle.rams_model.specs.Texts.{order_count}
 use Rattle.rams_model.specs.Receiver.{brought_again, brought_by_multicast, told_by, request_datagram, bye_datagram, reception, asked}
-use Rattle.server_hub.specs.declared.event.HubEvent.{HubEvent}
-use Rattle.server_hub.specs.declared.event.HubEvent.TheVariants as hub
+use Rattle.server_hub.specs.declared.HubEvent.{HubEvent}
+use Rattle.server_hub.specs.declared.HubEvent.TheVariants as hub
 use Rattle.server_hub.specs.{id_of, answer_to, channel_of, after_event}
 use Rattle.server_hub.specs.Served.{Served}
-use Rattle.meet_loop.specs.declared.world_laws.world.WorldEvent.{WorldEvent}
+use Rattle.meet_loop.specs.declared.{world_laws.world.WorldEvent.WorldEvent, world_laws.world.WorldNote.WorldNote}
 use Rattle.meet_loop.specs.declared.world_laws.world.WorldEvent.TheVariants.{Hub, Tune, Give, Mcast, Ask, Drop}
 use Rattle.meet_loop.specs.declared.world_laws.world.WorldItem.TheVariants as item
-use Rattle.meet_loop.specs.declared.world_laws.world.WorldNote.{WorldNote}
 use Rattle.meet_loop.specs.world_laws.World.{Way, posts, tells, repeats, Datagram, Listener, World, new_world, datagram_at, is_listener, listens, listener_of, first_replaced, Step, step, note, refused}
 use Rattle.meet_loop.specs.world_laws.Sources.{packet_of_source}
 use Rattle.meet_loop.specs.world_laws.Turns.{posted, post_note, hearing, delivering_near}

@@ -1,12 +1,7 @@
 -- The source of a channel, and the bytes of its packets as they came.
 use Rattle.std.specs.Prelude.{◌≡◌, ℕ, Bool, false, ◌==◌, if◌then◌else◌, List, [], ◌∷◌, Option, Some, None}
-use Rattle.rams_model.specs.declared.channel.Channel.{Channel}
-use Rattle.rams_model.specs.declared.event.Event.{Event}
-use Rattle.rams_model.specs.declared.event.Event.TheVariants.{Live}
-use Rattle.rams_model.specs.declared.held.Held.{Held}
-use Rattle.rams_model.specs.declared.note.LiveNote.{LiveNote}
-use Rattle.rams_model.specs.declared.note.LiveNote.TheVariants.{Took, Restart}
-use Rattle.rams_model.specs.declared.reception.Tuned.{Tuned}
+use Rattle.rams_model.specs.declared.{Channel.Channel, Event.Event, Event.TheVariants.Live, Held.Held, LiveNote.LiveNote}
+use Rattle.rams_model.specs.declared.{LiveNote.TheVariants.Took, LiveNote.TheVariants.Restart, Tuned.Tuned}
 use Rattle.rams_model.specs.Service.{Settings, Heard, live, heard_of, stream, history_of}
 use Rattle.rams_model.specs.Packets.{Stream, has_number, live_note}
 use Rattle.rams_model.specs.Laws.{source}

@@ -1,16 +1,13 @@
 -- Two receivers on one channel, each of which loses packets of its burst and of the multicast. The checker computes it.
 use Rattle.std.specs.Prelude.{◌≡◌, ℕ, true, false, ◌==◌, List, [], ◌∷◌, ◌++◌, if◌then◌else◌, map, codes}
-use Rattle.rams_model.specs.declared.note.Note.{Note}
-use Rattle.rams_model.specs.declared.note.Cause.TheVariants.{Stopped}
-use Rattle.rams_model.specs.declared.note.Note.TheVariants as noted
-use Rattle.rams_model.specs.declared.reception.InfoCame.TheVariants as info
-use Rattle.rams_model.specs.declared.reception.MediaCame.TheVariants.{Took}
+use Rattle.rams_model.specs.declared.{Note.Note, Cause.TheVariants.Stopped, MediaCame.TheVariants.Took}
+use Rattle.rams_model.specs.declared.Note.TheVariants as noted
+use Rattle.rams_model.specs.declared.InfoCame.TheVariants as info
 use Rattle.rams_model.specs.Worked.Setting.{hex}
-use Rattle.server_hub.specs.declared.event.HubEvent.TheVariants.{Tick}
+use Rattle.server_hub.specs.declared.HubEvent.TheVariants.{Tick}
 use Rattle.server_hub.specs.{new_channel}
 use Rattle.meet_loop.specs.declared.world_laws.world.WorldEvent.TheVariants.{Hub, Tune, Give, Mcast, Ask, Drop}
-use Rattle.meet_loop.specs.declared.world_laws.world.WorldItem.{WorldItem}
-use Rattle.meet_loop.specs.declared.world_laws.world.WorldNote.{WorldNote}
+use Rattle.meet_loop.specs.declared.{world_laws.world.WorldItem.WorldItem, world_laws.world.WorldNote.WorldNote}
 use Rattle.meet_loop.specs.declared.world_laws.world.WorldItem.TheVariants as item
 use Rattle.meet_loop.specs.world_laws.World.{new_world}
 use Rattle.meet_loop.specs.world_laws.Worked.{Row, IsSaid, row, live_row, said_from}

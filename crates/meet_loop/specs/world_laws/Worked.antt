@@ -1,20 +1,17 @@
 -- Worked worlds of one channel and client 5's receiver: what is said of each event. The checker computes them.
 use Rattle.std.specs.Prelude.{◌≡◌, ℕ, Bool, true, false, List, [], ◌∷◌, ◌++◌, map, codes}
-use Rattle.rams_model.specs.declared.note.Note.{Note}
-use Rattle.rams_model.specs.declared.note.Cause.TheVariants.{Stopped}
-use Rattle.rams_model.specs.declared.note.LiveNote.TheVariants as live
-use Rattle.rams_model.specs.declared.note.Note.TheVariants as noted
-use Rattle.rams_model.specs.declared.reception.InfoCame.TheVariants as info
-use Rattle.rams_model.specs.declared.reception.MediaCame.{MediaCame}
-use Rattle.rams_model.specs.declared.reception.MediaCame.TheVariants.{Took, Behind, BeforeFirst}
+use Rattle.rams_model.specs.declared.{Note.Note, Cause.TheVariants.Stopped, MediaCame.MediaCame}
+use Rattle.rams_model.specs.declared.LiveNote.TheVariants as live
+use Rattle.rams_model.specs.declared.Note.TheVariants as noted
+use Rattle.rams_model.specs.declared.InfoCame.TheVariants as info
+use Rattle.rams_model.specs.declared.MediaCame.TheVariants.{Took, Behind, BeforeFirst}
 use Rattle.rams_model.specs.Worked.Setting.{packet, hex}
 use Rattle.rams_model.specs.Worked.Receptions.{front}
-use Rattle.server_hub.specs.declared.event.HubEvent.TheVariants.{Tick}
+use Rattle.server_hub.specs.declared.HubEvent.TheVariants.{Tick}
 use Rattle.server_hub.specs.{new_channel, of_channel}
-use Rattle.meet_loop.specs.declared.world_laws.world.WorldEvent.{WorldEvent}
-use Rattle.meet_loop.specs.declared.world_laws.world.WorldEvent.TheVariants.{Hub, Tune, Give, Mcast, Ask, Drop}
-use Rattle.meet_loop.specs.declared.world_laws.world.WorldItem.{WorldItem}
+use Rattle.meet_loop.specs.declared.{world_laws.world.WorldEvent.WorldEvent, world_laws.world.WorldItem.WorldItem}
 use Rattle.meet_loop.specs.declared.world_laws.world.WorldNote.{WorldNote}
+use Rattle.meet_loop.specs.declared.world_laws.world.WorldEvent.TheVariants.{Hub, Tune, Give, Mcast, Ask, Drop}
 use Rattle.meet_loop.specs.declared.world_laws.world.WorldItem.TheVariants as item
 use Rattle.meet_loop.specs.world_laws.World.{World, new_world, note}
 use Rattle.meet_loop.specs.world_laws.Happening.{happens}

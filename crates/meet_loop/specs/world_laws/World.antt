@@ -1,11 +1,10 @@
 -- A world: the channels of a server, the datagrams that were sent, and the receivers that were tuned.
 use Rattle.std.specs.Prelude.{ℕ, Bool, ◌&&◌, ◌==◌, not, if◌then◌else◌, List, [], ◌∷◌, Option, find}
 use Rattle.std.specs.List.{slice_get}
-use Rattle.rams_model.specs.declared.reception.Tuned.{Tuned}
+use Rattle.rams_model.specs.declared.Tuned.{Tuned}
 use Rattle.rams_model.specs.Receiver.{Turn}
 use Rattle.server_hub.specs.Served.{Served}
-use Rattle.meet_loop.specs.declared.world_laws.world.WorldItem.{WorldItem}
-use Rattle.meet_loop.specs.declared.world_laws.world.WorldNote.{WorldNote}
+use Rattle.meet_loop.specs.declared.{world_laws.world.WorldItem.WorldItem, world_laws.world.WorldNote.WorldNote}
 
 -- Why a datagram was sent.
 pub data Way : Type 0 where

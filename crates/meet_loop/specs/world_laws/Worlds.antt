@@ -5,11 +5,10 @@ use Rattle.rams_model.specs.Service.{Settings, checked}
 use Rattle.service_laws.specs.receiver_laws.{IsMedia, Presents}
 use Rattle.service_laws.specs.receiver_laws.Presenting.{WasDelivered}
 use Rattle.service_laws.specs.receiver_laws.Fair.{AreFair}
-use Rattle.server_hub.specs.declared.event.HubEvent.TheVariants as hub
+use Rattle.server_hub.specs.declared.HubEvent.TheVariants as hub
 use Rattle.server_hub.specs.{id_of, channel_of}
 use Rattle.server_hub.specs.Served.{Served}
-use Rattle.meet_loop.specs.declared.world_laws.world.WorldEvent.{WorldEvent}
-use Rattle.meet_loop.specs.declared.world_laws.world.WorldEvent.TheVariants.{Hub}
+use Rattle.meet_loop.specs.declared.{world_laws.world.WorldEvent.WorldEvent, world_laws.world.WorldEvent.TheVariants.Hub}
 use Rattle.meet_loop.specs.world_laws.World.{Listener}
 use Rattle.meet_loop.specs.world_laws.Sources.{source_of}
 use Rattle.meet_loop.specs.world_laws.Happening.{world_after}

@@ -7,10 +7,8 @@ use Rattle.service_laws.specs.receiver_laws.{presented_often}
 use Rattle.rams_model.specs.Receiver.{Piece, Playing, Reception, Turn, reception, source_first, shown_now, after_shown}
 use Rattle.meet_loop.specs.world_laws.World.{posts, Datagram, Listener, note}
 use Rattle.meet_loop.specs.world_laws.{is_too_far, waiting, pieces_in, turns_to_present, presented_all, posted, post_note, show_note}
-use Rattle.meet_loop.specs.declared.world_laws.world.WorldItem.{WorldItem}
+use Rattle.meet_loop.specs.declared.{world_laws.world.WorldItem.WorldItem, world_laws.world.WorldNote.WorldNote, world_net.seat.Seat.Seat}
 use Rattle.meet_loop.specs.declared.world_laws.world.WorldItem.TheVariants as item
-use Rattle.meet_loop.specs.declared.world_laws.world.WorldNote.{WorldNote}
-use Rattle.meet_loop.specs.declared.world_net.seat.Seat.{Seat}
 
 -- the number that is presented next, where the receiver plays from this number of the source on
 abbrev pub next_by : Option ℕ → Option Playing → Option ℕ

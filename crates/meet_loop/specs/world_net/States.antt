@@ -1,21 +1,16 @@
 -- What contracts see of a world, and the world that it stands for.
 use Rattle.std.specs.Prelude.{◌≡◌, ℕ, suc, ◌≤◌, Bool, false, ◌&&◌, ◌==◌, if◌then◌else◌, List, [], ◌∷◌, ◌++◌, map, Option, Some, None, option_map, is_some, All, slice_get, nat_lt}
 use Rattle.std.specs.Option.{option_and_then}
-use Rattle.rams_model.specs.declared.note.LiveNote.TheVariants.{Took, Restart}
-use Rattle.rams_model.specs.declared.note.Note.{Note}
-use Rattle.rams_model.specs.declared.note.Note.TheVariants.{Live}
-use Rattle.server_hub.specs.declared.event.At.{At}
-use Rattle.server_hub.specs.declared.event.HubEvent.{HubEvent}
-use Rattle.server_hub.specs.declared.event.HubEvent.TheVariants as hub
+use Rattle.rams_model.specs.declared.{LiveNote.TheVariants.Took, LiveNote.TheVariants.Restart, Note.Note, Note.TheVariants.Live}
+use Rattle.server_hub.specs.declared.{At.At, HubEvent.HubEvent}
+use Rattle.server_hub.specs.declared.HubEvent.TheVariants as hub
 use Rattle.server_hub.specs.{Pairwise, channel_of, served, answers_said, hi_of}
 use Rattle.server_hub.specs.Served.{Served, Told}
 use Rattle.server_hub.specs.Seen as hubs
 use Rattle.rams_model.specs.Service.{Settings}
 use Rattle.meet_loop.specs.world_laws.{as_it_came}
 use Rattle.meet_loop.specs.world_laws.World.{Datagram, Listener, World, Step}
-use Rattle.meet_loop.specs.declared.world_laws.world.WorldNote.{WorldNote}
-use Rattle.meet_loop.specs.declared.world_net.parts.Parts.{Parts}
-use Rattle.meet_loop.specs.declared.world_net.seat.Seat.{Seat}
+use Rattle.meet_loop.specs.declared.{world_laws.world.WorldNote.WorldNote, world_net.parts.Parts.Parts, world_net.seat.Seat.Seat}
 use Rattle.meet_loop.specs.world_net.Seats.{Follows, HasFew}
 use Rattle.meet_loop.specs.world_net.Pairs.{at_pair}
 

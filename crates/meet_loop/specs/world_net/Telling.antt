@@ -1,10 +1,10 @@
 -- What is said of what channels answer, and what they send, by the settings of the hub.
 use Rattle.std.specs.Prelude.{ℕ, ◌==◌, List, [], ◌∷◌, ◌++◌, map, take, drop, find, Option, Some, None}
 use Rattle.std.specs.List.{flat_map}
-use Rattle.rams_model.specs.declared.note.Note.{Note}
+use Rattle.rams_model.specs.declared.Note.{Note}
 use Rattle.rams_model.specs.Service.{Answered, Settings}
 use Rattle.rams_model.specs.Texts.{order_count}
-use Rattle.server_hub.specs.declared.event.At.{At}
+use Rattle.server_hub.specs.declared.At.{At}
 use Rattle.server_hub.specs.Served.{Told, no_channel, says}
 use Rattle.meet_loop.specs.world_laws.World.{Datagram, note}
 use Rattle.meet_loop.specs.declared.world_laws.world.WorldItem.TheVariants as item

@@ -1,13 +1,12 @@
 -- Datagrams as code has them.
 use Rattle.std.specs.Prelude.{ℕ, List}
-use Rattle.rams_model.specs.declared.answer.Order.{Order}
+use Rattle.rams_model.specs.declared.Order.{Order}
 use Rattle.rams_model.specs.Service.{Settings, client_of, datagram, sent_again}
 use Rattle.meet_loop.specs.world_laws.World.{Way, posts, tells, repeats, Datagram}
 use Rattle.meet_loop.specs.world_laws.{way_of}
 use Rattle.rams_model.specs.Formats.{packet_at}
-use Rattle.meet_loop.specs.declared.world_net.parcel.Kind.{Kind}
+use Rattle.meet_loop.specs.declared.{world_net.parcel.Kind.Kind, world_net.parcel.Way.Way as Kept}
 use Rattle.meet_loop.specs.declared.world_net.parcel.Kind.TheVariants.{Posted, Told, Repeated}
-use Rattle.meet_loop.specs.declared.world_net.parcel.Way.{Way as Kept}
 use Rattle.meet_loop.specs.declared.world_net.parcel.Way.TheVariants.{Posts, Tells, Repeats}
 
 abbrev pub as_way : Kept → Way

@@ -1,10 +1,10 @@
 -- Worked examples: the line of everything that is said of an event, and the lines of some events. The checker computes them.
 use Rattle.std.specs.Prelude.{◌≡◌, ℕ, true, List, [], ◌∷◌, ◌++◌, map, reverse, codes}
-use Rattle.rams_model.specs.declared.note.Note.TheVariants as noted
-use Rattle.rams_model.specs.declared.reception.InfoCame.TheVariants as info
-use Rattle.rams_model.specs.declared.reception.MediaCame.TheVariants as media
+use Rattle.rams_model.specs.declared.Note.TheVariants as noted
+use Rattle.rams_model.specs.declared.InfoCame.TheVariants as info
+use Rattle.rams_model.specs.declared.MediaCame.TheVariants as media
 use Rattle.rams_model.specs.Worked.Setting.{packet}
-use Rattle.server_hub.specs.declared.event.HubEvent.TheVariants.{Tick}
+use Rattle.server_hub.specs.declared.HubEvent.TheVariants.{Tick}
 use Rattle.server_hub.specs.{new_channel, of_channel}
 use Rattle.meet_loop.specs.declared.world_laws.world.WorldEvent.TheVariants.{Hub, Tune, Give, Mcast, Ask, Drop}
 use Rattle.meet_loop.specs.declared.world_laws.world.WorldItem.{WorldItem}

@@ -1,17 +1,15 @@
 -- The lines of a world: those of its notes, and those of its events.
 use Rattle.std.specs.Prelude.{ℕ, ◌+◌, List, [], ◌∷◌, ◌++◌, length, codes, decimal}
 use Rattle.std.specs.List.{flat_map}
-use Rattle.rams_model.specs.declared.reception.InfoCame.{InfoCame}
-use Rattle.rams_model.specs.declared.reception.MediaCame.{MediaCame}
-use Rattle.rams_model.specs.declared.reception.InfoCame.TheVariants as info
-use Rattle.rams_model.specs.declared.reception.MediaCame.TheVariants as media
+use Rattle.rams_model.specs.declared.{InfoCame.InfoCame, MediaCame.MediaCame}
+use Rattle.rams_model.specs.declared.InfoCame.TheVariants as info
+use Rattle.rams_model.specs.declared.MediaCame.TheVariants as media
 use Rattle.rams_model.specs.Texts.{spaced, of_client, of_word, hex_word, book_line, note_line, send_line}
 use Rattle.book_text.specs.{no_channel_line}
 use Rattle.server_hub.specs.Served.{Served}
-use Rattle.meet_loop.specs.declared.world_laws.world.WorldEvent.{WorldEvent}
-use Rattle.meet_loop.specs.declared.world_laws.world.WorldItem.{WorldItem}
-use Rattle.meet_loop.specs.declared.world_laws.world.WorldItem.TheVariants as item
+use Rattle.meet_loop.specs.declared.{world_laws.world.WorldEvent.WorldEvent, world_laws.world.WorldItem.WorldItem}
 use Rattle.meet_loop.specs.declared.world_laws.world.WorldNote.{WorldNote}
+use Rattle.meet_loop.specs.declared.world_laws.world.WorldItem.TheVariants as item
 use Rattle.meet_loop.specs.world_laws.World.{World}
 use Rattle.meet_loop.specs.world_laws.Happening.{happens, world_after}
 

@@ -26,7 +26,7 @@ impl Model for World {
 
 impl World {
     ghost use Rattle.std.specs.Prelude.{◌≡◌, ℕ, ◌+◌, ◌-◌, ◌^◌, List, [], true, All, Err, IsErr, IfNone, IfOk, IfSome, IsOkUnless, OnErr, OnOk, length};
-    ghost use Rattle.server_hub.specs.declared.event.AddFault.TheVariants as faults;
+    ghost use Rattle.server_hub.specs.declared.AddFault.TheVariants as faults;
     ghost use Rattle.server_hub.specs.Seen as hubs;
     ghost use Rattle.server_hub.specs.{refused, AddsSettings};
     ghost use Rattle.server_hub.specs.Served.{Served};

@@ -11,8 +11,7 @@ use mathlib.Core.Logic.{dite}
 use native.Mathlib.Decide.{ℕ_discrete}
 use lib.ListN.{get_elem?}
 use Rattle.atomic_table.specs.Table.{Final, Seen}
-use Rattle.pool.specs.declared.link_pool.claim.Claim.{Claim}
-use Rattle.pool.specs.declared.link_pool.link.View.{View}
+use Rattle.pool.specs.declared.{link_pool.claim.Claim.Claim, link_pool.link.View.View}
 use Rattle.pool.specs.link_pool.Claims.{claims_of, claimed, Adjoin, Fill, PaidWithin}
 use Rattle.pool.specs.link_pool.Sharing.{granting, takers_of, has_taker, Fair}
 use Rattle.pool.specs.link_pool.Steps.{Mine}

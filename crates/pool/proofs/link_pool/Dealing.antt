@@ -4,8 +4,7 @@ use mathlib.Core.Option.{some, some-injective, some-ne-none}
 use lib.ListN.{get_elem?}
 use Rattle.atomic_table.specs.Seated.{TableId}
 use Rattle.atomic_table.specs.Table.{opening, Splits}
-use Rattle.pool.specs.declared.link_pool.claim.Claim.{Claim}
-use Rattle.pool.specs.declared.link_pool.link.View.{View}
+use Rattle.pool.specs.declared.{link_pool.claim.Claim.Claim, link_pool.link.View.View}
 use Rattle.pool.specs.link_pool.Sharing.{granting, taking, first_view, Fits, Fair}
 use Rattle.pool.specs.link_pool.Steps.{Mine, undealt, dealt}
 use Rattle.pool.specs.link_pool.Parties.{claimer, fresh_takers, IsTaker}

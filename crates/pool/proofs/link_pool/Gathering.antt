@@ -5,8 +5,7 @@ use Rattle.std.proofs.lemmas.List.{append-nil, length-append, map-append}
 use mathlib.Core.Logic.{dite}
 use native.Mathlib.Decide.{ℕ_discrete}
 use Rattle.atomic_table.specs.Table.{Joins}
-use Rattle.pool.specs.declared.link_pool.claim.Claim.{Claim}
-use Rattle.pool.specs.declared.link_pool.link.View.{View}
+use Rattle.pool.specs.declared.{link_pool.claim.Claim.Claim, link_pool.link.View.View}
 use Rattle.pool.specs.link_pool.Sharing.{blank, granting, taking, has_taker, Fits, Fair}
 use Rattle.pool.specs.link_pool.Steps.{Mine, with_taker}
 use Rattle.pool.specs.link_pool.Parties.{Claimer, claims_given, numbers_given, IsTaker, HasGathered}

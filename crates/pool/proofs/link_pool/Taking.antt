@@ -4,8 +4,7 @@ use Rattle.std.specs.Prelude.{slice_index}
 use Rattle.std.proofs.lemmas.List.Sums.{sum_by_push}
 use mathlib.Core.Option.{none}
 use Rattle.atomic_table.specs.Table.{Allows, step, keeps}
-use Rattle.pool.specs.declared.link_pool.claim.Claim.{Claim}
-use Rattle.pool.specs.declared.link_pool.link.View.{View}
+use Rattle.pool.specs.declared.{link_pool.claim.Claim.Claim, link_pool.link.View.View}
 use Rattle.pool.specs.link_pool.Claims.{claim, claims_of, bytes_of, claimed}
 use Rattle.pool.specs.link_pool.Sharing.{is_ticker, granted_by, bytes_left, has_taker, takers_of, Fits, Fair}
 use Rattle.pool.specs.link_pool.Steps.{Mine, with_claim, Taken}

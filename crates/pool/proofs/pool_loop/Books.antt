@@ -4,28 +4,26 @@ use Rattle.std.specs.Prelude.{All, filter_map}
 use Rattle.std.specs.List.{cons_option, AllByRecursion as Each}
 use Rattle.std.proofs.lemmas.List.{reverse-append, reverse-reverse, length-append, length-reverse, map-append}
 use Rattle.std.proofs.lemmas.List.Elements.{All-from_recursion, filter-append}
-use Rattle.rams_model.specs.declared.event.Event.{Event}
-use Rattle.rams_model.specs.declared.event.Event.TheVariants as event
+use Rattle.rams_model.specs.declared.Event.{Event}
+use Rattle.rams_model.specs.declared.Event.TheVariants as event
 use Rattle.rams_model.specs.Service.{Settings, Answered, answer, book}
 use Rattle.rams_model.proofs.OneBook.{is_lawful}
 use Rattle.service_laws.specs.book_laws.{notes_in, orders_in, note_sends, order_sends, EachSendingIsOrderedOnce}
-use Rattle.channel_book.specs.declared.entry.Entry.{Entry}
+use Rattle.channel_book.specs.declared.Entry.{Entry}
 use Rattle.channel_book.specs.{Kept, LegalFrom, IsLegal, events_behind}
 use Rattle.book_text.specs.order_datagrams.{Renders, EachOrderOfAnAnswerRenders}
-use Rattle.server_hub.specs.declared.event.HubEvent.{HubEvent}
-use Rattle.server_hub.specs.declared.event.HubEvent.TheVariants.{Live, Feedback, Tick}
+use Rattle.server_hub.specs.declared.HubEvent.{HubEvent}
+use Rattle.server_hub.specs.declared.HubEvent.TheVariants.{Live, Feedback, Tick}
 use Rattle.server_hub.specs.{Pairwise, served, id_of, after_event, events_of, ticks_among}
 use Rattle.server_hub.specs.Served.{Served}
 use Rattle.trace_loop.specs.trace_book.trace_serving.{events_text, after_all}
 use Rattle.trace_loop.specs.trace_book.{run, new_channels, event_text}
 use Rattle.trace_loop.specs.journal_book.{text_for}
-use Rattle.pool.specs.declared.link_pool.claim.Claim.{Claim}
+use Rattle.pool.specs.declared.{link_pool.claim.Claim.Claim, pool_run.lane.Lane.Lane, pool_loop.dealing.Coming.Coming}
+use Rattle.pool.specs.declared.pool_loop.routes.Route.{Route}
 use Rattle.pool.specs.link_pool.{bytes_of, claims_of}
-use Rattle.pool.specs.declared.pool_run.lane.Lane.{Lane}
 use Rattle.pool.specs.pool_run.{sizes, sizes_of, IsFresh, IsBookOf, AreBooks, ClaimsAreSizes}
 use Rattle.pool.proofs.pool_run.Sizing.{sizes_append}
-use Rattle.pool.specs.declared.pool_loop.dealing.Coming.{Coming}
-use Rattle.pool.specs.declared.pool_loop.routes.Route.{Route}
 use Rattle.pool.specs.pool_loop.{route_of, is_for_all, served_so, all_served, HaveAtMost, numbers_of, AllCanRender, ClaimsOf, IsLaneOf}
 use Rattle.pool.proofs.pool_loop.Walked.{event_in, IsPending, ArePending}
 use Rattle.trace_loop.specs.journal_book.{behind}

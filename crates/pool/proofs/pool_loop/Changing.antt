@@ -5,11 +5,11 @@ use Rattle.std.specs.List.{AllByRecursion as Each}
 use Rattle.std.proofs.lemmas.List.{map-set, reverse-append, length-map, get_or-map}
 use Rattle.std.proofs.lemmas.List.Elements.{All-from_recursion, recursion_from_All}
 use Rattle.std.proofs.lemmas.Option.{slice_get-map, slice_get_within, get_or_from_slice_get}
-use Rattle.rams_model.specs.declared.event.Event.{Event}
-use Rattle.rams_model.specs.declared.event.Event.TheVariants as event
+use Rattle.rams_model.specs.declared.Event.{Event}
+use Rattle.rams_model.specs.declared.Event.TheVariants as event
 use Rattle.rams_model.specs.Service.{Settings}
-use Rattle.server_hub.specs.declared.event.HubEvent.{HubEvent}
-use Rattle.server_hub.specs.declared.event.HubEvent.TheVariants.{Live, Feedback, Tick}
+use Rattle.server_hub.specs.declared.HubEvent.{HubEvent}
+use Rattle.server_hub.specs.declared.HubEvent.TheVariants.{Live, Feedback, Tick}
 use Rattle.server_hub.specs.{served, id_of, with_event, after_event_of, after_tick, after_event, ids_of}
 use Rattle.server_hub.specs.Served.{Served}
 use Rattle.server_hub.proofs.Changing.{untouched, changed}

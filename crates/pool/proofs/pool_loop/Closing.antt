@@ -1,9 +1,8 @@
 -- How a trace for a pool ends, by what was read of it.
 use Rattle.std.proofs.Common.{◌≡◌, ℕ, List, Option, Some, None, Result, Ok, Err, IfErr, sym, subst}
 use Rattle.std.specs.Prelude.{◌⊎◌, IfOk, OnOk}
-use Rattle.rams_model.specs.declared.status.Status.{Status}
-use Rattle.rams_model.specs.declared.status.Status.TheVariants.{Done}
-use Rattle.trace_loop.specs.declared.stop.Stop.{Stop}
+use Rattle.rams_model.specs.declared.{Status.Status, Status.TheVariants.Done}
+use Rattle.trace_loop.specs.declared.Stop.{Stop}
 use Rattle.trace_loop.specs.{IfTold, OnlyMemoryStops}
 use Rattle.pool.specs.declared.pool_loop.dealing.Dealt.{Dealt}
 use Rattle.pool.specs.pool_loop.{IsReadOf, HasEnded, HasStopped, HasRoomFor}

@@ -5,13 +5,10 @@ use Rattle.std.specs.List.{cons_option}
 use Rattle.std.specs.Io.KnownBytes.{prepend_known}
 use Rattle.std.proofs.lemmas.List.{reverse-append, reverse-reverse}
 use Rattle.line_io.specs.{TakesNext}
-use Rattle.line_io.specs.declared.reader.Next.TheVariants.{Line, Long}
-use Rattle.rams_model.specs.declared.fault.LineFault.{LineFault}
-use Rattle.rams_model.specs.declared.fault.LineFault.TheVariants.{Form}
-use Rattle.rams_model.specs.declared.status.Status.{Status}
-use Rattle.rams_model.specs.declared.status.Status.TheVariants.{Done}
+use Rattle.line_io.specs.declared.Next.TheVariants.{Line, Long}
+use Rattle.rams_model.specs.declared.{LineFault.LineFault, LineFault.TheVariants.Form, Status.Status, Status.TheVariants.Done}
 use Rattle.rams_model.specs.Texts.{TraceLine, Reached, judged, lines_of}
-use Rattle.server_hub.specs.declared.event.HubEvent.{HubEvent}
+use Rattle.server_hub.specs.declared.HubEvent.{HubEvent}
 use Rattle.server_hub.specs.Served.{Served}
 use Rattle.trace_loop.specs.trace_book.trace_serving.{Stage, Outcome, Turn, ends, opening, done, refused, too_long, turn, after_line, brought, text_from, served_text, stage_from, last_stage, taken_from}
 use Rattle.trace_loop.specs.trace_book.{run, trace_text, taken, event_at, came as came_in}

@@ -3,11 +3,10 @@ use Rattle.std.proofs.Common.{◌≡◌, ℕ, ◌+◌, ◌≤◌, ◌<◌, List,
 use Rattle.std.specs.List.{AllByRecursion as Each}
 use Rattle.std.specs.Prelude.{All, cond, Bool, true, false}
 use Rattle.std.proofs.lemmas.List.{drop_more, drop_all}
-use Rattle.channel_book.specs.declared.entry.Entry.{Entry}
+use Rattle.channel_book.specs.declared.Entry.{Entry}
 use Rattle.channel_book.specs.{Kept}
 use Rattle.book_text.specs.order_datagrams.{Renders}
-use Rattle.pool.specs.declared.link_pool.claim.Claim.{Claim}
-use Rattle.pool.specs.declared.pool_loop.routes.Route.{Route}
+use Rattle.pool.specs.declared.{link_pool.claim.Claim.Claim, pool_loop.routes.Route.Route}
 use Rattle.pool.specs.pool_loop.{reaches, number_of, turned, past, all_past, route_text, walk_text, CanRender, AllCanRender, numbers_of, closing_text}
 
 -- ---- the events, one after another

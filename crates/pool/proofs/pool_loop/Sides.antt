@@ -3,12 +3,10 @@ use Rattle.std.proofs.Common.{◌≡◌, ℕ, ◌+◌, ◌<◌, ◌≤◌, Bool,
 use Rattle.std.specs.List.{flat_map, list_any}
 use Rattle.std.specs.Prelude.{◌||◌}
 use Rattle.book_text.specs.{no_channel_line}
-use Rattle.pool.specs.declared.pool_loop.routes.Route.TheVariants.{To}
+use Rattle.pool.specs.declared.{pool_loop.routes.Route.TheVariants.To, pool_loop.routes.Route.Route, pool_loop.walking.Unwritten.Unwritten}
 use Rattle.std.proofs.Math.Seq.{get_or-append_seam, set-append_seam, append_snoc}
 use Rattle.std.proofs.lemmas.List.{get_or-map, map-set, map-append, length-map}
 use Rattle.channel_book.specs.{Kept}
-use Rattle.pool.specs.declared.pool_loop.routes.Route.{Route}
-use Rattle.pool.specs.declared.pool_loop.walking.Unwritten.{Unwritten}
 use Rattle.pool.specs.pool_loop.{left_of, all_left, number_of, heard_text, past, all_past, unheard_text, CanRender, AllCanRender}
 
 module _ (number : ℕ) (route : Route) (first : List ℕ) (old : List Kept) where

@@ -3,24 +3,21 @@ use Rattle.std.proofs.Common.{◌≡◌, ◌≢◌, ℕ, ◌+◌, ◌<◌, ◌�
 use Rattle.std.specs.Prelude.{AllPairs}
 use Rattle.std.proofs.lemmas.Bool.{and_parts, lt-ltb, le-ltb, ltb-true}
 use Rattle.std.proofs.lemmas.List.{reverse-append, length-reverse, length-map, map-append}
-use Rattle.rams_model.specs.declared.mode.Mode.{Mode}
-use Rattle.rams_model.specs.declared.mode.Mode.TheVariants.{Run}
+use Rattle.rams_model.specs.declared.{Mode.Mode, Mode.TheVariants.Run}
 use Rattle.rams_model.specs.Service.{Settings, settings}
 use Rattle.rams_model.specs.Texts.{TraceLine, head_line, channel_line, end_line, Head, Reached, tick_of, has_channel, has_receivers, may_come}
-use Rattle.server_hub.specs.declared.event.HubEvent.{HubEvent}
+use Rattle.server_hub.specs.declared.HubEvent.{HubEvent}
 use Rattle.server_hub.specs.{served, id_of, ids_of, after_event}
 use Rattle.server_hub.specs.Served.{Served}
 use Rattle.trace_loop.specs.trace_book.trace_serving.{Stage, goes_on, after_line, brought, Stand, claim_of}
 use Rattle.trace_loop.proofs.trace_book.trace_serving.Judged.{judged_so}
 use Rattle.trace_loop.specs.trace_book.{run, settings_of}
-use Rattle.trace_text.specs.declared.line.Line.{Line}
+use Rattle.trace_text.specs.declared.Line.{Line}
 use Rattle.trace_text.specs.{shown, IsOther}
-use Rattle.trace_text.specs.declared.line.Line.TheVariants as line
-use Rattle.pool.specs.declared.pool_loop.dealing.Coming.{Coming}
-use Rattle.pool.specs.declared.pool_loop.dealing.Dealt.{Dealt}
+use Rattle.trace_text.specs.declared.Line.TheVariants as line
+use Rattle.pool.specs.declared.{pool_loop.dealing.Coming.Coming, pool_loop.dealing.Dealt.Dealt, pool_loop.routes.Route.Route}
 use Rattle.trace_loop.specs.declared.whole_trace.Does.{Does}
 use Rattle.trace_loop.specs.declared.whole_trace.Does.TheVariants.{GoesOn, Ends, Refused, TooLong}
-use Rattle.pool.specs.declared.pool_loop.routes.Route.{Route}
 use Rattle.pool.specs.pool_loop.{pool, route_of, served_so, all_served, came_with, HasDealt, HasTaken, IsDealt, Comes, Took}
 use Rattle.pool.proofs.pool_loop.Turns.{turn_so, stays_stage}
 use Rattle.pool.proofs.pool_loop.Changing.{same_numbers, few_after, few_opened}

@@ -6,8 +6,7 @@ use Rattle.std.specs.Io.KnownBytes.{Appends}
 use Rattle.std.proofs.lemmas.List.{length-map}
 use Rattle.std.proofs.lemmas.List.Elements.{recursion_from_All}
 use Rattle.line_io.specs.Passes.{Passes}
-use Rattle.rams_model.specs.declared.status.Status.{Status}
-use Rattle.rams_model.specs.declared.status.Status.TheVariants.{Done}
+use Rattle.rams_model.specs.declared.{Status.Status, Status.TheVariants.Done}
 use Rattle.rams_model.specs.Service.{Settings}
 use Rattle.service_laws.specs.book_laws.{EachSendingIsOrderedOnce}
 use Rattle.channel_book.specs.{Kept}
@@ -16,14 +15,12 @@ use Rattle.server_hub.specs.Served.{Served}
 use Rattle.server_hub.proofs.Pairing.{same_length}
 use Rattle.trace_loop.specs.trace_book.trace_serving.{Stage, Outcome, done, served_text, last_stage, EndsWith, is_missing, is_refused, is_too_long, is_done}
 use Rattle.trace_loop.specs.trace_book.{run, first_line, trace_text, served_by, came, events_text, settings_of, new_channels, EndsSo, IsServed}
-use Rattle.trace_loop.specs.declared.stop.Stop.{Stop}
-use Rattle.pool.specs.declared.link_pool.claim.Claim.{Claim}
+use Rattle.trace_loop.specs.declared.Stop.{Stop}
+use Rattle.pool.specs.declared.{link_pool.claim.Claim.Claim, pool_run.lane.Lane.Lane, pool_loop.dealing.Dealt.Dealt}
+use Rattle.pool.specs.declared.pool_loop.routes.Route.{Route}
 use Rattle.pool.specs.link_pool.{Fill, PaidWithin, claims_of}
 use Rattle.pool.specs.ledger_text.{ledger_text}
-use Rattle.pool.specs.declared.pool_run.lane.Lane.{Lane}
 use Rattle.pool.specs.pool_run.{AreBooks, ClaimsAreSizes, NoOthersClaim}
-use Rattle.pool.specs.declared.pool_loop.dealing.Dealt.{Dealt}
-use Rattle.pool.specs.declared.pool_loop.routes.Route.{Route}
 use Rattle.pool.specs.pool_loop.{pool, is_for_all, served_so, all_served, IsReadOf, IsLaneOf, numbers_of, walk_text, pooled_text, numbers_in, granted_in, ClaimsOf, IsPooled, MayWrite, HasEnded, HasStopped, HasRoomFor}
 use Rattle.pool.proofs.pool_loop.Taking.{once_stage, as_many}
 use Rattle.pool.proofs.pool_loop.Walked.{StandOnce, walk}

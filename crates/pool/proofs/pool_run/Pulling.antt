@@ -6,7 +6,7 @@ use Rattle.std.proofs.Math.ListN.{get_or-append}
 use Rattle.std.proofs.Math.Seq.{get_or-append_seam}
 use mathlib.Core.Logic.{dite}
 use native.Mathlib.Decide.{ℕ_discrete}
-use Rattle.ram_io.specs.declared.failed.NoMemory.{NoMemory}
+use Rattle.ram_io.specs.declared.NoMemory.{NoMemory}
 use Rattle.channel_book.specs.{Kept}
 use Rattle.pool.specs.link_pool.{Claimer}
 use Rattle.pool.specs.declared.pool_run.lane.Ran.{Ran}

@@ -3,14 +3,11 @@ use Rattle.std.proofs.Common.{◌≡◌, ◌≤◌, ℕ, zero, suc, ◌+◌, ◌
 use Rattle.std.specs.Prelude.{All, Result, Ok, IfOk, MatchResult}
 use Rattle.std.specs.List.{AllByRecursion as Each}
 use Rattle.std.proofs.lemmas.List.Elements.{All-from_recursion, recursion_from_All}
-use Rattle.ram_io.specs.declared.failed.NoMemory.{NoMemory}
+use Rattle.ram_io.specs.declared.NoMemory.{NoMemory}
 use Rattle.channel_book.specs.{Kept}
-use Rattle.pool.specs.declared.link_pool.claim.Claim.{Claim}
+use Rattle.pool.specs.declared.{link_pool.claim.Claim.Claim, pool_run.lane.Lane.Lane, pool_run.lane.Job.Job, pool_run.lane.Ran.Ran}
 use Rattle.pool.specs.link_pool.{Divided, Claimer, fresh_takers, bytes_of, claims_of, NotAmong}
 use Rattle.pool.specs.link_pool.Parties.{claimer}
-use Rattle.pool.specs.declared.pool_run.lane.Lane.{Lane}
-use Rattle.pool.specs.declared.pool_run.lane.Job.{Job}
-use Rattle.pool.specs.declared.pool_run.lane.Ran.{Ran}
 use Rattle.pool.specs.pool_run.{job, pairs, ran_of, IsFresh, CanRun, HasRun, HaveRun, ArePulled, AreBooks, ClaimsAreSizes, NoOthersClaim}
 use Rattle.channel_book.specs.channel_lock.{numbers}
 

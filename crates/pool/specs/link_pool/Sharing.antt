@@ -3,8 +3,7 @@ use Rattle.std.specs.Prelude.{◌≡◌, ℕ, ◌+◌, ◌^◌, ◌<◌, ◌≤�
 use mathlib.Core.Option.{some}
 use lib.ListN.{get_elem?}
 use Rattle.atomic_table.specs.Table.{State}
-use Rattle.pool.specs.declared.link_pool.claim.Claim.{Claim}
-use Rattle.pool.specs.declared.link_pool.link.View.{View}
+use Rattle.pool.specs.declared.{link_pool.claim.Claim.Claim, link_pool.link.View.View}
 use Rattle.pool.specs.link_pool.Claims.{claims_of, claimed, Adjoin}
 use Rattle.channel_book.specs.channel_lock.{total, times, numbers}
 

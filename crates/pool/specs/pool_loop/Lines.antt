@@ -2,14 +2,13 @@
 use Rattle.std.specs.Prelude.{◌≡◌, ℕ, ◌<◌, ◌≤◌, true, List, [], ◌∷◌, ◌++◌, map, reverse, length, Option, None, Some, Ok}
 use Rattle.std.specs.List.{AllByRecursion as Each}
 use Rattle.rams_model.specs.Texts.{TraceLine, end_line, judged, may_come}
-use Rattle.server_hub.specs.declared.event.HubEvent.{HubEvent}
+use Rattle.server_hub.specs.declared.HubEvent.{HubEvent}
 use Rattle.server_hub.specs.Served.{Served}
 use Rattle.trace_loop.specs.trace_book.trace_serving.{Stage, Turn, goes_on, ends, done, refused, too_long}
 use Rattle.trace_loop.specs.trace_book.{IsStage}
-use Rattle.pool.specs.declared.pool_loop.dealing.Dealt.{Dealt}
+use Rattle.pool.specs.declared.{pool_loop.dealing.Dealt.Dealt, pool_loop.routes.Route.Route}
 use Rattle.trace_loop.specs.declared.whole_trace.Does.{Does}
 use Rattle.trace_loop.specs.declared.whole_trace.Does.TheVariants.{GoesOn, Ends, Refused, TooLong}
-use Rattle.pool.specs.declared.pool_loop.routes.Route.{Route}
 use Rattle.pool.specs.pool_loop.Routing.{route_of, all_served}
 
 -- what came, the newest first, with the event that a line may bring

@@ -1,7 +1,6 @@
 -- What may be written of a trace for a pool.
 use Rattle.std.specs.Prelude.{◌≡◌, ℕ, ◌*◌, ◌<◌, ◌≤◌, List, [], ◌++◌, length, map, filter_map, slice_index_or, Option}
-use Rattle.rams_model.specs.declared.status.Status.{Status}
-use Rattle.rams_model.specs.declared.status.Status.TheVariants.{Done}
+use Rattle.rams_model.specs.declared.{Status.Status, Status.TheVariants.Done}
 use Rattle.rams_model.specs.Service.{book}
 use Rattle.service_laws.specs.book_laws.{notes_in, orders_in, note_sends, order_sends}
 use Rattle.server_hub.specs.{id_of, ticks_among}

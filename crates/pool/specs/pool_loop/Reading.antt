@@ -1,16 +1,15 @@
 -- How the lines of a trace for a pool are read.
 use Rattle.std.specs.Prelude.{◌≡◌, ℕ, ◌<◌, List, [], ◌∷◌, true, length}
-use Rattle.rams_model.specs.declared.status.Status.TheVariants.{Done}
+use Rattle.rams_model.specs.declared.Status.TheVariants.{Done}
 use Rattle.rams_model.specs.Texts.{end_line, lines_of, may_come}
-use Rattle.server_hub.specs.declared.event.HubEvent.{HubEvent}
+use Rattle.server_hub.specs.declared.HubEvent.{HubEvent}
 use Rattle.server_hub.specs.Served.{Served}
 use Rattle.trace_loop.specs.{HasReadSo}
 use Rattle.trace_loop.specs.trace_book.trace_serving.{Stage, goes_on, ends, done, refused, too_long, turn, text_from, last_stage, served_text}
 use Rattle.trace_loop.specs.trace_book.{run, trace_text, came as came_in, event_at}
 use Rattle.pool.specs.declared.pool_loop.dealing.Dealt.{Dealt}
-use Rattle.trace_loop.specs.declared.whole_trace.Does.{Does}
+use Rattle.trace_loop.specs.declared.{whole_trace.Does.Does, whole_trace.ReadTrace.ReadTrace}
 use Rattle.trace_loop.specs.declared.whole_trace.Does.TheVariants.{GoesOn, Ends, Refused, TooLong}
-use Rattle.trace_loop.specs.declared.whole_trace.ReadTrace.{ReadTrace}
 use Rattle.trace_loop.specs.declared.whole_trace.ReadTrace.TheVariants as read
 use Rattle.pool.specs.pool_loop.Routing.{pool}
 use Rattle.pool.specs.pool_loop.Lines.{came_with, HasDealt, HasDealtBy}

@@ -1,14 +1,13 @@
 -- What a trace for a pool brings, and to which channels its events go.
 use Rattle.std.specs.Prelude.{ℕ, ◌==◌, Bool, List, [], ◌∷◌, ◌++◌, map, reverse}
-use Rattle.rams_model.specs.declared.mode.Mode.TheVariants.{Run}
-use Rattle.server_hub.specs.declared.event.HubEvent.{HubEvent}
-use Rattle.server_hub.specs.declared.event.HubEvent.TheVariants.{Live, Feedback, Tick}
+use Rattle.rams_model.specs.declared.Mode.TheVariants.{Run}
+use Rattle.server_hub.specs.declared.HubEvent.{HubEvent}
+use Rattle.server_hub.specs.declared.HubEvent.TheVariants.{Live, Feedback, Tick}
 use Rattle.server_hub.specs.{served, after_event}
 use Rattle.server_hub.specs.Served.{Served}
 use Rattle.trace_loop.specs.trace_book.trace_serving.{Serving}
 use Rattle.trace_loop.specs.trace_book.{event_of}
-use Rattle.pool.specs.declared.pool_loop.dealing.Coming.{Coming}
-use Rattle.pool.specs.declared.pool_loop.routes.Route.{Route}
+use Rattle.pool.specs.declared.{pool_loop.dealing.Coming.Coming, pool_loop.routes.Route.Route}
 use Rattle.pool.specs.declared.pool_loop.routes.Route.TheVariants.{To, Everyone}
 
 -- A trace for a pool is served as by `run`, but it has 200,000 events at most, and nothing is written for an event while it is read.

@@ -4,7 +4,7 @@ use Rattle.std.specs.List.{flat_map, list_any, AllByRecursion as Each}
 use Rattle.rams_model.specs.Service.{Settings}
 use Rattle.rams_model.specs.Texts.{answer_text}
 use Rattle.book_text.specs.{no_channel_line}
-use Rattle.channel_book.specs.declared.entry.Entry.{Entry}
+use Rattle.channel_book.specs.declared.Entry.{Entry}
 use Rattle.channel_book.specs.{Kept}
 use Rattle.book_text.specs.order_datagrams.{Renders}
 use Rattle.pool.specs.declared.pool_loop.routes.Route.{Route}

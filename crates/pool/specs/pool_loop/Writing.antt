@@ -4,11 +4,9 @@ use Rattle.channel_book.specs.{Kept}
 use Rattle.server_hub.specs.session_core.{StandsFor}
 use Rattle.trace_loop.specs.trace_book.trace_serving.{done}
 use Rattle.trace_loop.specs.trace_book.{first_line}
-use Rattle.pool.specs.declared.link_pool.claim.Claim.{Claim}
-use Rattle.pool.specs.ledger_text.{ledger_text}
-use Rattle.pool.specs.declared.pool_run.lane.Lane.{Lane}
-use Rattle.pool.specs.declared.pool_loop.dealing.Coming.{Coming}
+use Rattle.pool.specs.declared.{link_pool.claim.Claim.Claim, pool_run.lane.Lane.Lane, pool_loop.dealing.Coming.Coming}
 use Rattle.pool.specs.declared.pool_loop.routes.Route.{Route}
+use Rattle.pool.specs.ledger_text.{ledger_text}
 use Rattle.pool.specs.pool_loop.Walking.{numbers_of, walk_text}
 
 -- the end of the book of so many events, and the ledger

@@ -1,17 +1,14 @@
 -- Lanes, and what they leave.
 use Rattle.std.specs.Prelude.{◌≡◌, ℕ, ◌<◌, ◌≤◌, List, [], map, length, slice_index_or, Result, Ok, MatchResult}
 use Rattle.std.specs.List.{zip}
-use Rattle.rams_model.specs.declared.event.Event.{Event}
+use Rattle.rams_model.specs.declared.Event.{Event}
 use Rattle.rams_model.specs.Service.{Settings}
-use Rattle.channel_book.specs.declared.entry.Entry.{Entry}
+use Rattle.channel_book.specs.declared.Entry.{Entry}
 use Rattle.channel_book.specs.{IsLegal, Kept}
 use Rattle.server_hub.specs.session_core.{StandsFor}
-use Rattle.pool.specs.declared.link_pool.claim.Claim.{Claim}
+use Rattle.pool.specs.declared.{link_pool.claim.Claim.Claim, pool_run.lane.Lane.Lane, pool_run.lane.Job.Job, pool_run.lane.Ran.Ran}
 use Rattle.pool.specs.link_pool.{Divided, Claimer, bytes_of, claims_of}
-use Rattle.pool.specs.declared.pool_run.lane.Lane.{Lane}
-use Rattle.pool.specs.declared.pool_run.lane.Job.{Job}
-use Rattle.pool.specs.declared.pool_run.lane.Ran.{Ran}
-use Rattle.ram_io.specs.declared.failed.NoMemory.{NoMemory}
+use Rattle.ram_io.specs.declared.NoMemory.{NoMemory}
 use Rattle.pool.specs.pool_run.Sizes.{sizes_of}
 
 -- Nothing came to the lane's channel yet, and it has at most 200,000 events.

@@ -1,8 +1,8 @@
 //! The channels of a trace, and what comes to each.
 ghost use Rattle.std.specs.Prelude.{◌≡◌, ◌≢◌, ◌<◌, ◌≤◌, ◌++◌, ◌∷◌, [], ℕ, List, All, AllPairs, IfNone, IfOk, IfSome, IsSomeAnd, OnOk, length, map, slice_get};
 ghost use Rattle.rams_model.specs.Texts.{tick_of};
-ghost use Rattle.rams_model.specs.declared.event.Event.TheVariants as event;
-ghost use Rattle.server_hub.specs.declared.event.HubEvent.{HubEvent};
+ghost use Rattle.rams_model.specs.declared.Event.TheVariants as event;
+ghost use Rattle.server_hub.specs.declared.HubEvent.{HubEvent};
 ghost use Rattle.server_hub.specs.{after_event_of, after_tick, id_of};
 ghost use Rattle.server_hub.specs.Served.{Served};
 ghost use Rattle.trace_text.specs.{told, shown, HasDigits, IsOther, IsSettled};

@@ -1,10 +1,10 @@
 //! The command for a pool, from the source's bytes to the sink's.
 ghost use Rattle.std.specs.Prelude.{◌≡◌, ◌⊎◌, ◌<◌, ◌≤◌, ℕ, List, Err, IfErr, IfOk, OnOk, length};
-ghost use Rattle.rams_model.specs.declared.status.Status.TheVariants.{Done};
-ghost use Rattle.server_hub.specs.declared.event.HubEvent.{HubEvent};
+ghost use Rattle.rams_model.specs.declared.Status.TheVariants.{Done};
+ghost use Rattle.server_hub.specs.declared.HubEvent.{HubEvent};
 ghost use Rattle.server_hub.specs.Served.{Served};
 ghost use Rattle.trace_loop.specs.trace_book.trace_serving.{Stage};
-ghost use Rattle.trace_loop.specs.declared.stop.Stop.TheVariants.{Read};
+ghost use Rattle.trace_loop.specs.declared.Stop.TheVariants.{Read};
 ghost use Rattle.trace_loop.specs.{IfTold, IsEnd, IsStopped, IsStoppedByWrite, OnlyMemoryStops};
 ghost use Rattle.pool.specs.pool_loop.{HasDealt, HasEnded, HasRoomFor, HasStopped, IsReadOf};
 

@@ -1,7 +1,7 @@
 //! The lines of a trace for a pool, read to its end before anything is written.
 ghost use Rattle.std.specs.Prelude.{◌≡◌, ◌≤◌, ℕ, List, IfOk};
 ghost use Rattle.std.specs.Io.KnownBytes.{prepend_known};
-ghost use Rattle.server_hub.specs.declared.event.HubEvent.{HubEvent};
+ghost use Rattle.server_hub.specs.declared.HubEvent.{HubEvent};
 ghost use Rattle.server_hub.specs.Served.{Served};
 ghost use Rattle.trace_loop.specs.trace_book.trace_serving.{Stage};
 ghost use Rattle.trace_loop.specs.{IfTold, IfBothTold, IsStoppedByRead, OnlyMemoryStops};

@@ -2,13 +2,10 @@
 use Rattle.std.specs.Prelude.{◌≡◌, ℕ, ◌+◌, ◌-◌, ◌*◌, ◌/◌, ◌%◌, ◌<◌, Bool, true, false, ◌&&◌, ◌||◌, ◌==◌, nat_lt, nat_le, if◌then◌else◌, IsTrue, IfSome, ◌≤◌, ◌^◌, List, [], ◌∷◌, ◌++◌, length, drop, slice_index, slice_range, Option, None, Some, is_some, option_map, Result, Err}
 use Rattle.std.specs.List.{list_any, flat_map, AllByRecursion}
 use Rattle.std.specs.Int.{Width, w16, w32, w64, to_be_bytes, from_be_bytes}
-use Rattle.rams_model.specs.declared.fault.TlvFault.{TlvFault}
-use Rattle.rams_model.specs.declared.message.Info.{Info}
-use Rattle.rams_model.specs.declared.message.Stop.{Stop}
+use Rattle.rams_model.specs.declared.{fault.TlvFault.TlvFault, message.Info.Info, message.Stop.Stop, rtcp.TheConstants.FMT_RAMS}
 use Rattle.rams_model.specs.declared.fault.TlvFault.TheVariants.{Form, Short, Length}
 use Rattle.rams_model.specs.Formats.Joined.{Format, pieces_of, Joins, map_ok, words32}
 use Rattle.rams_model.specs.Formats.RamsInfo.{transport_feedback, tlv, optional_tlv}
-use Rattle.rams_model.specs.declared.rtcp.TheConstants.{FMT_RAMS}
 use Rattle.rams_model.specs.declared.rams.TheConstants.{SFMT_RAMS_R, SFMT_RAMS_I, SFMT_RAMS_T, TLV_MEDIA_SENDERS, TLV_MIN_BUFFER_FILL, TLV_MAX_BUFFER_FILL, TLV_MAX_RECEIVE_BITRATE, TLV_PREAMBLE_ONLY, TLV_FIRST_SEQUENCE, TLV_JOIN_TIME, TLV_BURST_DURATION, TLV_MAX_TRANSMIT_BITRATE, TLV_FIRST_MULTICAST}
 
 -- a TLV: its type and its value

@@ -1,8 +1,7 @@
 -- The RAMS-I message (RFC 6285, 7.3) as an RTCP packet (RFC 4585, 6.1).
 use Rattle.std.specs.Prelude.{ℕ, ◌+◌, ◌-◌, ◌/◌, ◌%◌, List, [], ◌∷◌, ◌++◌, length, replicate, Option, None, Some}
 use Rattle.std.specs.Int.{Width, w16, w32, w64, to_be_bytes}
-use Rattle.rams_model.specs.declared.message.Info.{Info}
-use Rattle.rams_model.specs.declared.rtcp.TheConstants.{RTPFB, FMT_RAMS}
+use Rattle.rams_model.specs.declared.{message.Info.Info, rtcp.TheConstants.RTPFB, rtcp.TheConstants.FMT_RAMS}
 use Rattle.rams_model.specs.declared.rams.TheConstants.{SFMT_RAMS_I, TLV_FIRST_SEQUENCE, TLV_JOIN_TIME, TLV_BURST_DURATION, TLV_MAX_TRANSMIT_BITRATE}
 
 -- transport layer feedback of this format

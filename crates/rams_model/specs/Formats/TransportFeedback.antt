@@ -1,11 +1,10 @@
 -- Transport layer feedback (RFC 4585, 6.1), and the generic NACK (RFC 4585, 6.2.1).
 use Rattle.std.specs.Prelude.{◌≡◌, ℕ, ◌+◌, ◌-◌, ◌%◌, ◌^◌, ◌&&◌, ◌==◌, nat_lt, nat_le, if◌then◌else◌, zero, suc, List, [], ◌∷◌, ◌++◌, length, drop, map, filter, Option, None, Some, Result, Ok, Err}
 use Rattle.std.specs.Int.{w16, w32, to_be_bytes, from_be_bytes, bit_at}
-use Rattle.rams_model.specs.declared.fault.NackFault.{NackFault}
-use Rattle.rams_model.specs.declared.fault.NackFault.TheVariants.{Empty, Length}
+use Rattle.rams_model.specs.declared.{fault.NackFault.NackFault, fault.NackFault.TheVariants.Empty, fault.NackFault.TheVariants.Length}
+use Rattle.rams_model.specs.declared.rtcp.TheConstants.{RTPFB, FMT_NACK}
 use Rattle.rams_model.specs.Formats.Rtcp.{Framed, framed}
 use Rattle.rams_model.specs.Formats.RamsInfo.{transport_feedback}
-use Rattle.rams_model.specs.declared.rtcp.TheConstants.{RTPFB, FMT_NACK}
 
 -- the SSRCs of the packet's sender and of the media source, the format, and the feedback control information
 pub record Feedback : Type 0 where

@@ -1,9 +1,6 @@
 -- What the definitions that compute mean, in the words of the rules.
 use Rattle.std.specs.Prelude.{◌≡◌, ℕ, ◌+◌, ◌-◌, ◌%◌, ◌≤◌, min, max, Bool, ◌&&◌, ◌==◌, nat_le, if◌then◌else◌, IsTrue, IsFalse, ◌⊎◌, ◌↔◌, List, [], ◌∷◌, ◌++◌, length, take, Option, Some, None, Result, Ok, Err}
-use Rattle.rams_model.specs.declared.channel.Channel.{Channel}
-use Rattle.rams_model.specs.declared.event.Event.{Event}
-use Rattle.rams_model.specs.declared.held.Held.{Held}
-use Rattle.rams_model.specs.declared.note.Note.{Note}
+use Rattle.rams_model.specs.declared.{channel.Channel.Channel, event.Event.Event, held.Held.Held, note.Note.Note}
 use Rattle.rams_model.specs.declared.note.Note.TheVariants as note
 use Rattle.rams_model.specs.Service.{Settings, stop_of, tick, Item, began, noted, History, hold, known, opened, is_among, Burst, size_of, bursts, has_open, channel_left, is_pending, run, Book, IsLawful, events_of, book}
 use Rattle.rams_model.specs.Packets.{lo, hi, wires, from_number, Arrival, Follows, is_consecutive, consecutive_end, awaited, is_missing, stream_of, source, is_eligible, age, is_at_most, chosen}

@@ -1,8 +1,7 @@
 -- The packets of a channel that came in time, the number that is waited for, and the source list.
 use Rattle.std.specs.Prelude.{◌≡◌, ℕ, zero, suc, ◌+◌, ◌-◌, Bool, ◌&&◌, ◌==◌, not, nat_le, nat_lt, if◌then◌else◌, List, [], ◌∷◌, ◌++◌, filter, Option, Some, None}
 use Rattle.std.specs.List.{list_any}
-use Rattle.rams_model.specs.declared.held.Held.{Held}
-use Rattle.rams_model.specs.declared.note.LiveNote.{LiveNote}
+use Rattle.rams_model.specs.declared.{held.Held.Held, note.LiveNote.LiveNote}
 use Rattle.rams_model.specs.declared.note.LiveNote.TheVariants.{Took, Restart, Late, Twice, Jump}
 use Rattle.rams_model.specs.Formats.{wire_size}
 use Rattle.rams_model.specs.Packets.Hold.{lo, hi, last_of}

@@ -1,17 +1,11 @@
 -- What a datagram is to a receiver.
 use Rattle.std.specs.Prelude.{ℕ, Bool, ◌&&◌, ◌||◌, ◌==◌, not, nat_lt, if◌then◌else◌, List, [], ◌∷◌, length, slice_index, Option, Some, None, is_some, Result, Ok, Err}
 use Rattle.std.specs.Option.{option_or}
-use Rattle.rams_model.specs.declared.fault.FrameFault.{FrameFault}
-use Rattle.rams_model.specs.declared.fault.RtpFault.{RtpFault}
-use Rattle.rams_model.specs.declared.fault.TlvFault.{TlvFault}
-use Rattle.rams_model.specs.declared.message.Info.{Info}
-use Rattle.rams_model.specs.declared.reception.InfoCame.{InfoCame}
-use Rattle.rams_model.specs.declared.reception.MediaCame.{MediaCame}
-use Rattle.rams_model.specs.declared.reception.Tuned.{Tuned}
+use Rattle.rams_model.specs.declared.{fault.FrameFault.FrameFault, fault.RtpFault.RtpFault, fault.TlvFault.TlvFault, message.Info.Info}
+use Rattle.rams_model.specs.declared.{reception.InfoCame.InfoCame, reception.MediaCame.MediaCame, reception.Tuned.Tuned}
+use Rattle.rams_model.specs.declared.{rtcp.TheConstants.FMT_RAMS, rams.TheConstants.SFMT_RAMS_I}
 use Rattle.rams_model.specs.declared.reception.InfoCame.TheVariants as info
 use Rattle.rams_model.specs.declared.reception.MediaCame.TheVariants as came
-use Rattle.rams_model.specs.declared.rtcp.TheConstants.{FMT_RAMS}
-use Rattle.rams_model.specs.declared.rams.TheConstants.{SFMT_RAMS_I}
 use Rattle.rams_model.specs.Formats.{Packet, spelling, stripped, packet_at, original, original_number, Framed, framed, Feedback, feedback_of, info_at}
 
 -- What a datagram of feedback tells a receiver.

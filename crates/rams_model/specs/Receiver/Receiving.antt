@@ -1,11 +1,9 @@
 -- A receiver: what it has got, what it answers, and what is presented.
 use Rattle.std.specs.Prelude.{ℕ, ◌+◌, Bool, true, false, ◌&&◌, ◌||◌, ◌==◌, nat_lt, if◌then◌else◌, List, Option, Some, None, is_some, option_map}
 use Rattle.std.specs.Option.{option_and_then}
-use Rattle.rams_model.specs.declared.message.Info.{Info}
-use Rattle.rams_model.specs.declared.reception.InfoCame.{InfoCame}
-use Rattle.rams_model.specs.declared.reception.MediaCame.{MediaCame}
-use Rattle.rams_model.specs.declared.reception.InfoCame.TheVariants.{Taken, Repeated, Updated, Ended, Refused}
+use Rattle.rams_model.specs.declared.{message.Info.Info, reception.InfoCame.InfoCame, reception.MediaCame.MediaCame}
 use Rattle.rams_model.specs.declared.reception.MediaCame.TheVariants.{BeforeFirst}
+use Rattle.rams_model.specs.declared.reception.InfoCame.TheVariants.{Taken, Repeated, Updated, Ended, Refused}
 use Rattle.rams_model.specs.Packets.{ahead}
 use Rattle.rams_model.specs.Receiver.Pieces.{Piece, Playing, room, playing_from, nearest, came, with_arrival, joining, join_kept, presented, after_presenting}
 use Rattle.rams_model.specs.Receiver.Reading.{Told, informs, unread, Media, again, multicast, unfit, tells_of_burst}

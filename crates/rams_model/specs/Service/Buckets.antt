@@ -1,7 +1,6 @@
 -- What bursts reserve, and what a client and the channel may be sent in a tick. A budget is a bucket: each tick adds to it, a packet takes its wire size, and at most a depth is kept.
 use Rattle.std.specs.Prelude.{ℕ, ◌+◌, ◌-◌, min, Bool, false, ◌==◌, nat_lt, if◌then◌else◌, List, [], ◌∷◌, sum_by, Option, Some, None}
-use Rattle.rams_model.specs.declared.held.Held.{Held}
-use Rattle.rams_model.specs.declared.note.Note.{Note}
+use Rattle.rams_model.specs.declared.{held.Held.Held, note.Note.Note}
 use Rattle.rams_model.specs.declared.note.Note.TheVariants.{Burst as BurstNote, Repair}
 use Rattle.rams_model.specs.Service.ChannelSettings.{Settings}
 use Rattle.rams_model.specs.Packets.{hi}

@@ -1,9 +1,6 @@
 -- What the notes say of a client's bursts.
 use Rattle.std.specs.Prelude.{ℕ, ◌+◌, ◌-◌, min, Bool, false, ◌==◌, if◌then◌else◌, List, [], ◌∷◌, length, Option, Some, None, is_some}
-use Rattle.rams_model.specs.declared.held.Held.{Held}
-use Rattle.rams_model.specs.declared.message.Info.{Info}
-use Rattle.rams_model.specs.declared.note.Cause.{Cause}
-use Rattle.rams_model.specs.declared.note.Note.{Note}
+use Rattle.rams_model.specs.declared.{held.Held.Held, message.Info.Info, note.Cause.Cause, note.Note.Note}
 use Rattle.rams_model.specs.declared.note.Note.TheVariants.{Accept, Update, StopAt, Burst as BurstNote, Repair, End}
 use Rattle.rams_model.specs.Service.ChannelSettings.{Settings}
 use Rattle.rams_model.specs.Service.HeardEvents.{tick}

@@ -1,7 +1,6 @@
 -- What came to a channel and what it noted of that, newest first. All that the channel knows is read off this one list.
 use Rattle.std.specs.Prelude.{ℕ, List, [], ◌∷◌, Option}
-use Rattle.rams_model.specs.declared.held.Held.{Held}
-use Rattle.rams_model.specs.declared.note.Note.{Note}
+use Rattle.rams_model.specs.declared.{held.Held.Held, note.Note.Note}
 use Rattle.rams_model.specs.Service.ChannelSettings.{Settings}
 use Rattle.rams_model.specs.Packets.{Arrival, Stream, stream_of}
 use Rattle.rams_model.specs.Packets.Source as sources

@@ -1,8 +1,7 @@
 -- A channel's settings with the tick of its trace, and which of them are lawful.
 use Rattle.std.specs.Prelude.{ℕ, ◌+◌, Bool, ◌&&◌, ◌==◌, not, nat_le, if◌then◌else◌, Result, Ok, Err}
 use Rattle.std.specs.Int.{is_in_range}
-use Rattle.rams_model.specs.declared.channel.Channel.{Channel}
-use Rattle.rams_model.specs.declared.fault.ConfigFault.{ConfigFault}
+use Rattle.rams_model.specs.declared.{channel.Channel.Channel, fault.ConfigFault.ConfigFault}
 use Rattle.rams_model.specs.declared.fault.ConfigFault.TheVariants.{Range, Rule}
 
 pub record Settings : Type 0 where

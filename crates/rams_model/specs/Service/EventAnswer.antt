@@ -1,8 +1,6 @@
 -- What a channel answers to an event, as its two lists.
 use Rattle.std.specs.Prelude.{List, [], ◌∷◌}
-use Rattle.rams_model.specs.declared.note.Note.{Note}
-use Rattle.rams_model.specs.declared.answer.Order.{Order}
-use Rattle.rams_model.specs.declared.notes.Kept.{Kept}
+use Rattle.rams_model.specs.declared.{note.Note.Note, answer.Order.Order, notes.Kept.Kept}
 use Rattle.rams_model.specs.declared.notes.Kept.TheVariants.{One, Many}
 
 pub record Answered : Type 0 where

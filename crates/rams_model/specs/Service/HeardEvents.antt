@@ -1,9 +1,6 @@
 -- What a channel hears of an event: the event as it was read.
 use Rattle.std.specs.Prelude.{ℕ, ◌==◌, not, nat_lt, if◌then◌else◌, List, length, Result, Ok, Err}
-use Rattle.rams_model.specs.declared.channel.Channel.{Channel}
-use Rattle.rams_model.specs.declared.event.Event.{Event}
-use Rattle.rams_model.specs.declared.fault.FrameFault.{FrameFault}
-use Rattle.rams_model.specs.declared.fault.RtpFault.{RtpFault}
+use Rattle.rams_model.specs.declared.{channel.Channel.Channel, event.Event.Event, fault.FrameFault.FrameFault, fault.RtpFault.RtpFault}
 use Rattle.rams_model.specs.declared.note.LiveNote.{LiveNote}
 use Rattle.rams_model.specs.declared.event.Event.TheVariants.{Live, Feedback, Tick}
 use Rattle.rams_model.specs.declared.note.LiveNote.TheVariants.{ForeignSsrc, ForeignType, TooBig, Bad}

@@ -1,7 +1,6 @@
 -- What a client is told in a RAMS-I (RFC 6285, 7.3).
 use Rattle.std.specs.Prelude.{ℕ, ◌+◌, ◌-◌, ◌*◌, ◌%◌, ◌^◌, min, Option, Some, None}
-use Rattle.rams_model.specs.declared.message.Info.{Info}
-use Rattle.rams_model.specs.declared.note.Cause.{Cause}
+use Rattle.rams_model.specs.declared.{message.Info.Info, note.Cause.Cause}
 use Rattle.rams_model.specs.declared.note.Cause.TheVariants.{Stopped, Lost, Limit, Bye}
 use Rattle.rams_model.specs.Service.ChannelSettings.{Settings}
 use Rattle.rams_model.specs.Service.Rates.{bits_of}

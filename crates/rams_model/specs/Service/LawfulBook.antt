@@ -1,7 +1,6 @@
 -- The one lawful book of a channel: what it answers to each event, on what came before.
 use Rattle.std.specs.Prelude.{◌≡◌, List, [], ◌∷◌, map, None}
-use Rattle.rams_model.specs.declared.event.Event.{Event}
-use Rattle.rams_model.specs.declared.note.Note.TheVariants.{Live as LiveNoted, BadFeedback}
+use Rattle.rams_model.specs.declared.{event.Event.Event, note.Note.TheVariants.Live as LiveNoted, note.Note.TheVariants.BadFeedback}
 use Rattle.rams_model.specs.Service.EventAnswer.{Answered}
 use Rattle.rams_model.specs.Service.ChannelSettings.{Settings}
 use Rattle.rams_model.specs.Packets.{live_note}

@@ -1,11 +1,9 @@
 -- What a feedback datagram says to a channel.
 use Rattle.std.specs.Prelude.{ℕ, Bool, true, false, ◌==◌, not, if◌then◌else◌, List, [], ◌∷◌, slice_index, filter, filter_map, Option, Some, None, Result, Ok, Err}
-use Rattle.rams_model.specs.declared.fault.NackFault.{NackFault}
-use Rattle.rams_model.specs.declared.fault.TlvFault.{TlvFault}
-use Rattle.rams_model.specs.declared.message.Stop.{Stop}
+use Rattle.rams_model.specs.declared.{fault.NackFault.NackFault, fault.TlvFault.TlvFault, message.Stop.Stop}
+use Rattle.rams_model.specs.declared.rams.TheConstants.{SFMT_RAMS_R, SFMT_RAMS_T}
 use Rattle.rams_model.specs.Formats.{Framed, Feedback, feedback_of, nack_numbers, Request, request_at, stop_at}
 use Rattle.rams_model.specs.declared.rtcp.TheConstants.{BYE, FMT_NACK, FMT_RAMS}
-use Rattle.rams_model.specs.declared.rams.TheConstants.{SFMT_RAMS_R, SFMT_RAMS_T}
 
 -- A message that is answered.
 pub data Message : Type 0 where

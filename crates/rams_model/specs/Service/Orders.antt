@@ -1,12 +1,7 @@
 -- The orders of the notes, and their datagrams.
 use Rattle.std.specs.Prelude.{ℕ, List, [], ◌∷◌, ◌++◌, Option, Some, None, Result, Ok, Err, option_map, option_to_list}
-use Rattle.rams_model.specs.declared.answer.Order.{Order}
-use Rattle.rams_model.specs.declared.fault.RtpFault.{RtpFault}
-use Rattle.rams_model.specs.declared.held.Held.{Held}
-use Rattle.rams_model.specs.declared.message.Info.{Info}
-use Rattle.rams_model.specs.declared.note.Cause.{Cause}
-use Rattle.rams_model.specs.declared.note.Note.{Note}
-use Rattle.rams_model.specs.declared.answer.Order.TheVariants.{Rtx, Info as InfoOrder}
+use Rattle.rams_model.specs.declared.{answer.Order.Order, fault.RtpFault.RtpFault, held.Held.Held, message.Info.Info, note.Cause.Cause}
+use Rattle.rams_model.specs.declared.{note.Note.Note, answer.Order.TheVariants.Rtx, answer.Order.TheVariants.Info as InfoOrder}
 use Rattle.rams_model.specs.declared.note.Note.TheVariants.{Accept, Update, Again, Refuse, Burst as BurstNote, Repair, End}
 use Rattle.rams_model.specs.Service.EventAnswer.{Answered, answered}
 use Rattle.rams_model.specs.Service.ChannelSettings.{Settings}

@@ -1,8 +1,7 @@
 -- The lines of a channel's book.
 use Rattle.std.specs.Prelude.{ℕ, ◌+◌, List, [], ◌∷◌, ◌++◌, length, take, drop}
 use Rattle.std.specs.List.{flat_map}
-use Rattle.rams_model.specs.declared.answer.Order.{Order}
-use Rattle.rams_model.specs.declared.note.Note.{Note}
+use Rattle.rams_model.specs.declared.{answer.Order.Order, note.Note.Note}
 use Rattle.rams_model.specs.Service.{Answered, Settings, client_of, datagram, Book}
 use Rattle.rams_model.specs.Texts.BookText.{note_line, send_line, order_count}
 

@@ -1,11 +1,7 @@
 -- The lines of a book: those of notes and of datagrams.
 use Rattle.std.specs.Prelude.{ℕ, List, ◌∷◌, ◌++◌, codes, decimal}
-use Rattle.rams_model.specs.declared.fault.FrameFault.{FrameFault}
-use Rattle.rams_model.specs.declared.fault.LineFault.{LineFault}
-use Rattle.rams_model.specs.declared.fault.RtpFault.{RtpFault}
-use Rattle.rams_model.specs.declared.note.Cause.{Cause}
-use Rattle.rams_model.specs.declared.note.LiveNote.{LiveNote}
-use Rattle.rams_model.specs.declared.note.Note.{Note}
+use Rattle.rams_model.specs.declared.{fault.FrameFault.FrameFault, fault.LineFault.LineFault, fault.RtpFault.RtpFault, note.Cause.Cause}
+use Rattle.rams_model.specs.declared.{note.LiveNote.LiveNote, note.Note.Note}
 use Rattle.rams_model.specs.declared.fault.FrameFault.TheVariants as frame
 use Rattle.rams_model.specs.declared.fault.LineFault.TheVariants as line
 use Rattle.rams_model.specs.declared.fault.RtpFault.TheVariants as rtp

@@ -1,9 +1,7 @@
 -- The lines of a trace.
 use Rattle.std.specs.Prelude.{ℕ, ◌^◌, Bool, ◌&&◌, ◌||◌, ◌==◌, nat_lt, nat_le, if◌then◌else◌, List, [], ◌∷◌, length, Option, Some, None, Result, Ok, Err, option_and_then, option_map, codes, bytes_eq, decimal}
 use Rattle.std.specs.Int.{is_in_range}
-use Rattle.rams_model.specs.declared.channel.Access.{Access}
-use Rattle.rams_model.specs.declared.channel.Channel.{Channel}
-use Rattle.rams_model.specs.declared.fault.LineFault.{LineFault}
+use Rattle.rams_model.specs.declared.{channel.Access.Access, channel.Channel.Channel, fault.LineFault.LineFault}
 use Rattle.rams_model.specs.declared.channel.Access.TheVariants.{Marker, Ts}
 use Rattle.rams_model.specs.declared.fault.LineFault.TheVariants.{Form, Range}
 use Rattle.rams_model.specs.Service.{most_bytes, tick_in_range, channel_in_range}

@@ -1,11 +1,8 @@
 -- Which line may come where in a trace: one head, then channel lines, then event lines, then `end`.
 use Rattle.std.specs.Prelude.{ℕ, ◌+◌, Bool, true, false, ◌&&◌, ◌||◌, ◌==◌, not, nat_le, nat_lt, if◌then◌else◌, List, [], ◌∷◌, ◌++◌, length, sum_by, Option, Some, None, is_some, Result, Ok, Err, codes, bytes_eq}
 use Rattle.std.specs.List.{list_any}
-use Rattle.rams_model.specs.declared.channel.Channel.{Channel}
-use Rattle.rams_model.specs.declared.fault.ConfigFault.{ConfigFault}
-use Rattle.rams_model.specs.declared.fault.LineFault.{LineFault}
-use Rattle.rams_model.specs.declared.mode.LineKind.{LineKind}
-use Rattle.rams_model.specs.declared.mode.Mode.{Mode}
+use Rattle.rams_model.specs.declared.{channel.Channel.Channel, fault.ConfigFault.ConfigFault, fault.LineFault.LineFault}
+use Rattle.rams_model.specs.declared.{mode.LineKind.LineKind, mode.Mode.Mode}
 use Rattle.rams_model.specs.declared.fault.ConfigFault.TheVariants as config
 use Rattle.rams_model.specs.declared.fault.LineFault.TheVariants.{Form, Order, Range, Twice, Rule}
 use Rattle.rams_model.specs.declared.mode.LineKind.TheVariants as kind

@@ -1,7 +1,6 @@
 -- Live packets: numbers, the reordering window, restarts.
 use Rattle.std.specs.Prelude.{true, false, [], ◌∷◌, ◌++◌, replicate, codes}
-use Rattle.rams_model.specs.declared.channel.Access.TheVariants.{Ts}
-use Rattle.rams_model.specs.declared.event.Event.TheVariants.{Live, Tick}
+use Rattle.rams_model.specs.declared.{channel.Access.TheVariants.Ts, event.Event.TheVariants.Live, event.Event.TheVariants.Tick}
 use Rattle.rams_model.specs.declared.fault.RtpFault.TheVariants as rtp
 use Rattle.rams_model.specs.declared.note.Cause.TheVariants as cause
 use Rattle.rams_model.specs.declared.note.LiveNote.TheVariants.{Restart, Late, Twice, Jump, ForeignSsrc, ForeignType, TooBig, Bad}

@@ -1,9 +1,7 @@
 -- Receivers: what they answer to datagrams, what they present and what they send.
 use Rattle.std.specs.Prelude.{◌≡◌, ℕ, zero, suc, List, [], ◌∷◌, ◌++◌, map, Option, Some, None, option_map, codes}
 use Rattle.std.specs.Option.{option_to_list}
-use Rattle.rams_model.specs.declared.reception.InfoCame.{InfoCame}
-use Rattle.rams_model.specs.declared.reception.MediaCame.{MediaCame}
-use Rattle.rams_model.specs.declared.reception.Tuned.{Tuned}
+use Rattle.rams_model.specs.declared.{reception.InfoCame.InfoCame, reception.MediaCame.MediaCame, reception.Tuned.Tuned}
 use Rattle.rams_model.specs.declared.reception.InfoCame.TheVariants as info_came
 use Rattle.rams_model.specs.declared.reception.MediaCame.TheVariants.{Took, Behind, Beyond, Twice, BeforeFirst, Foreign, Bad}
 use Rattle.rams_model.specs.Receiver.{Piece, piece, Reception, nothing_got, told_by, brought_again, brought_by_multicast, Media, after_told, after_media, told_answer, media_answer, join_answer, shown_now, after_shown, asked, request_datagram, join_datagram, bye_datagram}

@@ -1,13 +1,8 @@
 -- What the worked examples speak of: a channel, packets, and feedback from clients.
 use Rattle.std.specs.Prelude.{◌≡◌, ℕ, Bool, List, [], ◌∷◌, ◌++◌, map, reverse, replicate, codes}
-use Rattle.rams_model.specs.declared.channel.Access.TheVariants.{Marker}
-use Rattle.rams_model.specs.declared.channel.Channel.{Channel}
-use Rattle.rams_model.specs.declared.event.Event.{Event}
-use Rattle.rams_model.specs.declared.note.LiveNote.{LiveNote}
-use Rattle.rams_model.specs.declared.note.Note.{Note}
-use Rattle.rams_model.specs.declared.event.Event.TheVariants.{Live, Feedback}
-use Rattle.rams_model.specs.declared.note.LiveNote.TheVariants.{Took}
-use Rattle.rams_model.specs.declared.note.Note.TheVariants.{Live as LiveNoted}
+use Rattle.rams_model.specs.declared.{channel.Access.TheVariants.Marker, channel.Channel.Channel, event.Event.Event, note.LiveNote.LiveNote}
+use Rattle.rams_model.specs.declared.{note.Note.Note, event.Event.TheVariants.Live, event.Event.TheVariants.Feedback}
+use Rattle.rams_model.specs.declared.{note.LiveNote.TheVariants.Took, note.Note.TheVariants.Live as LiveNoted}
 use Rattle.rams_model.specs.Service.{Settings, settings, datagram, Entry, book}
 use Rattle.rams_model.specs.Formats.{spelling}
 use Rattle.rams_model.specs.Texts.{bytes_in}

@@ -1,11 +1,10 @@
 -- The line of every note, and the lines of a book.
 use Rattle.std.specs.Prelude.{◌≡◌, ℕ, true, List, [], ◌∷◌, ◌++◌, map, reverse, codes}
-use Rattle.rams_model.specs.declared.event.Event.TheVariants.{Tick}
+use Rattle.rams_model.specs.declared.{event.Event.TheVariants.Tick, note.Note.Note}
 use Rattle.rams_model.specs.declared.fault.FrameFault.TheVariants as frame
 use Rattle.rams_model.specs.declared.fault.RtpFault.TheVariants as rtp
 use Rattle.rams_model.specs.declared.note.Cause.TheVariants as cause
 use Rattle.rams_model.specs.declared.note.LiveNote.TheVariants.{Took, Restart, Late, Twice, Jump, ForeignSsrc, ForeignType, TooBig, Bad}
-use Rattle.rams_model.specs.declared.note.Note.{Note}
 use Rattle.rams_model.specs.declared.note.Note.TheVariants.{Live as LiveNoted, Accept, Update, Again, Refuse, StopAt, StopKept, StopIdle, Queued, Already, Unheld, Early, TableFull, ClientFull, QueueFull, ForeignNack, BadFeedback, Bye, ByeIdle, Burst, Repair, Gone, End, Forgot}
 use Rattle.rams_model.specs.Texts.{note_line, book_lines}
 use Rattle.rams_model.specs.Service.{book}

@@ -3,7 +3,7 @@ use Rattle.std.proofs.Common.{◌≡◌, ℕ, ◌+◌, ◌-◌, ◌<◌, ◌≤�
 use Rattle.std.proofs.lemmas.List.Sums.{sum_by-append}
 use Rattle.std.proofs.lemmas.Bool.{cond_both, both_ways, lt-ltb, leb-true, eq-eqb, eqb-false, and_parts, and_from}
 use Rattle.std.proofs.lemmas.Bool.Decides.{leb_tells}
-use Rattle.rams_model.specs.declared.held.Held.{Held}
+use Rattle.rams_model.specs.declared.Held.{Held}
 use Rattle.rams_model.specs.Packets.{wires, Follows}
 use Rattle.rams_model.specs.Service.{is_before, waste, run, is_stop}
 use Rattle.rams_model.specs.Laws.{IsByStop, ComesNearer, CatchesUp}

@@ -2,12 +2,12 @@
 use Rattle.std.proofs.Common.{◌≡◌, ℕ, ◌+◌, ◌-◌, ◌<◌, ◌≤◌, ◌⊎◌, Bool, true, false, nat_lt, if◌then◌else◌, List, [], ◌∷◌, ◌++◌, Option, Some, None, refl, sym, ◌∙◌, ap, subst, inl, inr, arith, ◌^◌, length, IfSome}
 use Rattle.std.proofs.lemmas.Bool.{cases_lt}
 use Rattle.std.proofs.lemmas.Bool.Decides.{nat_tests}
-use Rattle.rams_model.specs.declared.held.Held.{Held}
-use Rattle.rams_model.specs.declared.note.LiveNote.TheVariants.{Took, Late, Twice}
+use Rattle.rams_model.specs.declared.Held.{Held}
+use Rattle.rams_model.specs.declared.LiveNote.TheVariants.{Took, Late, Twice}
 use Rattle.rams_model.specs.Packets.{hi, Numbered, first, forward, backward, jump, restart, ahead, is_kept, numbered, Arrival, Stream, held_as, has_number, with_packet, awaited, greatest, in_time, note_of, live_note, stream_after, stream_of}
 use Rattle.reckoning.specs.declared.ext_seq.numbering.Noted.{Noted}
-use Rattle.reckoning.specs.ext_seq.{Seen, noted, moved, IsWithin, IsNumberWithin, StandsFor}
 use Rattle.reckoning.specs.declared.ext_seq.numbering.Noted.TheVariants.{First, Forward}
+use Rattle.reckoning.specs.ext_seq.{Seen, noted, moved, IsWithin, IsNumberWithin, StandsFor}
 use Rattle.reckoning.proofs.ext_seq.Tops.{AreBelow, hi_one, hi-with_higher, hi-with_lower, AreBelow-wider, AreBelow-with, has_none, has_greatest, awaited-end}
 
 pub greatest-from_hi : (hs : List Held) (n : ℕ) → hi hs ≡ n + 1 → greatest hs ≡ Some n

@@ -1,6 +1,6 @@
 -- A worked example: five packets of 1,500 bytes are behind, a tick sends 2,999 bytes, and what one packet doesn't fill is kept.
 use Rattle.std.specs.Prelude.{◌≡◌, ℕ, Bool, List, [], ◌∷◌, None}
-use Rattle.rams_model.specs.declared.held.Held.{Held}
+use Rattle.rams_model.specs.declared.Held.{Held}
 use Rattle.rams_model.specs.Service.{join_ticks}
 use Rattle.reckoning.specs.burst_plan.QuietTicks.{Burst, Tick, IsLawful, AreQuiet, pair, pairs_after}
 

@@ -1,7 +1,6 @@
 -- The ticks of a burst that is quiet, over plain numbers and the runs that they send: how it catches up.
 use Rattle.std.specs.Prelude.{ℕ, ◌+◌, ◌-◌, ◌<◌, ◌≤◌, min, IsFalse, List, [], ◌∷◌, ◌++◌, length, drop, Option}
-use Rattle.rams_model.specs.declared.held.Held.{Held}
-use Rattle.rams_model.specs.declared.wire.TheConstants.{MOST_ON_WIRE}
+use Rattle.rams_model.specs.declared.{Held.Held, wire.TheConstants.MOST_ON_WIRE}
 use Rattle.rams_model.specs.Packets.{wires, Follows}
 use Rattle.rams_model.specs.Service.{join_ticks, run, is_stop}
 use Rattle.rams_model.specs.Laws.{IsByStop, ComesNearer, NothingIsLeft}

@@ -2,10 +2,7 @@
 use Rattle.std.proofs.Common.{◌≡◌, ℕ, Bool, ◌+◌, ◌*◌, ◌^◌, ◌<◌, ◌≤◌, List, [], ◌∷◌, ◌++◌, Option, Some, None, length, ap, sym, ◌∙◌, arith, append_assoc}
 use Rattle.std.specs.Prelude.{option_to_list}
 use Rattle.std.proofs.lemmas.Nat.{mul-le}
-use Rattle.rams_model.specs.declared.answer.Order.{Order}
-use Rattle.rams_model.specs.declared.event.Event.{Event}
-use Rattle.rams_model.specs.declared.note.Note.{Note}
-use Rattle.rams_model.specs.declared.event.Event.TheVariants.{Tick}
+use Rattle.rams_model.specs.declared.{Order.Order, Event.Event, Note.Note, Event.TheVariants.Tick}
 use Rattle.rams_model.specs.Service.{Settings, tick, heard_of, began, told, noted, History, hold, known, opened, has_open, pending, bursts_served, repairs_sent, idle_forgotten, after_tick, order_of, newest_notes, newest_orders, after_hearing, history_of, answer}
 use Rattle.channel_config.specs.{IsLawful}
 use Rattle.channel_parts.proofs.Facts.{known_clients_are_few, opened_are_the_known_with_bursts, repairs_are_within_limits}

@@ -1,7 +1,6 @@
 -- After each tick the quiet bursts keep their join times.
 use Rattle.std.specs.Prelude.{List, ◌∷◌}
-use Rattle.rams_model.specs.declared.event.Event.{Event}
-use Rattle.rams_model.specs.declared.event.Event.TheVariants.{Tick}
+use Rattle.rams_model.specs.declared.{Event.Event, Event.TheVariants.Tick}
 use Rattle.rams_model.specs.Service.{Settings, history_of}
 use Rattle.service_laws.proofs.book_laws.Quiet.Laws.{never_lost, keeps_join_times}
 use Rattle.channel_parts.proofs.Given.{moment}

@@ -1,18 +1,14 @@
 -- The answer to a live packet.
 use Rattle.std.proofs.Common.{◌≡◌, ℕ, ◌^◌, ◌<◌, ◌≤◌, List, [], ◌∷◌, Some, sym, ap, ◌∙◌, subst, length, arith}
 use Rattle.std.specs.Prelude.{All}
-use Rattle.rams_model.specs.declared.event.Event.{Event}
-use Rattle.rams_model.specs.declared.held.Held.{Held}
-use Rattle.rams_model.specs.declared.note.LiveNote.{LiveNote}
-use Rattle.rams_model.specs.declared.event.Event.TheVariants.{Live}
-use Rattle.rams_model.specs.declared.note.Note.TheVariants.{Live as LiveNoted}
+use Rattle.rams_model.specs.declared.{Event.Event, Held.Held, LiveNote.LiveNote, Event.TheVariants.Live, Note.TheVariants.Live as LiveNoted}
 use Rattle.rams_model.specs.Service.{answered, Settings, arrivals, hold, newest_notes, newest_orders, order_of, newest_answer, answer, history_of}
 use Rattle.rams_model.specs.Packets.{Arrival, hi, stream_of}
 use Rattle.rams_model.specs.Packets.Source as sources
 use Rattle.channel_cache.specs.{live_note_of, arrivals_after}
 use Rattle.channel_cache.specs.Seen as caches
 use Rattle.channel_cache.proofs.Booked.{noted_so}
-use Rattle.channel_parts.specs.declared.parts.Parts.{Parts}
+use Rattle.channel_parts.specs.declared.Parts.{Parts}
 use Rattle.channel_parts.specs.{HaveLowNumbers, StandsFor}
 use Rattle.channel_parts.proofs.Facts.{held_numbers_are_small, read_packets_have_low_numbers}
 use Rattle.channel_parts.proofs.Staying.{live_packets_change_the_cache, few_arrive}

@@ -1,9 +1,8 @@
 -- The bounds on what a tick's plan answers.
 use Rattle.std.proofs.Common.{◌≡◌, List, refl, sym, subst}
 use Rattle.std.specs.Prelude.{Result, Ok, Err, IfOk, OnErr}
-use Rattle.rams_model.specs.declared.event.Event.{Event}
-use Rattle.rams_model.specs.declared.event.Event.TheVariants.{Tick}
-use Rattle.channel_parts.specs.declared.parts.Parts.{Parts}
+use Rattle.rams_model.specs.declared.{Event.Event, Event.TheVariants.Tick}
+use Rattle.channel_parts.specs.declared.Parts.{Parts}
 use Rattle.channel_parts.specs.Standing as parts
 use Rattle.tick_core.specs.{IsPlanFor}
 use Rattle.server_hub.specs.session_core.{SendsShort, IsCountable, IsCore, Planned, IsPlanOf}

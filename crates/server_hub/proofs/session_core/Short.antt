@@ -3,13 +3,8 @@ use Rattle.std.proofs.Common.{◌≡◌, ℕ, ◌≤◌, List, [], ◌∷◌, �
 use Rattle.std.specs.Prelude.{All, Contains, option_map, option_to_list}
 use Rattle.std.specs.List.{AllByRecursion as Each}
 use Rattle.std.proofs.lemmas.List.Elements.{All-nil, All-cons, All-contains, All-from_recursion}
-use Rattle.rams_model.specs.declared.answer.Order.{Order}
-use Rattle.rams_model.specs.declared.event.Event.{Event}
-use Rattle.rams_model.specs.declared.held.Held.{Held}
-use Rattle.rams_model.specs.declared.message.Info.{Info}
-use Rattle.rams_model.specs.declared.note.Cause.{Cause}
-use Rattle.rams_model.specs.declared.note.Note.{Note}
-use Rattle.rams_model.specs.declared.note.Note.TheVariants as note
+use Rattle.rams_model.specs.declared.{Order.Order, Event.Event, Held.Held, Info.Info, Cause.Cause, Note.Note}
+use Rattle.rams_model.specs.declared.Note.TheVariants as note
 use Rattle.rams_model.specs.Service.{Settings, end_info, began, told, noted, History, arrivals, hold, Burst, open_burst, info_order, packet_order, again_order, update_order, end_order, order_of, newest_orders, history_of, answer}
 use Rattle.rams_model.specs.Formats.{wire_size}
 use Rattle.rams_model.proofs.Legal.{Allows, IsLegal}

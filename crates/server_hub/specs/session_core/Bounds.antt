@@ -1,8 +1,6 @@
 -- How much an answer has at most.
 use Rattle.std.specs.Prelude.{ℕ, ◌^◌, ◌<◌, ◌≤◌, length, All}
-use Rattle.rams_model.specs.declared.answer.Order.{Order}
-use Rattle.rams_model.specs.declared.answer.Order.TheVariants.{Rtx, Info}
-use Rattle.rams_model.specs.declared.wire.TheConstants.{MOST_PACKET}
+use Rattle.rams_model.specs.declared.{Order.Order, Order.TheVariants.Rtx, Order.TheVariants.Info, wire.TheConstants.MOST_PACKET}
 use Rattle.rams_model.specs.Service.{Answered}
 
 -- the packet that it sends again has at most 1,470 bytes

@@ -1,6 +1,6 @@
 -- What clients may rely on where their bursts are quiet.
 use Rattle.std.specs.Prelude.{◌≡◌, ℕ, ◌≤◌, List, Some}
-use Rattle.rams_model.specs.declared.event.Event.{Event}
+use Rattle.rams_model.specs.declared.Event.{Event}
 use Rattle.rams_model.specs.Service.{Settings, History, hold, Burst, next, open_burst, history_of}
 use Rattle.rams_model.specs.Packets.{hi}
 use Rattle.rams_model.specs.Laws.{IsQuietBurst, told_join, NoneIs}

@@ -1,10 +1,10 @@
 -- What contracts see of a core, and the events that it stands for.
 use Rattle.std.specs.Prelude.{◌≡◌, ℕ, ◌<◌, List, length}
-use Rattle.rams_model.specs.declared.event.Event.{Event}
+use Rattle.rams_model.specs.declared.Event.{Event}
 use Rattle.rams_model.specs.Service.{Settings}
-use Rattle.channel_parts.specs.declared.parts.Parts.{Parts}
+use Rattle.channel_parts.specs.declared.Parts.{Parts}
 use Rattle.channel_parts.specs.Standing as parts
-use Rattle.tick_core.specs.declared.plan.TickPlan.{TickPlan}
+use Rattle.tick_core.specs.declared.TickPlan.{TickPlan}
 use Rattle.tick_core.specs.{IsPlanFor}
 
 -- what a core keeps

@@ -36,9 +36,8 @@ impl Model for Core {
 
 impl Core {
     ghost use Rattle.std.specs.Prelude.{◌≡◌, ◌^◌, ◌<◌, List, [], ◌∷◌, length, option_copied, IfOk, OnOk, OnErr};
-    ghost use Rattle.rams_model.specs.declared.event.Event.{Event};
-    ghost use Rattle.rams_model.specs.declared.event.Event.TheVariants.{Live, Feedback, Tick};
-    ghost use Rattle.rams_model.specs.declared.note.Note.TheVariants.{Live as LiveNoted};
+    ghost use Rattle.rams_model.specs.declared.{Event.Event, Note.TheVariants.Live as LiveNoted};
+    ghost use Rattle.rams_model.specs.declared.Event.TheVariants.{Live, Feedback, Tick};
     ghost use Rattle.rams_model.specs.Packets.{hi};
     ghost use Rattle.rams_model.specs.Service.{hold, history_of, answer, answered, heard_live, live};
     ghost use Rattle.channel_cache.specs.{arrival_of, IsBare};

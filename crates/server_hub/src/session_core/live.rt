@@ -1,8 +1,6 @@
 //! The answer to a live packet.
 ghost use Rattle.std.specs.Prelude.{◌≡◌, ◌^◌, ◌<◌, All, List, [], ◌∷◌, length, IfOk, OnErr};
-ghost use Rattle.rams_model.specs.declared.event.Event.{Event};
-ghost use Rattle.rams_model.specs.declared.event.Event.TheVariants.{Live};
-ghost use Rattle.rams_model.specs.declared.note.Note.TheVariants.{Live as LiveNoted};
+ghost use Rattle.rams_model.specs.declared.{Event.Event, Event.TheVariants.Live, Note.TheVariants.Live as LiveNoted};
 ghost use Rattle.rams_model.specs.Service.{answer, answered, heard_live, live};
 ghost use Rattle.channel_cache.specs.{arrival_of, IsBare};
 ghost use Rattle.channel_parts.specs.{StandsFor};

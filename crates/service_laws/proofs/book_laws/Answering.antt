@@ -1,7 +1,6 @@
 -- Each message that was told is followed by its whole answer, and a note's message is the last that was told.
 use Rattle.std.proofs.Common.{◌≡◌, ℕ, Bool, inl, inr, ◌⊎◌, ⊎_elim, List, [], ◌∷◌, ◌++◌, Option, Some, None, refl, ap, sym, ◌∙◌, subst, append_assoc}
-use Rattle.rams_model.specs.declared.event.Event.{Event}
-use Rattle.rams_model.specs.declared.note.Note.{Note}
+use Rattle.rams_model.specs.declared.{Event.Event, Note.Note}
 use Rattle.rams_model.specs.Service.{Settings, Message, Heard, feedback, tick, heard_of, Item, began, told, noted, History, after_message, after_tick, history_of}
 use Rattle.service_laws.specs.book_laws.{AreNotes, IsAnswered, IsNoNote, BeginAnew}
 use Rattle.rams_model.proofs.Legal.{Answers, newest_told}

@@ -1,8 +1,8 @@
 -- A burst begins where its request has it begin.
 use Rattle.std.proofs.Common.{ℕ, subst}
 use Rattle.std.specs.Prelude.{Result, Ok}
-use Rattle.rams_model.specs.declared.fault.TlvFault.{TlvFault}
-use Rattle.rams_model.specs.declared.note.Note.TheVariants as note
+use Rattle.rams_model.specs.declared.TlvFault.{TlvFault}
+use Rattle.rams_model.specs.declared.Note.TheVariants as note
 use Rattle.rams_model.specs.Service.{Settings, asks, History}
 use Rattle.rams_model.specs.Formats.{Request}
 use Rattle.service_laws.specs.book_laws.{BeginsAsAsked}

@@ -1,8 +1,8 @@
 -- What a client is sent in a tick is within its cap.
 use Rattle.std.proofs.Common.{◌≡◌, ℕ, ◌+◌, ◌-◌, ◌≤◌, Bool, true, false, cond, [], ◌∷◌, Option, Some, None, refl, ap, subst, arith, eqb}
 use Rattle.std.proofs.lemmas.Bool.{eqb-true}
-use Rattle.rams_model.specs.declared.held.Held.{Held}
-use Rattle.rams_model.specs.declared.note.Note.TheVariants as note
+use Rattle.rams_model.specs.declared.Held.{Held}
+use Rattle.rams_model.specs.declared.Note.TheVariants as note
 use Rattle.rams_model.specs.Service.{Settings, tick, began, told, noted, History, hold, as_tick_began, Burst, size_of, bursts, open_burst, is_burst_of, is_repair_of, sent_now, budget_of, cap, may_take}
 use Rattle.rams_model.specs.Laws.{is_sending_to, sizes_sent}
 use Rattle.service_laws.specs.book_laws.{left_of}

@@ -3,10 +3,9 @@ use Rattle.std.proofs.Common.{◌≡◌, ℕ, ◌+◌, ◌-◌, ◌%◌, ◌<◌
 use Rattle.std.specs.Option.{option_or}
 use Rattle.std.proofs.lemmas.Bool.{cond-false, lt-ltb}
 use Rattle.std.proofs.lemmas.List.{length_push}
-use Rattle.rams_model.specs.declared.answer.Order.TheVariants as orders
-use Rattle.rams_model.specs.declared.held.Held.{Held}
-use Rattle.rams_model.specs.declared.message.Info.{Info}
-use Rattle.rams_model.specs.declared.note.Note.TheVariants as note
+use Rattle.rams_model.specs.declared.Order.TheVariants as orders
+use Rattle.rams_model.specs.declared.{Held.Held, Info.Info}
+use Rattle.rams_model.specs.declared.Note.TheVariants as note
 use Rattle.rams_model.specs.Packets.{ahead}
 use Rattle.rams_model.specs.Receiver.{distance_from, first_number, first_by, again, reception, source_first}
 use Rattle.rams_model.specs.Service.{Settings, began, told, noted, History, sequence, bursts, accept_info, order_of}

@@ -3,11 +3,9 @@ use Rattle.std.proofs.Common.{◌≡◌, ℕ, ◌+◌, ◌%◌, ◌<◌, ◌≤�
 use Rattle.std.specs.Prelude.{is_some, Contains, not}
 use Rattle.std.proofs.lemmas.Bool.{cond_both, both_ways, and_from, or_cases, cases_Bool, not_from_false, eqb-true, lt-ltb, true≢false}
 use Rattle.std.proofs.lemmas.List.Elements.{Contains-append_right}
-use Rattle.rams_model.specs.declared.event.Event.{Event}
-use Rattle.rams_model.specs.declared.held.Held.{Held}
-use Rattle.rams_model.specs.declared.note.Note.{Note}
-use Rattle.rams_model.specs.declared.note.Cause.TheVariants as cause
-use Rattle.rams_model.specs.declared.note.Note.TheVariants as note
+use Rattle.rams_model.specs.declared.{Event.Event, Held.Held, Note.Note}
+use Rattle.rams_model.specs.declared.Cause.TheVariants as cause
+use Rattle.rams_model.specs.declared.Note.TheVariants as note
 use Rattle.rams_model.specs.Service.{Settings, Message, Heard, live, tick, heard_of, began, told, noted, History, arrivals, hold, known, opened, sendings, sequence, Burst, next, bursts, newest_open, open_burst, has_open, pending, is_before, after_message, is_lost, bursts_served, repairs_sent, idle_forgotten, after_tick, history_of}
 use Rattle.rams_model.specs.Packets.{hi, has_number}
 use Rattle.rams_model.proofs.OpenBurst.{open_sent, other_bursts, Holds, holds_of, Keeps, at_note, at_end_note, at_tick}

@@ -3,13 +3,9 @@ use Rattle.std.proofs.Common.{◌≡◌, ℕ, zero, suc, ◌+◌, ◌-◌, ◌�
 use Rattle.std.specs.Prelude.{filter, Result, Ok, Err}
 use Rattle.std.proofs.lemmas.Bool.{cond_both, ltb-false}
 use Rattle.std.proofs.lemmas.List.{length-take, length-drop, length-append}
-use Rattle.rams_model.specs.declared.channel.Channel.{Channel}
-use Rattle.rams_model.specs.declared.event.Event.{Event}
-use Rattle.rams_model.specs.declared.fault.FrameFault.{FrameFault}
-use Rattle.rams_model.specs.declared.fault.RtpFault.{RtpFault}
-use Rattle.rams_model.specs.declared.held.Held.{Held}
-use Rattle.rams_model.specs.declared.event.Event.TheVariants.{Live, Feedback, Tick}
-use Rattle.rams_model.specs.declared.note.LiveNote.TheVariants.{TooBig, ForeignSsrc, ForeignType}
+use Rattle.rams_model.specs.declared.{Channel.Channel, Event.Event, FrameFault.FrameFault, RtpFault.RtpFault, Held.Held}
+use Rattle.rams_model.specs.declared.Event.TheVariants.{Live, Feedback, Tick}
+use Rattle.rams_model.specs.declared.LiveNote.TheVariants.{TooBig, ForeignSsrc, ForeignType}
 use Rattle.rams_model.specs.Service.{Settings, Heard, live, dropped, arrival, heard_packet, heard_feedback, heard_of, began, History, arrivals, hold, feedback, unframed, tick, after_hearing, history_of}
 use Rattle.rams_model.specs.Formats.{Packet, header, spelling, stripped, wire_size, packet_at, fields_of, Framed, framed}
 use Rattle.rams_model.specs.Packets.{hi, from_number, Arrival, stream_of, consecutive_end, source}

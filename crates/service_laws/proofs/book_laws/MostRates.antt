@@ -1,9 +1,8 @@
 -- No burst has a rate above the settings' `burst`.
 use Rattle.std.proofs.Common.{◌≡◌, ℕ, ◌*◌, ◌≤◌, true, List, [], ◌∷◌, ◌++◌, Option, Some, None, refl, arith, eqb}
 use Rattle.std.proofs.lemmas.Bool.{cond_both}
-use Rattle.rams_model.specs.declared.note.Cause.{Cause}
-use Rattle.rams_model.specs.declared.note.Note.{Note}
-use Rattle.rams_model.specs.declared.note.Note.TheVariants as note
+use Rattle.rams_model.specs.declared.{Cause.Cause, Note.Note}
+use Rattle.rams_model.specs.declared.Note.TheVariants as note
 use Rattle.rams_model.specs.Service.{Settings, tick, began, told, noted, History, sequence, Burst, begun, in_tick, after_note, newest_changed, size_of, bursts, if_open, newest_open, open_burst}
 use Rattle.rams_model.specs.Laws.{ticks_begun}
 use Rattle.service_laws.specs.book_laws.{gain, gains_in}

@@ -2,10 +2,8 @@
 use Rattle.std.proofs.Common.{◌≡◌, ℕ, ◌+◌, ◌%◌, ◌<◌, ◌≤◌, Bool, true, false, inl, inr, ⊎_elim, List, [], ◌∷◌, ◌++◌, length, Option, Some, None, refl, ap, sym, ◌∙◌, subst, arith, eqb, leb, append_assoc}
 use Rattle.std.specs.Prelude.{find, IsSomeAnd, IfSome}
 use Rattle.std.proofs.lemmas.Bool.{cond_both, both_ways, and_parts, and_from, eqb-true, eqb-false, eq-eqb, ltb-true, lt-ltb, leb-true, leb-false, le-leb, ne_eqb, cond-true, cond-false, true≢false}
-use Rattle.rams_model.specs.declared.event.Event.{Event}
-use Rattle.rams_model.specs.declared.held.Held.{Held}
-use Rattle.rams_model.specs.declared.note.Note.{Note}
-use Rattle.rams_model.specs.declared.note.Note.TheVariants.{Unheld, Early, Already, TableFull, ClientFull, QueueFull, Queued, ForeignNack}
+use Rattle.rams_model.specs.declared.{Event.Event, Held.Held, Note.Note}
+use Rattle.rams_model.specs.declared.Note.TheVariants.{Unheld, Early, Already, TableFull, ClientFull, QueueFull, Queued, ForeignNack}
 use Rattle.rams_model.specs.Service.{Settings, nack, began, told, noted, History, arrivals, hold, Burst, next, open_burst, pending, pending_of, is_pending, is_full, is_before, is_early, room, held_answer, number_answer, after_numbers, after_nack, history_of}
 use Rattle.rams_model.specs.Laws.{Rises, IsAmong}
 use Rattle.service_laws.specs.book_laws.{AreNotes, items_of, IsFirst, Line, unheld, early, already, table_full, client_full, queue_full, queued, table, IsNamed, Names, WillSend, Applies, Gives, line_of, IsByTable, IsNumberAnswer, IsForeignNack, AreAnswers, IsNackAnswered}

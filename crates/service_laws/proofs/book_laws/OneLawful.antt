@@ -2,10 +2,7 @@
 use Rattle.std.proofs.Common.{◌≡◌, ◌⊎◌, inl, inr, ⊎_elim, List, [], ◌∷◌, ◌++◌, Option, refl, ap, ap₂, sym, ◌∙◌, append_assoc}
 use Rattle.std.specs.Prelude.{option_to_list}
 use Rattle.std.proofs.lemmas.List.{append-nil}
-use Rattle.rams_model.specs.declared.answer.Order.{Order}
-use Rattle.rams_model.specs.declared.event.Event.{Event}
-use Rattle.rams_model.specs.declared.held.Held.{Held}
-use Rattle.rams_model.specs.declared.note.Note.{Note}
+use Rattle.rams_model.specs.declared.{Order.Order, Event.Event, Held.Held, Note.Note}
 use Rattle.rams_model.specs.Service.{Answered, Settings, Heard, heard_of, Item, began, told, noted, History, order_of, newest_notes, newest_orders, Book, after_hearing, history_of, events_of, IsLawful, book}
 use Rattle.rams_model.proofs.OneBook.{same_events, is_lawful, only_book}
 use Rattle.service_laws.specs.book_laws.{IsMoment, IsTheBook, notes_in, notes_of, orders_of, TellsTheHistory, WasMade}

@@ -1,10 +1,8 @@
 -- Each answer to a RAMS-R keeps the table, and each RAMS-R has one.
 use Rattle.std.proofs.Common.{◌≡◌, ℕ, inl, inr, ◌⊎◌, ⊎_elim, List, [], ◌∷◌, ◌++◌, Option, Some, None, refl, ap, sym, ◌∙◌, subst}
 use Rattle.std.specs.Prelude.{IsSomeAnd, IsOkAnd, Result, Ok, Err}
-use Rattle.rams_model.specs.declared.event.Event.{Event}
-use Rattle.rams_model.specs.declared.fault.TlvFault.{TlvFault}
-use Rattle.rams_model.specs.declared.note.Note.{Note}
-use Rattle.rams_model.specs.declared.note.Note.TheVariants.{Update, Again, Refuse}
+use Rattle.rams_model.specs.declared.{Event.Event, TlvFault.TlvFault, Note.Note}
+use Rattle.rams_model.specs.declared.Note.TheVariants.{Update, Again, Refuse}
 use Rattle.rams_model.specs.Service.{Settings, Message, asks, stops, Item, began, told, noted, History, Burst, next, open_burst, verdict, after_message, history_of}
 use Rattle.rams_model.specs.Formats.{Request}
 use Rattle.service_laws.specs.book_laws.{AreNotes, items_of, AnsweredBy, IsFirst}

@@ -5,10 +5,8 @@ use Rattle.std.specs.List.{list_any}
 use Rattle.std.proofs.lemmas.Bool.{cond_both, both_ways, and_parts, and_from, or_cases, not-true, not-false, not_from_false, eqb-true, eqb-false, eq-eqb, ltb-true, ltb-false, leb-true, leb-false, le-leb, true≢false}
 use Rattle.std.proofs.lemmas.List.Elements.{Contains-append_right}
 use Rattle.std.proofs.lemmas.List.Folds.{list_any_at}
-use Rattle.rams_model.specs.declared.fault.TlvFault.{TlvFault}
-use Rattle.rams_model.specs.declared.held.Held.{Held}
-use Rattle.rams_model.specs.declared.note.Note.{Note}
-use Rattle.rams_model.specs.declared.note.Note.TheVariants.{Update, Again, Refuse}
+use Rattle.rams_model.specs.declared.{TlvFault.TlvFault, Held.Held, Note.Note}
+use Rattle.rams_model.specs.declared.Note.TheVariants.{Update, Again, Refuse}
 use Rattle.rams_model.specs.Service.{Settings, rate_of, History, hold, known, opened, is_among, Burst, next, open_burst, has_open, most_of, reserved, is_slow, is_too_much, is_full, join_from, begins, changes, on_burst, on_request, verdict}
 use Rattle.rams_model.specs.Formats.{Request, is_listed, names}
 use Rattle.rams_model.specs.Packets.{is_eligible, age, is_at_most, chosen}

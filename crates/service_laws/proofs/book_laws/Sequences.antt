@@ -1,9 +1,8 @@
 -- What a client is sent after its last Accept has the sequence numbers from the one on that the Accept named.
 use Rattle.std.proofs.Common.{◌≡◌, ℕ, ◌+◌, ◌%◌, Bool, true, false, cond, List, [], ◌∷◌, ◌++◌, length, Option, Some, None, refl, ap, sym, ◌∙◌, subst, arith, eqb, append_assoc, length-append}
 use Rattle.std.proofs.lemmas.Bool.{cond_both, cond-true, cond-false, both_ways, eqb-true, eq-eqb}
-use Rattle.rams_model.specs.declared.held.Held.{Held}
-use Rattle.rams_model.specs.declared.note.Cause.{Cause}
-use Rattle.rams_model.specs.declared.note.Note.TheVariants as note
+use Rattle.rams_model.specs.declared.{Held.Held, Cause.Cause}
+use Rattle.rams_model.specs.declared.Note.TheVariants as note
 use Rattle.rams_model.specs.Service.{Settings, tick, began, told, noted, History, sendings, sequence, Burst, begun, in_tick, after_note, newest_changed, size_of, bursts, if_open, newest_open}
 use Rattle.rams_model.specs.Laws.{NoneIs, is_accept_of, ends_known, numbers_sent}
 use Rattle.rams_model.proofs.LastAccept.{last_accept}

@@ -3,10 +3,9 @@ use Rattle.std.proofs.Common.{◌≡◌, ℕ, zero, suc, add-zero, ◌+◌, Bool
 use Rattle.std.specs.List.{range_with_len}
 use Rattle.std.proofs.lemmas.Bool.{both_ways, cond-true, eqb-true, eq-eqb}
 use Rattle.std.proofs.lemmas.List.{map-append, length_push}
-use Rattle.rams_model.specs.declared.held.Held.{Held}
-use Rattle.rams_model.specs.declared.note.Cause.{Cause}
-use Rattle.rams_model.specs.declared.note.Cause.TheVariants as cause
-use Rattle.rams_model.specs.declared.note.Note.TheVariants as note
+use Rattle.rams_model.specs.declared.{Held.Held, Cause.Cause}
+use Rattle.rams_model.specs.declared.Cause.TheVariants as cause
+use Rattle.rams_model.specs.declared.Note.TheVariants as note
 use Rattle.rams_model.specs.Service.{Settings, tick, began, told, noted, History, sequence, Burst, next, begun, in_tick, after_note, newest_changed, size_of, bursts, if_open, newest_open, is_before}
 use Rattle.rams_model.specs.Laws.{NoneIs, is_accept_of, IsByStop}
 use Rattle.service_laws.specs.book_laws.{Sending, sending, first_sendings, AreNumberedFrom}

@@ -2,12 +2,9 @@
 use Rattle.std.proofs.Common.{◌≡◌, ℕ, true, false, cond, not, ◌&&◌, List, [], ◌∷◌, ◌++◌, Option, Some, None, refl, sym, eqb}
 use Rattle.std.specs.Prelude.{IsSomeAnd, Result, Ok, Err}
 use Rattle.std.proofs.lemmas.Bool.{cond_both, both_ways, and_parts, and_from, not-true, not-false, eqb-true, eqb-false, true≢false}
-use Rattle.rams_model.specs.declared.event.Event.{Event}
-use Rattle.rams_model.specs.declared.fault.TlvFault.{TlvFault}
-use Rattle.rams_model.specs.declared.message.Stop.{Stop}
-use Rattle.rams_model.specs.declared.note.Note.{Note}
-use Rattle.rams_model.specs.declared.note.Cause.TheVariants as cause
-use Rattle.rams_model.specs.declared.note.Note.TheVariants as note
+use Rattle.rams_model.specs.declared.{Event.Event, TlvFault.TlvFault, Stop.Stop, Note.Note}
+use Rattle.rams_model.specs.declared.Cause.TheVariants as cause
+use Rattle.rams_model.specs.declared.Note.TheVariants as note
 use Rattle.rams_model.specs.Service.{Settings, stop_of, bye, stops, told, noted, History, known, is_among, ssrc, Burst, next, open_burst, has_open, stop_set, on_stop, stop_burst, after_stop, is_bye_of, after_bye, history_of}
 use Rattle.rams_model.specs.Formats.{Framed, bye_names}
 use Rattle.service_laws.specs.book_laws.{AreNotes, items_of, AnsweredBy, AnswersStop, unread, idle, kept, set, passed, Leaves, AnswersBye, other, left, ended}

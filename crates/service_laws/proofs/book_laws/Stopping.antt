@@ -4,11 +4,9 @@ use Rattle.std.specs.Prelude.{is_some, Ok, All}
 use Rattle.std.specs.List.{range_with_len}
 use Rattle.std.proofs.lemmas.Bool.{both_ways, cond-true, cond-false, or_from, and_right, cond_both, eqb-true, eq-eqb, true≢false}
 use Rattle.std.proofs.lemmas.List.Elements.{All-nil, All-cons, All-weaker}
-use Rattle.rams_model.specs.declared.held.Held.{Held}
-use Rattle.rams_model.specs.declared.note.Cause.{Cause}
-use Rattle.rams_model.specs.declared.note.Note.{Note}
-use Rattle.rams_model.specs.declared.note.Cause.TheVariants as cause
-use Rattle.rams_model.specs.declared.note.Note.TheVariants as note
+use Rattle.rams_model.specs.declared.{Held.Held, Cause.Cause, Note.Note}
+use Rattle.rams_model.specs.declared.Cause.TheVariants as cause
+use Rattle.rams_model.specs.declared.Note.TheVariants as note
 use Rattle.rams_model.specs.Service.{Settings, stop_of, stops, Item, began, told, noted, History, Burst, next, bursts, if_open, newest_open, open_burst, has_open}
 use Rattle.rams_model.specs.Packets.{least_from}
 use Rattle.rams_model.specs.Laws.{NoneIs, is_accept_of, is_end_of, IsByStop}

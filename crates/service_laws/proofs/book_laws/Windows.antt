@@ -1,9 +1,8 @@
 -- What clients and the channel are sent over ticks that follow one another.
 use Rattle.std.proofs.Common.{◌≡◌, ℕ, ◌+◌, ◌-◌, ◌*◌, ◌≤◌, min, Bool, true, false, cond, List, [], ◌∷◌, ◌++◌, Option, Some, None, refl, ap, sym, subst, arith, append_assoc}
 use Rattle.std.proofs.lemmas.Bool.{true≢false}
-use Rattle.rams_model.specs.declared.note.Cause.{Cause}
-use Rattle.rams_model.specs.declared.note.Note.{Note}
-use Rattle.rams_model.specs.declared.note.Note.TheVariants as note
+use Rattle.rams_model.specs.declared.{Cause.Cause, Note.Note}
+use Rattle.rams_model.specs.declared.Note.TheVariants as note
 use Rattle.rams_model.specs.Service.{Settings, tick, began, told, noted, History, as_tick_began, Burst, in_tick, newest_changed, size_of, bursts, if_open, newest_open, open_burst, after_sending, channel_left, budget_of, cap}
 use Rattle.rams_model.specs.Laws.{NoneIs, is_sending, is_sending_to, sizes_sent, ticks_begun}
 use Rattle.service_laws.specs.book_laws.{is_tick_start, may_be_sent, left_of, gain, gains_in, BeginsWithATick}

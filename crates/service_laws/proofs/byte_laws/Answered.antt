@@ -6,9 +6,7 @@ use Rattle.std.specs.Int.{w16, w32, to_be_bytes, from_be_bytes}
 use Rattle.std.proofs.lemmas.Bool.{cond_both, both_ways, and_from, not-true, not-false, eqb-true, eqb-false, eq-eqb, le-leb}
 use Rattle.std.proofs.lemmas.List.{get_or-drop, length-drop}
 use Rattle.std.proofs.lemmas.List.Elements.{All-nil, All-cons, All-head, All-tail, All-drop}
-use Rattle.rams_model.specs.declared.event.Event.{Event}
-use Rattle.rams_model.specs.declared.event.Event.TheVariants.{Feedback}
-use Rattle.rams_model.specs.declared.fault.FrameFault.{FrameFault}
+use Rattle.rams_model.specs.declared.{Event.Event, Event.TheVariants.Feedback, FrameFault.FrameFault}
 use Rattle.rams_model.specs.Formats.{flag, Joins, Framed, least_body, IsRtcpPacket, framed, Feedback as FeedbackParts, feedback_of, nack_numbers, request_at, stop_at}
 use Rattle.rams_model.specs.Service.{Settings, Message, bye, nack, asks, stops, named, rams_message, feedback_message, message_of, is_rams, with_one_rams, messages, feedback, heard_feedback, heard_of, began, told, noted, History, after_message, after_messages, after_hearing, history_of}
 use Rattle.rams_model.proofs.Items.{AreOfKind, is_note, message_puts}

@@ -3,13 +3,10 @@ use Rattle.std.proofs.Common.{◌≡◌, ℕ, ◌<◌, ◌≤◌, ◌%◌, Bool,
 use Rattle.std.specs.Prelude.{Result, Ok, Err, All, slice_index}
 use Rattle.std.specs.List.{AllByRecursion}
 use Rattle.std.proofs.lemmas.Bool.{cond_both, not-true, not-false, eqb-true, eqb-false, ltb-true, ltb-false, lt-ltb, le-ltb, eq-eqb, ne_eqb}
-use Rattle.rams_model.specs.declared.channel.Channel.{Channel}
-use Rattle.rams_model.specs.declared.event.Event.{Event}
-use Rattle.rams_model.specs.declared.event.Event.TheVariants.{Live, Feedback, Tick}
-use Rattle.rams_model.specs.declared.fault.RtpFault.{RtpFault}
-use Rattle.rams_model.specs.declared.note.LiveNote.{LiveNote}
-use Rattle.rams_model.specs.declared.note.LiveNote.TheVariants.{Late, ForeignSsrc, ForeignType, TooBig, Bad}
-use Rattle.rams_model.specs.declared.note.Note.TheVariants as note
+use Rattle.rams_model.specs.declared.{Channel.Channel, Event.Event, RtpFault.RtpFault, LiveNote.LiveNote}
+use Rattle.rams_model.specs.declared.Event.TheVariants.{Live, Feedback, Tick}
+use Rattle.rams_model.specs.declared.LiveNote.TheVariants.{Late, ForeignSsrc, ForeignType, TooBig, Bad}
+use Rattle.rams_model.specs.declared.Note.TheVariants as note
 use Rattle.rams_model.specs.Formats.{Packet, fields_of, packet_at, framed}
 use Rattle.rams_model.specs.Packets.{following, Arrival, Stream, live_note, stream_of}
 use Rattle.rams_model.specs.Service.{Answered, answered, Settings, Heard, live, dropped, feedback, unframed, tick, arrival, heard_packet, heard_live, heard_of, began, arrivals, stream, after_hearing, order_of, newest_notes, newest_orders, newest_answer, Entry, Book, IsLawful, events_of, history_of, answer}

@@ -3,9 +3,8 @@ use Rattle.std.proofs.Common.{◌≡◌, ℕ, ◌+◌, ◌-◌, ◌<◌, ◌≤�
 use Rattle.std.specs.Prelude.{Contains}
 use Rattle.std.proofs.lemmas.Bool.{cond_both, ltb-true, ltb-false}
 use Rattle.std.proofs.lemmas.List.Elements.{Contains-append_right}
-use Rattle.rams_model.specs.declared.held.Held.{Held}
-use Rattle.rams_model.specs.declared.note.LiveNote.{LiveNote}
-use Rattle.rams_model.specs.declared.note.LiveNote.TheVariants.{Took, Restart, Late, Twice}
+use Rattle.rams_model.specs.declared.{Held.Held, LiveNote.LiveNote}
+use Rattle.rams_model.specs.declared.LiveNote.TheVariants.{Took, Restart, Late, Twice}
 use Rattle.rams_model.specs.Packets.{hi, ahead, is_kept, Numbered, forward, backward, restart, jump, after_greatest, numbered, Stream, has_number, awaited, in_time, note_of, live_note}
 use Rattle.rams_model.specs.Laws.{Rises}
 use Rattle.rams_model.proofs.Rising.{below_hi}

@@ -4,8 +4,7 @@ use Rattle.std.specs.Prelude.{filter, is_some, Result, Ok, Err, slice_index}
 use Rattle.std.specs.Int.{w16, w32, w64, from_be_bytes, bit_at}
 use Rattle.std.proofs.Math.Nat.{div-div-eq-div-mul, pow-suc}
 use Rattle.std.proofs.lemmas.Bool.{cond_both, eqb-true, eqb-false, ne_eqb}
-use Rattle.rams_model.specs.declared.fault.NackFault.TheVariants.{Empty, Length}
-use Rattle.rams_model.specs.declared.fault.TlvFault.{TlvFault}
+use Rattle.rams_model.specs.declared.{NackFault.TheVariants.Empty, NackFault.TheVariants.Length, TlvFault.TlvFault}
 use Rattle.rams_model.specs.Formats.{counted_from, word_numbers, numbers_of, nack_numbers, words32, map_ok, Tlv, request_length, stop_length, tlvs_at, first_value, ssrcs_in, request_of, request_at, stop_of, stop_at}
 use Rattle.rams_model.specs.Service.{named}
 use Rattle.rams_model.proofs.RamsLaws.{message_spelled, message_read}

@@ -3,14 +3,10 @@ use Rattle.std.proofs.Common.{◌≡◌, ℕ, ◌+◌, ◌-◌, ◌*◌, ◌/◌
 use Rattle.std.specs.Prelude.{Result, Ok, Err, Contains, option_to_list}
 use Rattle.std.proofs.lemmas.Bool.{cond_both}
 use Rattle.std.proofs.lemmas.List.Elements.{Contains-append_cases}
-use Rattle.rams_model.specs.declared.answer.Order.{Order}
-use Rattle.rams_model.specs.declared.fault.TlvFault.{TlvFault}
-use Rattle.rams_model.specs.declared.held.Held.{Held}
-use Rattle.rams_model.specs.declared.note.Cause.{Cause}
-use Rattle.rams_model.specs.declared.note.Note.{Note}
-use Rattle.rams_model.specs.declared.answer.Order.TheVariants as order
-use Rattle.rams_model.specs.declared.note.Cause.TheVariants.{Stopped, Lost, Limit, Bye}
-use Rattle.rams_model.specs.declared.note.Note.TheVariants as note
+use Rattle.rams_model.specs.declared.{Order.Order, TlvFault.TlvFault, Held.Held, Cause.Cause, Note.Note}
+use Rattle.rams_model.specs.declared.Order.TheVariants as order
+use Rattle.rams_model.specs.declared.Cause.TheVariants.{Stopped, Lost, Limit, Bye}
+use Rattle.rams_model.specs.declared.Note.TheVariants as note
 use Rattle.rams_model.specs.Formats.{Request, names, rams_info}
 use Rattle.rams_model.specs.Service.{Settings, bare_info, next_msn, update_info, Item, began, told, noted, History, hold, Burst, open_burst, reserved, asked_rate, is_slow, is_too_much, is_full, begins, on_request, verdict, order_of, datagram, history_of, end_order, Book, IsLawful, events_of}
 use Rattle.rams_model.proofs.Legal.{Allows, Ends}

@@ -2,9 +2,7 @@
 use Rattle.std.proofs.Common.{◌≡◌, ℕ, ◌+◌, ◌-◌, ◌%◌, ⊎_elim, Bool, true, false, cond, List, [], ◌∷◌, ◌++◌, Option, Some, refl, ap, sym, ◌∙◌, subst, arith, ltb}
 use Rattle.std.specs.Prelude.{filter, Contains}
 use Rattle.std.proofs.lemmas.Bool.{cases_Bool, eq-eqb}
-use Rattle.rams_model.specs.declared.held.Held.{Held}
-use Rattle.rams_model.specs.declared.note.LiveNote.{LiveNote}
-use Rattle.rams_model.specs.declared.note.LiveNote.TheVariants.{Restart, Jump}
+use Rattle.rams_model.specs.declared.{Held.Held, LiveNote.LiveNote, LiveNote.TheVariants.Restart, LiveNote.TheVariants.Jump}
 use Rattle.rams_model.specs.Packets.{hi, ahead, following, is_kept, restart, jump, after_greatest, numbered, Arrival, Stream, held_as, awaited, greatest, note_of, live_note, stream_after, stream_of, source}
 use Rattle.rams_model.specs.Laws.{Rises}
 use Rattle.rams_model.proofs.Growing.{source_rises}

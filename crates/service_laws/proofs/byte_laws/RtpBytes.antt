@@ -4,8 +4,8 @@ use Rattle.std.specs.Prelude.{slice_index, Result, Ok, Err}
 use Rattle.std.specs.Int.{w16, from_be_bytes}
 use Rattle.std.proofs.lemmas.Bool.{cond_both, cond-true, cond-false, and_parts, or_cases, not-true, not-false, eqb-true, eqb-false, ltb-true, ltb-false, cases_Bool, or_parts, lt-ltb, le-ltb, eq-eqb, ne_eqb}
 use Rattle.std.proofs.lemmas.List.{get_or-drop, drop-drop, length-drop}
-use Rattle.rams_model.specs.declared.fault.RtpFault.{RtpFault}
-use Rattle.rams_model.specs.declared.fault.RtpFault.TheVariants.{Short, Version, Csrc, Extension, Padding}
+use Rattle.rams_model.specs.declared.RtpFault.{RtpFault}
+use Rattle.rams_model.specs.declared.RtpFault.TheVariants.{Short, Version, Csrc, Extension, Padding}
 use Rattle.rams_model.specs.Formats.{Packet, version, has_padding, has_extension, csrc_size, behind_csrc, extension_size, behind_extension, padding_size, lacks_extension, miscounts_padding, fields_of, packet_at}
 use Rattle.rams_model.proofs.RtpPackets.{read_without_fault}
 use Rattle.service_laws.specs.byte_laws.{number16, front_size, last_byte, HasHeader, IsRtp, IsNoRtp}

@@ -2,9 +2,8 @@
 use Rattle.std.proofs.Common.{◌≡◌, ℕ, ◌+◌, ◌-◌, ◌%◌, ◌<◌, ◌≤◌, cond, List, [], ◌∷◌, ◌++◌, length, Option, Some, None, option_to_list, length-append, append-nil, refl, sym, ◌∙◌, subst, arith, eqb, ltb, leb}
 use Rattle.std.specs.List.{AllByRecursion}
 use Rattle.std.proofs.lemmas.Bool.{cond_both, ltb-true, ltb-false, eqb-true}
-use Rattle.rams_model.specs.declared.held.Held.{Held}
-use Rattle.rams_model.specs.declared.reception.MediaCame.{MediaCame}
-use Rattle.rams_model.specs.declared.reception.MediaCame.TheVariants.{Took, Behind, Beyond, Twice}
+use Rattle.rams_model.specs.declared.{Held.Held, MediaCame.MediaCame}
+use Rattle.rams_model.specs.declared.MediaCame.TheVariants.{Took, Behind, Beyond, Twice}
 use Rattle.rams_model.specs.Packets.{ahead}
 use Rattle.rams_model.specs.Receiver.{Piece, piece, Playing, room, playing_from, nearest, has_piece, with_piece, kept, joining, join_kept, piece_at, without_piece, presented, past, after_presenting, arrived, arrived_by_multicast}
 use Rattle.service_laws.specs.receiver_laws.Fair.{IsOf, IsNear}

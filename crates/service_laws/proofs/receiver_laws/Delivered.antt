@@ -2,7 +2,7 @@
 use Rattle.std.proofs.Common.{◌≡◌, ℕ, ◌+◌, ◌-◌, ◌%◌, ◌<◌, ◌≤◌, List, [], ◌∷◌, ◌++◌, length, Option, Some, None, IfSome, option_map, option_and_then, sym, subst, arith, ⊎_elim, leb}
 use Rattle.std.specs.Option.{option_or}
 use Rattle.std.proofs.lemmas.Bool.{cond_both, leb-true, leb-false}
-use Rattle.rams_model.specs.declared.held.Held.{Held}
+use Rattle.rams_model.specs.declared.Held.{Held}
 use Rattle.rams_model.specs.Packets.{ahead}
 use Rattle.rams_model.specs.Receiver.{Piece, Playing, room, playing_from, nearest, joining, join_kept, presented, Media, again, multicast, unfit, distance_from, or_begun, arrived, arrived_by_multicast, after_media, shown_now, Turn, hears, delivers, presents, reception, shown, source_first}
 use Rattle.service_laws.specs.receiver_laws.Fair.{IsNear, IsWithin, IsFair, AreFair}

@@ -1,8 +1,8 @@
 -- A number that was delivered while there was room is below the next, or waits; and so it stays.
 use Rattle.std.proofs.Common.{◌≡◌, ◌≢◌, ℕ, ◌+◌, ◌-◌, ◌<◌, ◌⊎◌, true, cond, List, [], ◌∷◌, ◌++◌, Option, Some, None, option_map, refl, sym, ◌∙◌, subst, arith, inl, inr, ⊎_elim, eqb, ltb, leb}
 use Rattle.std.proofs.lemmas.Bool.{cond_both, cond-true, ltb-true, leb-true, eqb-true, eq-eqb, both_ways, or_cases, or_left, or_right}
-use Rattle.rams_model.specs.declared.reception.MediaCame.{MediaCame}
-use Rattle.rams_model.specs.declared.reception.MediaCame.TheVariants.{Took, Behind, Beyond, Twice, BeforeFirst, Foreign, Bad}
+use Rattle.rams_model.specs.declared.MediaCame.{MediaCame}
+use Rattle.rams_model.specs.declared.MediaCame.TheVariants.{Took, Behind, Beyond, Twice, BeforeFirst, Foreign, Bad}
 use Rattle.rams_model.specs.Receiver.{Piece, piece, Playing, room, nearest, has_piece, with_piece, came, kept, joining, join_kept, piece_at, without_piece, presented, past, after_presenting, again, multicast, unfit, first_number, or_begun, arrived, arrived_by_multicast, after_media, after_shown, Turn, hears, delivers, presents, reception}
 use Rattle.service_laws.proofs.receiver_laws.Standing.{told_keeps}
 

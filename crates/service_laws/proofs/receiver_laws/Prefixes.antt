@@ -1,7 +1,7 @@
 -- Packets of a source that follow one another from f on are the first of it from f on.
 use Rattle.std.proofs.Common.{◌≡◌, ℕ, zero, suc, ◌+◌, ◌<◌, List, [], ◌∷◌, ◌++◌, length, map, get_or, Option, Some, None, refl, ap, sym, ◌∙◌, arith, inl, inr, ⊎_elim}
 use Rattle.std.specs.List.{range_with_len}
-use Rattle.rams_model.specs.declared.held.Held.{Held}
+use Rattle.rams_model.specs.declared.Held.{Held}
 use Rattle.rams_model.specs.Laws.{Rises, IsAmong}
 use Rattle.rams_model.specs.Packets.{from_number, Follows}
 use Rattle.rams_model.specs.Receiver.{Piece, Playing}

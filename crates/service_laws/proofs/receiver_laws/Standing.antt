@@ -2,10 +2,8 @@
 use Rattle.std.proofs.Common.{◌≡◌, ℕ, ◌+◌, ◌-◌, ◌%◌, ◌<◌, ◌≤◌, List, [], ◌∷◌, ◌++◌, length, Option, Some, None, IfSome, option_map, option_to_list, option_and_then, append-nil, refl, sym, ◌∙◌, subst, arith, ltb}
 use Rattle.std.specs.Option.{option_or}
 use Rattle.std.proofs.lemmas.Bool.{cond_both, ltb-true}
-use Rattle.rams_model.specs.declared.held.Held.{Held}
-use Rattle.rams_model.specs.declared.message.Info.{Info}
-use Rattle.rams_model.specs.declared.reception.InfoCame.{InfoCame}
-use Rattle.rams_model.specs.declared.reception.InfoCame.TheVariants as info
+use Rattle.rams_model.specs.declared.{Held.Held, Info.Info, InfoCame.InfoCame}
+use Rattle.rams_model.specs.declared.InfoCame.TheVariants as info
 use Rattle.rams_model.specs.Packets.{ahead}
 use Rattle.rams_model.specs.Receiver.{Piece, Playing, room, playing_from, presented, after_presenting, Told, informs, unread, Media, again, multicast, unfit, Reception, info_came, with_info, within_room, distance_from, or_begun, arrived, arrived_by_multicast, after_told, after_media, after_shown, Turn, hears, delivers, presents, reception, shown, source_first}
 use Rattle.service_laws.specs.receiver_laws.Fair.{IsOf, IsWithin, IsFair, AreFair}

@@ -1,8 +1,7 @@
 -- A client is forgotten after as many idle ticks as the settings say.
 use Rattle.std.proofs.Common.{◌≡◌, ℕ, ◌+◌, ◌<◌, ◌≤◌, Bool, true, false, cond, inl, inr, List, [], ◌∷◌, ◌++◌, refl, ap, sym, ◌∙◌, subst, arith, eqb}
-use Rattle.rams_model.specs.declared.event.Event.{Event}
-use Rattle.rams_model.specs.declared.note.Note.{Note}
-use Rattle.rams_model.specs.declared.note.Note.TheVariants as note
+use Rattle.rams_model.specs.declared.{Event.Event, Note.Note}
+use Rattle.rams_model.specs.declared.Note.TheVariants as note
 use Rattle.rams_model.specs.Service.{Settings, live, dropped, feedback, unframed, tick, Item, began, told, noted, History, known, is_among, is_busy, is_served, quiet_ticks, idle, history_of}
 use Rattle.rams_model.specs.Laws.{ticks_begun}
 use Rattle.rams_model.proofs.Legal.{IsForgotten}

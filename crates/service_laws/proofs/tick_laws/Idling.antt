@@ -4,10 +4,8 @@ use Rattle.std.specs.Prelude.{◌≢◌, filter}
 use Rattle.std.specs.List.{list_any}
 use Rattle.std.proofs.lemmas.Bool.{cond_both, cond-false, cases_Bool, both_ways, or_cases, or_left, or_right, or_from, or_parts, and_parts, and_from, and_left, not_from_false, not-true, eqb-true, eqb-false, eq-eqb, ne_eqb, true≢false}
 use Rattle.std.proofs.lemmas.List.Folds.{list_any-append}
-use Rattle.rams_model.specs.declared.event.Event.{Event}
-use Rattle.rams_model.specs.declared.held.Held.{Held}
-use Rattle.rams_model.specs.declared.note.Note.{Note}
-use Rattle.rams_model.specs.declared.note.Note.TheVariants as note
+use Rattle.rams_model.specs.declared.{Event.Event, Held.Held, Note.Note}
+use Rattle.rams_model.specs.declared.Note.TheVariants as note
 use Rattle.rams_model.specs.Service.{Settings, Message, Heard, feedback, tick, heard_of, began, noted, History, known, is_among, bursts, has_open, Wanted, wanted, is_wanted, pending, is_busy, is_served, quiet_ticks, idle, all_forgotten, bursts_served, repairs_sent, after_tick, history_of, hold, told, after_message, opened}
 use Rattle.rams_model.specs.Laws.{makes_known, ends_known, is_accept_of, is_end_of}
 use Rattle.rams_model.proofs.Legal.{is_tick, is_of_runs}

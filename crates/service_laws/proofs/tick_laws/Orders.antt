@@ -2,11 +2,8 @@
 use Rattle.std.proofs.Common.{◌≡◌, ℕ, ◌+◌, ◌≤◌, Bool, true, false, cond, not, ◌&&◌, ◌||◌, ◌⊎◌, inl, inr, ⊎_elim, List, [], ◌∷◌, ◌++◌, Option, Some, None, refl, ap, sym, ◌∙◌, subst, arith, eqb, leb, ltb, append_assoc, append-nil}
 use Rattle.std.specs.Prelude.{filter, find}
 use Rattle.std.proofs.lemmas.Bool.{cases_Bool, cond_both, or_left, eqb-true, eq-eqb, ltb-true, ltb-false, true≢false}
-use Rattle.rams_model.specs.declared.event.Event.{Event}
-use Rattle.rams_model.specs.declared.held.Held.{Held}
-use Rattle.rams_model.specs.declared.note.Note.{Note}
-use Rattle.rams_model.specs.declared.event.Event.TheVariants.{Tick}
-use Rattle.rams_model.specs.declared.note.Note.TheVariants as note
+use Rattle.rams_model.specs.declared.{Event.Event, Held.Held, Note.Note, Event.TheVariants.Tick}
+use Rattle.rams_model.specs.declared.Note.TheVariants as note
 use Rattle.rams_model.specs.Service.{Settings, noted, History, hold, known, opened, is_among, placed, with_client, sequence, open_burst, Wanted, pending, channel_left, may_take, burst_served, all_served, repaired, all_repaired, idle_forgotten, history_of}
 use Rattle.rams_model.proofs.Induction.{through}
 use Rattle.rams_model.proofs.Items.{is_run_of, is_repair, is_forgotten, served_puts, all_served_put, all_repaired_put, all_forgotten_put}

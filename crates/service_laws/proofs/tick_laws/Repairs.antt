@@ -3,11 +3,8 @@ use Rattle.std.proofs.Common.{◌≡◌, ℕ, ◌<◌, Bool, true, false, cond, 
 use Rattle.std.specs.Prelude.{Contains, filter, find}
 use Rattle.std.proofs.lemmas.Bool.{cases_Bool, and_from, eqb-true, eq-eqb, leb-false, not-true, true≢false}
 use Rattle.std.proofs.lemmas.List.Elements.{Contains-append_right}
-use Rattle.rams_model.specs.declared.event.Event.{Event}
-use Rattle.rams_model.specs.declared.held.Held.{Held}
-use Rattle.rams_model.specs.declared.note.Note.{Note}
-use Rattle.rams_model.specs.declared.event.Event.TheVariants.{Tick}
-use Rattle.rams_model.specs.declared.note.Note.TheVariants as note
+use Rattle.rams_model.specs.declared.{Event.Event, Held.Held, Note.Note, Event.TheVariants.Tick}
+use Rattle.rams_model.specs.declared.Note.TheVariants as note
 use Rattle.rams_model.specs.Service.{Settings, tick, began, noted, History, hold, known, opened, sequence, Wanted, wanted, is_wanted, pending, channel_left, run_left, kept_from_repairs, may_take, open_burst, repaired, all_repaired, idle_forgotten, history_of}
 use Rattle.rams_model.specs.Laws.{NoneIs, is_event}
 use Rattle.rams_model.proofs.Adding.{no_event, none_of_both}

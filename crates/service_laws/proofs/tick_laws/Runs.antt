@@ -3,13 +3,9 @@ use Rattle.std.proofs.Common.{◌≡◌, ℕ, ◌+◌, ◌-◌, ◌<◌, ◌≤�
 use Rattle.std.specs.Prelude.{Contains}
 use Rattle.std.proofs.lemmas.Bool.{cases_Bool, cond_both, and_parts, and_from, eqb-true, eq-eqb, leb-true, leb-false, le-leb, true≢false}
 use Rattle.std.proofs.lemmas.List.Elements.{Contains-append_right}
-use Rattle.rams_model.specs.declared.event.Event.{Event}
-use Rattle.rams_model.specs.declared.held.Held.{Held}
-use Rattle.rams_model.specs.declared.note.Cause.{Cause}
-use Rattle.rams_model.specs.declared.note.Note.{Note}
-use Rattle.rams_model.specs.declared.event.Event.TheVariants.{Tick}
-use Rattle.rams_model.specs.declared.note.Cause.TheVariants.{Stopped, Lost, Limit}
-use Rattle.rams_model.specs.declared.note.Note.TheVariants as note
+use Rattle.rams_model.specs.declared.{Event.Event, Held.Held, Cause.Cause, Note.Note, Event.TheVariants.Tick}
+use Rattle.rams_model.specs.declared.Cause.TheVariants.{Stopped, Lost, Limit}
+use Rattle.rams_model.specs.declared.Note.TheVariants as note
 use Rattle.rams_model.specs.Packets.{from_number}
 use Rattle.rams_model.specs.Laws.{Rises}
 use Rattle.rams_model.specs.Service.{Settings, noted, History, hold, known, sequence, Burst, next, after_note, newest_open, open_burst, is_before, run, send, is_lost, is_stop, after_run, run_sent, burst_served, bursts_served, pending, idle_forgotten, history_of}

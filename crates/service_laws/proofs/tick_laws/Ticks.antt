@@ -2,10 +2,7 @@
 use Rattle.std.proofs.Common.{◌≡◌, Bool, true, List, ◌∷◌, refl, ap, ◌∙◌}
 use Rattle.std.specs.Prelude.{Contains, filter}
 use Rattle.std.proofs.lemmas.List.Elements.{All-contains, All-contains_itself, All-filter, filter_passes}
-use Rattle.rams_model.specs.declared.event.Event.{Event}
-use Rattle.rams_model.specs.declared.held.Held.{Held}
-use Rattle.rams_model.specs.declared.note.Note.{Note}
-use Rattle.rams_model.specs.declared.event.Event.TheVariants.{Tick}
+use Rattle.rams_model.specs.declared.{Event.Event, Held.Held, Note.Note, Event.TheVariants.Tick}
 use Rattle.rams_model.specs.Service.{Settings, tick, began, History, arrivals, hold, opened, bursts_served, repairs_sent, idle_forgotten, after_tick, after_hearing, heard_of, history_of}
 use Rattle.rams_model.specs.Packets.{Arrival, stream_of}
 use Rattle.rams_model.specs.Packets.Source as sources

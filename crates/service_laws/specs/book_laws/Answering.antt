@@ -1,6 +1,6 @@
 -- Which message a note answers, what notes answer a message, and which line of a table is the first that applies.
 use Rattle.std.specs.Prelude.{◌≡◌, ℕ, List, [], ◌∷◌, ◌++◌, None}
-use Rattle.rams_model.specs.declared.note.Note.{Note}
+use Rattle.rams_model.specs.declared.Note.{Note}
 use Rattle.rams_model.specs.Service.{Message, Item, told, noted, History}
 
 -- these items are notes

@@ -1,7 +1,7 @@
 -- What clients and the channel are sent stays within their budgets. A budget is a bucket: each tick adds to it, a packet takes its wire size, and at most a depth is kept.
 use Rattle.std.specs.Prelude.{◌≡◌, ◌≢◌, ℕ, ◌+◌, ◌*◌, ◌≤◌, min, Bool, true, false, ◌==◌, if◌then◌else◌, IsTrue, IsSomeAnd, [], ◌∷◌, ◌++◌, sum_by, count_by, Option, Some, None}
-use Rattle.rams_model.specs.declared.held.Held.{Held}
-use Rattle.rams_model.specs.declared.note.Note.TheVariants as note
+use Rattle.rams_model.specs.declared.Held.{Held}
+use Rattle.rams_model.specs.declared.Note.TheVariants as note
 use Rattle.rams_model.specs.Service.{Settings, Heard, tick, Item, began, noted, History, opened, Burst, open_burst, has_open, reserved, channel_left}
 use Rattle.rams_model.specs.Laws.{NoneIs, is_event, is_sending, is_sending_to, sizes_sent, ticks_begun}
 use Rattle.service_laws.specs.book_laws.Moments.{IsMoment}

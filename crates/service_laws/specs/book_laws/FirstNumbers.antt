@@ -1,10 +1,8 @@
 -- Where a burst began, as its client finds it out: a client with an open burst is known, and each of the burst's first packets tells its first number.
 use Rattle.std.specs.Prelude.{◌≡◌, ℕ, ◌+◌, ◌-◌, ◌%◌, ◌<◌, ◌≤◌, Bool, ◌==◌, IsTrue, List, ◌∷◌, length, Option, Some, None}
-use Rattle.rams_model.specs.declared.answer.Order.TheVariants as orders
-use Rattle.rams_model.specs.declared.event.Event.{Event}
-use Rattle.rams_model.specs.declared.held.Held.{Held}
-use Rattle.rams_model.specs.declared.message.Info.{Info}
-use Rattle.rams_model.specs.declared.note.Note.TheVariants.{Accept, Burst as BurstNote, Repair}
+use Rattle.rams_model.specs.declared.Order.TheVariants as orders
+use Rattle.rams_model.specs.declared.{Event.Event, Held.Held, Info.Info}
+use Rattle.rams_model.specs.declared.Note.TheVariants.{Accept, Burst as BurstNote, Repair}
 use Rattle.rams_model.specs.Receiver.{first_number, again, Turn, delivers, reception, source_first}
 use Rattle.rams_model.specs.Service.{Settings, Item, noted, History, known, is_among, has_open, order_of, history_of}
 use Rattle.rams_model.specs.Laws.{NoneIs, ends_known}

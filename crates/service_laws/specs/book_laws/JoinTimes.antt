@@ -1,9 +1,7 @@
 -- The join time that a client is told is kept where its burst is quiet.
 use Rattle.std.specs.Prelude.{◌≡◌, ℕ, ◌+◌, ◌≤◌, Bool, ◌==◌, if◌then◌else◌, List, [], ◌∷◌, Some}
-use Rattle.rams_model.specs.declared.event.Event.{Event}
-use Rattle.rams_model.specs.declared.event.Event.TheVariants.{Tick}
-use Rattle.rams_model.specs.declared.note.Cause.TheVariants.{Lost}
-use Rattle.rams_model.specs.declared.note.Note.TheVariants.{Accept, Update, End}
+use Rattle.rams_model.specs.declared.{Event.Event, Event.TheVariants.Tick, Cause.TheVariants.Lost}
+use Rattle.rams_model.specs.declared.Note.TheVariants.{Accept, Update, End}
 use Rattle.rams_model.specs.Service.{Settings, tick, Item, began, noted, History, hold, Burst, next, open_burst, history_of}
 use Rattle.rams_model.specs.Packets.{hi}
 use Rattle.rams_model.specs.Laws.{IsQuietBurst, told_join, NoneIs}

@@ -1,8 +1,6 @@
 -- The moments of a channel, and a client's last Accept at one.
 use Rattle.std.specs.Prelude.{◌≡◌, ℕ, List, ◌∷◌, ◌++◌, Option}
-use Rattle.rams_model.specs.declared.event.Event.{Event}
-use Rattle.rams_model.specs.declared.held.Held.{Held}
-use Rattle.rams_model.specs.declared.note.Note.TheVariants.{Accept}
+use Rattle.rams_model.specs.declared.{Event.Event, Held.Held, Note.TheVariants.Accept}
 use Rattle.rams_model.specs.Service.{Settings, noted, History, history_of}
 use Rattle.rams_model.specs.Laws.{NoneIs, is_accept_of}
 

@@ -1,9 +1,7 @@
 -- The table by which each number that a generic NACK names is answered (RFC 4585, 6.2.1), line by line, and that each answer keeps it.
 use Rattle.std.specs.Prelude.{◌≡◌, ℕ, ◌%◌, ◌<◌, ◌≤◌, ◌≢◌, IsTrue, IfSome, List, [], ◌∷◌, ◌++◌, length, Contains, Option, Some, None, IsSomeAnd}
-use Rattle.rams_model.specs.declared.event.Event.{Event}
-use Rattle.rams_model.specs.declared.held.Held.{Held}
-use Rattle.rams_model.specs.declared.note.Note.{Note}
-use Rattle.rams_model.specs.declared.note.Note.TheVariants.{Unheld, Early, Already, TableFull, ClientFull, QueueFull, Queued, ForeignNack}
+use Rattle.rams_model.specs.declared.{Event.Event, Held.Held, Note.Note}
+use Rattle.rams_model.specs.declared.Note.TheVariants.{Unheld, Early, Already, TableFull, ClientFull, QueueFull, Queued, ForeignNack}
 use Rattle.rams_model.specs.Service.{Settings, nack, told, noted, History, hold, Burst, next, open_burst, pending, pending_of, is_pending, history_of}
 use Rattle.rams_model.specs.Laws.{IsAmong}
 use Rattle.service_laws.specs.book_laws.Moments.{IsMoment}

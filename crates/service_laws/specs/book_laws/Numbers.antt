@@ -1,10 +1,9 @@
 -- The sequence numbers of what a client is sent after its last Accept, and the one that the Accept names (RFC 6285, 7.3; RFC 4588, 4).
 use Rattle.std.specs.Prelude.{◌≡◌, ℕ, ◌+◌, ◌%◌, ◌≢◌, Bool, ◌==◌, if◌then◌else◌, List, [], ◌∷◌, ◌++◌, take, drop, Option, Some}
 use Rattle.std.specs.Int.{w16, to_be_bytes}
-use Rattle.rams_model.specs.declared.answer.Order.TheVariants as orders
-use Rattle.rams_model.specs.declared.held.Held.{Held}
-use Rattle.rams_model.specs.declared.message.Info.{Info}
-use Rattle.rams_model.specs.declared.note.Note.TheVariants.{Accept, Burst as BurstNote, Repair}
+use Rattle.rams_model.specs.declared.Order.TheVariants as orders
+use Rattle.rams_model.specs.declared.{Held.Held, Info.Info}
+use Rattle.rams_model.specs.declared.Note.TheVariants.{Accept, Burst as BurstNote, Repair}
 use Rattle.rams_model.specs.Service.{Settings, Item, noted, History, sequence, Burst, open_burst, order_of, datagram}
 use Rattle.rams_model.specs.Laws.{NoneIs, ends_known}
 use Rattle.service_laws.specs.book_laws.Moments.{IsMoment, LastAccept}

@@ -1,9 +1,6 @@
 -- There is exactly one book of some events, and the laws on moments speak of it.
 use Rattle.std.specs.Prelude.{◌≡◌, List, [], ◌∷◌, ◌++◌, Option, option_to_list}
-use Rattle.rams_model.specs.declared.answer.Order.{Order}
-use Rattle.rams_model.specs.declared.event.Event.{Event}
-use Rattle.rams_model.specs.declared.held.Held.{Held}
-use Rattle.rams_model.specs.declared.note.Note.{Note}
+use Rattle.rams_model.specs.declared.{Order.Order, Event.Event, Held.Held, Note.Note}
 use Rattle.rams_model.specs.Service.{Settings, noted, History, order_of, Book, IsLawful, events_of, history_of}
 use Rattle.service_laws.specs.book_laws.Moments.{IsMoment}
 

@@ -1,9 +1,7 @@
 -- Worked examples: a burst that is quiet, and one that is lost, which was not.
 use Rattle.std.specs.Prelude.{◌≡◌, true, false, List, [], ◌∷◌}
-use Rattle.rams_model.specs.declared.event.Event.{Event}
-use Rattle.rams_model.specs.declared.event.Event.TheVariants.{Feedback, Tick}
-use Rattle.rams_model.specs.declared.note.Cause.TheVariants.{Lost}
-use Rattle.rams_model.specs.declared.note.Note.TheVariants.{End}
+use Rattle.rams_model.specs.declared.{Event.Event, Event.TheVariants.Feedback, Event.TheVariants.Tick, Cause.TheVariants.Lost}
+use Rattle.rams_model.specs.declared.Note.TheVariants.{End}
 use Rattle.rams_model.specs.Service.{Settings, has_open, newest_answer, history_of}
 use Rattle.rams_model.specs.Laws.{IsQuietBurst, told_join}
 use Rattle.rams_model.specs.Worked.Setting.{channel, with_ticks, packet}

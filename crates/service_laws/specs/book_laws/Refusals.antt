@@ -1,11 +1,7 @@
 -- The table by which a RAMS-R is answered (RFC 6285, 6.2 and 7.2), line by line, and that each answer keeps it.
 use Rattle.std.specs.Prelude.{◌≡◌, ℕ, ◌+◌, ◌*◌, ◌/◌, ◌<◌, ◌≤◌, min, IsTrue, IsFalse, ◌⊎◌, ◌↔◌, List, [], ◌∷◌, ◌++◌, length, Contains, Option, Some, None, IsSomeAnd, unwrap_or, Result, Err, IsErr, IsOkAnd}
-use Rattle.rams_model.specs.declared.event.Event.{Event}
-use Rattle.rams_model.specs.declared.fault.TlvFault.{TlvFault}
-use Rattle.rams_model.specs.declared.held.Held.{Held}
-use Rattle.rams_model.specs.declared.note.Note.{Note}
-use Rattle.rams_model.specs.declared.note.Note.TheVariants.{Accept, Update, Again, Refuse}
-use Rattle.rams_model.specs.declared.wire.TheConstants.{MOST_ON_WIRE}
+use Rattle.rams_model.specs.declared.{Event.Event, TlvFault.TlvFault, Held.Held, Note.Note, wire.TheConstants.MOST_ON_WIRE}
+use Rattle.rams_model.specs.declared.Note.TheVariants.{Accept, Update, Again, Refuse}
 use Rattle.rams_model.specs.Service.{Settings, join_ticks, asks, stops, told, noted, History, hold, known, is_among, Burst, next, open_burst, reserved, history_of}
 use Rattle.rams_model.specs.Formats.{Request}
 use Rattle.rams_model.specs.Packets.{is_eligible, age, behind}

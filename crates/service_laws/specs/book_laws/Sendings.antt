@@ -1,13 +1,10 @@
 -- What clients are sent of their bursts.
 use Rattle.std.specs.Prelude.{◌≡◌, ℕ, ◌<◌, Bool, ◌==◌, if◌then◌else◌, ◌⊎◌, List, [], ◌∷◌, ◌++◌, length, map, filter_map, Option, Some, None, IsSomeAnd, Ok, unwrap_or, All, Contains}
 use Rattle.std.specs.List.{range_with_len}
-use Rattle.rams_model.specs.declared.answer.Order.{Order}
-use Rattle.rams_model.specs.declared.held.Held.{Held}
-use Rattle.rams_model.specs.declared.note.Note.{Note}
-use Rattle.rams_model.specs.declared.answer.Order.TheVariants as order
-use Rattle.rams_model.specs.declared.event.Event.TheVariants.{Live}
-use Rattle.rams_model.specs.declared.note.LiveNote.TheVariants.{Took, Restart}
-use Rattle.rams_model.specs.declared.note.Note.TheVariants as note
+use Rattle.rams_model.specs.declared.{Order.Order, Held.Held, Note.Note, Event.TheVariants.Live}
+use Rattle.rams_model.specs.declared.LiveNote.TheVariants.{Took, Restart}
+use Rattle.rams_model.specs.declared.Order.TheVariants as order
+use Rattle.rams_model.specs.declared.Note.TheVariants as note
 use Rattle.rams_model.specs.Service.{Settings, asks, noted, History, hold, datagram, Entry, Book, IsLawful}
 use Rattle.rams_model.specs.Formats.{Packet, retransmission, packet_at, Request}
 use Rattle.rams_model.specs.Laws.{source, IsChoice, StandsWithout, is_accept_of, is_end_of}

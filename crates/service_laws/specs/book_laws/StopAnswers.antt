@@ -1,11 +1,8 @@
 -- The answers to a RAMS-T (RFC 6285, 7.4) and to a BYE (RFC 3550, 6.6), each with its cause; no two causes go together.
 use Rattle.std.specs.Prelude.{◌≡◌, ℕ, ◌≢◌, IsTrue, IsFalse, List, [], ◌∷◌, ◌++◌, Some, None, IsSomeAnd, Result, Ok, Err}
-use Rattle.rams_model.specs.declared.event.Event.{Event}
-use Rattle.rams_model.specs.declared.fault.TlvFault.{TlvFault}
-use Rattle.rams_model.specs.declared.message.Stop.{Stop}
-use Rattle.rams_model.specs.declared.note.Note.{Note}
-use Rattle.rams_model.specs.declared.note.Cause.TheVariants as cause
-use Rattle.rams_model.specs.declared.note.Note.TheVariants.{Refuse, StopIdle, StopKept, StopAt, Bye, ByeIdle, End}
+use Rattle.rams_model.specs.declared.{Event.Event, TlvFault.TlvFault, Stop.Stop, Note.Note}
+use Rattle.rams_model.specs.declared.Cause.TheVariants as cause
+use Rattle.rams_model.specs.declared.Note.TheVariants.{Refuse, StopIdle, StopKept, StopAt, Bye, ByeIdle, End}
 use Rattle.rams_model.specs.Service.{Settings, bye, stops, told, History, known, is_among, ssrc, Burst, next, open_burst, has_open, history_of}
 use Rattle.rams_model.specs.Formats.{Framed, bye_names}
 use Rattle.service_laws.specs.book_laws.Answering.{AnsweredBy}

@@ -1,12 +1,9 @@
 -- Where bursts stop, and how they end.
 use Rattle.std.specs.Prelude.{◌≡◌, ℕ, ◌+◌, ◌-◌, ◌<◌, ◌≤◌, ◌≢◌, max, Bool, IsTrue, ◌⊎◌, ◌==◌, List, [], ◌∷◌, ◌++◌, length, map, Option, Some, None, Ok, All, Contains}
 use Rattle.std.specs.List.{range_with_len}
-use Rattle.rams_model.specs.declared.message.Stop.{Stop}
-use Rattle.rams_model.specs.declared.note.Cause.{Cause}
-use Rattle.rams_model.specs.declared.note.Note.{Note}
-use Rattle.rams_model.specs.declared.held.Held.{Held}
-use Rattle.rams_model.specs.declared.note.Cause.TheVariants as cause
-use Rattle.rams_model.specs.declared.note.Note.TheVariants.{Accept, StopAt, Bye, End}
+use Rattle.rams_model.specs.declared.{Stop.Stop, Cause.Cause, Note.Note, Held.Held}
+use Rattle.rams_model.specs.declared.Cause.TheVariants as cause
+use Rattle.rams_model.specs.declared.Note.TheVariants.{Accept, StopAt, Bye, End}
 use Rattle.rams_model.specs.Service.{Settings, bye, stops, Item, noted, History, hold, has_open}
 use Rattle.rams_model.specs.Formats.{Framed}
 use Rattle.rams_model.specs.Laws.{NoneIs, is_end_of, ticks_begun, IsLeastNamed}

@@ -1,12 +1,8 @@
 -- What is held of the packets that came, said of their bytes (RFC 3550, 5.1).
 use Rattle.std.specs.Prelude.{◌≡◌, ℕ, ◌+◌, ◌*◌, ◌/◌, ◌%◌, ◌<◌, ◌≤◌, IsTrue, ◌↔◌, List, length, slice_index, All, Contains, Ok}
 use Rattle.std.specs.List.{AllByRecursion}
-use Rattle.rams_model.specs.declared.channel.Access.{Access}
-use Rattle.rams_model.specs.declared.event.Event.{Event}
-use Rattle.rams_model.specs.declared.held.Held.{Held}
-use Rattle.rams_model.specs.declared.answer.Order.TheVariants.{Rtx}
-use Rattle.rams_model.specs.declared.channel.Access.TheVariants.{Marker, Ts}
-use Rattle.rams_model.specs.declared.event.Event.TheVariants.{Live}
+use Rattle.rams_model.specs.declared.{Access.Access, Event.Event, Held.Held, Order.TheVariants.Rtx}
+use Rattle.rams_model.specs.declared.{Access.TheVariants.Marker, Access.TheVariants.Ts, Event.TheVariants.Live}
 use Rattle.rams_model.specs.declared.wire.TheConstants.{MOST_PACKET}
 use Rattle.rams_model.specs.Formats.{Packet, packet_at}
 use Rattle.rams_model.specs.Service.{Settings, History, hold, datagram, history_of}

@@ -1,16 +1,11 @@
 -- What became of each live packet, said of its bytes (RFC 3550, 5.1) and of the notes before it (RFC 3550, A.1).
 use Rattle.std.specs.Prelude.{◌≡◌, ◌≢◌, ℕ, ◌+◌, ◌-◌, ◌*◌, ◌/◌, ◌%◌, ◌<◌, ◌≤◌, ◌⊎◌, ◌==◌, if◌then◌else◌, List, [], ◌∷◌, length, slice_index, Contains, Option, Some, None}
 use Rattle.std.specs.List.{AllByRecursion}
-use Rattle.rams_model.specs.declared.channel.Channel.{Channel}
-use Rattle.rams_model.specs.declared.event.Event.{Event}
-use Rattle.rams_model.specs.declared.event.Event.TheVariants.{Live}
-use Rattle.rams_model.specs.declared.fault.RtpFault.{RtpFault}
-use Rattle.rams_model.specs.declared.fault.RtpFault.TheVariants.{Short, Version, Csrc, Extension, Padding}
-use Rattle.rams_model.specs.declared.note.LiveNote.{LiveNote}
-use Rattle.rams_model.specs.declared.note.LiveNote.TheVariants.{Took, Restart, Late, Twice, Jump, ForeignSsrc, ForeignType, TooBig, Bad}
-use Rattle.rams_model.specs.declared.note.Note.{Note}
-use Rattle.rams_model.specs.declared.note.Note.TheVariants as note
+use Rattle.rams_model.specs.declared.{Channel.Channel, Event.Event, Event.TheVariants.Live, RtpFault.RtpFault, LiveNote.LiveNote, Note.Note}
 use Rattle.rams_model.specs.declared.wire.TheConstants.{MOST_PACKET}
+use Rattle.rams_model.specs.declared.RtpFault.TheVariants.{Short, Version, Csrc, Extension, Padding}
+use Rattle.rams_model.specs.declared.LiveNote.TheVariants.{Took, Restart, Late, Twice, Jump, ForeignSsrc, ForeignType, TooBig, Bad}
+use Rattle.rams_model.specs.declared.Note.TheVariants as note
 use Rattle.rams_model.specs.Service.{Answered, answered, Settings, Entry, Book, IsLawful, events_of}
 use Rattle.service_laws.specs.byte_laws.Came.{number16, number32, HasBytes}
 

@@ -1,12 +1,8 @@
 -- Which messages a feedback datagram has, said of its bytes (RFC 3550, 6; RFC 4585, 6; RFC 6285, 7), and that just these are answered, in order.
 use Rattle.std.specs.Prelude.{◌≡◌, ◌≢◌, ℕ, zero, suc, ◌+◌, ◌-◌, ◌*◌, ◌/◌, ◌%◌, ◌<◌, ◌≤◌, ◌==◌, ◌⊎◌, Bool, true, false, if◌then◌else◌, List, [], ◌∷◌, ◌++◌, length, drop, map, slice_index, Option, Some, None, option_map, Result, Ok, Err, All}
 use Rattle.std.specs.Int.{w16, to_be_bytes}
-use Rattle.rams_model.specs.declared.event.Event.{Event}
-use Rattle.rams_model.specs.declared.event.Event.TheVariants.{Feedback}
-use Rattle.rams_model.specs.declared.fault.FrameFault.{FrameFault}
-use Rattle.rams_model.specs.declared.fault.TlvFault.{TlvFault}
-use Rattle.rams_model.specs.declared.message.Stop.{Stop}
-use Rattle.rams_model.specs.declared.note.Note.TheVariants.{BadFeedback}
+use Rattle.rams_model.specs.declared.{Event.Event, Event.TheVariants.Feedback, FrameFault.FrameFault, TlvFault.TlvFault, Stop.Stop}
+use Rattle.rams_model.specs.declared.Note.TheVariants.{BadFeedback}
 use Rattle.rams_model.specs.Formats.{Joins, Framed, Tlv, IsMessage, Request}
 use Rattle.rams_model.specs.Service.{Settings, Message, bye, nack, asks, stops, feedback, unframed, began, told, noted, History, history_of}
 use Rattle.service_laws.specs.byte_laws.Came.{number32}

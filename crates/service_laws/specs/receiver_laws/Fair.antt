@@ -1,6 +1,6 @@
 -- Deliveries that are fair to a receiver of a source.
 use Rattle.std.specs.Prelude.{◌≡◌, ℕ, ◌+◌, ◌%◌, ◌≤◌, List, [], ◌∷◌, length, Option, Some, None, Contains}
-use Rattle.rams_model.specs.declared.held.Held.{Held}
+use Rattle.rams_model.specs.declared.Held.{Held}
 use Rattle.rams_model.specs.Receiver.{room, Media, again, multicast, unfit, Turn, hears, delivers, presents, shown, source_first}
 
 -- the source has this packet under this number

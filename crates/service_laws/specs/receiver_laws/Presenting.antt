@@ -1,7 +1,7 @@
 -- What a receiver presents of a source.
 use Rattle.std.specs.Prelude.{◌≡◌, ℕ, zero, suc, ◌+◌, ◌%◌, ◌<◌, ◌≤◌, List, [], ◌∷◌, ◌++◌, length, map, Option, Some, None}
 use Rattle.std.specs.List.{range_with_len}
-use Rattle.rams_model.specs.declared.held.Held.{Held}
+use Rattle.rams_model.specs.declared.Held.{Held}
 use Rattle.rams_model.specs.Laws.{Rises}
 use Rattle.rams_model.specs.Packets.{from_number, Follows}
 use Rattle.rams_model.specs.Receiver.{Piece, Playing, room, Reception, Media, again, multicast, unfit, shown_now, after_shown, Turn, delivers, reception, shown, source_first}

@@ -1,7 +1,6 @@
 -- A handover: deliveries that are fair, and what is presented.
 use Rattle.std.specs.Prelude.{◌≡◌, ℕ, Bool, List, [], ◌∷◌, Some, None}
-use Rattle.rams_model.specs.declared.held.Held.{Held}
-use Rattle.rams_model.specs.declared.message.Info.{Info}
+use Rattle.rams_model.specs.declared.{Held.Held, Info.Info}
 use Rattle.rams_model.specs.Laws.{Rises}
 use Rattle.rams_model.specs.Receiver.{piece, informs, again, multicast, shown_now, Turn, hears, delivers, presents, reception, shown, source_first}
 use Rattle.service_laws.specs.receiver_laws.Fair.{AreFair}

@@ -1,9 +1,7 @@
 -- Whom a tick forgets: a client that was idle for as many ticks as the settings say.
 use Rattle.std.specs.Prelude.{◌≡◌, ◌⊎◌, ℕ, ◌<◌, ◌≤◌, Bool, true, false, ◌==◌, List, [], ◌∷◌, ◌++◌, Option}
-use Rattle.rams_model.specs.declared.event.Event.{Event}
-use Rattle.rams_model.specs.declared.held.Held.{Held}
-use Rattle.rams_model.specs.declared.note.Note.{Note}
-use Rattle.rams_model.specs.declared.note.Note.TheVariants as note
+use Rattle.rams_model.specs.declared.{Event.Event, Held.Held, Note.Note}
+use Rattle.rams_model.specs.declared.Note.TheVariants as note
 use Rattle.rams_model.specs.Service.{Settings, feedback, tick, Item, began, noted, History, known, is_among, is_busy, history_of}
 use Rattle.rams_model.specs.Laws.{ticks_begun}
 use Rattle.service_laws.specs.book_laws.{IsMoment}

@@ -1,9 +1,6 @@
 -- A tick sends all that it may: what it leaves didn't fit.
 use Rattle.std.specs.Prelude.{◌≡◌, ℕ, ◌+◌, ◌<◌, ◌≤◌, min, ◌⊎◌, List, ◌∷◌, ◌++◌, Option, Some, Contains, IfSome}
-use Rattle.rams_model.specs.declared.event.Event.{Event}
-use Rattle.rams_model.specs.declared.held.Held.{Held}
-use Rattle.rams_model.specs.declared.event.Event.TheVariants.{Tick}
-use Rattle.rams_model.specs.declared.note.Note.TheVariants.{Gone}
+use Rattle.rams_model.specs.declared.{Event.Event, Held.Held, Event.TheVariants.Tick, Note.TheVariants.Gone}
 use Rattle.rams_model.specs.Service.{Settings, tick, began, noted, History, hold, Burst, next, open_burst, Wanted, wanted, pending, channel_left, history_of}
 use Rattle.rams_model.specs.Packets.{hi}
 use Rattle.rams_model.specs.Laws.{NoneIs, is_event, is_sending, is_sending_to, sizes_sent}

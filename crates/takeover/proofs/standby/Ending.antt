@@ -2,7 +2,7 @@
 use Rattle.std.proofs.Common.{◌≡◌, ℕ, ◌+◌, ◌<◌, Bool, true, false, List, [], ◌∷◌, ◌++◌, length, Option, None, Some, ◌⊎◌, inl, inr, refl, sym, ap, subst, ◌∙◌, arith, append_assoc, append-nil, length-append, ltb}
 use Rattle.std.specs.List.{list_any}
 use Rattle.std.proofs.lemmas.Bool.{lt-ltb, ltb-true}
-use Rattle.rams_model.specs.declared.fault.LineFault.TheVariants.{Form}
+use Rattle.rams_model.specs.declared.LineFault.TheVariants.{Form}
 use Rattle.rams_model.specs.Texts.{into_first, whole_lines}
 use Rattle.line_io.specs.{HasNoFeed}
 use Rattle.line_io.proofs.LineFeeds.{whole_lines-kept, HasNoFeed-append, whole_lines-none}

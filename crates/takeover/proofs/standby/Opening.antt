@@ -3,8 +3,7 @@ use Rattle.std.proofs.Common.{◌≡◌, ℕ, ◌<◌, true, List, [], ◌∷◌
 use Rattle.std.specs.Prelude.{IsSomeAnd}
 use Rattle.std.proofs.lemmas.Bool.{and_parts}
 use Rattle.std.proofs.lemmas.List.{length-map, map-append}
-use Rattle.rams_model.specs.declared.fault.LineFault.{LineFault}
-use Rattle.rams_model.specs.declared.mode.Mode.TheVariants.{Run}
+use Rattle.rams_model.specs.declared.{LineFault.LineFault, Mode.TheVariants.Run}
 use Rattle.rams_model.specs.Service.{Settings, settings}
 use Rattle.rams_model.specs.Texts.{head_line, channel_line, line_in_range, Claim, Head, Reached, tick_of, accepted, may_come, with_reached}
 use Rattle.server_hub.specs.{AllServe, new_hub, refused, served}

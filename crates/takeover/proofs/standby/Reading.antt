@@ -2,7 +2,7 @@
 use Rattle.std.proofs.Common.{◌≡◌, ℕ, ◌+◌, ◌<◌, ◌≤◌, Bool, true, false, List, [], ◌∷◌, ◌++◌, length, Option, None, Some, Result, Ok, Err, refl, sym, ap, subst, ◌∙◌, arith, append-nil, length-append}
 use Rattle.std.specs.Prelude.{IfErr, OnErr, OnOk}
 use Rattle.std.proofs.lemmas.Bool.{lt-ltb, le-ltb}
-use Rattle.rams_model.specs.declared.fault.LineFault.TheVariants.{Form}
+use Rattle.rams_model.specs.declared.LineFault.TheVariants.{Form}
 use Rattle.rams_model.specs.Texts.{Reached, whole_lines}
 use Rattle.line_io.specs.{HasNoFeed}
 use Rattle.server_hub.specs.Seen as hubs
@@ -10,10 +10,9 @@ use Rattle.server_hub.specs.Served.{Served}
 use Rattle.trace_loop.specs.trace_book.trace_serving.{Stage, Turn, Outcome, goes_on, ends, done, refused, too_long, opening, turn, stage_after, stage_from}
 use Rattle.trace_loop.specs.trace_book.{run}
 use Rattle.trace_loop.proofs.LongLines.{long_refused}
-use Rattle.takeover.specs.declared.standby.fault.FeedFault.{FeedFault}
-use Rattle.takeover.specs.declared.standby.fault.FeedFault.TheVariants.{Line, TooLong, NoMemory}
-use Rattle.takeover.specs.declared.standby.fault.Step.{Step}
+use Rattle.takeover.specs.declared.{standby.fault.FeedFault.FeedFault, standby.fault.Step.Step}
 use Rattle.takeover.specs.declared.standby.fault.Step.TheVariants.{GoesOn, Ends}
+use Rattle.takeover.specs.declared.standby.fault.FeedFault.TheVariants.{Line, TooLong, NoMemory}
 use Rattle.takeover.specs.standby.{rest_of, overlong, end_after, end_from, end_of, stage_of, Stands, count_of, Took, Halting, IsSame, Seen, Halted, HasRead, Fails, Takes, is_end}
 use Rattle.takeover.proofs.standby.Pieces.{one_line_more, nothing_left, one_more_looked_at, no_line_more, rest_longer, looked_at_longer}
 

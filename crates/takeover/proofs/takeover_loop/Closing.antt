@@ -6,11 +6,10 @@ use Rattle.std.specs.Io.KnownBytes.{Appends}
 use Rattle.std.proofs.KnownBytes.{Appends-trans}
 use Rattle.line_io.specs.Passes.{Passes}
 use Rattle.line_io.proofs.Passing.{Passes-all, Passes-then}
-use Rattle.rams_model.specs.declared.status.Status.{Status}
-use Rattle.rams_model.specs.declared.status.Status.TheVariants.{Done, TooLong}
-use Rattle.ram_io.specs.declared.wire.Incoming.{Incoming}
+use Rattle.rams_model.specs.declared.{Status.Status, Status.TheVariants.Done, Status.TheVariants.TooLong}
+use Rattle.ram_io.specs.declared.Incoming.{Incoming}
 use Rattle.ram_io.specs.{Outgoing}
-use Rattle.server_hub.specs.declared.event.HubEvent.{HubEvent}
+use Rattle.server_hub.specs.declared.HubEvent.{HubEvent}
 use Rattle.server_hub.specs.Seen.{Seen}
 use Rattle.server_hub.specs.{StandsFor, ids_of}
 use Rattle.rams_model.specs.Service.{Settings}
@@ -18,8 +17,8 @@ use Rattle.rams_model.specs.Texts.{tick_of}
 use Rattle.trace_loop.specs.trace_book.trace_serving.{Outcome, after_text}
 use Rattle.trace_loop.specs.trace_book.Stages.{settings_of}
 use Rattle.trace_loop.specs.journal_book.{HeadsOpenNewChannels, behind, event_lines, events_of}
-use Rattle.trace_loop.specs.declared.stop.Stop.{Stop}
-use Rattle.trace_loop.specs.declared.stop.Stop.TheVariants.{Memory, Read, Write, Wire}
+use Rattle.trace_loop.specs.declared.Stop.{Stop}
+use Rattle.trace_loop.specs.declared.Stop.TheVariants.{Memory, Read, Write, Wire}
 use Rattle.trace_loop.proofs.Reading.{passes_whole}
 use Rattle.trace_loop.proofs.journal_book.EventLines.{lines_append}
 use Rattle.serve_loop.specs.{Begun, Broken, Given, GoOut, HasRoom, IsBetween, OnlyMemoryStops, Room, Serving, StopsIn, WaitsIn, sent_by}

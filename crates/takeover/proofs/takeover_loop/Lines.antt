@@ -9,8 +9,8 @@ use Rattle.line_io.specs.{HasNoFeed}
 use Rattle.line_io.specs.Passes.{Passes}
 use Rattle.line_io.proofs.Passing.{Passes-more, Passes-then}
 use Rattle.trace_loop.specs.trace_book.trace_serving.{Outcome}
-use Rattle.trace_loop.specs.declared.stop.Stop.{Stop}
-use Rattle.trace_loop.specs.declared.stop.Stop.TheVariants.{Memory, Read, Write, Wire}
+use Rattle.trace_loop.specs.declared.Stop.{Stop}
+use Rattle.trace_loop.specs.declared.Stop.TheVariants.{Memory, Read, Write, Wire}
 use Rattle.serve_loop.specs.{StopsIn}
 use Rattle.takeover.specs.standby.{HasRead, Seen, end_of, lines_followed, rest_of, whole_text}
 use Rattle.takeover.proofs.standby.Ending.{all_followed, followed_more, line_unfollowed, part_unfollowed, read_still, stays_ended}

@@ -2,14 +2,12 @@
 use Rattle.std.proofs.Common.{◌≡◌, ℕ, ◌+◌, ◌≤◌, ltb, Bool, true, false, List, [], ◌∷◌, ◌++◌, length, codes, Option, Some, refl, sym, ap, subst, ◌∙◌, arith}
 use Rattle.std.specs.Prelude.{All, if◌then◌else◌, ◌==◌}
 use Rattle.std.proofs.lemmas.Bool.{ltb-false}
-use Rattle.rams_model.specs.declared.status.Status.{Status}
-use Rattle.rams_model.specs.declared.status.Status.TheVariants.{Done, NoMemory, Words, ReadFault, WriteFault, BadTrace, WireFault, TooLong, BadCapture, BadSdp}
+use Rattle.rams_model.specs.declared.Status.{Status}
+use Rattle.rams_model.specs.declared.Status.TheVariants.{Done, NoMemory, Words, ReadFault, WriteFault, BadTrace, WireFault, TooLong, BadCapture, BadSdp}
 use Rattle.rams_model.specs.Service.{Settings}
-use Rattle.ram_io.specs.declared.wire.Incoming.{Incoming}
-use Rattle.ram_io.specs.declared.wire.Incoming.TheVariants.{Nothing, Datagram}
+use Rattle.ram_io.specs.declared.{Incoming.Incoming, Incoming.TheVariants.Nothing, Incoming.TheVariants.Datagram}
 use Rattle.ram_io.specs.{Outgoing}
-use Rattle.server_hub.specs.declared.event.HubEvent.{HubEvent}
-use Rattle.server_hub.specs.declared.event.HubEvent.TheVariants.{Live, Feedback}
+use Rattle.server_hub.specs.declared.{HubEvent.HubEvent, HubEvent.TheVariants.Live, HubEvent.TheVariants.Feedback}
 use Rattle.server_hub.specs.Served.{Served}
 use Rattle.server_hub.specs.{id_of}
 use Rattle.trace_loop.specs.trace_book.trace_serving.{Outcome, Stage, after_text, ended, opening, stage_from}

@@ -5,14 +5,14 @@ use Rattle.std.specs.Io.KnownBytes.{Appends}
 use Rattle.std.proofs.KnownBytes.{Appends-trans}
 use Rattle.line_io.specs.Passes.{Passes}
 use Rattle.line_io.proofs.Passing.{Passes-more, Passes-none, Passes-then}
-use Rattle.rams_model.specs.declared.status.Status.{Status}
-use Rattle.rams_model.specs.declared.status.Status.TheVariants.{Done, NoMemory as LacksMemory, Words, ReadFault, WriteFault, BadTrace, WireFault, TooLong, BadCapture, BadSdp}
+use Rattle.rams_model.specs.declared.Status.{Status}
+use Rattle.rams_model.specs.declared.Status.TheVariants.{Done, NoMemory as LacksMemory, Words, ReadFault, WriteFault, BadTrace, WireFault, TooLong, BadCapture, BadSdp}
 use Rattle.ram_io.specs.{Outgoing, Rose}
-use Rattle.ram_io.specs.declared.wire.Incoming.{Incoming}
+use Rattle.ram_io.specs.declared.Incoming.{Incoming}
 use Rattle.trace_loop.specs.trace_book.trace_serving.{Outcome, after_text}
 use Rattle.trace_loop.specs.journal_book.{event_lines, sent_for}
-use Rattle.trace_loop.specs.declared.stop.Stop.{Stop}
-use Rattle.trace_loop.specs.declared.stop.Stop.TheVariants.{Memory, Read, Write, Wire}
+use Rattle.trace_loop.specs.declared.Stop.{Stop}
+use Rattle.trace_loop.specs.declared.Stop.TheVariants.{Memory, Read, Write, Wire}
 use Rattle.trace_loop.proofs.Reading.{passes_whole, rose_since}
 use Rattle.trace_loop.specs.{IsStop as IsSourceOrSinkStop}
 use Rattle.serve_loop.specs.{Given, HasRoom, IfBothTold, IsGiven, IsOutStop, IsStop, IsStopped, IsStoppedByWrite, IsStoppedOutside, IsWriteStop, OnlyMemoryStops, Room, StopsIn, datagrams_by}

@@ -2,7 +2,7 @@
 use Rattle.std.proofs.Common.{◌≡◌, ℕ, ◌+◌, ◌≤◌, Bool, List, ◌++◌, length, take, drop, Option, None, Some, sym, ap, subst, ◌∙◌, arith, length-append, length-drop, append_assoc, append-nil, take-add, take-append-drop, take_all}
 use Rattle.std.specs.Prelude.{MatchOption}
 use Rattle.std.proofs.Math.Seq.{take-append_seam}
-use Rattle.trace_loop.specs.declared.stop.Stop.{Stop}
+use Rattle.trace_loop.specs.declared.Stop.{Stop}
 use Rattle.serve_loop.specs.{StopsIn}
 use Rattle.takeover.specs.standby.{Seen, end_of, first_part}
 use Rattle.takeover.proofs.standby.Pieces.{first_front}

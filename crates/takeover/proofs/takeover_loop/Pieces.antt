@@ -8,8 +8,7 @@ use Rattle.rams_model.specs.Texts.{whole_lines}
 use Rattle.line_io.specs.Passes.{Passes}
 use Rattle.line_io.proofs.Passing.{Passes-none, Passes-then}
 use Rattle.trace_loop.specs.trace_book.trace_serving.{Outcome}
-use Rattle.trace_loop.specs.declared.stop.Stop.{Stop}
-use Rattle.trace_loop.specs.declared.stop.Stop.TheVariants.{Memory}
+use Rattle.trace_loop.specs.declared.{Stop.Stop, Stop.TheVariants.Memory}
 use Rattle.trace_loop.proofs.Reading.{passes_whole}
 use Rattle.serve_loop.specs.{IfBothTold, StopsIn}
 use Rattle.takeover.specs.declared.standby.fault.FeedFault.{FeedFault}

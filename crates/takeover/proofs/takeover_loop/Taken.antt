@@ -2,7 +2,7 @@
 use Rattle.std.proofs.Common.{◌≡◌, ℕ, ◌+◌, ◌<◌, ltb, Bool, true, false, List, length, Option, None, Some, refl, sym, ap, subst, ◌∙◌, arith}
 use Rattle.std.specs.Prelude.{if◌then◌else◌}
 use Rattle.std.proofs.lemmas.Bool.{lt-ltb}
-use Rattle.rams_model.specs.declared.fault.LineFault.TheVariants.{Order}
+use Rattle.rams_model.specs.declared.LineFault.TheVariants.{Order}
 use Rattle.rams_model.specs.Texts.{Head, has_channel, whole_lines}
 use Rattle.server_hub.specs.Seen as hubs
 use Rattle.server_hub.specs.Served.{Served}

@@ -2,10 +2,10 @@
 use Rattle.std.proofs.Common.{◌≡◌, ℕ, zero, suc, ◌+◌, ◌-◌, ◌<◌, ◌≤◌, List, [], ◌∷◌, ◌++◌, length, take, Option, None, Some, sym, ap, subst, ◌∙◌, arith, length-append, append_assoc, append-nil, take_all}
 use Rattle.std.specs.Prelude.{IfSome}
 use Rattle.ram_io.specs.{Outgoing}
-use Rattle.server_hub.specs.declared.event.HubEvent.{HubEvent}
+use Rattle.server_hub.specs.declared.HubEvent.{HubEvent}
 use Rattle.server_hub.specs.Served.{Served}
 use Rattle.trace_loop.specs.journal_book.{behind, event_lines, sent_for}
-use Rattle.trace_loop.specs.declared.stop.Stop.{Stop}
+use Rattle.trace_loop.specs.declared.Stop.{Stop}
 use Rattle.serve_loop.specs.{Begun, Broken, HasRoom, Room}
 use Rattle.serve_loop.proofs.Rooms.{room_for, room_split}
 use Rattle.serve_loop.proofs.Steps.{broken_more}

@@ -2,7 +2,7 @@
 use Rattle.std.specs.Prelude.{◌≡◌, ℕ, ◌+◌, ◌==◌, Bool, nat_lt, if◌then◌else◌, List, [], ◌∷◌, ◌++◌, length, filter_map, Option, None, Some, codes}
 use Rattle.std.specs.List.{list_any, flat_map}
 use Rattle.rams_model.specs.Texts.{whole_lines}
-use Rattle.server_hub.specs.declared.event.HubEvent.{HubEvent}
+use Rattle.server_hub.specs.declared.HubEvent.{HubEvent}
 use Rattle.server_hub.specs.Served.{Served}
 use Rattle.trace_loop.specs.trace_book.trace_serving.{Stage, Turn, goes_on, ends, Outcome, opening, turn, stage_from, taken_from, event_at}
 use Rattle.trace_loop.specs.trace_book.{run}

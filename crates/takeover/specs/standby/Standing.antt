@@ -1,6 +1,6 @@
 -- What the lines of a journal lead to, as code has it.
 use Rattle.std.specs.Prelude.{◌≡◌, ℕ, ◌+◌, ◌≤◌, Bool, true, false, if◌then◌else◌, List, [], map, length, Option, None, Some, is_some, Result, Ok, Err}
-use Rattle.rams_model.specs.declared.mode.Mode.TheVariants.{Run}
+use Rattle.rams_model.specs.declared.Mode.TheVariants.{Run}
 use Rattle.rams_model.specs.Texts.{TraceLine, Head, Reached, accepted, with_reached}
 use Rattle.server_hub.specs.{StandsFor}
 use Rattle.server_hub.specs.Seen as hubs
@@ -8,10 +8,9 @@ use Rattle.server_hub.specs.Served.{Served}
 use Rattle.trace_loop.specs.trace_book.trace_serving.{Stage, Turn, goes_on, ends, done, refused, too_long, after_judging}
 use Rattle.trace_loop.specs.trace_book.{run}
 use Rattle.trace_loop.specs.head_loop.{claim_of, numbers}
-use Rattle.takeover.specs.declared.standby.fault.FeedFault.{FeedFault}
-use Rattle.takeover.specs.declared.standby.fault.FeedFault.TheVariants.{Line, TooLong, NoMemory}
-use Rattle.takeover.specs.declared.standby.fault.Step.{Step}
+use Rattle.takeover.specs.declared.{standby.fault.FeedFault.FeedFault, standby.fault.Step.Step}
 use Rattle.takeover.specs.declared.standby.fault.Step.TheVariants.{GoesOn, Ends}
+use Rattle.takeover.specs.declared.standby.fault.FeedFault.TheVariants.{Line, TooLong, NoMemory}
 
 -- The hub of this head line stands for the channels, and counts their events.
 pub record Serves (v : hubs.Seen) (head : Head) (channels : List Served) (events : ℕ) : Type 0 where

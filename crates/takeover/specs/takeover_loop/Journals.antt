@@ -1,6 +1,6 @@
 -- What is written at a takeover is one journal.
 use Rattle.std.specs.Prelude.{◌≡◌, ℕ, ◌+◌, ◌≤◌, List, ◌++◌, All}
-use Rattle.rams_model.specs.declared.status.Status.TheVariants.{Done}
+use Rattle.rams_model.specs.declared.Status.TheVariants.{Done}
 use Rattle.server_hub.specs.Served.{Served}
 use Rattle.trace_loop.specs.trace_book.{trace_text}
 use Rattle.trace_loop.specs.journal_book.{CanArrive, IsJournal, behind, journal_of, most_turns, replayed, sent_for}

@@ -1,13 +1,12 @@
 -- What a standby that takes over writes and sends.
 use Rattle.std.specs.Prelude.{◌≡◌, ◌⊎◌, ℕ, ◌+◌, ◌-◌, Bool, true, false, nat_lt, List, [], ◌++◌, length, take, drop, Option, None, Some}
 use Rattle.std.specs.Io.KnownBytes.{Appends}
-use Rattle.rams_model.specs.declared.fault.LineFault.TheVariants.{Order}
-use Rattle.rams_model.specs.declared.status.Status.{Status}
-use Rattle.rams_model.specs.declared.status.Status.TheVariants.{Done, BadTrace, TooLong}
+use Rattle.rams_model.specs.declared.{LineFault.TheVariants.Order, Status.Status}
+use Rattle.rams_model.specs.declared.Status.TheVariants.{Done, BadTrace, TooLong}
 use Rattle.rams_model.specs.Texts.{has_channel, tick_of}
-use Rattle.ram_io.specs.declared.wire.Incoming.{Incoming}
+use Rattle.ram_io.specs.declared.Incoming.{Incoming}
 use Rattle.ram_io.specs.{Outgoing}
-use Rattle.server_hub.specs.declared.event.HubEvent.{HubEvent}
+use Rattle.server_hub.specs.declared.HubEvent.{HubEvent}
 use Rattle.server_hub.specs.{StandsFor}
 use Rattle.server_hub.specs.Seen as hubs
 use Rattle.trace_loop.specs.trace_book.trace_serving.{Outcome, after_text, done, refused, too_long}
@@ -16,8 +15,7 @@ use Rattle.trace_loop.specs.journal_book.{event_lines, events_of, sent_for}
 use Rattle.serve_loop.specs.Ended.{Given, datagrams_by}
 use Rattle.serve_loop.specs.Sending.{GoOut}
 use Rattle.trace_loop.specs.head_loop.{numbers}
-use Rattle.takeover.specs.declared.standby.fault.FeedFault.{FeedFault}
-use Rattle.takeover.specs.declared.standby.fault.FeedFault.TheVariants.{Line}
+use Rattle.takeover.specs.declared.{standby.fault.FeedFault.FeedFault, standby.fault.FeedFault.TheVariants.Line}
 use Rattle.takeover.specs.standby.{end_of, lines_followed, stage_of}
 use Rattle.takeover.specs.standby.standby_book.{followed_text}
 use Rattle.takeover.specs.takeover_loop.Turns.{last_line}

@@ -1,14 +1,13 @@
 -- The turns of a server that may have only so many more events.
 use Rattle.std.specs.Prelude.{◌≡◌, ℕ, ◌+◌, ◌<◌, ◌≤◌, Bool, true, false, List, ◌++◌, length, Option, None, Some, codes}
 use Rattle.std.specs.Io.KnownBytes.{Appends}
-use Rattle.rams_model.specs.declared.status.Status.TheVariants.{Done}
+use Rattle.rams_model.specs.declared.Status.TheVariants.{Done}
 use Rattle.ram_io.specs.{Outgoing}
 use Rattle.line_io.specs.Passes.{Passes}
-use Rattle.server_hub.specs.declared.event.HubEvent.{HubEvent}
+use Rattle.server_hub.specs.declared.HubEvent.{HubEvent}
 use Rattle.trace_loop.specs.trace_book.trace_serving.{Outcome, ended, too_long}
 use Rattle.trace_loop.specs.journal_book.{event_lines}
-use Rattle.trace_loop.specs.declared.stop.Stop.{Stop}
-use Rattle.trace_loop.specs.declared.stop.Stop.TheVariants.{Memory}
+use Rattle.trace_loop.specs.declared.{Stop.Stop, Stop.TheVariants.Memory}
 use Rattle.serve_loop.specs.Progress.{Begun, WaitsIn, sent_by}
 use Rattle.serve_loop.specs.Sending.{GoOut}
 

@@ -1,6 +1,6 @@
 //! The channels of a journal, and what came to them.
 ghost use Rattle.std.specs.Prelude.{◌≡◌, ◌+◌, List, ℕ, Some, IfOk, IsSomeAnd, OnErr, OnOk, is_some, is_ok, true};
-ghost use Rattle.rams_model.specs.declared.mode.Mode.TheVariants as modes;
+ghost use Rattle.rams_model.specs.declared.Mode.TheVariants as modes;
 ghost use Rattle.rams_model.specs.Texts.{may_come, line_in_range, accepted, head_line, channel_line, tick_of};
 ghost use Rattle.server_hub.specs.{event_of};
 ghost use Rattle.server_hub.specs.Served.{Served};

@@ -4,7 +4,7 @@ ghost use Rattle.line_io.specs.{HasNoFeed, IsCutAt};
 ghost use Rattle.server_hub.specs.Served.{Served};
 ghost use Rattle.trace_loop.specs.trace_book.trace_serving.{Stage, turn};
 ghost use Rattle.trace_loop.specs.trace_book.{run};
-ghost use Rattle.rams_model.specs.declared.fault.LineFault.TheVariants as line_faults;
+ghost use Rattle.rams_model.specs.declared.LineFault.TheVariants as line_faults;
 ghost use Rattle.takeover.specs.declared.standby.fault.FeedFault.TheVariants as faults;
 ghost use Rattle.takeover.specs.declared.standby.fault.Step.TheVariants as steps;
 ghost use Rattle.takeover.specs.standby.{Halting, IsSame, Stands, StandsSomewhere, Took, count_of};

@@ -1,7 +1,7 @@
 //! A journal that a source has, read as far as it goes.
 ghost use Rattle.std.specs.Prelude.{◌≡◌, ◌+◌, ◌<◌, ◌≤◌, ◌++◌, Bool, ℕ, List, [], Option, Ok, Err, None, Some, IfErr, IfOk, MatchBool, MatchResult, OnErr, OnOk, false, take, true, length};
 ghost use Rattle.std.specs.Io.KnownBytes.{Consumes, IsAtEnd, Keeps};
-ghost use Rattle.trace_loop.specs.declared.stop.Stop.TheVariants.{Memory, Read};
+ghost use Rattle.trace_loop.specs.declared.Stop.TheVariants.{Memory, Read};
 ghost use Rattle.trace_loop.specs.{IsStopped};
 ghost use Rattle.serve_loop.specs.{IfBothTold, IsStoppedByRead, IsStoppedByWrite, OnlyMemoryStops, StopsIn};
 ghost use Rattle.takeover.specs.standby.{HasReadSome, end_of};

@@ -2,11 +2,11 @@
 ghost use Rattle.std.specs.Prelude.{◌≡◌, ◌+◌, ◌≤◌, Bool, ℕ, List, [], ◌++◌, Option, None, Err, Ok, IfErr, IfOk, MatchResult, OnOk, Some, drop, length, nat_lt, not, take};
 ghost use Rattle.std.specs.Io.KnownBytes.{Appends};
 ghost use Rattle.line_io.specs.Passes.{Passes};
-ghost use Rattle.rams_model.specs.declared.status.Status.TheVariants.{BadTrace, Done};
-ghost use Rattle.ram_io.specs.declared.wire.Incoming.{Incoming};
+ghost use Rattle.rams_model.specs.declared.Status.TheVariants.{BadTrace, Done};
+ghost use Rattle.ram_io.specs.declared.Incoming.{Incoming};
 ghost use Rattle.trace_loop.specs.journal_book.{event_lines, events_of, sent_for};
 ghost use Rattle.server_hub.specs.{IsHub};
-ghost use Rattle.trace_loop.specs.declared.stop.Stop.TheVariants.{Read};
+ghost use Rattle.trace_loop.specs.declared.Stop.TheVariants.{Read};
 ghost use Rattle.serve_loop.specs.{Begun, Given, HasRoom, IfBothTold, IsBetween, IsGiven, IsServer, IsStopped, IsStoppedByWrite, IsStoppedOutside, OnlyMemoryStops, Room, StandsSomewhere, StopsIn};
 ghost use Rattle.takeover.specs.standby.{HasRead, HasReadSome, end_of};
 ghost use Rattle.takeover.specs.standby.standby_book.{followed_text};

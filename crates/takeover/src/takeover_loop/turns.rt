@@ -1,8 +1,8 @@
 //! The turns of a server that may have only so many more events.
 ghost use Rattle.std.specs.Prelude.{◌≡◌, ◌+◌, ◌^◌, ◌<◌, ◌≤◌, Bool, ℕ, List, [], ◌∷◌, ◌++◌, IfErr, IfOk, IfSome, OnOk, Ok, Some, drop, length, option_map, take, true};
-ghost use Rattle.ram_io.specs.declared.wire.Incoming.{Incoming};
+ghost use Rattle.ram_io.specs.declared.Incoming.{Incoming};
 ghost use Rattle.ram_io.specs.{later};
-ghost use Rattle.server_hub.specs.declared.event.HubEvent.{HubEvent};
+ghost use Rattle.server_hub.specs.declared.HubEvent.{HubEvent};
 ghost use Rattle.server_hub.specs.{event_of};
 ghost use Rattle.trace_loop.specs.journal_book.{next_moment, tick_at, due_after, event_lines, events_of, sent_for, behind};
 ghost use Rattle.serve_loop.specs.{AnswersFrom, Begun, Broken, HasRoom, IsBetween, IsServer, IsStoppedOutside, OnlyMemoryStops, Room, Serving, next_events};

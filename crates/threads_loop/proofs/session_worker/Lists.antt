@@ -5,15 +5,14 @@ use Rattle.std.specs.Global.{Vec}
 use Rattle.std.proofs.lemmas.Bool.{cases_lt}
 use Rattle.std.proofs.lemmas.List.{length-map, get_or-map, get_or_past}
 use Rattle.atomic_table.specs.Seated.{TableId}
-use Rattle.ram_io.specs.declared.failed.NoMemory.{NoMemory}
-use Rattle.rams_model.specs.declared.event.Event.{Event}
+use Rattle.ram_io.specs.declared.NoMemory.{NoMemory}
+use Rattle.rams_model.specs.declared.Event.{Event}
 use Rattle.rams_model.specs.Service.{Settings}
-use Rattle.channel_book.specs.declared.entry.Entry.{Entry}
+use Rattle.channel_book.specs.declared.Entry.{Entry}
 use Rattle.channel_book.specs.{calls_by, IsInterleaving}
 use Rattle.channel_book.specs.channel_lock.{Known, IsOfPass, NotAmong}
-use Rattle.threads_loop.specs.declared.session_worker.live_writer.writer.Placed.{Placed}
+use Rattle.threads_loop.specs.declared.{session_worker.live_writer.writer.Placed.Placed, session_worker.worker.Worker.Worker}
 use Rattle.threads_loop.specs.session_worker.live_writer.{HasWritten}
-use Rattle.threads_loop.specs.declared.session_worker.worker.Worker.{Worker}
 use Rattle.threads_loop.specs.session_worker.{AreQueues, answered_with, drawn_in, drawn_by, HaveWorked}
 
 -- The entries of a list are the calls that its worker made.

@@ -5,7 +5,7 @@ use Rattle.std.proofs.lemmas.Bool.{eq-eqb, cases_lt}
 use Rattle.std.proofs.lemmas.Bool.Decides.{eqb_tells}
 use Rattle.std.proofs.lemmas.List.{length-append, map-append, reverse-append, drop_more, take_more, get_or_past, get_or-set_same, get_or-set_other}
 use Rattle.rams_model.specs.Service.{Settings}
-use Rattle.channel_book.specs.declared.entry.Entry.{Entry}
+use Rattle.channel_book.specs.declared.Entry.{Entry}
 use Rattle.channel_book.specs.{calls_by}
 use Rattle.threads_loop.specs.session_worker.live_writer.{datagrams_of}
 use Rattle.threads_loop.specs.session_worker.{AreQueues, answered_with}

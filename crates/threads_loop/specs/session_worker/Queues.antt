@@ -1,7 +1,7 @@
 -- The datagrams of a history's answers, list by list.
 use Rattle.std.specs.Prelude.{◌≡◌, ℕ, List, [], map, reverse, slice_index_or}
 use Rattle.rams_model.specs.Service.{Settings}
-use Rattle.channel_book.specs.declared.entry.Entry.{Entry}
+use Rattle.channel_book.specs.declared.Entry.{Entry}
 use Rattle.channel_book.specs.{calls_by}
 use Rattle.threads_loop.specs.session_worker.live_writer.{datagrams_of}
 

@@ -1,14 +1,13 @@
 -- The threads of the lists of one channel: what each starts with, and what it leaves.
 use Rattle.std.specs.Prelude.{◌≡◌, ℕ, ◌<◌, List, [], map, length, slice_index_or, Result, Ok, Err, IfOk}
 use Rattle.atomic_table.specs.Seated.{TableId}
-use Rattle.rams_model.specs.declared.event.Event.{Event}
+use Rattle.rams_model.specs.declared.Event.{Event}
 use Rattle.rams_model.specs.Service.{Settings}
 use Rattle.std.specs.Global.{Vec}
-use Rattle.ram_io.specs.declared.failed.NoMemory.{NoMemory}
+use Rattle.ram_io.specs.declared.NoMemory.{NoMemory}
 use Rattle.channel_book.specs.channel_lock.{fresh}
-use Rattle.threads_loop.specs.declared.session_worker.live_writer.writer.Placed.{Placed}
+use Rattle.threads_loop.specs.declared.{session_worker.live_writer.writer.Placed.Placed, session_worker.worker.Worker.Worker}
 use Rattle.threads_loop.specs.session_worker.live_writer.{HasWritten}
-use Rattle.threads_loop.specs.declared.session_worker.worker.Worker.{Worker}
 
 -- the datagrams of some calls
 abbrev pub queue_of : Vec Placed → List (List (List ℕ))

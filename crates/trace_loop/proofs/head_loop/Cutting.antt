@@ -1,11 +1,11 @@
 -- The line that ends a head, and what stands in front of it.
 use Rattle.std.proofs.Common.{◌≡◌, ℕ, nat_lt, List, Some, Result, Ok, Err, codes, refl, sym, ap, ◌∙◌}
 use Rattle.std.proofs.lemmas.Bool.{cond_both}
-use Rattle.rams_model.specs.declared.fault.LineFault.{LineFault}
+use Rattle.rams_model.specs.declared.LineFault.{LineFault}
 use Rattle.rams_model.specs.Texts.{bytes_in, TraceLine, head_line, channel_line, live_line, feedback_line, tick_line, end_line, tune_line, give_line, mcast_line, ask_line, drop_line, line_of, line_at, ranged, line_text, Reached, judged}
 use Rattle.trace_text.proofs.Spelling.{read_is_spelled}
-use Rattle.server_hub.specs.declared.event.HubEvent.{HubEvent}
-use Rattle.server_hub.specs.declared.event.HubEvent.TheVariants.{Live, Feedback, Tick}
+use Rattle.server_hub.specs.declared.HubEvent.{HubEvent}
+use Rattle.server_hub.specs.declared.HubEvent.TheVariants.{Live, Feedback, Tick}
 use Rattle.server_hub.specs.Served.{Served}
 use Rattle.trace_loop.specs.trace_book.trace_serving.{Stage, Outcome, Turn, ends, done, refused, too_long, turn, after_line, after_judging, counted, brought}
 use Rattle.trace_loop.proofs.trace_book.trace_serving.Judged.{judged_so}

@@ -3,11 +3,9 @@ use Rattle.std.proofs.Common.{◌≡◌, ℕ, ◌+◌, ◌<◌, List, [], ◌∷
 use Rattle.std.specs.List.{flat_map}
 use Rattle.std.specs.Prelude.{◌⊎◌}
 use Rattle.line_io.specs.{IsCutOff, TakesNext}
-use Rattle.line_io.specs.declared.reader.Next.TheVariants.{Line, Long, End}
-use Rattle.rams_model.specs.declared.fault.LineFault.{LineFault}
-use Rattle.rams_model.specs.declared.fault.LineFault.TheVariants.{Form, Order}
-use Rattle.rams_model.specs.declared.mode.Mode.TheVariants.{Serve}
-use Rattle.rams_model.specs.declared.status.Status.TheVariants.{Done, BadTrace}
+use Rattle.line_io.specs.declared.Next.TheVariants.{Line, Long, End}
+use Rattle.rams_model.specs.declared.{LineFault.LineFault, LineFault.TheVariants.Form, LineFault.TheVariants.Order, Mode.TheVariants.Serve}
+use Rattle.rams_model.specs.declared.Status.TheVariants.{Done, BadTrace}
 use Rattle.rams_model.specs.Texts.{TraceLine, Head, Reached, judged, lines_of, may_come, end_line, tick_of}
 use Rattle.server_hub.specs.Seen.{Seen}
 use Rattle.server_hub.specs.Served.{Served}

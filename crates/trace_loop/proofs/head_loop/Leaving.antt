@@ -6,7 +6,7 @@ use Rattle.std.proofs.Math.Seq.{drop-append_seam}
 use Rattle.std.proofs.lemmas.List.{drop_all}
 use Rattle.line_io.specs.{HasNoFeed}
 use Rattle.line_io.proofs.LineFeeds.{lines_of-begins}
-use Rattle.rams_model.specs.declared.fault.LineFault.TheVariants.{Order}
+use Rattle.rams_model.specs.declared.LineFault.TheVariants.{Order}
 use Rattle.rams_model.specs.Texts.{Reached, lines_of}
 use Rattle.server_hub.specs.Seen.{Seen}
 use Rattle.server_hub.specs.Served.{Served}

@@ -3,9 +3,8 @@ use Rattle.std.proofs.Common.{◌≡◌, ℕ, ◌≤◌, true, false, not, List,
 use Rattle.std.specs.Prelude.{IsSomeAnd}
 use Rattle.std.proofs.lemmas.Bool.{and_parts, leb-true}
 use Rattle.std.proofs.lemmas.List.{length-map, map-append}
-use Rattle.rams_model.specs.declared.channel.Channel.{Channel}
-use Rattle.rams_model.specs.declared.mode.Mode.TheVariants.{Serve}
-use Rattle.rams_model.specs.declared.mode.LineKind.TheVariants as kind
+use Rattle.rams_model.specs.declared.{Channel.Channel, Mode.TheVariants.Serve}
+use Rattle.rams_model.specs.declared.LineKind.TheVariants as kind
 use Rattle.rams_model.specs.Service.{Settings, settings}
 use Rattle.rams_model.specs.Texts.{TraceLine, head_line, channel_line, end_line, line_in_range, Claim, Head, Reached, tick_of, may_come, may_come_next, kind_may_come, has_events, has_receivers, has_channel}
 use Rattle.server_hub.specs.{AllServe, new_hub, served}
@@ -15,9 +14,9 @@ use Rattle.trace_loop.specs.trace_book.trace_serving.{Stage, eventless, done, en
 use Rattle.trace_loop.specs.trace_book.{run}
 use Rattle.trace_loop.specs.trace_book.Stages.{settings_of as settings_all}
 use Rattle.trace_loop.proofs.trace_book.trace_serving.Judged.{IsAccepted, IsJoined, judged_so, channel_so}
-use Rattle.trace_text.specs.declared.line.Line.{Line}
+use Rattle.trace_text.specs.declared.Line.{Line}
 use Rattle.trace_text.specs.{shown, IsOther}
-use Rattle.trace_text.specs.declared.line.Line.TheVariants as line
+use Rattle.trace_text.specs.declared.Line.TheVariants as line
 use Rattle.trace_loop.specs.declared.head_loop.head.HeadLine.TheVariants.{GoesOn, Ends}
 use Rattle.trace_loop.specs.head_loop.{HasOpened, HubServes, Serves, CanOpen, OpensIn, Comes, Took, claim_of}
 use Rattle.trace_loop.proofs.head_loop.Channels.{settings_stand, numbers_append, numbers_length}

@@ -3,12 +3,12 @@ use Rattle.std.proofs.Common.{◌≡◌, ◌≢◌, ℕ, zero, suc, ◌+◌, ◌
 use Rattle.std.specs.Prelude.{All, slice_get, flat_map}
 use Rattle.std.proofs.lemmas.Bool.{eq-eqb, ne_eqb, eqb-true}
 use Rattle.std.proofs.lemmas.Option.{slice_get-map}
-use Rattle.rams_model.specs.declared.event.Event.{Event}
-use Rattle.rams_model.specs.declared.event.Event.TheVariants as event
+use Rattle.rams_model.specs.declared.Event.{Event}
+use Rattle.rams_model.specs.declared.Event.TheVariants as event
 use Rattle.rams_model.specs.Service.{Settings}
 use Rattle.ram_io.specs.{Outgoing}
-use Rattle.server_hub.specs.declared.event.HubEvent.{HubEvent}
-use Rattle.server_hub.specs.declared.event.HubEvent.TheVariants.{Live, Feedback, Tick}
+use Rattle.server_hub.specs.declared.HubEvent.{HubEvent}
+use Rattle.server_hub.specs.declared.HubEvent.TheVariants.{Live, Feedback, Tick}
 use Rattle.server_hub.specs.Served.{Served}
 use Rattle.server_hub.specs.{id_of, answer_to, channel_of}
 use Rattle.server_hub.proofs.Changing.{rest_once, first_once, later_differs}

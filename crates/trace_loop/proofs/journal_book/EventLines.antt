@@ -8,14 +8,14 @@ use Rattle.std.proofs.lemmas.List.Folds.{list_all-append}
 use Rattle.hex.specs.Hex.{encode_lower, encode_with, lower_digits, IsBytes}
 use Rattle.hex.proofs.HexLemmas.{length-encode_with}
 use Rattle.hex_text.proofs.Written.{written_decodes}
-use Rattle.rams_model.specs.declared.fault.LineFault.{LineFault}
+use Rattle.rams_model.specs.declared.LineFault.{LineFault}
 use Rattle.rams_model.specs.Texts.{text_of, spaced_words, is_digit, is_hex_digit, is_hex, hex_word, decoded, bytes_in, is_short, TraceLine, line_in_range, line_of, line_at, ranged, line_words, line_text, line_has_form, is_spelled}
 use Rattle.line_io.specs.{HasNoFeed}
 use Rattle.trace_text.proofs.Hexes.{word_digits}
 use Rattle.trace_text.proofs.Spelled.{digits_of, and_both, is_word}
 use Rattle.trace_text.proofs.Spelling.{spelled_is_read}
-use Rattle.server_hub.specs.declared.event.HubEvent.{HubEvent}
-use Rattle.server_hub.specs.declared.event.HubEvent.TheVariants.{Live, Feedback, Tick}
+use Rattle.server_hub.specs.declared.HubEvent.{HubEvent}
+use Rattle.server_hub.specs.declared.HubEvent.TheVariants.{Live, Feedback, Tick}
 use Rattle.trace_loop.specs.trace_book.trace_serving.{brought}
 use Rattle.trace_loop.specs.trace_book.{run}
 use Rattle.trace_loop.specs.journal_book.{line_of_event, HasLine, event_line, event_lines}

@@ -2,10 +2,10 @@
 use Rattle.std.proofs.Common.{◌≡◌, ℕ, zero, suc, ◌+◌, ◌*◌, ◌<◌, ◌≤◌, eqb, nat_le, if◌then◌else◌, List, [], ◌∷◌, ◌++◌, length, drop, Option, Some, None, option_to_list, refl, ap, ◌∙◌, arith, length-append}
 use Rattle.std.specs.Prelude.{slice_get}
 use Rattle.std.proofs.lemmas.Bool.{cond_both, eq-eqb, ne_eqb}
-use Rattle.ram_io.specs.declared.wire.Incoming.{Incoming}
+use Rattle.ram_io.specs.declared.Incoming.{Incoming}
 use Rattle.ram_io.specs.{later}
-use Rattle.server_hub.specs.declared.event.HubEvent.{HubEvent}
-use Rattle.server_hub.specs.declared.event.HubEvent.TheVariants.{Live, Feedback, Tick}
+use Rattle.server_hub.specs.declared.HubEvent.{HubEvent}
+use Rattle.server_hub.specs.declared.HubEvent.TheVariants.{Live, Feedback, Tick}
 use Rattle.server_hub.specs.Served.{Served}
 use Rattle.server_hub.specs.{id_of}
 use Rattle.trace_loop.specs.journal_book.{ServerTurn, heard_from, heard, next_moment, turns_of, tick_at, due_after, events_of_turns, EventsAreFew, PortsAreHeard, OtherPortsAreNot}

@@ -3,11 +3,8 @@ use Rattle.std.proofs.Common.{◌≡◌, ℕ, ◌+◌, Bool, true, false, not, �
 use Rattle.std.specs.Prelude.{sum_by, ◌==◌}
 use Rattle.std.specs.List.{list_any}
 use Rattle.std.proofs.lemmas.Bool.{and_parts}
-use Rattle.rams_model.specs.declared.channel.Channel.{Channel}
-use Rattle.rams_model.specs.declared.fault.ConfigFault.{ConfigFault}
-use Rattle.rams_model.specs.declared.fault.LineFault.{LineFault}
-use Rattle.rams_model.specs.declared.mode.Mode.{Mode}
-use Rattle.rams_model.specs.declared.mode.Mode.TheVariants.{Run, Serve}
+use Rattle.rams_model.specs.declared.{Channel.Channel, ConfigFault.ConfigFault, LineFault.LineFault, Mode.Mode}
+use Rattle.rams_model.specs.declared.Mode.TheVariants.{Run, Serve}
 use Rattle.rams_model.specs.Service.{Settings, settings, checked}
 use Rattle.rams_model.specs.Texts.{TraceLine, head_line, channel_line, live_line, feedback_line, tick_line, end_line, tune_line, give_line, mcast_line, ask_line, drop_line, line_in_range, line_of, Head, Reached, has_channel, may_come, line_is_served, joined, with_channel, with_line, accepted, with_reached, judged_line, judged}
 use Rattle.server_hub.specs.Served.{Served}

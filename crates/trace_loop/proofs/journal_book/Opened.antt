@@ -5,11 +5,10 @@ use Rattle.std.specs.Int.{is_in_range}
 use Rattle.std.proofs.lemmas.Bool.{and_parts, cond_both, not-false}
 use Rattle.std.proofs.lemmas.Bool.Decides.{nat_tests}
 use Rattle.std.proofs.lemmas.List.Elements.{All-nil, All-cons}
-use Rattle.rams_model.specs.declared.fault.ConfigFault.{ConfigFault}
-use Rattle.rams_model.specs.declared.fault.ConfigFault.TheVariants.{Range}
+use Rattle.rams_model.specs.declared.{ConfigFault.ConfigFault, ConfigFault.TheVariants.Range}
 use Rattle.rams_model.specs.Service.{Settings, names_in_range, bytes_in_range, bounds_in_range, channel_in_range, tick_in_range, checked}
 use Rattle.rams_model.specs.Texts.{Head}
-use Rattle.server_hub.specs.declared.event.HubEvent.{HubEvent}
+use Rattle.server_hub.specs.declared.HubEvent.{HubEvent}
 use Rattle.server_hub.specs.{id_of, ids_of, after_events}
 use Rattle.server_hub.specs.Served.{Served}
 use Rattle.trace_loop.specs.trace_book.trace_serving.{last_stage, AreLawful}

@@ -2,13 +2,9 @@
 use Rattle.std.proofs.Common.{◌≡◌, ℕ, ◌+◌, Bool, true, false, not, cond, List, [], ◌∷◌, ◌++◌, map, length, take, drop, Option, Some, None, Result, Ok, Err, option_to_list, refl, sym, ap, subst, ◌∙◌, arith, length-append, length-drop, take-append-drop}
 use Rattle.std.specs.Prelude.{flat_map}
 use Rattle.std.proofs.lemmas.Bool.{cond_both, true≢false}
-use Rattle.rams_model.specs.declared.answer.Order.{Order}
-use Rattle.rams_model.specs.declared.fault.TlvFault.{TlvFault}
-use Rattle.rams_model.specs.declared.held.Held.{Held}
-use Rattle.rams_model.specs.declared.note.Cause.{Cause}
-use Rattle.rams_model.specs.declared.note.Note.{Note}
-use Rattle.rams_model.specs.declared.note.Cause.TheVariants.{Stopped, Lost, Limit, Bye}
-use Rattle.rams_model.specs.declared.note.Note.TheVariants as note
+use Rattle.rams_model.specs.declared.{Order.Order, TlvFault.TlvFault, Held.Held, Cause.Cause, Note.Note}
+use Rattle.rams_model.specs.declared.Cause.TheVariants.{Stopped, Lost, Limit, Bye}
+use Rattle.rams_model.specs.declared.Note.TheVariants as note
 use Rattle.rams_model.specs.Service.{Settings, began, told, noted, History, hold, Burst, open_burst, reserved, is_slow, is_too_much, is_full, join_from, asked_rate, begins, on_request, verdict, packet_order, again_order, update_order, end_order, order_of, newest_notes, newest_orders, Answered, history_of}
 use Rattle.rams_model.specs.Formats.{Request, names}
 use Rattle.rams_model.specs.Texts.{note_line, order_count, end_order_count, order_line, notes_text}

@@ -2,11 +2,11 @@
 use Rattle.std.proofs.Common.{ℕ, List, [], Option, None, Some, option_map}
 use Rattle.std.specs.Prelude.{All}
 use Rattle.std.proofs.lemmas.List.Elements.{All-nil, All-map, All-cons}
-use Rattle.rams_model.specs.declared.event.Event.{Event}
-use Rattle.rams_model.specs.declared.event.Event.TheVariants as event
+use Rattle.rams_model.specs.declared.Event.{Event}
+use Rattle.rams_model.specs.declared.Event.TheVariants as event
 use Rattle.book_text.proofs.order_datagrams.ReadPackets.{answer_renders}
-use Rattle.server_hub.specs.declared.event.HubEvent.{HubEvent}
-use Rattle.server_hub.specs.declared.event.HubEvent.TheVariants.{Live, Feedback, Tick}
+use Rattle.server_hub.specs.declared.HubEvent.{HubEvent}
+use Rattle.server_hub.specs.declared.HubEvent.TheVariants.{Live, Feedback, Tick}
 use Rattle.server_hub.specs.{channel_of, answer_to, answer_of, answer_at, told_of, told_to, answers_said}
 use Rattle.server_hub.specs.Served.{Served}
 use Rattle.trace_loop.specs.journal_book.{AllRender}

@@ -2,13 +2,13 @@
 use Rattle.std.proofs.Common.{◌≡◌, ℕ, ◌+◌, ◌<◌, ◌≤◌, true, not, ◌&&◌, cond, nat_lt, List, [], ◌∷◌, ◌++◌, length, Option, Some, None, Ok, codes, refl, sym, ap, subst, ◌∙◌, arith, append_assoc}
 use Rattle.std.specs.List.{AllByRecursion}
 use Rattle.std.proofs.lemmas.Bool.{and_parts, lt-ltb}
-use Rattle.rams_model.specs.declared.mode.Mode.TheVariants.{Run, Serve}
+use Rattle.rams_model.specs.declared.Mode.TheVariants.{Run, Serve}
 use Rattle.rams_model.specs.Texts.{lines_of, whole_lines, words_of, end_line, line_text, line_is_served, Reached, has_channel, may_come, with_line, judged}
 use Rattle.ram_io.specs.{Outgoing}
 use Rattle.line_io.specs.{HasNoFeed}
 use Rattle.line_io.proofs.LineFeeds.{lines_of-cut, whole_lines-cut}
-use Rattle.server_hub.specs.declared.event.HubEvent.{HubEvent}
-use Rattle.server_hub.specs.declared.event.HubEvent.TheVariants.{Live, Feedback, Tick}
+use Rattle.server_hub.specs.declared.HubEvent.{HubEvent}
+use Rattle.server_hub.specs.declared.HubEvent.TheVariants.{Live, Feedback, Tick}
 use Rattle.server_hub.specs.{after_event}
 use Rattle.server_hub.specs.Served.{Served}
 use Rattle.trace_loop.specs.trace_book.trace_serving.{Stage, Turn, goes_on, ends, ended, done, after_text, opening, turn, after_line, after_judging, after_turn, text_from, stage_after, stage_from, too_long}

@@ -11,7 +11,7 @@ use Rattle.hex_text.proofs.Written.{written_is_lower}
 use Rattle.rams_model.specs.Texts.{is_hex, hex_word, is_short, id_in_range, line_text, is_spelled}
 use Rattle.trace_text.proofs.Spelled.{and_both, short_true}
 use Rattle.trace_text.proofs.Spelling.{le_true}
-use Rattle.server_hub.specs.declared.event.HubEvent.TheVariants.{Live, Feedback, Tick}
+use Rattle.server_hub.specs.declared.HubEvent.TheVariants.{Live, Feedback, Tick}
 use Rattle.trace_loop.specs.journal_book.{IsDatagramOf, EventsAreSpelled}
 use Rattle.trace_loop.proofs.journal_book.EventLines.{bytes_more}
 

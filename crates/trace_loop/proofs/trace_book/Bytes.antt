@@ -8,14 +8,14 @@ use Rattle.std.proofs.lemmas.List.Elements.{All-nil, All-cons, All-head, All-tai
 use Rattle.hex.specs.Hex.{IsBytes, decode_of}
 use Rattle.hex.specs.declared.error.FromHexError.{FromHexError}
 use Rattle.hex.proofs.HexLemmas.{decode_of-ok}
-use Rattle.rams_model.specs.declared.event.Event.{Event}
-use Rattle.rams_model.specs.declared.event.Event.TheVariants as event
+use Rattle.rams_model.specs.declared.Event.{Event}
+use Rattle.rams_model.specs.declared.Event.TheVariants as event
 use Rattle.rams_model.specs.Texts.{decoded, bytes_in, TraceLine, head_line, channel_line, live_line, feedback_line, tick_line, end_line, tune_line, give_line, mcast_line, ask_line, drop_line}
 use Rattle.rams_model.specs.Service.{Entry, Book, events_of as events_in}
 use Rattle.service_laws.specs.byte_laws.{HasBytes}
-use Rattle.server_hub.specs.declared.event.HubEvent.{HubEvent}
+use Rattle.server_hub.specs.declared.HubEvent.{HubEvent}
 use Rattle.server_hub.specs.{events_of}
-use Rattle.server_hub.specs.declared.event.HubEvent.TheVariants.{Live, Feedback, Tick}
+use Rattle.server_hub.specs.declared.HubEvent.TheVariants.{Live, Feedback, Tick}
 use Rattle.trace_loop.specs.trace_book.trace_serving.{brought}
 use Rattle.trace_loop.proofs.trace_book.trace_serving.Brought.{all_came}
 use Rattle.trace_loop.specs.trace_book.{run, IsOfBytes, came}

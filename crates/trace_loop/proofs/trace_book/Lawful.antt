@@ -3,8 +3,7 @@ use Rattle.std.proofs.Common.{◌≡◌, ℕ, ◌≤◌, true, not, ◌&&◌, Li
 use Rattle.std.specs.Prelude.{All, Result, Ok, Err}
 use Rattle.std.proofs.lemmas.Bool.{cond_both, and_parts, not-false, leb-true}
 use Rattle.std.proofs.lemmas.List.Elements.{All-nil, All-cons, All-head, All-tail}
-use Rattle.rams_model.specs.declared.fault.ConfigFault.{ConfigFault}
-use Rattle.rams_model.specs.declared.fault.ConfigFault.TheVariants.{Range}
+use Rattle.rams_model.specs.declared.{ConfigFault.ConfigFault, ConfigFault.TheVariants.Range}
 use Rattle.rams_model.specs.Service.{Settings, tick_in_range, names_in_range, bytes_in_range, bounds_in_range, channel_in_range, checked}
 use Rattle.rams_model.specs.Texts.{Head}
 use Rattle.server_hub.specs.Served.{Served}

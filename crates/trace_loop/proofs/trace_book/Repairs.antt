@@ -1,8 +1,7 @@
 -- A repair that is sent was pending, and its packet held.
 use Rattle.std.proofs.Common.{◌≡◌, ℕ, ◌∷◌, Option, sym, subst}
 use Rattle.std.specs.Prelude.{Contains, IsSomeAnd}
-use Rattle.rams_model.specs.declared.held.Held.{Held}
-use Rattle.rams_model.specs.declared.note.Note.TheVariants.{Repair}
+use Rattle.rams_model.specs.declared.{Held.Held, Note.TheVariants.Repair}
 use Rattle.rams_model.specs.Service.{Settings, noted, History, hold, wanted, pending}
 use Rattle.service_laws.specs.book_laws.{IsMoment, sending, IsPacketOf}
 use Rattle.service_laws.proofs.book_laws.Moments.{legal_moment}

@@ -4,13 +4,12 @@ use Rattle.std.specs.Prelude.{All, option_to_list}
 use Rattle.std.proofs.lemmas.Bool.{cond_both}
 use Rattle.std.proofs.lemmas.List.{map-append}
 use Rattle.std.proofs.lemmas.List.Elements.{All-nil, All-cons}
-use Rattle.rams_model.specs.declared.channel.Channel.{Channel}
-use Rattle.rams_model.specs.declared.event.Event.{Event}
-use Rattle.rams_model.specs.declared.event.Event.TheVariants as event
+use Rattle.rams_model.specs.declared.{Channel.Channel, Event.Event}
+use Rattle.rams_model.specs.declared.Event.TheVariants as event
 use Rattle.rams_model.specs.Service.{Settings}
-use Rattle.server_hub.specs.declared.event.HubEvent.{HubEvent}
+use Rattle.server_hub.specs.declared.HubEvent.{HubEvent}
 use Rattle.server_hub.specs.{served, id_of, with_event, after_event_of, after_tick, after_event, after_events, events_of, EachChannelGetsItsEvents}
-use Rattle.server_hub.specs.declared.event.HubEvent.TheVariants.{Live, Feedback, Tick}
+use Rattle.server_hub.specs.declared.HubEvent.TheVariants.{Live, Feedback, Tick}
 use Rattle.server_hub.specs.Served.{Served}
 use Rattle.trace_loop.specs.trace_book.trace_serving.{ended, opened_all, opened_by, after_brought, after_all, IsServedSo, IsStage as IsServedStage, StagesAreKept as ServingKeepsStages}
 use Rattle.trace_loop.specs.trace_book.{run, first_line, trace_text, served_by, settings_of, new_channels, StagesAreKept, came, events_text, IsServed, EndsSo}

@@ -1,7 +1,7 @@
 -- The head of what a command reads: its lines in front of `end`.
 use Rattle.std.specs.Prelude.{◌≡◌, ℕ, ◌<◌, ◌≤◌, List, [], ◌∷◌, ◌++◌, map, drop, length, Option, Some, None, Ok, true, codes}
 use Rattle.std.specs.List.{flat_map}
-use Rattle.rams_model.specs.declared.mode.Mode.TheVariants.{Serve}
+use Rattle.rams_model.specs.declared.Mode.TheVariants.{Serve}
 use Rattle.rams_model.specs.Service.{Settings}
 use Rattle.rams_model.specs.Texts.{TraceLine, end_line, Claim, Reached, judged, may_come, tick_of, lines_of}
 use Rattle.rams_model.specs.Texts.{Head as HeadSaid}

@@ -1,7 +1,6 @@
 -- The head of a journal: lines that a server takes before its first turn.
 use Rattle.std.specs.Prelude.{◌≡◌, ℕ, true, List, [], ◌++◌, codes}
-use Rattle.rams_model.specs.declared.mode.Mode.{Mode}
-use Rattle.rams_model.specs.declared.mode.Mode.TheVariants.{Serve}
+use Rattle.rams_model.specs.declared.{Mode.Mode, Mode.TheVariants.Serve}
 use Rattle.rams_model.specs.Texts.{end_line, nothing_reached, may_come}
 use Rattle.line_io.specs.{HasNoFeed}
 use Rattle.server_hub.specs.Served.{Served}

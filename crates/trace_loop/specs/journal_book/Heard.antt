@@ -1,10 +1,9 @@
 -- What a server hears at its ports, and the events of its turns.
 use Rattle.std.specs.Prelude.{ℕ, zero, suc, ◌+◌, ◌^◌, ◌<◌, All, ◌==◌, nat_le, if◌then◌else◌, List, [], ◌∷◌, ◌++◌, drop, slice_index, Option, Some, None, option_to_list}
-use Rattle.ram_io.specs.declared.wire.Incoming.{Incoming}
-use Rattle.ram_io.specs.declared.wire.Incoming.TheVariants.{Nothing, Datagram}
+use Rattle.ram_io.specs.declared.{Incoming.Incoming, Incoming.TheVariants.Nothing, Incoming.TheVariants.Datagram}
 use Rattle.ram_io.specs.{cut, next_answer, later}
-use Rattle.server_hub.specs.declared.event.HubEvent.{HubEvent}
-use Rattle.server_hub.specs.declared.event.HubEvent.TheVariants.{Live, Feedback, Tick}
+use Rattle.server_hub.specs.declared.HubEvent.{HubEvent}
+use Rattle.server_hub.specs.declared.HubEvent.TheVariants.{Live, Feedback, Tick}
 use Rattle.server_hub.specs.Served.{Served}
 use Rattle.server_hub.specs.{id_of}
 

@@ -1,15 +1,12 @@
 -- The laws of journals.
 use Rattle.std.specs.Prelude.{◌≡◌, ◌≢◌, ℕ, ◌+◌, ◌*◌, ◌<◌, ◌≤◌, List, [], ◌∷◌, ◌++◌, length, slice_get, Some, None, Ok, All, IfSome, codes}
-use Rattle.rams_model.specs.declared.event.Event.{Event}
-use Rattle.rams_model.specs.declared.event.Event.TheVariants as event
-use Rattle.rams_model.specs.declared.status.Status.TheVariants.{Done}
+use Rattle.rams_model.specs.declared.{Event.Event, Status.TheVariants.Done}
+use Rattle.rams_model.specs.declared.Event.TheVariants as event
 use Rattle.rams_model.specs.Texts.{TraceLine, end_line, line_text, Reached, judged}
-use Rattle.ram_io.specs.declared.wire.Incoming.{Incoming}
-use Rattle.ram_io.specs.declared.wire.Incoming.TheVariants.{Datagram}
+use Rattle.ram_io.specs.declared.{Incoming.Incoming, Incoming.TheVariants.Datagram}
 use Rattle.ram_io.specs.{Outgoing}
 use Rattle.line_io.specs.{HasNoFeed}
-use Rattle.server_hub.specs.declared.event.HubEvent.{HubEvent}
-use Rattle.server_hub.specs.declared.event.HubEvent.TheVariants.{Live, Feedback}
+use Rattle.server_hub.specs.declared.{HubEvent.HubEvent, HubEvent.TheVariants.Live, HubEvent.TheVariants.Feedback}
 use Rattle.server_hub.specs.Served.{Served}
 use Rattle.server_hub.specs.{id_of, answer_to, after_event}
 use Rattle.trace_loop.specs.trace_book.trace_serving.{Stage, ended, done, with_opened, last_stage}

@@ -1,9 +1,9 @@
 -- The datagrams that a trace stands for: what a server that reads it with `run` would send.
 use Rattle.std.specs.Prelude.{ℕ, ◌+◌, List, [], ◌∷◌, ◌++◌, Option, Some, None, Result, Ok, Err}
-use Rattle.rams_model.specs.declared.fault.LineFault.{LineFault}
+use Rattle.rams_model.specs.declared.LineFault.{LineFault}
 use Rattle.rams_model.specs.Texts.{TraceLine, whole_lines, Reached, judged}
 use Rattle.ram_io.specs.{Outgoing}
-use Rattle.server_hub.specs.declared.event.HubEvent.{HubEvent}
+use Rattle.server_hub.specs.declared.HubEvent.{HubEvent}
 use Rattle.server_hub.specs.Served.{Served}
 use Rattle.trace_loop.specs.trace_book.trace_serving.{Stage, Turn, goes_on, ends, opening, turn, brought}
 use Rattle.trace_loop.specs.trace_book.{run}

@@ -1,13 +1,12 @@
 -- The datagrams that a server sends for its events.
 use Rattle.std.specs.Prelude.{◌≢◌, All, AllPairs, ℕ, ◌+◌, ◌==◌, if◌then◌else◌, List, [], ◌∷◌, ◌++◌, map, Option, Some, None}
-use Rattle.rams_model.specs.declared.event.Event.{Event}
-use Rattle.rams_model.specs.declared.event.Event.TheVariants as event
+use Rattle.rams_model.specs.declared.Event.{Event}
+use Rattle.rams_model.specs.declared.Event.TheVariants as event
 use Rattle.rams_model.specs.Service.{Answered, Settings, client_of, datagram}
 use Rattle.ram_io.specs.{Outgoing, outgoing}
 use Rattle.book_text.specs.order_datagrams.{Renders}
-use Rattle.server_hub.specs.declared.event.At.{At}
-use Rattle.server_hub.specs.declared.event.HubEvent.{HubEvent}
-use Rattle.server_hub.specs.declared.event.HubEvent.TheVariants.{Live, Feedback, Tick}
+use Rattle.server_hub.specs.declared.{At.At, HubEvent.HubEvent}
+use Rattle.server_hub.specs.declared.HubEvent.TheVariants.{Live, Feedback, Tick}
 use Rattle.server_hub.specs.Served.{Served}
 use Rattle.server_hub.specs.{id_of, ids_of, answer_to, after_event}
 use Rattle.trace_loop.specs.trace_book.Stages.{settings_of}

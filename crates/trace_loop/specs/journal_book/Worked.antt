@@ -1,14 +1,13 @@
 -- Worked examples: what a server hears, when its ticks come, and a journal with what is sent and replayed.
 use Rattle.std.specs.Prelude.{◌≡◌, ℕ, List, [], ◌∷◌, ◌++◌, map, Some, None, codes}
-use Rattle.rams_model.specs.declared.status.Status.TheVariants.{Done}
+use Rattle.rams_model.specs.declared.Status.TheVariants.{Done}
 use Rattle.rams_model.specs.Service.{settings}
 use Rattle.rams_model.specs.Texts.{bytes_in}
 use Rattle.rams_model.specs.Worked.Setting.{channel}
-use Rattle.ram_io.specs.declared.wire.Incoming.{Incoming}
-use Rattle.ram_io.specs.declared.wire.Incoming.TheVariants.{Nothing, Datagram}
+use Rattle.ram_io.specs.declared.{Incoming.Incoming, Incoming.TheVariants.Nothing, Incoming.TheVariants.Datagram}
 use Rattle.ram_io.specs.{Outgoing, outgoing}
-use Rattle.server_hub.specs.declared.event.HubEvent.{HubEvent}
-use Rattle.server_hub.specs.declared.event.HubEvent.TheVariants.{Live, Feedback, Tick}
+use Rattle.server_hub.specs.declared.HubEvent.{HubEvent}
+use Rattle.server_hub.specs.declared.HubEvent.TheVariants.{Live, Feedback, Tick}
 use Rattle.server_hub.specs.Served.{Served}
 use Rattle.server_hub.specs.{served}
 use Rattle.trace_loop.specs.trace_book.trace_serving.{ended}

@@ -1,9 +1,8 @@
 -- What all channels of a trace send together stays within the link of its head line.
 use Rattle.std.specs.Prelude.{◌≡◌, ◌≢◌, ℕ, ◌+◌, ◌*◌, ◌≤◌, List, [], ◌∷◌, ◌++◌, Some, None, All}
 use Rattle.rams_model.specs.Texts.{Head}
-use Rattle.server_hub.specs.declared.event.HubEvent.{HubEvent}
+use Rattle.server_hub.specs.declared.{HubEvent.HubEvent, HubEvent.TheVariants.Tick}
 use Rattle.server_hub.specs.{answers_to_tick, FitLink, bytes_of_all, all_kept, all_swells, answers_to, after_events, sent_over, ticks_among}
-use Rattle.server_hub.specs.declared.event.HubEvent.TheVariants.{Tick}
 use Rattle.server_hub.specs.Served.{Served}
 use Rattle.trace_loop.specs.trace_book.trace_serving.{last_stage, AreLawful}
 use Rattle.trace_loop.specs.trace_book.TraceText.{run, served_by}

@@ -1,17 +1,10 @@
 -- What each channel of a trace promises: the laws of every lawful book, said of the channel's own book and of the moments of its own history.
 use Rattle.std.specs.Prelude.{◌≡◌, ◌≢◌, ℕ, ◌+◌, ◌*◌, ◌<◌, ◌≤◌, min, Bool, ◌⊎◌, IsTrue, List, [], ◌∷◌, ◌++◌, length, filter_map, Option, Some, Result, Ok, All, Contains, true, false}
-use Rattle.rams_model.specs.declared.answer.Order.{Order}
-use Rattle.rams_model.specs.declared.answer.Order.TheVariants as orders
-use Rattle.rams_model.specs.declared.event.Event.{Event}
-use Rattle.rams_model.specs.declared.fault.TlvFault.{TlvFault}
-use Rattle.rams_model.specs.declared.held.Held.{Held}
-use Rattle.rams_model.specs.declared.message.Info.{Info}
-use Rattle.rams_model.specs.declared.message.Stop.{Stop}
-use Rattle.rams_model.specs.declared.note.Cause.{Cause}
-use Rattle.rams_model.specs.declared.note.Note.{Note}
-use Rattle.rams_model.specs.declared.event.Event.TheVariants.{Live, Feedback, Tick}
-use Rattle.rams_model.specs.declared.note.Cause.TheVariants as cause
-use Rattle.rams_model.specs.declared.note.Note.TheVariants as note
+use Rattle.rams_model.specs.declared.{Order.Order, Event.Event, TlvFault.TlvFault, Held.Held, Info.Info, Stop.Stop, Cause.Cause, Note.Note}
+use Rattle.rams_model.specs.declared.Order.TheVariants as orders
+use Rattle.rams_model.specs.declared.Event.TheVariants.{Live, Feedback, Tick}
+use Rattle.rams_model.specs.declared.Cause.TheVariants as cause
+use Rattle.rams_model.specs.declared.Note.TheVariants as note
 use Rattle.rams_model.specs.Service.{Settings, checked, bye, nack, asks, stops, Heard, tick, began, told, noted, History, hold, Burst, next, known, is_among, open_burst, has_open, reserved, channel_left, Wanted, wanted, pending, is_busy, order_of, Entry, Book, history_of}
 use Rattle.rams_model.specs.Packets.{hi}
 use Rattle.rams_model.specs.Formats.{Request, Framed}

@@ -1,7 +1,7 @@
 -- How a trace is served by `run`: which lines are taken, which events they bring, what is written, and what ends it.
 use Rattle.std.specs.Prelude.{◌≡◌, ℕ, ◌+◌, List, ◌++◌, length, map, filter_map, Option, option_to_list, All}
 use Rattle.rams_model.specs.Texts.{lines_of}
-use Rattle.server_hub.specs.declared.event.HubEvent.{HubEvent}
+use Rattle.server_hub.specs.declared.HubEvent.{HubEvent}
 use Rattle.server_hub.specs.{id_of, after_events, events_of}
 use Rattle.server_hub.specs.Served.{Served}
 use Rattle.trace_loop.specs.trace_book.trace_serving.{Outcome, ended, last_stage, head_at, channel_at, event_at as event_brought, taken as taken_by, came as came_to, events_text as texts, EndsWith}

@@ -1,13 +1,12 @@
 -- The command `run`: what serves its traces, and the text that it writes for one.
 use Rattle.std.specs.Prelude.{ℕ, Bool, List, [], ◌∷◌, ◌++◌, Option, None, Some, codes}
 use Rattle.std.specs.List.{flat_map}
-use Rattle.rams_model.specs.declared.event.Event.{Event}
-use Rattle.rams_model.specs.declared.event.Event.TheVariants as event
-use Rattle.rams_model.specs.declared.mode.Mode.TheVariants.{Run}
+use Rattle.rams_model.specs.declared.{Event.Event, Mode.TheVariants.Run}
+use Rattle.rams_model.specs.declared.Event.TheVariants as event
 use Rattle.rams_model.specs.Texts.{bytes_in, TraceLine, live_line, feedback_line, tick_line, answer_text}
-use Rattle.server_hub.specs.declared.event.HubEvent.{HubEvent}
+use Rattle.server_hub.specs.declared.HubEvent.{HubEvent}
 use Rattle.server_hub.specs.{served, channel_of, answer_to, after_event}
-use Rattle.server_hub.specs.declared.event.HubEvent.TheVariants.{Live, Feedback, Tick}
+use Rattle.server_hub.specs.declared.HubEvent.TheVariants.{Live, Feedback, Tick}
 use Rattle.server_hub.specs.Served.{Served}
 use Rattle.book_text.specs.{no_channel_line}
 use Rattle.trace_loop.specs.trace_book.trace_serving.{Serving, Outcome, served_text, last_stage}

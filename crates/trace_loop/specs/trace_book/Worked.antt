@@ -1,7 +1,7 @@
 -- Worked examples: small traces with their whole text.
 use Rattle.std.specs.Prelude.{◌≡◌, ℕ, Bool, List, [], ◌∷◌, ◌++◌, replicate, codes}
-use Rattle.rams_model.specs.declared.event.Event.TheVariants.{Tick}
-use Rattle.rams_model.specs.declared.status.Status.TheVariants.{Done, BadTrace, TooLong}
+use Rattle.rams_model.specs.declared.Event.TheVariants.{Tick}
+use Rattle.rams_model.specs.declared.Status.TheVariants.{Done, BadTrace, TooLong}
 use Rattle.rams_model.specs.Service.{settings}
 use Rattle.rams_model.specs.Worked.Setting.{channel}
 use Rattle.server_hub.specs.{served}

@@ -4,7 +4,7 @@ ghost use Rattle.std.specs.Io.KnownBytes.{Keeps, prepend_known};
 ghost use Rattle.line_io.specs.{HasNoFeed};
 ghost use Rattle.rams_model.specs.Texts.{Reached, tick_of, may_come, end_line};
 ghost use Rattle.trace_loop.specs.journal_book.{starting};
-ghost use Rattle.rams_model.specs.declared.mode.Mode.TheVariants.{Serve};
+ghost use Rattle.rams_model.specs.declared.Mode.TheVariants.{Serve};
 ghost use Rattle.trace_text.specs.{shown, told, IsOther, IsSettled};
 ghost use Rattle.server_hub.specs.Served.{Served};
 ghost use Rattle.trace_loop.specs.trace_book.trace_serving.{Stage, turn, after_line, brought};

@@ -1,7 +1,7 @@
 //! The line of an event, appended to a given text: whole, or not at all where memory runs out.
 
 ghost use Rattle.std.specs.Prelude.{◌≡◌, ◌++◌, OnErr, OnOk};
-ghost use Rattle.server_hub.specs.declared.event.HubEvent.TheVariants.{Feedback, Live};
+ghost use Rattle.server_hub.specs.declared.HubEvent.TheVariants.{Feedback, Live};
 ghost use Rattle.server_hub.specs.{event_of};
 ghost use Rattle.trace_loop.specs.journal_book.{event_line};
 

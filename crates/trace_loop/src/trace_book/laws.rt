@@ -1,5 +1,5 @@
 //! Laws of every trace: of its stages, its channels, their link, and its text.
-ghost use Rattle.server_hub.specs.declared.event.HubEvent.{HubEvent};
+ghost use Rattle.server_hub.specs.declared.HubEvent.{HubEvent};
 ghost use Rattle.server_hub.specs.Served.{Served};
 ghost use Rattle.std.specs.Prelude.{List};
 ghost use Rattle.trace_loop.specs.trace_book.{run, TracesStayWithinTheLink, TracesAreServedLawfully, ChannelsKeepTheirPromises, TracesAreServedByTheirLines, TracesEndSo, TheOpeningIsAStage, StagesAreKept};

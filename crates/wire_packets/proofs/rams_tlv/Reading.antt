@@ -4,7 +4,7 @@ use Rattle.std.specs.Prelude.{◌==◌}
 use Rattle.std.specs.Result.{result_err}
 use Rattle.std.proofs.lemmas.Bool.{ne_eqb}
 use Rattle.std.proofs.lemmas.Bool.Decides.{nat_tests}
-use Rattle.rams_model.specs.declared.fault.TlvFault.{TlvFault}
+use Rattle.rams_model.specs.declared.TlvFault.{TlvFault}
 use Rattle.rams_model.specs.Formats.{unless_fault, onto, Tlv, tlvs_at, tlv_fault, tlv_size, tlv_format, first_tlv, value_length, first_value}
 use Rattle.rams_model.proofs.Joined.{pieces_step, pieces_end}
 use Rattle.wire_packets.specs.declared.rams_tlv.tlvs.Message.{Message}

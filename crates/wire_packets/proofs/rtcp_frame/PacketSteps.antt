@@ -1,7 +1,7 @@
 -- Packets read one after another.
 use Rattle.std.proofs.Common.{◌≡◌, ℕ, ◌<◌, true, List, [], ◌∷◌, length, drop, Option, Some, None, Result, Ok, Err, refl, sym, ◌∙◌, ap, arith, is_ok}
 use Rattle.std.specs.Result.{result_err, result_unwrap_or}
-use Rattle.rams_model.specs.declared.fault.FrameFault.{FrameFault}
+use Rattle.rams_model.specs.declared.FrameFault.{FrameFault}
 use Rattle.rams_model.specs.Formats.{unless_fault, onto, Framed, framed, packet_fault, packet_size, packet_format, framed_first}
 use Rattle.rams_model.proofs.Joined.{pieces_step, pieces_end}
 use Rattle.wire_packets.specs.rtcp_frame.{packets_in}

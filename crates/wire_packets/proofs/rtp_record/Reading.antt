@@ -4,8 +4,7 @@ use Rattle.std.specs.Prelude.{IfOk}
 use Rattle.std.specs.Int.{w16, from_be_bytes}
 use Rattle.std.proofs.lemmas.Bool.Decides.{nat_tests}
 use Rattle.std.proofs.lemmas.List.{drop-drop, length-drop}
-use Rattle.rams_model.specs.declared.fault.RtpFault.{RtpFault}
-use Rattle.rams_model.specs.declared.fault.RtpFault.TheVariants.{Extension, Padding}
+use Rattle.rams_model.specs.declared.{RtpFault.RtpFault, RtpFault.TheVariants.Extension, RtpFault.TheVariants.Padding}
 use Rattle.rams_model.specs.Formats.{Packet, spelling, version, has_padding, has_extension, csrc_size, behind_csrc, extension_size, behind_extension, lacks_extension, padding_size, miscounts_padding, fields_of, packet_at, IsPacket}
 use Rattle.rams_model.proofs.RtpPackets.{read_without_fault, spelled_so}
 use Rattle.wire_packets.specs.rtp_record.{ArePlaces}

@@ -1,6 +1,6 @@
 -- TLVs as code has them.
 use Rattle.std.specs.Prelude.{ℕ, List, Option, None, Result, Ok, Err}
-use Rattle.rams_model.specs.declared.fault.TlvFault.{TlvFault}
+use Rattle.rams_model.specs.declared.TlvFault.{TlvFault}
 use Rattle.rams_model.specs.Formats.{pieces_of, Tlv, tlv_format, first_value}
 use Rattle.wire_packets.specs.declared.rams_tlv.tlvs.Message.{Message}
 use Rattle.wire_packets.specs.rams_tlv.Lengths.{lengths}

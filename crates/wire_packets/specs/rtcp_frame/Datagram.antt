@@ -1,6 +1,6 @@
 -- The packets of a datagram.
 use Rattle.std.specs.Prelude.{ℕ, List, Result}
-use Rattle.rams_model.specs.declared.fault.FrameFault.{FrameFault}
+use Rattle.rams_model.specs.declared.FrameFault.{FrameFault}
 use Rattle.rams_model.specs.Formats.{pieces_of, Framed, packet_format}
 
 -- the packets that the bytes are, none of them too

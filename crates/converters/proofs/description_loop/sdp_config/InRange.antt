@@ -5,8 +5,7 @@ use Rattle.std.specs.List.{find, filter_map, cons_option}
 use Rattle.std.specs.Option.{option_or}
 use Rattle.std.proofs.lemmas.Bool.{leb-true, ltb-true, eq-eqb}
 use Rattle.rams_model.specs.Texts.{number_in}
-use Rattle.converters.specs.declared.description_loop.sdp_config.sdp.Sdp.{Sdp}
-use Rattle.converters.specs.declared.description_loop.sdp_config.sdp.SdpFault.{SdpFault}
+use Rattle.converters.specs.declared.{description_loop.sdp_config.sdp.Sdp.Sdp, description_loop.sdp_config.sdp.SdpFault.SdpFault}
 use Rattle.converters.specs.declared.description_loop.sdp_config.sdp.SdpFault.TheVariants.{Same}
 use Rattle.converters.specs.declared.description_loop.sdp_config.section.Role.{Role}
 use Rattle.converters.specs.declared.description_loop.sdp_config.section.Role.TheVariants.{Media, Repair}

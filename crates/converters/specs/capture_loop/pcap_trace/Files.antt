@@ -3,13 +3,11 @@
 -- head: magic a1b2c3d4, version 2 and 4 in 16 bits each, zone, accuracy, snap length, link type
 -- record: seconds, microseconds, captured length, original length, and then the captured bytes
 use Rattle.std.specs.Prelude.{ℕ, ◌+◌, ◌*◌, ◌/◌, ◌&&◌, ◌==◌, not, nat_lt, if◌then◌else◌, List, length, Option, None, Some, is_some, Result, Ok, Err}
-use Rattle.converters.specs.declared.capture_loop.pcap_trace.head.CaptureFault.{CaptureFault}
-use Rattle.converters.specs.declared.capture_loop.pcap_trace.head.CaptureFault.TheVariants.{Short, Magic, Version, Link, Cut, Long}
-use Rattle.converters.specs.declared.capture_loop.pcap_trace.head.Endian.{Endian}
+use Rattle.converters.specs.declared.{capture_loop.pcap_trace.head.CaptureFault.CaptureFault, capture_loop.pcap_trace.head.Endian.Endian}
 use Rattle.converters.specs.declared.capture_loop.pcap_trace.head.Endian.TheVariants.{Little, Big}
-use Rattle.converters.specs.declared.capture_loop.pcap_trace.kind.FileKind.{FileKind}
+use Rattle.converters.specs.declared.{capture_loop.pcap_trace.kind.FileKind.FileKind, capture_loop.pcap_trace.header.Record.Record}
+use Rattle.converters.specs.declared.capture_loop.pcap_trace.head.CaptureFault.TheVariants.{Short, Magic, Version, Link, Cut, Long}
 use Rattle.converters.specs.declared.capture_loop.pcap_trace.kind.FileKind.TheVariants as kind
-use Rattle.converters.specs.declared.capture_loop.pcap_trace.header.Record.{Record}
 use Rattle.converters.specs.capture_loop.pcap_trace.Numbers.{short_by, word_by, word_at}
 
 -- the byte order in which the bytes begin with this number

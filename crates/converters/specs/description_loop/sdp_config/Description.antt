@@ -1,10 +1,9 @@
 -- The settings of a channel that a session description gives.
 use Rattle.std.specs.Prelude.{ℕ, ◌+◌, ◌&&◌, ◌==◌, not, nat_lt, if◌then◌else◌, List, [], ◌∷◌, Option, None, Some, Result, Ok, Err, codes, bytes_eq}
 use Rattle.std.specs.Option.{option_or}
-use Rattle.converters.specs.declared.description_loop.sdp_config.sdp.Sdp.{Sdp}
-use Rattle.converters.specs.declared.description_loop.sdp_config.sdp.SdpFault.{SdpFault}
-use Rattle.converters.specs.declared.description_loop.sdp_config.sdp.SdpFault.TheVariants.{Form, Version, Long, NoChannel, NoSsrc, NoRtx, Same}
+use Rattle.converters.specs.declared.{description_loop.sdp_config.sdp.Sdp.Sdp, description_loop.sdp_config.sdp.SdpFault.SdpFault}
 use Rattle.converters.specs.declared.description_loop.sdp_config.section.Role.TheVariants.{Media, Repair}
+use Rattle.converters.specs.declared.description_loop.sdp_config.sdp.SdpFault.TheVariants.{Form, Version, Long, NoChannel, NoSsrc, NoRtx, Same}
 use Rattle.converters.specs.description_loop.sdp_config.Lines.{lines_in, is_line}
 use Rattle.converters.specs.description_loop.sdp_config.Sections.{Found, sections_of, first_ssrc, first_found}
 

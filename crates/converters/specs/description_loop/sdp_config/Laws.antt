@@ -1,6 +1,6 @@
 -- Laws of descriptions.
 use Rattle.std.specs.Prelude.{◌≡◌, ◌≢◌, ℕ, ◌<◌, ◌≤◌, ◌^◌, List, ◌++◌, length, Ok, IsErr}
-use Rattle.rams_model.specs.declared.channel.Channel.{Channel}
+use Rattle.rams_model.specs.declared.Channel.{Channel}
 use Rattle.converters.specs.declared.description_loop.sdp_config.sdp.Sdp.{Sdp}
 use Rattle.converters.specs.description_loop.sdp_config.Description.{sdp_at}
 use Rattle.converters.specs.description_loop.sdp_config.Written.{description, shown_channel}

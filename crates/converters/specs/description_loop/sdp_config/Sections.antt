@@ -3,9 +3,9 @@ use Rattle.std.specs.Prelude.{◌≡◌, ℕ, Bool, true, false, slice_index_or,
 use Rattle.std.specs.List.{find, filter_map, list_any}
 use Rattle.std.specs.Option.{option_or}
 use Rattle.converters.specs.declared.description_loop.sdp_config.attribute.Attribute.{Attribute}
-use Rattle.converters.specs.declared.description_loop.sdp_config.attribute.Attribute.TheVariants.{Bursts, RtxMap, RtxOf}
 use Rattle.converters.specs.declared.description_loop.sdp_config.section.Role.{Role}
 use Rattle.converters.specs.declared.description_loop.sdp_config.section.Role.TheVariants.{Media, Repair}
+use Rattle.converters.specs.declared.description_loop.sdp_config.attribute.Attribute.TheVariants.{Bursts, RtxMap, RtxOf}
 use Rattle.converters.specs.description_loop.sdp_config.Lines.{is_media, pieces_of}
 use Rattle.converters.specs.description_loop.sdp_config.Attributes.{type_in, ssrc_in, is_wanted_line}
 

@@ -1,7 +1,6 @@
 -- Lines, pieces and sections as code has them.
 use Rattle.std.specs.Prelude.{ℕ, List}
-use Rattle.converters.specs.declared.description_loop.sdp_config.lines.Lines.{Lines}
-use Rattle.converters.specs.declared.description_loop.sdp_config.pieces.Pieces.{Pieces}
+use Rattle.converters.specs.declared.{description_loop.sdp_config.lines.Lines.Lines, description_loop.sdp_config.pieces.Pieces.Pieces}
 use Rattle.converters.specs.declared.description_loop.sdp_config.section.Section.{Section}
 use Rattle.converters.specs.declared.description_loop.sdp_config.section.Sections.{Sections}
 use Rattle.converters.specs.description_loop.sdp_config.Lines.{lines_in, pieces_behind}

@@ -1,6 +1,6 @@
 -- The session description of a channel, as it is written.
 use Rattle.std.specs.Prelude.{ℕ, ◌+◌, List, [], ◌∷◌, ◌++◌, codes, decimal}
-use Rattle.rams_model.specs.declared.channel.Channel.{Channel}
+use Rattle.rams_model.specs.declared.Channel.{Channel}
 use Rattle.converters.specs.declared.description_loop.sdp_config.sdp.Sdp.{Sdp}
 
 -- lines, each ended by CR LF

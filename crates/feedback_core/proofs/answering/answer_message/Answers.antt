@@ -1,9 +1,7 @@
 -- What each kind of message gets is on the page.
 use Rattle.std.proofs.Common.{◌≡◌, ◌∷◌, List, inl, inr, refl, sym, ap, subst, ◌∙◌}
 use Rattle.rams_model.specs.Service.{after_message, told, is_rams, Wanted}
-use Rattle.feedback_core.specs.declared.desk.Desk.{Desk}
-use Rattle.feedback_core.specs.declared.framing.Message.{Message}
-use Rattle.feedback_core.specs.declared.page.Page.{Page}
+use Rattle.feedback_core.specs.declared.{desk.Desk.Desk, framing.Message.Message, page.Page.Page}
 use Rattle.feedback_core.specs.{shown_message, IsTurned}
 use Rattle.feedback_core.specs.declared.framing.Message.TheVariants.{Bye, Nack, Request, Stop}
 use Rattle.feedback_core.proofs.Turns.{said_turn, noted_turn, told_heard, told_turn}

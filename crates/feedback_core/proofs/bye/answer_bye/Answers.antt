@@ -1,6 +1,6 @@
 -- Another's BYE, or the client leaves, with or without an open burst.
 use Rattle.std.proofs.Common.{◌∙◌, None, refl, sym}
-use Rattle.rams_model.specs.declared.note.Note.TheVariants.{Bye, ByeIdle}
+use Rattle.rams_model.specs.declared.Note.TheVariants.{Bye, ByeIdle}
 use Rattle.rams_model.specs.Service.{after_bye}
 use Rattle.wire_packets.specs.rtcp_frame.{shown_packet}
 use Rattle.feedback_core.specs.declared.visitor.Visitor.{Visitor}

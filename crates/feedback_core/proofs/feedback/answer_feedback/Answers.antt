@@ -1,6 +1,6 @@
 -- A datagram that frames, or doesn't.
 use Rattle.std.proofs.Common.{◌≡◌, length, ap, arith, ◌∙◌}
-use Rattle.rams_model.specs.declared.event.Event.TheVariants.{Feedback}
+use Rattle.rams_model.specs.declared.Event.TheVariants.{Feedback}
 use Rattle.rams_model.specs.Service.{Answered}
 use Rattle.feedback_core.specs.{most_notes, most_orders, most_notes_of, most_orders_of, most_notes_for}
 use Rattle.feedback_core.specs.Counting.{most_notes_in, most_orders_in}

@@ -1,9 +1,9 @@
 -- The client is received, answered and kept.
 use Rattle.std.proofs.Common.{List, [], ap, ◌∙◌, sym, refl, rules}
-use Rattle.rams_model.specs.declared.note.Note.{Note}
+use Rattle.rams_model.specs.declared.Note.{Note}
 use Rattle.rams_model.specs.Service.{answered}
 use Rattle.client_table.specs.Clients.{Clients}
-use Rattle.channel_parts.specs.declared.parts.Parts.{Parts}
+use Rattle.channel_parts.specs.declared.Parts.{Parts}
 use Rattle.wire_packets.specs.rtcp_frame.{packets_left}
 use Rattle.feedback_core.proofs.Counts.{none_asked}
 use Rattle.feedback_core.proofs.Serving.{parts_ended, ready_placed, safe_placed, served, unasked}

@@ -1,8 +1,8 @@
 -- The first line that applies.
 use Rattle.std.proofs.Common.{◌∙◌, refl, sym}
-use Rattle.rams_model.specs.declared.note.Note.TheVariants.{Unheld}
+use Rattle.rams_model.specs.declared.Note.TheVariants.{Unheld}
 use Rattle.rams_model.specs.Service.{room, number_answer}
-use Rattle.repair_queue.specs.declared.wanted.Asked.TheVariants.{Already, ClientFull, QueueFull}
+use Rattle.repair_queue.specs.declared.Asked.TheVariants.{Already, ClientFull, QueueFull}
 use Rattle.feedback_core.proofs.Lows.{number_unheld, answer_idle, answer_early, answer_full, answer_refused, answer_queued}
 use Rattle.feedback_core.proofs.nack.answer_number.Goals as goal
 

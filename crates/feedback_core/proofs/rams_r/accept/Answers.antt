@@ -1,7 +1,7 @@
 -- A burst is refused for its rate, or for the share, or begins.
 use Rattle.std.proofs.Common.{◌≡◌, ◌+◌, ◌≤◌, ◌<◌, Ok, sym, subst}
 use Rattle.std.proofs.lemmas.Bool.{both_ways, OnTrue_at, OnFalse_at}
-use Rattle.rams_model.specs.declared.channel.Channel.{Channel}
+use Rattle.rams_model.specs.declared.Channel.{Channel}
 use Rattle.rams_model.specs.Service.{begins}
 use Rattle.reckoning.specs.link_budget.{HasRoom}
 use Rattle.reckoning.specs.link_budget.Amounts.{Amounts}

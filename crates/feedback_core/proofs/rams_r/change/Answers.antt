@@ -1,7 +1,7 @@
 -- Another rate is refused where it is too low, or for the share, or is set.
 use Rattle.std.proofs.Common.{◌+◌, ◌≤◌, ◌<◌, subst}
 use Rattle.std.proofs.lemmas.Bool.{both_ways, OnTrue_at}
-use Rattle.rams_model.specs.declared.channel.Channel.{Channel}
+use Rattle.rams_model.specs.declared.Channel.{Channel}
 use Rattle.rams_model.specs.Service.{changes}
 use Rattle.reckoning.specs.link_budget.{HasRoom}
 use Rattle.reckoning.specs.link_budget.Amounts.{Amounts}

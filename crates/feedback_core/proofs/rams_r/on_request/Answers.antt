@@ -1,6 +1,6 @@
 -- The first refusal, or what a client with or without an open burst gets.
 use Rattle.std.proofs.Common.{◌≡◌, ◌∙◌, true, false, Ok, sym, subst}
-use Rattle.rams_model.specs.declared.channel.Channel.{Channel}
+use Rattle.rams_model.specs.declared.Channel.{Channel}
 use Rattle.rams_model.specs.Formats.{names}
 use Rattle.rams_model.specs.Service.{verdict}
 use Rattle.wire_packets.specs.rams_tlv.{shown_request}

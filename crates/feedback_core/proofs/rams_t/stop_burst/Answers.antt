@@ -1,6 +1,6 @@
 -- The first line that applies.
 use Rattle.std.proofs.Common.{◌∙◌, Some, refl, sym}
-use Rattle.rams_model.specs.declared.note.Note.TheVariants.{StopIdle, StopKept, StopAt}
+use Rattle.rams_model.specs.declared.Note.TheVariants.{StopIdle, StopKept, StopAt}
 use Rattle.rams_model.specs.Service.{stop_burst, open_burst}
 use Rattle.feedback_core.specs.declared.visitor.Visitor.{Visitor}
 use Rattle.feedback_core.specs.{only}

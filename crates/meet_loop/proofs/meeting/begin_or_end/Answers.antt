@@ -1,8 +1,8 @@
 use Rattle.std.proofs.Common.{Some, sym, subst}
 use Rattle.trace_loop.specs.trace_book.trace_serving.{eventless}
-use Rattle.trace_text.specs.declared.line.Line.{Line}
+use Rattle.trace_text.specs.declared.Line.{Line}
 use Rattle.trace_text.specs.{shown}
-use Rattle.trace_loop.specs.declared.turn.Turn.TheVariants.{GoesOn}
+use Rattle.trace_loop.specs.declared.Turn.TheVariants.{GoesOn}
 use Rattle.meet_loop.specs.world_book.{meet}
 use Rattle.meet_loop.specs.{Comes, Took}
 use Rattle.meet_loop.proofs.Opening.{head_bounds, head_turn}

@@ -3,12 +3,11 @@ use Rattle.std.proofs.lemmas.Result.{IfOk-weaker}
 use Rattle.rams_model.specs.Texts.{Reached, tick_of}
 use Rattle.trace_loop.specs.trace_book.trace_serving.{after_line, brought}
 use Rattle.trace_loop.specs.trace_book.{run}
-use Rattle.trace_text.specs.declared.line.Judged.{Judged}
+use Rattle.trace_text.specs.declared.Judged.{Judged}
 use Rattle.trace_text.specs.{told, IsSettled}
 use Rattle.trace_text.proofs.Judging.{settled}
-use Rattle.server_hub.specs.declared.event.HubAnswer.{HubAnswer}
-use Rattle.trace_loop.specs.declared.turn.Turn.{Turn}
-use Rattle.trace_loop.specs.declared.turn.Turn.TheVariants.{GoesOn}
+use Rattle.server_hub.specs.declared.HubAnswer.{HubAnswer}
+use Rattle.trace_loop.specs.declared.{Turn.Turn, Turn.TheVariants.GoesOn}
 use Rattle.rams_replay.specs.{Comes, Took}
 use Rattle.rams_replay.proofs.Opening.{opens_next, opened_turn}
 use Rattle.rams_replay.proofs.replay.after_line.Goals as goal

@@ -1,13 +1,13 @@
 use Rattle.std.proofs.Common.{ℕ, Some, List, sym, ◌∙◌, refl, subst}
 use Rattle.std.proofs.lemmas.Result.{IfOk-weaker}
-use Rattle.server_hub.specs.declared.event.HubEvent.TheVariants as events
+use Rattle.server_hub.specs.declared.HubEvent.TheVariants as events
 use Rattle.server_hub.specs.Seen.{Seen}
 use Rattle.rams_model.specs.Texts.{head_line, live_line, feedback_line, tick_line}
 use Rattle.trace_loop.specs.trace_book.trace_serving.{after_line, counted, eventless, brought}
 use Rattle.trace_loop.specs.trace_book.{run}
-use Rattle.trace_text.specs.declared.line.Line.{Line}
+use Rattle.trace_text.specs.declared.Line.{Line}
 use Rattle.trace_text.specs.{shown}
-use Rattle.trace_loop.specs.declared.turn.Turn.TheVariants.{GoesOn}
+use Rattle.trace_loop.specs.declared.Turn.TheVariants.{GoesOn}
 use Rattle.rams_replay.specs.{Comes, Took}
 use Rattle.rams_replay.proofs.Opening.{head_bounds, head_turn}
 use Rattle.rams_replay.proofs.Turning.{event_stage, event_has_hub, receiver_turn}

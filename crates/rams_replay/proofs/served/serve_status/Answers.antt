@@ -1,5 +1,5 @@
 use Rattle.std.proofs.Common.{sym, subst}
-use Rattle.rams_model.specs.declared.status.Status.{Status}
+use Rattle.rams_model.specs.declared.Status.{Status}
 use Rattle.serve_loop.specs.{served_text}
 use Rattle.rams_replay.specs.{HasServed, IsOrLacksMemory, no_room}
 use Rattle.rams_replay.proofs.Serving.{has_served, or_lacks_memory}

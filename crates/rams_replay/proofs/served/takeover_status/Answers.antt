@@ -1,5 +1,5 @@
 use Rattle.std.proofs.Common.{sym, subst}
-use Rattle.rams_model.specs.declared.status.Status.{Status}
+use Rattle.rams_model.specs.declared.Status.{Status}
 use Rattle.takeover.specs.takeover_loop.{taken_text}
 use Rattle.rams_replay.specs.{HasTakenOver, IsOrLacksMemory, no_room}
 use Rattle.rams_replay.proofs.TakingOver.{has_taken_over, or_lacks_memory}

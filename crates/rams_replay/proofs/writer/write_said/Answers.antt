@@ -1,6 +1,6 @@
 use Rattle.std.proofs.Common.{List, ℕ, [], ◌++◌, IfErr, sym, subst}
 use Rattle.std.proofs.lemmas.List.Elements.{All-head}
-use Rattle.server_hub.specs.declared.event.HubAnswer.{HubAnswer}
+use Rattle.server_hub.specs.declared.HubAnswer.{HubAnswer}
 use Rattle.server_hub.specs.{told}
 use Rattle.trace_loop.specs.{StopsIn}
 use Rattle.trace_loop.specs.journal_book.{AllRender}

@@ -1,6 +1,5 @@
 use Rattle.std.proofs.Common.{Bool, cond, ◌/◌, ◌%◌, sym, ap, ◌∙◌}
-use Rattle.std.specs.declared.option.Option.{Option}
-use Rattle.std.specs.declared.option.Option.TheVariants.{None, Some}
+use Rattle.std.specs.declared.{option.Option.Option, option.Option.TheVariants.None, option.Option.TheVariants.Some}
 use Rattle.std.specs.HashMap.{get}
 use Rattle.repair_queue.specs.declared.block.Block.{Block}
 use Rattle.repair_queue.specs.{same_pair, mark_in, marked_in}

@@ -4,10 +4,10 @@ use Rattle.std.specs.List.{list_any}
 use Rattle.std.proofs.lemmas.Result.{err_from_is_err_and}
 use Rattle.ram_io.specs.{Outgoing}
 use Rattle.server_hub.specs.{answers_said, event_of, after_event, settings_of, told, Told}
-use Rattle.server_hub.specs.declared.event.At.{At}
+use Rattle.server_hub.specs.declared.At.{At}
 use Rattle.line_io.proofs.Passing.{Passes-then}
 use Rattle.trace_loop.specs.journal_book.{behind, datagrams_of, event_line, AllRender}
-use Rattle.trace_loop.specs.declared.stop.Stop.{Stop}
+use Rattle.trace_loop.specs.declared.Stop.{Stop}
 use Rattle.trace_loop.proofs.Stopping.{err_so, only_err}
 use Rattle.trace_loop.proofs.journal_book.Renders.{said_renders}
 use Rattle.trace_loop.proofs.Writing.{unwritten}

@@ -1,7 +1,7 @@
 use Rattle.std.proofs.Common.{◌++◌, ◌∙◌, drop, ◌+◌, length, Result, sym, subst, arith}
 use Rattle.std.proofs.lemmas.Result.{err_from_is_err_and}
 use Rattle.server_hub.specs.{settings_of}
-use Rattle.trace_loop.specs.declared.stop.Stop.{Stop}
+use Rattle.trace_loop.specs.declared.Stop.{Stop}
 use Rattle.serve_loop.specs.{OnlyMemoryStops, bytes_of, at_datagrams, said_datagrams}
 use Rattle.serve_loop.proofs.GoingOut.{Sends-next, Sends-end, answers-more, answers-past}
 use Rattle.serve_loop.proofs.Rooms.{wire_parts, wire_none}

@@ -1,7 +1,7 @@
 use Rattle.std.proofs.Common.{rules, ◌≡◌, ◌+◌, length, List, Option, Some, None, ap, subst}
 use Rattle.std.specs.Prelude.{find, ◌==◌}
 use Rattle.server_hub.specs.{settings_of}
-use Rattle.rams_model.specs.declared.answer.Order.{Order}
+use Rattle.rams_model.specs.declared.Order.{Order}
 use Rattle.rams_model.specs.Service.{Settings}
 use Rattle.serve_loop.specs.{bytes_of, order_datagrams, settled_datagrams}
 use Rattle.serve_loop.proofs.GoingOut.{Sends-none}

@@ -1,6 +1,6 @@
 use Rattle.std.proofs.Common.{[], ◌∷◌, ◌++◌, ◌∙◌, drop, ◌+◌, length, Result, sym, subst, arith}
 use Rattle.std.proofs.lemmas.Result.{err_from_is_err_and}
-use Rattle.trace_loop.specs.declared.stop.Stop.{Stop}
+use Rattle.trace_loop.specs.declared.Stop.{Stop}
 use Rattle.serve_loop.specs.{OnlyMemoryStops, bytes_of, order_datagrams}
 use Rattle.serve_loop.proofs.GoingOut.{Sends-next, orders-more, orders-past}
 use Rattle.serve_loop.proofs.Rooms.{wire_parts, wire_none}

@@ -1,9 +1,9 @@
 use Rattle.std.proofs.Common.{◌≡◌, ℕ, ◌+◌, List, [], length, Result, sym, ap, subst, ◌∙◌, arith}
 use Rattle.std.proofs.lemmas.Result.{err_from_is_err_and}
 use Rattle.line_io.proofs.Passing.{Passes-none, Passes-then}
-use Rattle.rams_model.specs.declared.status.Status.{Status}
+use Rattle.rams_model.specs.declared.Status.{Status}
 use Rattle.rams_model.specs.Texts.{refused_line}
-use Rattle.trace_loop.specs.declared.stop.Stop.{Stop}
+use Rattle.trace_loop.specs.declared.Stop.{Stop}
 use Rattle.serve_loop.specs.{IsWriteStop, OnlyMemoryStops}
 use Rattle.trace_loop.proofs.Stopping.{err_so, only_err, write_since}
 use Rattle.serve_loop.proofs.serving.refuse.Goals as goal

@@ -2,12 +2,12 @@ use Rattle.std.proofs.Common.{ℕ, ◌+◌, List, [], ◌++◌, length, drop, So
 use Rattle.std.proofs.lemmas.Result.{err_from_is_err_and}
 use Rattle.line_io.specs.Passes.{Passes}
 use Rattle.line_io.proofs.Passing.{Passes-then}
-use Rattle.rams_model.specs.declared.status.Status.{Status}
+use Rattle.rams_model.specs.declared.Status.{Status}
 use Rattle.ram_io.specs.{Outgoing}
-use Rattle.server_hub.specs.declared.event.HubEvent.{HubEvent}
+use Rattle.server_hub.specs.declared.HubEvent.{HubEvent}
 use Rattle.server_hub.specs.Seen.{Seen}
 use Rattle.trace_loop.specs.journal_book.{event_lines, events_of, journal_of, sent_for}
-use Rattle.trace_loop.specs.declared.stop.Stop.{Stop}
+use Rattle.trace_loop.specs.declared.Stop.{Stop}
 use Rattle.trace_loop.proofs.Stopping.{stops_front}
 use Rattle.serve_loop.specs.{HasEnded, HasRoom, OnlyMemoryStops, given_events, head_stage, served_text}
 use Rattle.serve_loop.proofs.Closing.{begun_with, between_begins, closed_room, end_text, ended_so, events_given, front_alone, gone_front, gone_so, has_ended, room_begins, served_is, text_begins, text_is_journal, alone}

@@ -2,7 +2,7 @@ use Rattle.std.proofs.Common.{◌≡◌, ℕ, ◌+◌, List, [], ◌++◌, lengt
 use Rattle.std.proofs.lemmas.Result.{err_from_is_err_and, IfErr-weaker}
 use Rattle.trace_loop.specs.journal_book.{event_lines, events_of, sent_for}
 use Rattle.ram_io.specs.{Outgoing}
-use Rattle.trace_loop.specs.declared.stop.Stop.{Stop}
+use Rattle.trace_loop.specs.declared.Stop.{Stop}
 use Rattle.serve_loop.specs.{HasRoom, OnlyMemoryStops, Room, Stopping}
 use Rattle.serve_loop.proofs.Closing.{end_text, end_goes, end_breaks, turns_stop}
 use Rattle.serve_loop.proofs.Rooms.{only_weaker, quiet_room, wire_none}

@@ -1,9 +1,8 @@
 use Rattle.std.proofs.Common.{rules, ℕ, ◌+◌, List, [], ◌∷◌, ◌++◌, Result, refl, sym, subst, ◌∙◌}
 use Rattle.std.proofs.lemmas.Result.{err_from_is_err_and}
-use Rattle.server_hub.specs.declared.event.HubEvent.{HubEvent}
-use Rattle.server_hub.specs.declared.event.HubEvent.TheVariants.{Tick}
+use Rattle.server_hub.specs.declared.{HubEvent.HubEvent, HubEvent.TheVariants.Tick}
 use Rattle.trace_loop.specs.journal_book.{behind, tick_at}
-use Rattle.trace_loop.specs.declared.stop.Stop.{Stop}
+use Rattle.trace_loop.specs.declared.Stop.{Stop}
 use Rattle.serve_loop.specs.{HasRoom, IsBetween, IsOutStop, OnlyMemoryStops}
 use Rattle.serve_loop.proofs.Between.{between_ready, between_after, tick_due, no_tick_due}
 use Rattle.serve_loop.proofs.Rooms.{room_none, room_one}

@@ -3,7 +3,7 @@ use Rattle.std.proofs.lemmas.Result.{IfErr-weaker}
 use Rattle.ram_io.specs.{Outgoing}
 use Rattle.server_hub.specs.{event_of}
 use Rattle.trace_loop.specs.journal_book.{behind, datagrams_of, event_line}
-use Rattle.trace_loop.specs.declared.stop.Stop.TheVariants.{Wire}
+use Rattle.trace_loop.specs.declared.Stop.TheVariants.{Wire}
 use Rattle.serve_loop.specs.{Broken, HasRoom, next_events}
 use Rattle.serve_loop.proofs.Between.{told_next, nothing_next, datagram_next}
 use Rattle.serve_loop.proofs.Rooms.{only_both, only_weaker, quiet_room, room_at, room_none, room_one, wire_none}

@@ -2,7 +2,7 @@ use Rattle.std.proofs.Common.{rules, ◌≡◌, ℕ, ◌+◌, List, [], ◌++◌
 use Rattle.std.proofs.lemmas.Result.{err_from_is_err_and}
 use Rattle.server_hub.specs.Served.{Served}
 use Rattle.trace_loop.specs.journal_book.{behind, event_lines, next_moment, sent_for, tick_at}
-use Rattle.trace_loop.specs.declared.stop.Stop.{Stop}
+use Rattle.trace_loop.specs.declared.Stop.{Stop}
 use Rattle.serve_loop.specs.{Broken, HasRoom, IsOutStop, OnlyMemoryStops, next_events}
 use Rattle.serve_loop.proofs.Steps.{broken_more}
 use Rattle.serve_loop.proofs.Rooms.{behind_append, room_for, room_split, room_join}

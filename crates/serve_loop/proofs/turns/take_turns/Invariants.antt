@@ -1,5 +1,5 @@
 use Rattle.std.proofs.Common.{◌≡◌, ℕ, ◌-◌, ◌*◌, ◌≤◌, List, [], drop, Some}
-use Rattle.ram_io.specs.declared.wire.Incoming.{Incoming}
+use Rattle.ram_io.specs.declared.Incoming.{Incoming}
 use Rattle.trace_loop.specs.journal_book.{events_of}
 use Rattle.serve_loop.specs.{Begun, IsBetween, IsServer}
 use Rattle.serve_loop.proofs.TurnByTurn.{IsServing}

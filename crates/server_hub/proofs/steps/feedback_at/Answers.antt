@@ -1,4 +1,4 @@
-use Rattle.rams_model.specs.declared.event.Event.TheVariants.{Feedback}
+use Rattle.rams_model.specs.declared.Event.TheVariants.{Feedback}
 use Rattle.server_hub.proofs.Stepping.{step_at}
 use Rattle.server_hub.proofs.steps.feedback_at.Goals as goal
 

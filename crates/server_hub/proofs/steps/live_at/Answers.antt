@@ -1,4 +1,4 @@
-use Rattle.rams_model.specs.declared.event.Event.TheVariants.{Live}
+use Rattle.rams_model.specs.declared.Event.TheVariants.{Live}
 use Rattle.server_hub.proofs.Stepping.{step_at}
 use Rattle.server_hub.proofs.steps.live_at.Goals as goal
 

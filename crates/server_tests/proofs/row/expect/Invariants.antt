@@ -1,6 +1,6 @@
 -- Some events came, at most so many more than before.
 use Rattle.std.proofs.Common.{◌+◌, ◌-◌, ◌<◌, ◌^◌, List, length}
-use Rattle.rams_model.specs.declared.event.Event.{Event}
+use Rattle.rams_model.specs.declared.Event.{Event}
 use Rattle.server_hub.specs.session_core.{StandsFor}
 use Rattle.server_tests.proofs.row.expect.Given as goal
 

@@ -1,8 +1,8 @@
 -- A client with a burst has had a moment, its Accept or a tick, and since that moment the source has only grown.
 use Rattle.std.proofs.Common.{◌≡◌, ℕ, Bool, true, false, cond, List, [], ◌∷◌, ◌++◌, refl, ap, sym, ◌∙◌, subst, append_assoc, append-nil, eqb}
 use Rattle.std.proofs.lemmas.Bool.{cond_both}
-use Rattle.rams_model.specs.declared.held.Held.{Held}
-use Rattle.rams_model.specs.declared.note.Note.TheVariants as note
+use Rattle.rams_model.specs.declared.Held.{Held}
+use Rattle.rams_model.specs.declared.Note.TheVariants as note
 use Rattle.rams_model.specs.Service.{Settings, live, tick, began, told, noted, History, arrivals, sequence, Burst, begun, after_note, newest_changed, is_of, size_of, bursts}
 use Rattle.rams_model.specs.Laws.{source, moments}
 use Rattle.rams_model.proofs.Growing.{source_grows}

@@ -4,8 +4,7 @@ use Rattle.std.proofs.lemmas.List.{length-drop, length-append}
 use Rattle.std.proofs.lemmas.List.Elements.{filter-append}
 use Rattle.std.proofs.lemmas.List.Sums.{sum_by-append}
 use Rattle.std.proofs.lemmas.Bool.{cond_both, lt-ltb, ltb-true, and_parts, not-true, both_ways, or_left, or_right, eq-eqb}
-use Rattle.rams_model.specs.declared.held.Held.{Held}
-use Rattle.rams_model.specs.declared.note.Cause.{Cause}
+use Rattle.rams_model.specs.declared.{Held.Held, Cause.Cause}
 use Rattle.rams_model.specs.Service.{Settings, live, began, History, arrivals, hold, Burst, next, kept, in_tick, bursts, if_open, newest_open, run, is_lost, after_tick}
 use Rattle.rams_model.specs.Packets.{hi, wires, from_number, Arrival, Follows, has_number, stream_of}
 use Rattle.rams_model.specs.Packets.Source as sources

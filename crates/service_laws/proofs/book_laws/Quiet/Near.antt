@@ -2,8 +2,7 @@
 use Rattle.std.proofs.Common.{◌≡◌, ℕ, zero, suc, ◌+◌, ◌-◌, ◌*◌, ◌<◌, ◌≤◌, ◌⊎◌, inl, inr, min, false, List, [], ◌∷◌, ◌++◌, length, drop, Option, refl, ap, ap₂, sym, ◌∙◌, subst, arith, suc-mul}
 use Rattle.std.proofs.lemmas.List.{length-drop, length-append, drop-append-le}
 use Rattle.std.proofs.lemmas.List.Sums.{sum_by-append}
-use Rattle.rams_model.specs.declared.held.Held.{Held}
-use Rattle.rams_model.specs.declared.note.Note.TheVariants.{Update, StopAt}
+use Rattle.rams_model.specs.declared.{Held.Held, Note.TheVariants.Update, Note.TheVariants.StopAt}
 use Rattle.rams_model.specs.Service.{Settings, join_ticks, Burst, next, kept, begun, after_note, run, is_stop}
 use Rattle.rams_model.specs.Packets.{wires, Follows}
 use Rattle.rams_model.specs.Laws.{ComesNearer, IsByStop}

@@ -1,11 +1,9 @@
 -- The notes of a datagram's messages keep it so.
 use Rattle.std.proofs.Common.{◌≡◌, ℕ, ◌≢◌, true, false, [], ◌∷◌, Option, Some, refl, ap, sym, ◌∙◌, subst, ⊎_elim, eqb}
 use Rattle.std.proofs.lemmas.Bool.{cond-true, cases_Bool, eqb-true}
-use Rattle.rams_model.specs.declared.held.Held.{Held}
-use Rattle.rams_model.specs.declared.note.Cause.{Cause}
-use Rattle.rams_model.specs.declared.note.Note.{Note}
-use Rattle.rams_model.specs.declared.note.Cause.TheVariants as cause
-use Rattle.rams_model.specs.declared.note.Note.TheVariants as note
+use Rattle.rams_model.specs.declared.{Held.Held, Cause.Cause, Note.Note}
+use Rattle.rams_model.specs.declared.Cause.TheVariants as cause
+use Rattle.rams_model.specs.declared.Note.TheVariants as note
 use Rattle.rams_model.specs.Service.{Settings, Message, after_message, told, noted, History, arrivals, hold, sequence, Burst, next, begun, after_note, size_of, is_of, bursts, open_burst}
 use Rattle.rams_model.specs.Packets.{wires, from_number}
 use Rattle.rams_model.specs.Laws.{source, moments, told_join}

@@ -3,7 +3,7 @@ use Rattle.std.proofs.Common.{◌≡◌, ℕ, zero, suc, ◌+◌, ◌-◌, ◌*�
 use Rattle.std.proofs.lemmas.List.{take-append-drop, length-drop, length-append}
 use Rattle.std.proofs.Math.Nat.{lt_of_mul-lt-mul_right}
 use Rattle.std.proofs.lemmas.Bool.{cond_both, cond-false, leb-true, leb-false, eq-eqb, and_from}
-use Rattle.rams_model.specs.declared.held.Held.{Held}
+use Rattle.rams_model.specs.declared.Held.{Held}
 use Rattle.rams_model.specs.Service.{Settings, History, arrivals, hold}
 use Rattle.rams_model.specs.Packets.{hi, wires, from_number, Follows, is_consecutive, consecutive_end}
 use Rattle.rams_model.specs.Packets.Source as sources

@@ -2,9 +2,8 @@
 use Rattle.std.proofs.Common.{ℕ, ◌≤◌, Bool, List, [], ◌∷◌, ◌++◌, arith, ltb}
 use Rattle.std.specs.Prelude.{filter}
 use Rattle.std.proofs.lemmas.Bool.{cond_both}
-use Rattle.rams_model.specs.declared.held.Held.{Held}
-use Rattle.rams_model.specs.declared.note.LiveNote.{LiveNote}
-use Rattle.rams_model.specs.declared.note.LiveNote.TheVariants.{Took, Restart, Jump}
+use Rattle.rams_model.specs.declared.{Held.Held, LiveNote.LiveNote}
+use Rattle.rams_model.specs.declared.LiveNote.TheVariants.{Took, Restart, Jump}
 use Rattle.rams_model.specs.Formats.{wire_size}
 use Rattle.rams_model.specs.Service.{arrivals}
 use Rattle.rams_model.specs.Packets.{Arrival, Stream, held_as, with_packet, awaited, live_note, stream_after, stream_of, source}

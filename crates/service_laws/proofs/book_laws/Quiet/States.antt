@@ -1,11 +1,9 @@
 -- What a history says of one client, and what leaves that as it was.
 use Rattle.std.proofs.Common.{◌≡◌, ℕ, ◌+◌, ◌-◌, ◌≤◌, Bool, true, false, cond, List, [], ◌∷◌, length, Option, Some, None, refl, ap, sym, ◌∙◌, subst, arith, eqb}
 use Rattle.std.proofs.lemmas.Bool.{cond-true, cond-false, both_ways, eqb-true, eq-eqb}
-use Rattle.rams_model.specs.declared.held.Held.{Held}
-use Rattle.rams_model.specs.declared.note.Cause.{Cause}
-use Rattle.rams_model.specs.declared.note.Note.{Note}
-use Rattle.rams_model.specs.declared.note.Cause.TheVariants as cause
-use Rattle.rams_model.specs.declared.note.Note.TheVariants as note
+use Rattle.rams_model.specs.declared.{Held.Held, Cause.Cause, Note.Note}
+use Rattle.rams_model.specs.declared.Cause.TheVariants as cause
+use Rattle.rams_model.specs.declared.Note.TheVariants as note
 use Rattle.rams_model.specs.Service.{Settings, Message, tick, began, told, noted, History, arrivals, as_tick_began, sequence, Burst, after_note, newest_changed, is_of, size_of, bursts, if_open, newest_open, send, is_burst_of, is_repair_of, sent_now}
 use Rattle.rams_model.specs.Packets.{wires, from_number, Follows}
 use Rattle.rams_model.specs.Laws.{source, moments, JoinsSlowly, AreAtLeast, IsQuiet, told_join}

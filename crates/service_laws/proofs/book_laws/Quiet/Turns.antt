@@ -1,11 +1,9 @@
 -- What a tick does to a client's newest burst.
 use Rattle.std.proofs.Common.{◌≡◌, ℕ, ◌+◌, ◌-◌, ◌≤◌, ◌⊎◌, inl, inr, ⊎_elim, min, true, false, cond, List, ◌∷◌, Option, Some, None, refl, ap, ap₂, sym, ◌∙◌, subst, arith, eqb, ltb}
 use Rattle.std.proofs.lemmas.Bool.{cond_both, cond-true, cases_Bool, eqb-true, eq-eqb, true≢false}
-use Rattle.rams_model.specs.declared.held.Held.{Held}
-use Rattle.rams_model.specs.declared.note.Cause.{Cause}
-use Rattle.rams_model.specs.declared.note.Note.{Note}
-use Rattle.rams_model.specs.declared.note.Cause.TheVariants as cause
-use Rattle.rams_model.specs.declared.note.Note.TheVariants as note
+use Rattle.rams_model.specs.declared.{Held.Held, Cause.Cause, Note.Note}
+use Rattle.rams_model.specs.declared.Cause.TheVariants as cause
+use Rattle.rams_model.specs.declared.Note.TheVariants as note
 use Rattle.rams_model.specs.Service.{Settings, tick, began, noted, History, arrivals, hold, as_tick_began, known, Burst, next, kept, in_tick, newest_changed, is_of, bursts, newest_open, open_burst, pending, budget_of, cap, run_left, kept_from_repairs, may_take, run, send, is_lost, is_stop, after_run, run_sent, burst_served, bursts_served, repairs_sent, idle_forgotten, after_tick}
 use Rattle.rams_model.specs.Packets.{hi, wires, from_number, Arrival, Follows, stream_of}
 use Rattle.rams_model.specs.Packets.Source as sources

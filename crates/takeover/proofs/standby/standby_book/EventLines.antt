@@ -6,8 +6,8 @@ use Rattle.hex.specs.Hex.{encode_lower, encode_with}
 use Rattle.hex_text.proofs.Written.{lower_is_written}
 use Rattle.rams_model.specs.Texts.{bytes_in, decoded, hex_word, is_hex, is_hex_digit, is_short, TraceLine, head_line, channel_line, live_line, feedback_line, tick_line, end_line, tune_line, give_line, mcast_line, ask_line, drop_line, line_has_form}
 use Rattle.trace_text.proofs.Spelled.{is_word}
-use Rattle.server_hub.specs.declared.event.HubEvent.{HubEvent}
-use Rattle.server_hub.specs.declared.event.HubEvent.TheVariants.{Live, Feedback, Tick}
+use Rattle.server_hub.specs.declared.HubEvent.{HubEvent}
+use Rattle.server_hub.specs.declared.HubEvent.TheVariants.{Live, Feedback, Tick}
 use Rattle.trace_loop.specs.trace_book.trace_serving.{brought}
 use Rattle.trace_loop.specs.trace_book.{run}
 use Rattle.trace_loop.specs.journal_book.{line_of_event}

@@ -5,14 +5,11 @@ use Rattle.std.specs.List.{flat_map}
 use Rattle.std.proofs.lemmas.Bool.{and_parts, cond_both}
 use Rattle.std.proofs.lemmas.List.Concat.{flat_map-append}
 use Rattle.std.proofs.lemmas.List.Elements.{All-nil, All-push, filter_map-append}
-use Rattle.rams_model.specs.declared.channel.Channel.{Channel}
-use Rattle.rams_model.specs.declared.fault.LineFault.{LineFault}
-use Rattle.rams_model.specs.declared.mode.LineKind.{LineKind}
-use Rattle.rams_model.specs.declared.mode.LineKind.TheVariants as kind
-use Rattle.rams_model.specs.declared.mode.Mode.TheVariants.{Run, Serve}
+use Rattle.rams_model.specs.declared.{Channel.Channel, LineFault.LineFault, LineKind.LineKind, Mode.TheVariants.Run, Mode.TheVariants.Serve}
+use Rattle.rams_model.specs.declared.LineKind.TheVariants as kind
 use Rattle.rams_model.specs.Texts.{TraceLine, head_line, channel_line, live_line, feedback_line, tick_line, end_line, tune_line, give_line, mcast_line, ask_line, drop_line, Claim, Reached, has_channel, is_spelled, judged, kind_may_come, line_at, line_in_range, line_of, line_text, may_come, ranged}
 use Rattle.line_io.specs.{HasNoFeed}
-use Rattle.server_hub.specs.declared.event.HubEvent.{HubEvent}
+use Rattle.server_hub.specs.declared.HubEvent.{HubEvent}
 use Rattle.server_hub.specs.{after_event}
 use Rattle.server_hub.specs.Served.{Served}
 use Rattle.trace_loop.specs.trace_book.trace_serving.{Stage, Turn, goes_on, ends, too_long, opening, turn, after_judging, after_line, counted, with_opened, brought, event_at, stage_after, stage_from, taken_from, taken_with}

@@ -2,9 +2,7 @@
 use Rattle.std.proofs.Common.{◌≡◌, ℕ, ◌+◌, Bool, true, false, List, [], ◌∷◌, ◌++◌, length, Option, Some, Ok, refl, sym, ap, subst, ◌∙◌}
 use Rattle.std.specs.Prelude.{sum_by}
 use Rattle.std.proofs.lemmas.Bool.{le-leb, lt-ltb}
-use Rattle.rams_model.specs.declared.channel.Channel.{Channel}
-use Rattle.rams_model.specs.declared.mode.Mode.{Mode}
-use Rattle.rams_model.specs.declared.mode.Mode.TheVariants.{Run, Serve}
+use Rattle.rams_model.specs.declared.{Channel.Channel, Mode.Mode, Mode.TheVariants.Run, Mode.TheVariants.Serve}
 use Rattle.rams_model.specs.Texts.{TraceLine, head_line, channel_line, line_in_range, line_of, Head, Reached, may_come, with_channel, with_line, judged}
 use Rattle.trace_loop.proofs.trace_book.trace_serving.Judged.{IsJoined, channel_so}
 use Rattle.trace_loop.proofs.journal_book.Modes.{accepts, judges}

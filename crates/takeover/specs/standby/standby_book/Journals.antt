@@ -1,9 +1,9 @@
 -- What the lines of a journal are that a standby follows, with what comes behind them.
 use Rattle.std.specs.Prelude.{◌≡◌, ℕ, ◌+◌, ◌≤◌, true, List, ◌++◌, length, All, codes}
 use Rattle.std.specs.List.{flat_map}
-use Rattle.rams_model.specs.declared.status.Status.TheVariants.{Done}
+use Rattle.rams_model.specs.declared.Status.TheVariants.{Done}
 use Rattle.rams_model.specs.Texts.{has_channel}
-use Rattle.server_hub.specs.declared.event.HubEvent.{HubEvent}
+use Rattle.server_hub.specs.declared.HubEvent.{HubEvent}
 use Rattle.server_hub.specs.Served.{Served}
 use Rattle.trace_loop.specs.trace_book.{most_events, trace_text}
 use Rattle.trace_loop.specs.journal_book.{HasLine, IsJournal, Opens, behind, event_lines, journal_of, replayed, sent_for}

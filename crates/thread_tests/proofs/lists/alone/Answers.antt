@@ -1,7 +1,7 @@
 use Rattle.std.proofs.Common.{◌≡◌, List, [], ◌∷◌, ◌++◌, ◌^◌, ◌≤◌, All, length, ap, ◌∙◌}
 use Rattle.std.proofs.lemmas.List.Elements.{All-nil, All-cons, All-same}
 use Rattle.std.specs.Global.{Vec}
-use Rattle.rams_model.specs.declared.event.Event.{Event}
+use Rattle.rams_model.specs.declared.Event.{Event}
 use Rattle.thread_tests.proofs.lists.alone.Goals as goal
 
 single : {X : Type 0} (P : X → Type 0) (none one : List X) (x : X) → none ≡ [] → one ≡ none ++ x ∷ [] → P x → All P one

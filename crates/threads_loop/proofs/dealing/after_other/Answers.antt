@@ -1,8 +1,8 @@
 use Rattle.std.proofs.Common.{ℕ, List, ◌∙◌, sym, subst, refl}
-use Rattle.rams_model.specs.declared.event.Event.TheVariants as event
+use Rattle.rams_model.specs.declared.Event.TheVariants as event
 use Rattle.std.proofs.lemmas.Result.{IfOk-weaker}
 use Rattle.trace_loop.specs.trace_book.trace_serving.{after_line, brought}
-use Rattle.trace_text.specs.declared.line.Line.{Line}
+use Rattle.trace_text.specs.declared.Line.{Line}
 use Rattle.trace_text.specs.{shown, HasDigits}
 use Rattle.trace_loop.specs.declared.whole_trace.Does.TheVariants.{GoesOn, Ends}
 use Rattle.threads_loop.specs.{threads, Comes, IsDealt, Took}

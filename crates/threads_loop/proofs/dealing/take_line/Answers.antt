@@ -2,7 +2,7 @@ use Rattle.std.proofs.Common.{◌≡◌, Option, Ok, Err, refl, sym, subst}
 use Rattle.std.proofs.lemmas.Result.{IfOk-weaker}
 use Rattle.rams_model.specs.Texts.{Reached, judged}
 use Rattle.trace_text.specs.{told}
-use Rattle.server_hub.specs.declared.event.HubEvent.{HubEvent}
+use Rattle.server_hub.specs.declared.HubEvent.{HubEvent}
 use Rattle.threads_loop.specs.{threads, Grows}
 use Rattle.trace_loop.proofs.EndedTurns.{refused_turn}
 use Rattle.threads_loop.proofs.LineByLine.{judged_turn, brings_so}

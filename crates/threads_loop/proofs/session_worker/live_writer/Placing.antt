@@ -3,9 +3,9 @@ use Rattle.std.proofs.Common.{◌≡◌, ℕ, ◌+◌, ◌≤◌, ◌==◌, Bool
 use Rattle.std.specs.Prelude.{if◌then◌else◌, Result, Ok, Err, OnOk, MatchResult}
 use Rattle.std.proofs.lemmas.List.{append-nil, length-append, length-map, map-append}
 use Rattle.std.proofs.lemmas.List.Elements.{filter-append}
-use Rattle.rams_model.specs.declared.event.Event.{Event}
+use Rattle.rams_model.specs.declared.Event.{Event}
 use Rattle.rams_model.specs.Service.{Settings, Answered}
-use Rattle.channel_book.specs.declared.entry.Entry.{Entry}
+use Rattle.channel_book.specs.declared.Entry.{Entry}
 use Rattle.channel_book.specs.{is_of, calls_by, StartsWith, HasAnsweredAll, HasAnsweredFront}
 use Rattle.threads_loop.specs.declared.session_worker.live_writer.writer.Placed.{Placed}
 use Rattle.threads_loop.specs.session_worker.live_writer.{places_from, places_by, datagrams_of, HasDrawn, HasWritten, HasWrittenPiece}

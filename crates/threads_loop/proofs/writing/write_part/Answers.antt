@@ -1,14 +1,14 @@
 -- One entry's piece more.
 use Rattle.std.proofs.Common.{◌+◌, ◌++◌, ap, length, Result, sym, IfErr, ◌∙◌, subst, length-append}
 use Rattle.std.proofs.lemmas.Result.{err_from_is_err_and}
-use Rattle.trace_loop.specs.declared.stop.Stop.{Stop}
+use Rattle.trace_loop.specs.declared.Stop.{Stop}
 use Rattle.trace_loop.specs.{OnlyMemoryStops, StopsIn}
 use Rattle.threads_loop.specs.{part_text}
 use Rattle.trace_loop.proofs.Writing.{writing_has_room, writing_goes_on, writing_stops, writing_ends, writing_ends_steadily}
 use Rattle.threads_loop.proofs.Pieces.{part_more, part_past, drawn_at}
 use Rattle.std.specs.Global.{Vec}
-use Rattle.rams_model.specs.declared.octets.Octets.{Octets}
-use Rattle.channel_book.specs.declared.entry.Entry.{Entry}
+use Rattle.rams_model.specs.declared.Octets.{Octets}
+use Rattle.channel_book.specs.declared.Entry.{Entry}
 use Rattle.threads_loop.specs.session_worker.live_writer.{datagrams_of}
 use Rattle.threads_loop.proofs.writing.write_part.Goals as goal
 

@@ -1,7 +1,7 @@
 -- Where the calls of a list stand in a history, and what is drawn of their answers.
 use Rattle.std.specs.Prelude.{ℕ, ◌+◌, ◌==◌, if◌then◌else◌, List, [], ◌∷◌, map}
 use Rattle.rams_model.specs.Service.{Settings, Answered, datagram}
-use Rattle.channel_book.specs.declared.entry.Entry.{Entry}
+use Rattle.channel_book.specs.declared.Entry.{Entry}
 
 -- the places of the calls of a list among some entries, the first of which has this place
 abbrev pub places_from : ℕ → ℕ → List Entry → List ℕ

@@ -1,8 +1,8 @@
 -- What the calls of a list leave.
 use Rattle.std.specs.Prelude.{◌≡◌, ℕ, List, ◌++◌, map, length}
-use Rattle.rams_model.specs.declared.event.Event.{Event}
+use Rattle.rams_model.specs.declared.Event.{Event}
 use Rattle.rams_model.specs.Service.{Settings}
-use Rattle.channel_book.specs.declared.entry.Entry.{Entry}
+use Rattle.channel_book.specs.declared.Entry.{Entry}
 use Rattle.channel_book.specs.{calls_by, StartsWith}
 use Rattle.channel_book.specs.channel_lock.{numbers}
 use Rattle.threads_loop.specs.declared.session_worker.live_writer.writer.Placed.{Placed}

@@ -1,5 +1,5 @@
 use Rattle.std.proofs.Common.{refl, ap, ◌∙◌}
-use Rattle.rams_model.specs.declared.channel.Channel.{Channel}
+use Rattle.rams_model.specs.declared.Channel.{Channel}
 use Rattle.tick_core.specs.declared.plan.TickPlan.{TickPlan}
 use Rattle.tick_core.specs.{committing}
 use Rattle.tick_core.proofs.Safe.{small_parts}

@@ -1,5 +1,5 @@
 use Rattle.std.proofs.Common.{ap, sym, ◌∙◌}
-use Rattle.rams_model.specs.declared.channel.Channel.{Channel}
+use Rattle.rams_model.specs.declared.Channel.{Channel}
 use Rattle.client_table.specs.{due_left}
 use Rattle.tick_core.proofs.DueClients.{due_forgotten, forgotten_start, forgotten_turn, forgotten_end}
 use Rattle.tick_core.proofs.forgetting.forget_clients.Goals as goal

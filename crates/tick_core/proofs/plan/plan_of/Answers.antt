@@ -1,5 +1,5 @@
 use Rattle.std.proofs.Common.{[], ap, ◌∙◌}
-use Rattle.rams_model.specs.declared.channel.Channel.{Channel}
+use Rattle.rams_model.specs.declared.Channel.{Channel}
 use Rattle.tick_core.specs.{told_by, all_allowances}
 use Rattle.tick_core.proofs.Made.{IsMade, by_calls, bursts_are_of_known, begun_allowances}
 use Rattle.tick_core.proofs.plan.plan_of.Goals as goal

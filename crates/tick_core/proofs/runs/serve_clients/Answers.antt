@@ -1,5 +1,5 @@
 use Rattle.std.proofs.Common.{ℕ, Some, cond, refl, ap, ◌∙◌, nat_eq}
-use Rattle.client_table.specs.declared.entry.Entry.{Entry}
+use Rattle.client_table.specs.declared.Entry.{Entry}
 use Rattle.client_table.specs.{opened_of, bursts_left}
 use Rattle.tick_core.specs.{told_by}
 use Rattle.tick_core.proofs.Walking.{all_found, first_found, others_found, served_start, served_turn, served_end, none_true, true_more, all_begin, all_more, all_end}

@@ -2,7 +2,7 @@
 use Rattle.std.proofs.Common.{◌≡◌, ℕ, List, [], ◌∷◌, ◌++◌, codes, decimal, ap, ◌∙◌, append_assoc, append-nil}
 use Rattle.rams_model.specs.Texts.{hex_word, spaced, of_number}
 use Rattle.rams_model.specs.Texts.TraceLines.{line_text}
-use Rattle.server_hub.specs.declared.event.HubEvent.TheVariants.{Live, Feedback}
+use Rattle.server_hub.specs.declared.HubEvent.TheVariants.{Live, Feedback}
 use Rattle.trace_loop.specs.journal_book.Journal.{event_line}
 
 -- a front of its parts, and what stands behind it

@@ -1,11 +1,10 @@
 use Rattle.std.proofs.Common.{◌≡◌, IfErr, ◌++◌, ◌+◌, ◌++◌, length, Result, Err, refl, sym, ap, ◌∙◌, subst, arith}
 use Rattle.std.proofs.lemmas.Result.{err_from_is_err_and}
 use Rattle.std.specs.Io.KnownBytes.{prepend_known}
-use Rattle.rams_model.specs.declared.status.Status.{Status}
-use Rattle.trace_loop.specs.declared.stop.Stop.{Stop}
+use Rattle.rams_model.specs.declared.Status.{Status}
+use Rattle.trace_loop.specs.declared.{stop.Stop.Stop, stop.Stop.TheVariants.Memory, stop.Stop.TheVariants.Read}
 use Rattle.trace_loop.specs.{OnlyMemoryStops, StopsIn, IfTold}
 use Rattle.trace_loop.specs.trace_book.trace_serving.{opening}
-use Rattle.trace_loop.specs.declared.stop.Stop.TheVariants.{Memory, Read}
 use Rattle.trace_loop.proofs.Reading.{not_by_source}
 use Rattle.trace_loop.proofs.Running.{outcome, unstarted, told_gives, running_begins, running_breaks, running_reads, running_stops, running_has_room, running_goes_on, running_ends, running_ends_steadily}
 use Rattle.trace_loop.proofs.lines.write_lines.Goals as goal

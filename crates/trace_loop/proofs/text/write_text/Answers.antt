@@ -1,7 +1,7 @@
 use Rattle.std.proofs.Common.{◌≡◌, ℕ, List, ◌++◌, [], length, Result, sym, ap, ◌∙◌, subst, length-append, arith}
 use Rattle.std.proofs.lemmas.Result.{err_from_is_err_and}
 use Rattle.line_io.specs.Passes.{Passes}
-use Rattle.rams_model.specs.declared.status.Status.{Status}
+use Rattle.rams_model.specs.declared.Status.{Status}
 use Rattle.trace_loop.specs.declared.stop.Stop.{Stop}
 use Rattle.trace_loop.specs.{OnlyMemoryStops, StopsIn}
 use Rattle.trace_loop.proofs.Reading.{not_by_source, ended_by_source, either, rose_since, lines_then_all}

@@ -3,11 +3,9 @@ use Rattle.std.proofs.Common.{◌≡◌, ℕ, ◌+◌, ◌<◌, ◌≤◌, true,
 use Rattle.std.specs.Prelude.{Result, Ok, Err, sum_by}
 use Rattle.std.specs.List.{list_any}
 use Rattle.std.proofs.lemmas.Bool.{cond_both, and_parts, not-false, leb-true, ltb-true}
-use Rattle.rams_model.specs.declared.channel.Channel.{Channel}
-use Rattle.rams_model.specs.declared.fault.ConfigFault.{ConfigFault}
-use Rattle.rams_model.specs.declared.fault.LineFault.{LineFault}
-use Rattle.rams_model.specs.declared.fault.ConfigFault.TheVariants as config
-use Rattle.rams_model.specs.declared.fault.LineFault.TheVariants.{Order, Range, Twice, Rule}
+use Rattle.rams_model.specs.declared.{Channel.Channel, ConfigFault.ConfigFault, LineFault.LineFault}
+use Rattle.rams_model.specs.declared.ConfigFault.TheVariants as config
+use Rattle.rams_model.specs.declared.LineFault.TheVariants.{Order, Range, Twice, Rule}
 use Rattle.rams_model.specs.Service.{Settings, settings, tick_in_range, channel_in_range, checked}
 use Rattle.rams_model.specs.Texts.{TraceLine, line_in_range, line_of, Reached, Head, Claim, may_come, line_is_served, joined, with_channel, with_line, accepted, with_reached, judged_line, judged}
 

@@ -4,9 +4,7 @@ use Rattle.std.specs.Prelude.{Result, Ok, Err, filter_map, option_and_then, opti
 use Rattle.std.specs.List.{cons_option}
 use mathlib.Core.List.{reverse_aux}
 use Rattle.std.proofs.lemmas.List.{append-nil}
-use Rattle.rams_model.specs.declared.channel.Channel.{Channel}
-use Rattle.rams_model.specs.declared.fault.LineFault.{LineFault}
-use Rattle.rams_model.specs.declared.fault.LineFault.TheVariants.{Order}
+use Rattle.rams_model.specs.declared.{Channel.Channel, LineFault.LineFault, LineFault.TheVariants.Order}
 use Rattle.rams_model.specs.Service.{Settings}
 use Rattle.rams_model.specs.Texts.{lines_of, TraceLine, line_of, Head, Reached, judged}
 use Rattle.trace_loop.specs.trace_book.trace_serving.{Serving, Stage, Turn, goes_on, ends, Outcome, ended, opening, turn, brought, after_line, after_judging, refused, after_text, after_turn, text_from, served_text, stage_after, stage_from, last_stage, IsStage, KeepsStage, StagesAreKept, taken_with, taken_from, event_at, head_of_line, head_at, channel_of_line, channel_at, EndsWith, is_missing, is_refused, IsServedSo}

@@ -1,6 +1,6 @@
 -- Which lines of a trace are taken, what they say, and what is written for their events.
 use Rattle.std.specs.Prelude.{ℕ, ◌+◌, List, [], ◌∷◌, ◌++◌, length, reverse, filter_map, Option, Some, None, option_and_then}
-use Rattle.rams_model.specs.declared.channel.Channel.{Channel}
+use Rattle.rams_model.specs.declared.Channel.{Channel}
 use Rattle.rams_model.specs.Texts.{lines_of, TraceLine, head_line, channel_line, line_of, Head}
 use Rattle.trace_loop.specs.trace_book.trace_serving.Text.{Serving, Stage, Turn, goes_on, ends, turn, opening, brought}
 

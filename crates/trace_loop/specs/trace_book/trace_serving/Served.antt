@@ -1,7 +1,6 @@
 -- How a trace is served, and what ends it.
 use Rattle.std.specs.Prelude.{◌≡◌, ◌⊎◌, ℕ, ◌+◌, ◌≤◌, false, List, ◌∷◌, [], ◌++◌, length, map, filter_map, Some, option_to_list, Ok, Err}
-use Rattle.rams_model.specs.declared.fault.LineFault.{LineFault}
-use Rattle.rams_model.specs.declared.fault.LineFault.TheVariants.{Order}
+use Rattle.rams_model.specs.declared.{LineFault.LineFault, LineFault.TheVariants.Order}
 use Rattle.rams_model.specs.Service.{Settings}
 use Rattle.rams_model.specs.Texts.{lines_of, TraceLine, end_line, Reached, judged}
 use Rattle.trace_loop.specs.trace_book.trace_serving.Text.{Serving, Stage, Outcome, ended, done, refused, too_long, brought, last_stage, served_text}

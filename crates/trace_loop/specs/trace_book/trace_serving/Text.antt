@@ -1,10 +1,8 @@
 -- The text that is written for a trace, whatever serves it.
 use Rattle.std.specs.Prelude.{ℕ, ◌+◌, nat_lt, if◌then◌else◌, Bool, List, [], ◌∷◌, ◌++◌, Option, None, Some, Result, Ok, Err, codes}
-use Rattle.rams_model.specs.declared.fault.LineFault.{LineFault}
-use Rattle.rams_model.specs.declared.mode.Mode.{Mode}
-use Rattle.rams_model.specs.declared.status.Status.{Status}
-use Rattle.rams_model.specs.declared.fault.LineFault.TheVariants as fault
-use Rattle.rams_model.specs.declared.status.Status.TheVariants.{Done, BadTrace, TooLong}
+use Rattle.rams_model.specs.declared.{LineFault.LineFault, Mode.Mode, Status.Status}
+use Rattle.rams_model.specs.declared.LineFault.TheVariants as fault
+use Rattle.rams_model.specs.declared.Status.TheVariants.{Done, BadTrace, TooLong}
 use Rattle.rams_model.specs.Service.{Settings, settings}
 use Rattle.rams_model.specs.Texts.{lines_of, TraceLine, head_line, channel_line, end_line, Reached, nothing_reached, tick_of, judged, spaced, refused_line}
 

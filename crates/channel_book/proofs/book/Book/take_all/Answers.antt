@@ -1,7 +1,7 @@
 -- One event more is taken.
 use Rattle.std.proofs.Common.{[], ◌∷◌, ◌++◌, List, length, sym, ap, ◌∙◌, subst, arith, append_assoc}
 use Rattle.std.specs.Vec.Iter.{into_iter_items}
-use Rattle.rams_model.specs.declared.event.Event.{Event}
+use Rattle.rams_model.specs.declared.Event.{Event}
 use Rattle.rams_model.specs.Service.{Answered}
 use Rattle.channel_book.specs.{HasTaken}
 use Rattle.channel_book.proofs.Stepping.{takes_on}

@@ -1,5 +1,5 @@
 use Rattle.std.proofs.Common.{◌≡◌, [], List, refl, sym, ◌∙◌, ap, subst, arith}
-use Rattle.rams_model.specs.declared.held.Held.{Held}
+use Rattle.rams_model.specs.declared.Held.{Held}
 use Rattle.channel_cache.specs.reorder_window.{Start, came, start_after, begun, came_of}
 use Rattle.channel_cache.specs.declared.intake.Intake.{Intake}
 use Rattle.channel_cache.specs.{arrival_of, Grows, Holds}

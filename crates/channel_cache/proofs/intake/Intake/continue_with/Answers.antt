@@ -1,5 +1,5 @@
 use Rattle.std.proofs.Common.{◌≡◌, max, List, ◌∙◌, ap, subst}
-use Rattle.rams_model.specs.declared.held.Held.{Held}
+use Rattle.rams_model.specs.declared.Held.{Held}
 use Rattle.channel_cache.specs.reorder_window.{start_of, Start, came, start_after}
 use Rattle.channel_cache.specs.reorder_window.Seen as windows
 use Rattle.channel_cache.specs.{arrival_of, Holds}

@@ -1,5 +1,5 @@
 use Rattle.std.proofs.Common.{◌≡◌, ℕ, List, ◌++◌, length}
-use Rattle.rams_model.specs.declared.held.Held.{Held}
+use Rattle.rams_model.specs.declared.Held.{Held}
 use Rattle.channel_cache.specs.packet_ring.Seen as rings
 use Rattle.channel_cache.specs.reorder_window.{Start}
 use Rattle.channel_cache.specs.reorder_window.Seen as windows

@@ -1,5 +1,5 @@
 use Rattle.std.proofs.Common.{length, ◌∙◌, ap, arith}
-use Rattle.rams_model.specs.declared.held.Held.{Held}
+use Rattle.rams_model.specs.declared.Held.{Held}
 use Rattle.channel_cache.specs.reorder_window.{released}
 use Rattle.channel_cache.specs.reorder_window.Seen as windows
 use Rattle.channel_cache.proofs.Settling.{grows_then, window_grows}

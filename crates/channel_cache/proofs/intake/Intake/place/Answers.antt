@@ -2,7 +2,7 @@ use Rattle.std.proofs.Common.{◌≡◌, rules, sym, ◌∙◌, ap, arith}
 use denote.Enum.Bare.{same_true}
 use Rattle.channel_cache.specs.contracts.reorder_window.window.Came.{the_type}
 use Rattle.channel_cache.specs.declared.reorder_window.window.Came.TheVariants.{Kept}
-use Rattle.rams_model.specs.declared.held.Held.{Held}
+use Rattle.rams_model.specs.declared.Held.{Held}
 use Rattle.channel_cache.specs.reorder_window.{released, arrived}
 use Rattle.channel_cache.specs.reorder_window.Seen as windows
 use Rattle.channel_cache.proofs.Settling.{grows_then, window_grows}

@@ -1,5 +1,5 @@
 use Rattle.std.proofs.Common.{◌≤◌, ◌==◌, List, refl, sym, ◌∙◌, ap, subst, arith}
-use Rattle.rams_model.specs.declared.held.Held.{Held}
+use Rattle.rams_model.specs.declared.Held.{Held}
 use Rattle.rams_model.specs.Packets.{hi, from_number}
 use Rattle.channel_cache.specs.access_index.{StandsFor}
 use Rattle.channel_cache.specs.packet_ring.Seen as rings

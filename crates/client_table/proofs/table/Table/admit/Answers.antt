@@ -1,7 +1,6 @@
 use Rattle.std.proofs.Common.{◌≡◌, List, Option, Some, is_some, refl, arith, ap, sym, ◌∙◌, subst}
 use Rattle.std.specs.Prelude.{filter}
-use Rattle.client_table.specs.declared.entry.Entry.{Entry}
-use Rattle.client_table.specs.declared.stored.Stored.{Stored}
+use Rattle.client_table.specs.declared.{entry.Entry.Entry, stored.Stored.Stored}
 use Rattle.client_table.specs.{new_entry, entry_at, seen, has_burst, is_open_at, AreJoined, times_at, AreInTime}
 use Rattle.slab.specs.Slab.{Slab, Updates}
 use Rattle.client_table.proofs.Changed.{free_key, insert_kept, shown_elsewhere, none_shown, came}

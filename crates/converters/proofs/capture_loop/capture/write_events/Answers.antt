@@ -1,7 +1,7 @@
 use Rattle.std.proofs.Common.{subst}
 use Rattle.std.specs.Io.KnownBytes.{prepend_known}
 use Rattle.std.proofs.lemmas.Result.{IfOk-weaker, IfErr-weaker}
-use Rattle.trace_loop.specs.declared.stop.Stop.TheVariants.{Read}
+use Rattle.trace_loop.specs.declared.Stop.TheVariants.{Read}
 use Rattle.trace_loop.proofs.Whole.{told_all}
 use Rattle.trace_loop.proofs.Writing.{unwritten}
 use Rattle.converters.specs.capture_loop.{HasOrder, file_text, new_clock}

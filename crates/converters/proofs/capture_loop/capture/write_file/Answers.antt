@@ -1,7 +1,7 @@
 use Rattle.std.proofs.Common.{Ok, ap}
 use Rattle.std.proofs.lemmas.Result.{err_from_is_err_and, IfErr-weaker}
 use Rattle.std.specs.Io.KnownBytes.{prepend_known}
-use Rattle.rams_model.specs.declared.status.Status.TheVariants.{Done}
+use Rattle.rams_model.specs.declared.Status.TheVariants.{Done}
 use Rattle.trace_loop.proofs.Running.{told_gives}
 use Rattle.converters.specs.capture_loop.{file_text, new_clock}
 use Rattle.trace_loop.proofs.Stopping.{err_so, only_err}

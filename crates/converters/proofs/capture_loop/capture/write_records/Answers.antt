@@ -1,7 +1,7 @@
 use Rattle.std.proofs.Common.{refl, ap, subst, ◌∙◌, arith}
 use Rattle.std.proofs.lemmas.Result.{err_from_is_err_and}
 use Rattle.std.specs.Io.KnownBytes.{prepend_known}
-use Rattle.trace_loop.specs.declared.stop.Stop.TheVariants.{Memory, Read}
+use Rattle.trace_loop.specs.declared.Stop.TheVariants.{Memory, Read}
 use Rattle.trace_loop.proofs.Reading.{rose_since}
 use Rattle.trace_loop.proofs.Running.{told_gives}
 use Rattle.trace_loop.proofs.Whole.{told_all}

@@ -2,8 +2,7 @@ use Rattle.std.proofs.Common.{◌≡◌, ℕ, ◌+◌, ◌<◌, List, ◌++◌, 
 use Rattle.std.specs.Prelude.{All, IfSome}
 use Rattle.std.proofs.lemmas.Result.{err_from_is_err_and}
 use Rattle.line_io.specs.Passes.{Passes}
-use Rattle.server_hub.specs.declared.event.Heard.{Heard}
-use Rattle.server_hub.specs.declared.event.HubEvent.{HubEvent}
+use Rattle.server_hub.specs.declared.{Heard.Heard, HubEvent.HubEvent}
 use Rattle.server_hub.specs.{event_of}
 use Rattle.trace_loop.specs.journal_book.{CanCome, HasLine, event_lines}
 use Rattle.trace_loop.specs.{StopsIn}

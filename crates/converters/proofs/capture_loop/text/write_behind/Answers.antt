@@ -3,9 +3,9 @@ use Rattle.std.proofs.lemmas.Result.{err_from_is_err_and}
 use Rattle.std.specs.Io.KnownBytes.{Appends, prepend_known}
 use Rattle.line_io.specs.Passes.{Passes}
 use Rattle.line_io.proofs.Passing.{Passes-none}
-use Rattle.rams_model.specs.declared.status.Status.TheVariants.{Done}
+use Rattle.rams_model.specs.declared.Status.TheVariants.{Done}
 use Rattle.trace_loop.specs.trace_book.trace_serving.{after_text}
-use Rattle.trace_loop.specs.declared.stop.Stop.TheVariants.{Memory}
+use Rattle.trace_loop.specs.declared.Stop.TheVariants.{Memory}
 use Rattle.trace_loop.specs.{IfBothTold, IfTold, OnlyMemoryStops}
 use Rattle.trace_loop.proofs.Reading.{either, ended_by_source, rose_since}
 use Rattle.trace_loop.proofs.Running.{told_gives}

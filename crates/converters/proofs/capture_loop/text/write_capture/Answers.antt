@@ -3,13 +3,12 @@ use Rattle.std.proofs.lemmas.Result.{err_from_is_err_and, IfOk-weaker}
 use Rattle.std.specs.Io.KnownBytes.{Appends, prepend_known}
 use Rattle.line_io.specs.Passes.{Passes}
 use Rattle.line_io.proofs.Passing.{Passes-none}
-use Rattle.rams_model.specs.declared.status.Status.TheVariants.{Done}
+use Rattle.rams_model.specs.declared.Status.TheVariants.{Done}
 use Rattle.trace_loop.specs.trace_book.trace_serving.{Outcome, refused}
-use Rattle.trace_loop.specs.declared.stop.Stop.TheVariants.{Memory}
+use Rattle.trace_loop.specs.declared.{Stop.TheVariants.Memory, head_loop.head.Head.Head}
 use Rattle.trace_loop.specs.{IfBothTold, IfTold}
 use Rattle.trace_loop.proofs.Running.{told_gives}
 use Rattle.trace_loop.proofs.Whole.{told_all}
-use Rattle.trace_loop.specs.declared.head_loop.head.Head.{Head}
 use Rattle.trace_loop.specs.head_loop.{HasRead, IsCutBefore, IsHeadOf, LeavesBehind, behind_head, head_end}
 use Rattle.converters.specs.capture_loop.{capture_text}
 use Rattle.trace_loop.proofs.Stopping.{only_err}

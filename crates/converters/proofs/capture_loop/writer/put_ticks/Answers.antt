@@ -1,6 +1,6 @@
 use Rattle.std.proofs.Common.{◌++◌, replicate, refl, sym, subst, arith}
 use Rattle.std.proofs.lemmas.Result.{err_from_is_err_and}
-use Rattle.server_hub.specs.declared.event.HubEvent.TheVariants.{Tick}
+use Rattle.server_hub.specs.declared.HubEvent.TheVariants.{Tick}
 use Rattle.trace_loop.specs.journal_book.{event_line, event_lines}
 use Rattle.trace_loop.proofs.Writing.{IsWriting, writing_begins, writing_has_room, writing_goes_on, writing_stops, writing_ends, writing_ends_steadily}
 use Rattle.trace_loop.proofs.Stopping.{err_so, only_err, together}

@@ -1,5 +1,5 @@
 use Rattle.std.proofs.Common.{◌-◌, ◌++◌, replicate}
-use Rattle.server_hub.specs.declared.event.HubEvent.TheVariants.{Tick}
+use Rattle.server_hub.specs.declared.HubEvent.TheVariants.{Tick}
 use Rattle.trace_loop.specs.journal_book.{event_lines}
 use Rattle.trace_loop.proofs.Writing.{IsWriting}
 use Rattle.converters.proofs.capture_loop.writer.put_ticks.Given as goal

@@ -1,6 +1,6 @@
 use Rattle.std.proofs.Common.{List, ℕ, subst}
 use Rattle.std.specs.Io.KnownBytes.{prepend_known}
-use Rattle.line_io.specs.declared.reader.Next.{Next}
+use Rattle.line_io.specs.declared.Next.{Next}
 use Rattle.line_io.specs.{TakesNext}
 use Rattle.converters.specs.description_loop.{Says}
 use Rattle.converters.proofs.description_loop.NextLines.{line_says, long_says, end_says}

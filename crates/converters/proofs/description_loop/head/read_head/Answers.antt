@@ -1,10 +1,9 @@
 use Rattle.std.proofs.Common.{sym, subst}
 use Rattle.std.specs.Io.KnownBytes.{prepend_known}
-use Rattle.rams_model.specs.declared.mode.Mode.TheVariants.{Describe}
+use Rattle.rams_model.specs.declared.Mode.TheVariants.{Describe}
 use Rattle.rams_model.specs.Texts.{Reached, nothing_reached}
 use Rattle.trace_loop.specs.{IfBothTold}
-use Rattle.converters.specs.declared.description_loop.said.Head.{Head}
-use Rattle.converters.specs.declared.description_loop.said.Said.{Said}
+use Rattle.converters.specs.declared.{description_loop.said.Head.Head, description_loop.said.Said.Said}
 use Rattle.converters.specs.description_loop.{HasRead, IsNext}
 use Rattle.converters.proofs.description_loop.Heads.{reads_no_first, reads_no_second, reads_no_third, reads_head}
 use Rattle.converters.proofs.description_loop.head.read_head.Goals as goal

@@ -1,6 +1,5 @@
 use Rattle.std.proofs.Common.{◌≡◌, ℕ, List, [], ◌++◌, ap, ◌∙◌}
-use Rattle.rams_model.specs.declared.channel.Channel.{Channel}
-use Rattle.rams_model.specs.declared.status.Status.TheVariants.{Done}
+use Rattle.rams_model.specs.declared.{Channel.Channel, Status.TheVariants.Done}
 use Rattle.rams_model.specs.Texts.{head_line, channel_line, end_line, line_text}
 use Rattle.trace_loop.specs.trace_book.trace_serving.{ended}
 use Rattle.trace_loop.specs.head_loop.{with_feed}

@@ -1,5 +1,5 @@
 use Rattle.std.proofs.Common.{Result, sym, subst}
-use Rattle.rams_model.specs.declared.fault.LineFault.{LineFault}
+use Rattle.rams_model.specs.declared.LineFault.{LineFault}
 use Rattle.rams_model.specs.Texts.{TraceLine, Reached}
 use Rattle.converters.specs.description_loop.{SaysOf}
 use Rattle.converters.proofs.description_loop.said.judge_line.Goals as goal

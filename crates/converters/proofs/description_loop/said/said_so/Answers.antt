@@ -1,6 +1,6 @@
 use Rattle.std.proofs.Common.{Ok, sym, subst}
 use Rattle.rams_model.specs.Texts.{tick_of}
-use Rattle.trace_text.specs.declared.line.Judged.{Judged}
+use Rattle.trace_text.specs.declared.Judged.{Judged}
 use Rattle.trace_text.specs.{told, IsSettled}
 use Rattle.converters.specs.description_loop.{SaysOf}
 use Rattle.converters.proofs.description_loop.said.said_so.Goals as goal

@@ -1,5 +1,5 @@
 use Rattle.std.proofs.Common.{ap, ◌∙◌}
-use Rattle.receiver_core.specs.declared.shown.Shown.{Shown}
+use Rattle.receiver_core.specs.declared.Shown.{Shown}
 use Rattle.meet_loop.specs.world_laws.{note}
 use Rattle.meet_loop.specs.declared.world_laws.world.WorldItem.TheVariants as item
 use Rattle.meet_loop.specs.world_net.{show_at}

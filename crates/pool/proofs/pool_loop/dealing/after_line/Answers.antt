@@ -2,7 +2,7 @@ use Rattle.std.proofs.Common.{sym, subst, refl}
 use Rattle.rams_model.specs.Texts.{tick_of}
 use Rattle.trace_loop.specs.trace_book.{run}
 use Rattle.trace_loop.specs.trace_book.trace_serving.{after_line, brought}
-use Rattle.trace_text.specs.declared.line.Judged.{Judged}
+use Rattle.trace_text.specs.declared.Judged.{Judged}
 use Rattle.trace_text.specs.{told, IsSettled}
 use Rattle.trace_loop.specs.declared.whole_trace.Does.TheVariants.{GoesOn}
 use Rattle.pool.specs.pool_loop.{pool, Comes, Took}

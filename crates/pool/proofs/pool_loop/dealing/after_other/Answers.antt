@@ -1,12 +1,12 @@
 use Rattle.std.proofs.Common.{ℕ, List, ◌∙◌, sym, subst, refl}
 use Rattle.rams_model.specs.Texts.{bytes_in, live_line, feedback_line, tick_line}
-use Rattle.rams_model.specs.declared.event.Event.TheVariants as event
+use Rattle.rams_model.specs.declared.Event.TheVariants as event
 use Rattle.std.proofs.lemmas.Result.{IfOk-weaker}
 use Rattle.server_hub.specs.{after_event_of}
-use Rattle.server_hub.specs.declared.event.HubEvent.TheVariants.{Live, Feedback, Tick}
+use Rattle.server_hub.specs.declared.HubEvent.TheVariants.{Live, Feedback, Tick}
 use Rattle.trace_loop.specs.trace_book.{run}
 use Rattle.trace_loop.specs.trace_book.trace_serving.{after_line, brought}
-use Rattle.trace_text.specs.declared.line.Line.{Line}
+use Rattle.trace_text.specs.declared.Line.{Line}
 use Rattle.trace_text.specs.{shown}
 use Rattle.trace_loop.specs.declared.whole_trace.Does.TheVariants.{GoesOn, Ends}
 use Rattle.pool.specs.declared.pool_loop.routes.Route.TheVariants.{To}

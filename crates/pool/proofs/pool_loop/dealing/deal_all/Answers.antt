@@ -1,6 +1,6 @@
 use Rattle.std.proofs.Common.{◌∙◌, refl, arith}
 use Rattle.std.proofs.lemmas.List.{length-set, length-map}
-use Rattle.rams_model.specs.declared.event.Event.TheVariants.{Tick}
+use Rattle.rams_model.specs.declared.Event.TheVariants.{Tick}
 use Rattle.server_hub.specs.{with_event}
 use Rattle.pool.specs.pool_loop.{served_so, all_served}
 use Rattle.pool.proofs.pool_loop.Changing.{ticks_one}

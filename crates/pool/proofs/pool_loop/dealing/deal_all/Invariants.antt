@@ -1,5 +1,5 @@
 use Rattle.std.proofs.Common.{◌≡◌, length}
-use Rattle.rams_model.specs.declared.event.Event.TheVariants.{Tick}
+use Rattle.rams_model.specs.declared.Event.TheVariants.{Tick}
 use Rattle.server_hub.specs.{with_event}
 use Rattle.pool.specs.pool_loop.{all_served}
 use Rattle.pool.proofs.pool_loop.Halves.{Half}

@@ -1,7 +1,7 @@
 -- Where no memory is left, what waits is as it was.
 use Rattle.std.proofs.Common.{ℕ, List, ◌++◌, Result, IfErr, ◌∙◌, sym, subst}
 use Rattle.std.proofs.lemmas.Result.{err_from_is_err_and}
-use Rattle.trace_loop.specs.declared.stop.Stop.{Stop}
+use Rattle.trace_loop.specs.declared.Stop.{Stop}
 use Rattle.trace_loop.specs.{StopsIn}
 use Rattle.trace_loop.proofs.Writing.{unwritten}
 use Rattle.pool.specs.pool_loop.{all_left, route_text}

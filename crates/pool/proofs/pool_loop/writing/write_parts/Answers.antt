@@ -3,7 +3,7 @@ use Rattle.std.proofs.Common.{ℕ, List, [], ◌++◌, ◌∙◌, Result, IfErr,
 use Rattle.std.proofs.lemmas.Result.{err_from_is_err_and, on_ok_weaker, IfErr-weaker}
 use Rattle.channel_book.specs.{Kept}
 use Rattle.trace_loop.specs.trace_book.{first_line}
-use Rattle.trace_loop.specs.declared.stop.Stop.{Stop}
+use Rattle.trace_loop.specs.declared.Stop.{Stop}
 use Rattle.trace_loop.specs.{StopsIn}
 use Rattle.trace_loop.proofs.Writing.{unwritten, writing_begins, writing_has_room, writing_goes_on, writing_stops}
 use Rattle.pool.specs.pool_loop.{AllCanRender, all_left, closing_text, numbers_of, pooled_text, walk_text}

@@ -1,7 +1,7 @@
 use Rattle.std.proofs.Common.{[], ◌∷◌, ◌++◌, List, sym, ap, ◌∙◌, subst, append_assoc}
 use Rattle.std.specs.Prelude.{Result}
 use Rattle.std.specs.Vec.Iter.{into_iter_items}
-use Rattle.ram_io.specs.declared.failed.NoMemory.{NoMemory}
+use Rattle.ram_io.specs.declared.NoMemory.{NoMemory}
 use Rattle.channel_book.specs.{Kept}
 use Rattle.pool.specs.link_pool.{Claimer}
 use Rattle.pool.specs.declared.pool_run.lane.Ran.{Ran}

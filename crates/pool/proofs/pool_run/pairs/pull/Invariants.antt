@@ -1,7 +1,7 @@
 use Rattle.std.proofs.Common.{◌≡◌, ◌++◌, List}
 use Rattle.std.specs.Prelude.{Result}
 use Rattle.std.specs.Vec.Iter.{into_iter_items}
-use Rattle.ram_io.specs.declared.failed.NoMemory.{NoMemory}
+use Rattle.ram_io.specs.declared.NoMemory.{NoMemory}
 use Rattle.pool.specs.declared.pool_run.lane.Ran.{Ran}
 use Rattle.pool.specs.pool_run.{ArePulled}
 use Rattle.pool.proofs.pool_run.pairs.pull.Given as goal

@@ -1,6 +1,6 @@
 -- What becomes of a packet with room.
 use Rattle.std.proofs.Common.{◌≡◌, true, false, List, sym, ap, ◌∙◌, subst, arith}
-use Rattle.rams_model.specs.declared.reception.MediaCame.TheVariants.{Took, Twice}
+use Rattle.rams_model.specs.declared.MediaCame.TheVariants.{Took, Twice}
 use Rattle.rams_model.specs.Receiver.{Piece, Playing, has_piece, came, with_arrival}
 use Rattle.receiver_core.specs.{pieces_of, Rise}
 use Rattle.receiver_core.proofs.Coming.{came_twice, came_took, kept_twice, kept_took}

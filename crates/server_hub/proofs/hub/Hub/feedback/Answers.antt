@@ -1,5 +1,5 @@
 use Rattle.std.proofs.Common.{sym, subst, arith}
-use Rattle.rams_model.specs.declared.event.Event.TheVariants.{Feedback}
+use Rattle.rams_model.specs.declared.Event.TheVariants.{Feedback}
 use Rattle.server_hub.specs.{StandsFor}
 use Rattle.server_hub.specs.Seen.{Seen}
 use Rattle.server_hub.proofs.Keeping.{written, kept, settings_kept, place_within, one_steps, one_is, none_steps, none_is}

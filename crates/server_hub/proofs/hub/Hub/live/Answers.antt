@@ -1,5 +1,5 @@
 use Rattle.std.proofs.Common.{◌^◌, sym, ap, subst, arith}
-use Rattle.rams_model.specs.declared.event.Event.TheVariants.{Live}
+use Rattle.rams_model.specs.declared.Event.TheVariants.{Live}
 use Rattle.server_hub.specs.{StandsFor}
 use Rattle.server_hub.specs.Seen.{Seen}
 use Rattle.server_hub.proofs.Keeping.{written, kept, settings_kept, all_few, place_within, one_steps, one_is, none_steps, none_is}

@@ -1,5 +1,5 @@
 use Rattle.std.proofs.Common.{◌∷◌, ◌++◌, arith}
-use Rattle.rams_model.specs.declared.note.Note.TheVariants.{Burst}
+use Rattle.rams_model.specs.declared.Note.TheVariants.{Burst}
 use Rattle.rams_model.specs.Service.{tick, began, noted}
 use Rattle.service_laws.proofs.book_laws.Moments.{legal_moment}
 use Rattle.service_laws.proofs.book_laws.InTicks.{runs_covered, run_covered, runs_first}

@@ -1,4 +1,4 @@
-use Rattle.rams_model.specs.declared.note.Note.TheVariants.{Accept, Update, Again}
+use Rattle.rams_model.specs.declared.Note.TheVariants.{Accept, Update, Again}
 use Rattle.service_laws.specs.book_laws.Refusals.{table, Applies}
 use Rattle.service_laws.proofs.book_laws.Moments.{legal_moment}
 use Rattle.service_laws.proofs.book_laws.FirstLines.{one_first}

@@ -1,6 +1,6 @@
 use Rattle.std.proofs.Common.{false, ◌∷◌, ap, sym, ◌∙◌, subst}
 use Rattle.std.specs.Prelude.{All, is_some}
-use Rattle.rams_model.specs.declared.note.Note.TheVariants.{Burst}
+use Rattle.rams_model.specs.declared.Note.TheVariants.{Burst}
 use Rattle.rams_model.specs.Laws.{source, is_accept_of, is_end_of}
 use Rattle.rams_model.specs.Service.{noted, History}
 use Rattle.rams_model.proofs.Since.{stands_from, stands_to}

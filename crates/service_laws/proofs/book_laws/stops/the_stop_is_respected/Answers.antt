@@ -1,5 +1,5 @@
 use Rattle.std.proofs.Common.{subst}
-use Rattle.rams_model.specs.declared.note.Cause.TheVariants.{Stopped}
+use Rattle.rams_model.specs.declared.Cause.TheVariants.{Stopped}
 use Rattle.service_laws.specs.book_laws.{first_sendings}
 use Rattle.rams_model.proofs.Legal.{IsLegal}
 use Rattle.service_laws.proofs.book_laws.Moments.{legal_moment}

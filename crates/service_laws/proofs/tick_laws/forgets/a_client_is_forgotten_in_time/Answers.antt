@@ -1,5 +1,5 @@
 use Rattle.std.proofs.Common.{◌∷◌}
-use Rattle.rams_model.specs.declared.note.Note.TheVariants.{Forgot}
+use Rattle.rams_model.specs.declared.Note.TheVariants.{Forgot}
 use Rattle.rams_model.specs.Service.{noted}
 use Rattle.service_laws.proofs.book_laws.Moments.{legal_moment}
 use Rattle.service_laws.proofs.tick_laws.Forgetting.{was_idle, in_time}

@@ -1,5 +1,5 @@
 use Rattle.std.proofs.Common.{◌≡◌, ℕ, List, Ok, [], ◌∷◌, ◌++◌, ap, sym, subst, ◌∙◌, arith}
-use Rattle.rams_model.specs.declared.channel.Channel.{Channel}
+use Rattle.rams_model.specs.declared.Channel.{Channel}
 use Rattle.rams_model.specs.Texts.{channel_line}
 use Rattle.takeover.specs.declared.standby.fault.Step.TheVariants.{GoesOn}
 use Rattle.takeover.specs.standby.{Stands, Took, turn_of}

@@ -2,7 +2,7 @@ use Rattle.std.proofs.Common.{◌≡◌, true, sym, subst}
 use Rattle.std.specs.Prelude.{is_ok}
 use Rattle.rams_model.specs.Texts.{Reached, accepted, tick_of}
 use Rattle.trace_text.specs.{IsSettled, shown, told}
-use Rattle.trace_text.specs.declared.line.Judged.{Judged}
+use Rattle.trace_text.specs.declared.Judged.{Judged}
 use Rattle.takeover.specs.standby.{Stands, Took, turn_of}
 use Rattle.takeover.proofs.standby.Turning.{may_be}
 use Rattle.takeover.proofs.standby.line.after_line.Goals as goal

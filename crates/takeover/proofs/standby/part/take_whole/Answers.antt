@@ -3,8 +3,7 @@ use Rattle.std.proofs.lemmas.Result.{err_from_is_err_and}
 use Rattle.trace_loop.specs.trace_book.trace_serving.{turn}
 use Rattle.trace_loop.specs.trace_book.{run}
 use Rattle.trace_loop.proofs.LongLines.{long_refused}
-use Rattle.takeover.specs.declared.standby.fault.FeedFault.{FeedFault}
-use Rattle.takeover.specs.declared.standby.fault.Step.{Step}
+use Rattle.takeover.specs.declared.{standby.fault.FeedFault.FeedFault, standby.fault.Step.Step}
 use Rattle.takeover.specs.standby.{Stands, Took}
 use Rattle.takeover.proofs.standby.part.take_whole.Goals as goal
 

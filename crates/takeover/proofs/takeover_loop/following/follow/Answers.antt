@@ -1,7 +1,6 @@
 use Rattle.std.proofs.Common.{rules, ◌≡◌, ℕ, List, Some, Result, IfErr, sym, subst, ◌∙◌, arith}
 use Rattle.std.proofs.lemmas.Result.{err_from_is_err_and}
-use Rattle.trace_loop.specs.declared.stop.Stop.{Stop}
-use Rattle.trace_loop.specs.declared.stop.Stop.TheVariants.{Memory}
+use Rattle.trace_loop.specs.declared.{Stop.Stop, Stop.TheVariants.Memory}
 use Rattle.serve_loop.specs.{OnlyMemoryStops, StopsIn}
 use Rattle.takeover.specs.standby.standby_book.{followed_text}
 use Rattle.takeover.specs.takeover_loop.{FollowsWithin, HasFollowed, IsFollowing}

@@ -1,7 +1,7 @@
 use Rattle.std.proofs.Common.{◌≡◌, ℕ, List, Bool, take, Result, IfErr, Some, sym, subst, ◌∙◌}
 use Rattle.std.proofs.lemmas.Result.{err_from_is_err_and}
 use Rattle.line_io.specs.Passes.{Passes}
-use Rattle.trace_loop.specs.declared.stop.Stop.{Stop}
+use Rattle.trace_loop.specs.declared.Stop.{Stop}
 use Rattle.serve_loop.specs.{StopsIn}
 use Rattle.serve_loop.proofs.Steps.{StopsIn-then, each_error}
 use Rattle.takeover.specs.standby.standby_book.{followed_text}

@@ -1,6 +1,6 @@
 use Rattle.std.proofs.Common.{rules, ◌+◌, [], ◌++◌, Bool, length, take, Result, IfErr, refl, sym, subst, ◌∙◌, arith}
 use Rattle.std.proofs.lemmas.Result.{err_from_is_err_and}
-use Rattle.trace_loop.specs.declared.stop.Stop.{Stop}
+use Rattle.trace_loop.specs.declared.Stop.{Stop}
 use Rattle.serve_loop.specs.{OnlyMemoryStops, StopsIn}
 use Rattle.takeover.specs.standby.{first_part}
 use Rattle.takeover.proofs.standby.Pieces.{first_some}

@@ -1,8 +1,7 @@
 use Rattle.std.proofs.Common.{◌++◌, Result, IfErr, sym, subst}
 use Rattle.std.proofs.lemmas.Result.{err_from_is_err_and}
-use Rattle.rams_model.specs.declared.status.Status.{Status}
-use Rattle.trace_loop.specs.declared.stop.Stop.{Stop}
-use Rattle.trace_loop.specs.declared.stop.Stop.TheVariants.{Memory}
+use Rattle.rams_model.specs.declared.Status.{Status}
+use Rattle.trace_loop.specs.declared.{Stop.Stop, Stop.TheVariants.Memory}
 use Rattle.trace_loop.proofs.Writing.{unwritten}
 use Rattle.serve_loop.specs.{StopsIn}
 use Rattle.takeover.specs.declared.standby.fault.FeedFault.{FeedFault}

@@ -1,9 +1,9 @@
 use Rattle.std.proofs.Common.{◌≡◌, ◌+◌, [], Bool, not, length, take, Result, Ok, IfErr, refl, sym, ap, subst, ◌∙◌}
 use Rattle.std.specs.Prelude.{IfOk, OnOk, nat_lt}
 use Rattle.std.proofs.lemmas.Result.{err_from_is_err_and, IfErr-weaker}
-use Rattle.rams_model.specs.declared.status.Status.{Status}
+use Rattle.rams_model.specs.declared.Status.{Status}
 use Rattle.trace_loop.specs.journal_book.{events_of}
-use Rattle.trace_loop.specs.declared.stop.Stop.{Stop}
+use Rattle.trace_loop.specs.declared.Stop.{Stop}
 use Rattle.serve_loop.specs.{HasRoom, OnlyMemoryStops}
 use Rattle.serve_loop.proofs.Rooms.{only_weaker, quiet_room, wire_none}
 use Rattle.serve_loop.proofs.Steps.{where_ok}

@@ -1,6 +1,6 @@
 use Rattle.std.proofs.Common.{◌+◌, List, [], ◌++◌, take, refl, ap, sym, subst, ◌∙◌, arith}
 use Rattle.std.proofs.lemmas.Result.{err_from_is_err_and}
-use Rattle.server_hub.specs.declared.event.HubEvent.{HubEvent}
+use Rattle.server_hub.specs.declared.HubEvent.{HubEvent}
 use Rattle.trace_loop.specs.journal_book.{behind, event_lines, sent_for, tick_at}
 use Rattle.trace_loop.proofs.Stopping.{err_so, only_err}
 use Rattle.serve_loop.specs.{Broken, HasRoom, IsBetween, IsOutStop}

@@ -1,9 +1,9 @@
 use Rattle.std.proofs.Common.{rules, ℕ, ◌+◌, List, [], ◌∷◌, ◌++◌, Option, take, Result, IfErr, sym, ap, subst, ◌∙◌, append-nil}
 use Rattle.std.proofs.lemmas.Result.{err_from_is_err_and}
-use Rattle.server_hub.specs.declared.event.HubEvent.{HubEvent}
+use Rattle.server_hub.specs.declared.HubEvent.{HubEvent}
 use Rattle.server_hub.specs.{event_of}
 use Rattle.trace_loop.specs.journal_book.{behind}
-use Rattle.trace_loop.specs.declared.stop.Stop.{Stop}
+use Rattle.trace_loop.specs.declared.Stop.{Stop}
 use Rattle.trace_loop.proofs.Stopping.{err_so}
 use Rattle.serve_loop.specs.{Broken, HasRoom, IsBetween, IsOutStop, OnlyMemoryStops}
 use Rattle.serve_loop.proofs.Between.{between_ready, between_after}

@@ -1,10 +1,9 @@
 use Rattle.std.proofs.Common.{rules, ◌≡◌, ℕ, ◌+◌, length, refl, arith, List, [], ◌++◌, take, Option, None, Some, Result, Err, IfErr, ap, sym, subst, ◌∙◌}
 use Rattle.std.proofs.lemmas.Result.{err_from_is_err_and}
 use Rattle.ram_io.specs.{Outgoing}
-use Rattle.server_hub.specs.declared.event.HubEvent.{HubEvent}
+use Rattle.server_hub.specs.declared.HubEvent.{HubEvent}
 use Rattle.trace_loop.specs.journal_book.{behind}
-use Rattle.trace_loop.specs.declared.stop.Stop.{Stop}
-use Rattle.trace_loop.specs.declared.stop.Stop.TheVariants.{Wire}
+use Rattle.trace_loop.specs.declared.{Stop.Stop, Stop.TheVariants.Wire}
 use Rattle.trace_loop.proofs.Stopping.{err_so, only_err}
 use Rattle.serve_loop.specs.{Broken, HasRoom, IsOutStop, next_events}
 use Rattle.serve_loop.proofs.Between.{told_next, nothing_next, datagram_next}

@@ -1,7 +1,7 @@
 use Rattle.std.proofs.Common.{rules, ◌≡◌, ◌+◌, ◌-◌, [], take, drop, option_map, Result, IfErr, refl, sym, ap, subst, ◌∙◌, arith}
 use Rattle.std.proofs.lemmas.Result.{err_from_is_err_and}
 use Rattle.trace_loop.specs.journal_book.{due_after, events_of, next_moment}
-use Rattle.trace_loop.specs.declared.stop.Stop.{Stop}
+use Rattle.trace_loop.specs.declared.Stop.{Stop}
 use Rattle.serve_loop.specs.{Broken, HasRoom, OnlyMemoryStops}
 use Rattle.serve_loop.proofs.Between.{told_moment}
 use Rattle.takeover.specs.declared.takeover_loop.turns.Pace.{Pace}

@@ -5,10 +5,9 @@ use Rattle.std.specs.Global.{Vec}
 use Rattle.std.specs.Vec.Iter.{into_iter_items}
 use Rattle.std.proofs.lemmas.List.{map-append}
 use Rattle.std.proofs.lemmas.List.Elements.{All-same, All-cons}
-use Rattle.ram_io.specs.declared.failed.NoMemory.{NoMemory}
+use Rattle.ram_io.specs.declared.NoMemory.{NoMemory}
 use Rattle.channel_book.specs.channel_lock.{Known}
-use Rattle.threads_loop.specs.declared.session_worker.live_writer.writer.Placed.{Placed}
-use Rattle.threads_loop.specs.declared.session_worker.worker.Worker.{Worker}
+use Rattle.threads_loop.specs.declared.{session_worker.live_writer.writer.Placed.Placed, session_worker.worker.Worker.Worker}
 use Rattle.threads_loop.specs.session_worker.{queue_of, drawn_in, drawn_by}
 use Rattle.threads_loop.proofs.session_worker.Queues.{map_reversed}
 use Rattle.threads_loop.proofs.session_worker.gather.take_apart.Goals as goal

@@ -4,8 +4,8 @@ use Rattle.std.specs.Global.{Vec}
 use Rattle.std.proofs.lemmas.List.{length-map}
 use Rattle.std.proofs.lemmas.List.Elements.{All-map}
 use Rattle.std.proofs.lemmas.Result.{IfOk-weaker}
-use Rattle.rams_model.specs.declared.event.Event.{Event}
-use Rattle.channel_book.specs.declared.entry.Entry.{Entry}
+use Rattle.rams_model.specs.declared.Event.{Event}
+use Rattle.channel_book.specs.declared.Entry.{Entry}
 use Rattle.channel_book.specs.{calls_by, IsInterleaving, IsLegal, Kept}
 use Rattle.channel_book.specs.channel_lock.{Known, IsOfPass, NotAmong}
 use Rattle.rams_model.specs.Service.{Settings}

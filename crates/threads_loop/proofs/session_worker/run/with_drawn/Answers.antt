@@ -1,5 +1,5 @@
 use Rattle.std.proofs.Common.{List, map, sym, subst}
-use Rattle.channel_book.specs.declared.entry.Entry.{Entry}
+use Rattle.channel_book.specs.declared.Entry.{Entry}
 use Rattle.threads_loop.specs.session_worker.{AreQueues, queue_of}
 use Rattle.threads_loop.proofs.session_worker.run.with_drawn.Goals as goal
 

@@ -3,7 +3,7 @@ use Rattle.std.proofs.Common.{◌≡◌, ◌∙◌, ℕ, ◌^◌, ◌<◌, ◌�
 use Rattle.std.proofs.Crossing.{crosses}
 use denote.Param.Send.{sendable}
 use Rattle.std.proofs.lemmas.List.{length-map, get_or-map}
-use Rattle.rams_model.specs.declared.event.Event.{Event}
+use Rattle.rams_model.specs.declared.Event.{Event}
 use Rattle.threads_loop.specs.declared.session_worker.worker.Worker.{Worker}
 use Rattle.threads_loop.specs.session_worker.{HasWorked, events_of}
 use Rattle.threads_loop.proofs.session_worker.Passes.{ready_at}

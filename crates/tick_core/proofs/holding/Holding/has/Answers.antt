@@ -1,5 +1,5 @@
 use Rattle.std.proofs.Common.{List, is_some, ap, ◌∙◌}
-use Rattle.rams_model.specs.declared.held.Held.{Held}
+use Rattle.rams_model.specs.declared.Held.{Held}
 use Rattle.channel_cache.specs.{ring_of}
 use Rattle.channel_cache.specs.packet_ring.{packet_of}
 use Rattle.tick_core.proofs.Within.{told_above, told_below}

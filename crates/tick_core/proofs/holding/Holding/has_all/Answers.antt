@@ -1,5 +1,5 @@
 use Rattle.std.proofs.Common.{List, subst}
-use Rattle.rams_model.specs.declared.held.Held.{Held}
+use Rattle.rams_model.specs.declared.Held.{Held}
 use Rattle.channel_cache.specs.{ring_of}
 use Rattle.tick_core.specs.{AreHeld}
 use Rattle.tick_core.proofs.Within.{all_there}

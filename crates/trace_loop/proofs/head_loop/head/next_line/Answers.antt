@@ -1,6 +1,6 @@
 use Rattle.std.proofs.Common.{ℕ, List, subst}
 use Rattle.std.specs.Io.KnownBytes.{prepend_known}
-use Rattle.line_io.specs.declared.reader.Next.{Next}
+use Rattle.line_io.specs.declared.Next.{Next}
 use Rattle.line_io.specs.{TakesNext}
 use Rattle.trace_loop.specs.trace_book.trace_serving.{turn}
 use Rattle.trace_loop.specs.trace_book.{run}

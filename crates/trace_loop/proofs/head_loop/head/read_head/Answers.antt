@@ -1,10 +1,9 @@
 use Rattle.std.proofs.Common.{◌≡◌, Err, ap, sym, ◌∙◌, subst, arith}
 use Rattle.std.proofs.lemmas.Result.{err_from_is_err_and}
 use Rattle.std.specs.Io.KnownBytes.{prepend_known}
-use Rattle.rams_model.specs.declared.mode.Mode.TheVariants.{Serve}
-use Rattle.trace_loop.specs.declared.stop.Stop.TheVariants.{Read}
+use Rattle.rams_model.specs.declared.Mode.TheVariants.{Serve}
+use Rattle.trace_loop.specs.declared.{stop.Stop.TheVariants.Read, head_loop.head.HeadLine.HeadLine}
 use Rattle.trace_loop.specs.journal_book.{starting}
-use Rattle.trace_loop.specs.declared.head_loop.head.HeadLine.{HeadLine}
 use Rattle.trace_loop.specs.head_loop.{IsHeadOf, StandsAfter}
 use Rattle.trace_loop.proofs.Running.{told_gives}
 use Rattle.trace_loop.proofs.head_loop.HeadLines.{IsWhole, TakesLine, head_is, reading_begins, reading_ends, reading_goes_on, reading_refuses, reading_told}

@@ -1,5 +1,5 @@
 -- The definitions compute the journal and its datagrams.
-use Rattle.rams_model.specs.declared.mode.Mode.TheVariants.{Serve}
+use Rattle.rams_model.specs.declared.Mode.TheVariants.{Serve}
 use Rattle.trace_loop.proofs.journal_book.EventLines.{no_feed}
 use Rattle.std.proofs.Common.{Some, ◌≡◌, ℕ, List, [], ◌∷◌, refl, codes}
 use Rattle.std.specs.Fmt.{digits}

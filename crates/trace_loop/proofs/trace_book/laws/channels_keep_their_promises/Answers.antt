@@ -1,10 +1,8 @@
 -- Each law of every lawful book, at the moments of a channel.
 use Rattle.std.proofs.Common.{◌≡◌, ℕ, List, [], ◌∷◌, ◌++◌, ⊎_elim, ap, sym, ◌∙◌, subst}
 use Rattle.std.specs.Prelude.{All, Ok}
-use Rattle.rams_model.specs.declared.event.Event.{Event}
+use Rattle.rams_model.specs.declared.{Event.Event, Event.TheVariants.Tick, Note.TheVariants.Repair}
 use Rattle.rams_model.specs.Service.{checked, tick, began, noted, History, Book, history_of, events_of, IsLawful}
-use Rattle.rams_model.specs.declared.event.Event.TheVariants.{Tick}
-use Rattle.rams_model.specs.declared.note.Note.TheVariants.{Repair}
 use Rattle.service_laws.specs.book_laws.{LastAccept, is_tick_start, BeginsWithATick, notes_of}
 use Rattle.service_laws.proofs.book_laws.OneLawful.{stands_in}
 use Rattle.rams_model.specs.Laws.{NoneIs}

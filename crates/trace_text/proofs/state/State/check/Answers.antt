@@ -1,7 +1,5 @@
 use Rattle.std.proofs.Common.{Bool, Ok, Err, Result, sym, ap, ◌∙◌, if◌then◌else◌}
-use Rattle.rams_model.specs.declared.fault.ConfigFault.{ConfigFault}
-use Rattle.rams_model.specs.declared.fault.LineFault.{LineFault}
-use Rattle.rams_model.specs.declared.fault.LineFault.TheVariants.{Twice}
+use Rattle.rams_model.specs.declared.{ConfigFault.ConfigFault, LineFault.LineFault, LineFault.TheVariants.Twice}
 use Rattle.rams_model.specs.Service.{Settings, settings}
 use Rattle.trace_text.proofs.Checks.{settled_range, settled_rule, settled_ok}
 use Rattle.trace_text.proofs.state.State.check.Goals as goal

@@ -1,6 +1,6 @@
 use Rattle.std.proofs.Common.{sym, subst, []}
 use Rattle.circular_buffer.specs.Buffer.{Buffer}
-use Rattle.rams_model.specs.declared.held.Held.{Held}
+use Rattle.rams_model.specs.declared.Held.{Held}
 use Rattle.channel_cache.specs.packet_ring.{IsRing, StandsFor}
 use Rattle.channel_cache.proofs.packet_ring.Ends.{nothing_stands}
 use Rattle.channel_cache.proofs.packet_ring.Following.{empty_is_ring}

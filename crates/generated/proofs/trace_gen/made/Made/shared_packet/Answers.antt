@@ -1,5 +1,5 @@
 use Rattle.std.proofs.Common.{◌≡◌, ℕ, ◌+◌, ◌*◌, ◌<◌, List, refl, sym, ap, ◌∙◌, subst, arith}
-use Rattle.rams_model.specs.declared.event.Event.TheVariants.{Live}
+use Rattle.rams_model.specs.declared.Event.TheVariants.{Live}
 use Rattle.generated.specs.trace_gen.{Place, state, draws_before, packet, IsReady}
 use Rattle.generated.proofs.trace_gen.Drawing.{draws_in, draws_after}
 use Rattle.generated.proofs.trace_gen.Texts.{fits, first_is, rest_is, text_is}

@@ -1,5 +1,5 @@
 use Rattle.std.proofs.Common.{ℕ, List, refl, ap, ◌∙◌}
-use Rattle.server_hub.specs.declared.event.HubEvent.TheVariants.{Feedback}
+use Rattle.server_hub.specs.declared.HubEvent.TheVariants.{Feedback}
 use Rattle.server_hub.specs.{told}
 use Rattle.meet_loop.specs.world_laws.{serving}
 use Rattle.meet_loop.specs.world_laws.World.{Datagram}

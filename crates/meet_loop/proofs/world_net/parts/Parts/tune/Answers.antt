@@ -1,9 +1,8 @@
 use Rattle.std.proofs.Common.{◌≡◌, ℕ, ◌&&◌, cond, eqb, Some, length, sym, ap, ◌∙◌}
-use Rattle.rams_model.specs.declared.channel.Channel.{Channel}
+use Rattle.rams_model.specs.declared.{Channel.Channel, Tuned.Tuned}
 use Rattle.rams_model.specs.Receiver.{request_datagram}
 use Rattle.receiver_core.specs.{just_tuned}
 use Rattle.rams_model.specs.Service.{Settings}
-use Rattle.rams_model.specs.declared.reception.Tuned.{Tuned}
 use Rattle.server_hub.specs.Served.{Served}
 use Rattle.server_hub.specs.{channel_of}
 use Rattle.meet_loop.specs.world_net.{kept_of, at_pair}

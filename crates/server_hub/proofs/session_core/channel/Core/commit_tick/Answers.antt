@@ -1,5 +1,5 @@
 use Rattle.std.specs.Prelude.{◌∷◌}
-use Rattle.rams_model.specs.declared.event.Event.TheVariants.{Tick}
+use Rattle.rams_model.specs.declared.Event.TheVariants.{Tick}
 use Rattle.server_hub.proofs.session_core.Planned.{of_core, core_bounded}
 use Rattle.server_hub.proofs.session_core.channel.Core.commit_tick.Goals as goal
 

@@ -1,6 +1,6 @@
 use Rattle.std.proofs.Common.{◌≡◌, ◌∷◌, sym, subst}
 use Rattle.std.proofs.lemmas.Result.{IfOk-weaker}
-use Rattle.rams_model.specs.declared.event.Event.TheVariants.{Feedback}
+use Rattle.rams_model.specs.declared.Event.TheVariants.{Feedback}
 use Rattle.rams_model.specs.Service.{Answered, answer}
 use Rattle.channel_parts.specs.{StandsFor}
 use Rattle.server_hub.specs.session_core.{SendsShort}

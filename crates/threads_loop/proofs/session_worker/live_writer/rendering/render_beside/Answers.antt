@@ -3,9 +3,8 @@ use Rattle.std.proofs.Common.{◌≡◌, ℕ, List, [], ◌∷◌, map, refl, ap
 use Rattle.std.specs.Prelude.{Result, Ok, Err, IfOk, MatchResult}
 use Rattle.std.specs.List.{AllZip, Contains}
 use Rattle.rayon.proofs.ToStd.{slice-AllZip}
-use Rattle.ram_io.specs.declared.failed.NoMemory.{NoMemory}
-use Rattle.rams_model.specs.declared.answer.Order.{Order}
-use Rattle.rams_model.specs.declared.octets.Octets.{Octets}
+use Rattle.ram_io.specs.declared.NoMemory.{NoMemory}
+use Rattle.rams_model.specs.declared.{Order.Order, Octets.Octets}
 use Rattle.rams_model.specs.Service.{datagram}
 use Rattle.threads_loop.proofs.session_worker.live_writer.rendering.render_beside.Goals as goal
 

@@ -3,7 +3,7 @@ use Rattle.std.proofs.Common.{[], ◌∷◌, ◌+◌, ◌++◌, ℕ, List, map, 
 use Rattle.std.specs.Vec.Iter.{into_iter_items}
 use Rattle.std.proofs.lemmas.List.{length-append, length-map, map-append}
 use Rattle.std.specs.Global.{Vec}
-use Rattle.rams_model.specs.declared.octets.Octets.{Octets}
+use Rattle.rams_model.specs.declared.Octets.{Octets}
 use Rattle.threads_loop.specs.declared.session_worker.live_writer.writer.Placed.{Placed}
 use Rattle.threads_loop.specs.session_worker.live_writer.{HasDrawn}
 use Rattle.threads_loop.proofs.session_worker.live_writer.Placing.{draws_on}

@@ -2,7 +2,7 @@
 use Rattle.std.proofs.Common.{◌≡◌, ◌+◌, ◌++◌, List, length, map}
 use Rattle.std.specs.Vec.Iter.{into_iter_items}
 use Rattle.std.specs.Global.{Vec}
-use Rattle.rams_model.specs.declared.octets.Octets.{Octets}
+use Rattle.rams_model.specs.declared.Octets.{Octets}
 use Rattle.threads_loop.specs.session_worker.live_writer.{HasDrawn}
 use Rattle.threads_loop.proofs.session_worker.live_writer.writer.place_all.Given as goal
 

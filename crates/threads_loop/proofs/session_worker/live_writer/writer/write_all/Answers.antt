@@ -3,7 +3,7 @@ use Rattle.std.proofs.Common.{◌≡◌, ◌++◌, List, [], length, refl, sym, 
 use Rattle.std.specs.Vec.Iter.{into_iter_items}
 use Rattle.std.proofs.lemmas.List.{length-append}
 use Rattle.std.proofs.lemmas.Result.{err_from_is_err_and}
-use Rattle.rams_model.specs.declared.event.Event.{Event}
+use Rattle.rams_model.specs.declared.Event.{Event}
 use Rattle.threads_loop.specs.declared.session_worker.live_writer.writer.Placed.{Placed}
 use Rattle.threads_loop.specs.session_worker.live_writer.{HasWritten, HasWrittenPiece}
 use Rattle.threads_loop.proofs.session_worker.live_writer.Placing.{nothing_written, writes_on, tries_on, no_front}

@@ -1,7 +1,7 @@
 -- The events so far were taken as calls of the list.
 use Rattle.std.proofs.Common.{◌≡◌, ◌<◌, ◌≤◌, ◌++◌, List, length}
 use Rattle.std.specs.Vec.Iter.{into_iter_items}
-use Rattle.rams_model.specs.declared.event.Event.{Event}
+use Rattle.rams_model.specs.declared.Event.{Event}
 use Rattle.threads_loop.specs.session_worker.live_writer.{HasWritten}
 use Rattle.threads_loop.proofs.session_worker.live_writer.writer.write_all.Given as goal
 

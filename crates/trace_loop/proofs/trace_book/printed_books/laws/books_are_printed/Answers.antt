@@ -1,5 +1,5 @@
 use Rattle.std.proofs.Common.{◌+◌, List, length, ap, sym, ◌∙◌}
-use Rattle.rams_model.specs.declared.event.Event.{Event}
+use Rattle.rams_model.specs.declared.Event.{Event}
 use Rattle.rams_model.specs.Service.{book}
 use Rattle.server_hub.specs.{id_of}
 use Rattle.trace_loop.specs.trace_book.{served_by, came, event_text}
