@@ -1,5 +1,5 @@
 -- What is known of a line that is accepted, and of a channel that is added.
-use Rattle.std.proofs.Common.{◌≡◌, ℕ, ◌<◌, ◌≤◌, ltb, ◌+◌, ◌++◌, ◌∷◌, [], sum_by, Bool, true, false, not, ◌&&◌, ◌==◌, if◌then◌else◌, length, Option, Some, None, Result, Ok, Err, refl, sym, ap, subst, ◌∙◌}
+use Rattle.std.proofs.Common.{◌≡◌, ◌<◌, ◌≤◌, ltb, ◌+◌, ◌++◌, ◌∷◌, [], sum_by, Bool, true, false, not, ◌&&◌, ◌==◌, if◌then◌else◌, length, Option, Some, None, Result, Ok, Err, refl, sym}
 use Rattle.std.specs.Prelude.{is_ok, nat_le}
 use Rattle.std.proofs.lemmas.Bool.{ltb-true}
 use Rattle.std.specs.List.{list_any}

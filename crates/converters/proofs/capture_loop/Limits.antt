@@ -1,12 +1,12 @@
 -- Lines of events, as far as there is room for them.
-use Rattle.std.proofs.Common.{◌≡◌, ℕ, zero, suc, ◌+◌, ◌<◌, ◌≤◌, nat_le, true, false, List, [], ◌∷◌, ◌++◌, length, take, replicate, Option, option_to_list, refl, sym, ap, ◌∙◌, arith, append_assoc, length-append}
+use Rattle.std.proofs.Common.{◌≡◌, ℕ, zero, suc, ◌+◌, ◌<◌, ◌≤◌, nat_le, true, false, List, [], ◌∷◌, ◌++◌, length, take, replicate, Option, option_to_list, refl, ap, ◌∙◌, arith, append_assoc, length-append}
 use Rattle.std.specs.Prelude.{◌⊎◌}
 use Rattle.std.proofs.Common.{inl, inr}
 use Rattle.std.proofs.lemmas.Bool.Decides.{nat_tests}
 use Rattle.std.proofs.lemmas.List.{take-append-le}
 use Rattle.server_hub.specs.declared.{HubEvent.HubEvent, HubEvent.TheVariants.Tick}
 use Rattle.trace_loop.specs.trace_book.trace_serving.{Outcome, after_text, too_long}
-use Rattle.trace_loop.specs.journal_book.{event_line, event_lines}
+use Rattle.trace_loop.specs.journal_book.{event_lines}
 use Rattle.trace_loop.proofs.journal_book.EventLines.{lines_append}
 use Rattle.converters.specs.capture_loop.{limited, ticks_and}
 

@@ -1,12 +1,12 @@
 -- The lines of a head alone are a trace that `run` reads to its end; and a head that is described is turned back.
-use Rattle.std.proofs.Common.{◌≡◌, ℕ, ◌+◌, ◌^◌, true, List, [], ◌∷◌, ◌++◌, Option, Some, None, Result, Ok, Err, refl, ap, subst, ◌∙◌, arith, append_assoc, le-leb}
-use Rattle.std.proofs.lemmas.Bool.{cond_both, eq-eqb, ltb-true}
+use Rattle.std.proofs.Common.{◌≡◌, ℕ, ◌+◌, ◌^◌, true, List, [], ◌∷◌, ◌++◌, Some, Result, Ok, Err, refl, ap, ◌∙◌, arith, append_assoc, le-leb}
+use Rattle.std.proofs.lemmas.Bool.{eq-eqb, ltb-true}
 use Rattle.channel_config.proofs.Laws.{checked-from_IsLawful}
 use Rattle.line_io.specs.{HasNoFeed}
 use Rattle.line_io.proofs.LineFeeds.{lines_of-cut}
 use Rattle.rams_model.specs.declared.LineFault as fault
 use Rattle.rams_model.specs.declared.{Mode.TheVariants.Run, Status.TheVariants.Done}
-use Rattle.rams_model.specs.Texts.{TraceLine, head_line, channel_line, end_line, lines_of, line_of, line_at, ranged, line_in_range, line_text, is_spelled, Reached, nothing_reached, line_is_served, may_come, joined, with_line, accepted, with_reached, judged_line, judged}
+use Rattle.rams_model.specs.Texts.{TraceLine, head_line, channel_line, end_line, lines_of, line_of, line_at, line_in_range, line_text, is_spelled, Reached, nothing_reached, line_is_served, may_come, joined, with_line, accepted, with_reached, judged_line, judged}
 use Rattle.converters.specs.declared.{description_loop.sdp_config.sdp.Sdp.Sdp, description_loop.sdp_config.sdp.SdpFault.SdpFault}
 use Rattle.converters.specs.description_loop.sdp_config.{sdp_at, IsDescribable}
 use Rattle.converters.proofs.description_loop.sdp_config.InRange as in_range

@@ -4,21 +4,21 @@ use Rattle.std.specs.Prelude.{Result, Ok, Err, All, Contains}
 use Rattle.std.specs.List.{AllByRecursion}
 use Rattle.std.proofs.lemmas.Bool.{cases_Bool, cond_both, not-false, eqb-true, eq-eqb}
 use Rattle.std.proofs.lemmas.List.Elements.{Contains-append_left, Contains-append_right, Contains-append_cases, Contains-push_cases}
-use Rattle.rams_model.specs.declared.{Channel.Channel, Event.Event, FrameFault.FrameFault, RtpFault.RtpFault, Held.Held, LiveNote.LiveNote}
+use Rattle.rams_model.specs.declared.{Channel.Channel, Event.Event, RtpFault.RtpFault, Held.Held, LiveNote.LiveNote}
 use Rattle.rams_model.specs.declared.Event.TheVariants.{Live, Feedback, Tick}
 use Rattle.rams_model.specs.declared.LiveNote.TheVariants.{Took, Restart, TooBig, ForeignSsrc, ForeignType}
-use Rattle.rams_model.specs.Formats.{Packet, stripped, packet_at, Framed, framed}
+use Rattle.rams_model.specs.Formats.{Packet, stripped, packet_at, framed}
 use Rattle.rams_model.specs.Packets.{Arrival, Stream, held_as, with_packet, live_note, stream_after, stream_of}
-use Rattle.rams_model.specs.Service.{Settings, Heard, live, dropped, feedback, unframed, tick, arrival, heard_packet, heard_live, heard_feedback, heard_of, began, History, arrivals, stream, history_of}
+use Rattle.rams_model.specs.Service.{Settings, Heard, live, dropped, feedback, unframed, tick, arrival, heard_packet, heard_live, heard_of, began, arrivals, stream, history_of}
 use Rattle.rams_model.proofs.Induction.{arrivals_of_event}
 use Rattle.rams_model.proofs.PlainPackets.{below_at}
 use Rattle.rams_model.proofs.Rising.{end_of}
 use Rattle.rams_model.proofs.RtpPackets.{spelled_so}
 use Rattle.rams_model.specs.Laws.{Rises}
 use Rattle.meet_loop.specs.world_laws.{takes, hears_number, as_it_came}
-use Rattle.service_laws.proofs.byte_laws.Low.{IsLow, IsHigh, live_note_low, high_present}
+use Rattle.service_laws.proofs.byte_laws.Low.{IsLow, live_note_low, high_present}
 use Rattle.service_laws.proofs.book_laws.CameBefore.{all_of, not_live}
-use Rattle.service_laws.proofs.book_laws.Members.{of_one, of_with, is_first}
+use Rattle.service_laws.proofs.book_laws.Members.{of_with, is_first}
 use Rattle.service_laws.proofs.byte_laws.Rising.{all_rises, stands_once}
 use Rattle.service_laws.specs.byte_laws.{HasBytes}
 

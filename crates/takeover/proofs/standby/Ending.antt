@@ -5,7 +5,7 @@ use Rattle.std.proofs.lemmas.Bool.{lt-ltb, ltb-true}
 use Rattle.rams_model.specs.declared.LineFault.TheVariants.{Form}
 use Rattle.rams_model.specs.Texts.{into_first, whole_lines}
 use Rattle.line_io.specs.{HasNoFeed}
-use Rattle.line_io.proofs.LineFeeds.{whole_lines-kept, HasNoFeed-append, whole_lines-none}
+use Rattle.line_io.proofs.LineFeeds.{HasNoFeed-append, whole_lines-none}
 use Rattle.server_hub.specs.Served.{Served}
 use Rattle.trace_loop.specs.trace_book.trace_serving.{Stage, Turn, Outcome, goes_on, ends, refused, opening, turn, stage_after, stage_from, taken_from, taken_with}
 use Rattle.trace_loop.specs.trace_book.{run}

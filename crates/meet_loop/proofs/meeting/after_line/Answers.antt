@@ -1,9 +1,8 @@
-use Rattle.std.proofs.Common.{◌≡◌, sym, subst}
+use Rattle.std.proofs.Common.{sym, subst}
 use Rattle.std.proofs.lemmas.Result.{IfOk-weaker}
-use Rattle.rams_model.specs.Texts.{Reached, tick_of}
 use Rattle.trace_loop.specs.trace_book.trace_serving.{after_line, brought}
 use Rattle.trace_text.specs.declared.Judged.{Judged}
-use Rattle.trace_text.specs.{told, IsSettled}
+use Rattle.trace_text.specs.{told}
 use Rattle.trace_text.proofs.Judging.{settled}
 use Rattle.trace_loop.specs.declared.{Turn.Turn, Turn.TheVariants.GoesOn}
 use Rattle.meet_loop.specs.world_book.{meet}

@@ -1,11 +1,7 @@
 -- A line that brings an event is the line of that event.
-use Rattle.std.proofs.Common.{◌≡◌, ℕ, ◌%◌, Bool, true, false, ◌&&◌, ◌||◌, ◌==◌, List, [], ◌∷◌, length, Some, codes, bytes_eq, refl, sym, ap, subst, ◌∙◌, ltb}
-use Rattle.std.specs.List.{list_all}
+use Rattle.std.proofs.Common.{◌≡◌, true, ◌&&◌, Some, sym, ap, ◌∙◌}
 use Rattle.std.proofs.lemmas.Bool.{and_parts}
-use Rattle.hex.specs.Hex.{encode_lower, encode_with}
-use Rattle.hex_text.proofs.Written.{lower_is_written}
-use Rattle.rams_model.specs.Texts.{bytes_in, decoded, hex_word, is_hex, is_hex_digit, is_short, TraceLine, head_line, channel_line, live_line, feedback_line, tick_line, end_line, tune_line, give_line, mcast_line, ask_line, drop_line, line_has_form}
-use Rattle.trace_text.proofs.Spelled.{is_word}
+use Rattle.rams_model.specs.Texts.{bytes_in, is_hex, is_short, TraceLine, head_line, channel_line, live_line, feedback_line, tick_line, end_line, tune_line, give_line, mcast_line, ask_line, drop_line, line_has_form}
 use Rattle.server_hub.specs.declared.HubEvent.{HubEvent}
 use Rattle.server_hub.specs.declared.HubEvent.TheVariants.{Live, Feedback, Tick}
 use Rattle.trace_loop.specs.trace_book.trace_serving.{brought}

@@ -1,16 +1,15 @@
 -- What a line makes of a stage.
 use Rattle.std.proofs.Common.{◌≡◌, ◌≢◌, inl, inr, ℕ, ◌+◌, ◌<◌, ◌≤◌, true, false, not, ◌&&◌, cond, List, [], ◌∷◌, ◌++◌, map, length, Option, Some, None, refl, ap, ap₂, sym, ◌∙◌, subst, arith, eqb, leb, ltb}
-use Rattle.std.specs.Prelude.{All, AllPairs, Ok, sum_by, option_to_list, is_some}
+use Rattle.std.specs.Prelude.{All, Ok, sum_by, option_to_list, is_some}
 use Rattle.std.specs.List.{list_any}
 use Rattle.std.proofs.lemmas.Bool.{true≢false, cond_both, and_parts, or_parts, not-true, leb-true, ltb-true, ltb-false, eqb-false}
-use Rattle.std.proofs.lemmas.List.{append-nil, length-append, length-map, map-append}
+use Rattle.std.proofs.lemmas.List.{append-nil, length-map, map-append}
 use Rattle.std.proofs.lemmas.List.Elements.{All-append, All-cons, All-nil}
-use Rattle.std.proofs.lemmas.List.Quantifiers.{all_pairs_push}
-use Rattle.std.proofs.lemmas.List.Sums.{sum_by_push, sum_by-cons}
+use Rattle.std.proofs.lemmas.List.Sums.{sum_by-cons}
 use Rattle.rams_model.specs.declared.Channel.{Channel}
 use Rattle.rams_model.specs.Service.{Settings, settings, most_bytes, tick_in_range}
 use Rattle.rams_model.specs.Texts.{TraceLine, head_line, channel_line, live_line, feedback_line, tick_line, end_line, tune_line, give_line, mcast_line, ask_line, drop_line, Reached, Head, Claim, tick_of, has_channel, has_version, has_one_channel, judged}
-use Rattle.server_hub.specs.{FitLink, ids_of, shares_of}
+use Rattle.server_hub.specs.{ids_of, shares_of}
 use Rattle.server_hub.proofs.Adding.{fit_more}
 use Rattle.trace_loop.specs.trace_book.trace_serving.{Serving, Stage, Turn, goes_on, ends, opening, brought, too_long, eventless, after_line, counted, claim_of, IsHead, AreLawful, StandUnder, Stand, opened_all, new_state, opened_by, after_brought, IsIdle, IsStage, channel_of_line, head_of_line, after_all, events_text, EndsWith, is_too_long, is_done}
 use Rattle.trace_loop.proofs.trace_book.trace_serving.Judged.{IsAccepted, IsJoined, channel_so, claim}
@@ -50,8 +49,6 @@ shares_are [] = refl
 shares_are (x ∷ all) =
     sum_by-cons (λ (k : Claim). k.share) (claim_of x) (map claim_of all) ∙ ap (λ (n : ℕ). x.channel.share + n) (shares_are all)
     ∙ sym (sum_by-cons (λ (s : Settings). s.channel.share) x all)
-
-}
 
 stand_more : (head : Head) (r : Reached) (c : Channel) (later : Reached) (all : List Settings) → r.channels ≡ map claim_of all → StandUnder head all → IsJoined r head c later
     → StandUnder head (all ++ settings c head.tick ∷ [])

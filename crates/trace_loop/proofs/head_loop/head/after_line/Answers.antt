@@ -1,11 +1,10 @@
 use Rattle.std.proofs.Common.{◌≡◌, ℕ, List, [], ◌∷◌, ◌++◌, sym, ap, subst, ◌∙◌}
 use Rattle.rams_model.specs.declared.Channel.{Channel}
-use Rattle.rams_model.specs.Texts.{Reached, tick_of}
 use Rattle.trace_loop.specs.trace_book.trace_serving.{after_line, brought}
 use Rattle.trace_loop.specs.trace_book.{run}
 use Rattle.trace_text.specs.declared.Judged.{Judged}
 use Rattle.trace_text.specs.declared.Judged.TheVariants as judged
-use Rattle.trace_text.specs.{told, IsSettled}
+use Rattle.trace_text.specs.{told}
 use Rattle.trace_text.proofs.Judging.{settled}
 use Rattle.trace_loop.specs.declared.head_loop.head.HeadLine.TheVariants.{GoesOn}
 use Rattle.trace_loop.specs.head_loop.{Comes, Took}
