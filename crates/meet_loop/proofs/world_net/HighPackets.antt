@@ -17,8 +17,7 @@ use Rattle.rams_model.proofs.Waiting.{from_first, is_missing_itself}
 use Rattle.server_hub.specs.{hi_of}
 use Rattle.server_hub.specs.Served.{Served}
 use Rattle.meet_loop.specs.world_laws.{source_of, takes, hears_number, as_it_came}
-use Rattle.meet_loop.proofs.world_laws.Kept.{not_live}
-use Rattle.service_laws.proofs.book_laws.CameBefore.{all_of}
+use Rattle.service_laws.proofs.book_laws.CameBefore.{all_of, not_live}
 use Rattle.service_laws.proofs.byte_laws.Rising.{all_rises}
 
 -- ---- what came in time

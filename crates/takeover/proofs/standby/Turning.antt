@@ -17,6 +17,8 @@ use Rattle.trace_loop.proofs.head_loop.Claims.{claims_kept}
 use Rattle.trace_loop.proofs.trace_book.Served.{settings_after}
 use Rattle.takeover.specs.declared.standby.fault.Step.TheVariants.{GoesOn}
 use Rattle.takeover.specs.standby.{HubServes, Stands, Took, turn_of}
+use Rattle.trace_text.specs.{told}
+use Rattle.trace_text.specs.declared.Judged.{Judged}
 
 -- where a line that is accepted leads
 pub later_of : (r : Reached) (line : TraceLine) → is_ok (accepted r line) ≡ true → (later : Reached) × (accepted r line ≡ Ok later)
@@ -25,6 +27,13 @@ later_of r line h = by (accepted r line) refl h
     by : (x : Result Reached LineFault) → accepted r line ≡ x → is_ok x ≡ true → (later : Reached) × (accepted r line ≡ Ok later)
     by (Ok later) is h = (later, is)
     by (Err fault) is h = absurd cc
+
+-- what was judged is accepted as that which it is, and goes on to the same
+pub accepts : (r : Reached) (j k : Judged) → j ≡ k → is_ok (accepted r (told j)) ≡ true → is_ok (accepted r (told k)) ≡ true
+accepts r j k is = subst (λ (x : Judged). is_ok (accepted r (told x)) ≡ true) is
+
+pub goes_so : (r later : Reached) (j k : Judged) → j ≡ k → accepted r (told j) ≡ Ok later → accepted r (told k) ≡ Ok later
+goes_so r later j k is = subst (λ (x : Judged). accepted r (told x) ≡ Ok later) is
 
 -- it may come, and its numbers are in range
 pub may_be : (r : Reached) (line : TraceLine) → is_ok (accepted r line) ≡ true → (may_come r line ≡ true) × (line_in_range line ≡ true)

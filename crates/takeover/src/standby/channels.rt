@@ -7,7 +7,8 @@ ghost use Rattle.server_hub.specs.Served.{Served};
 ghost use Rattle.trace_loop.specs.trace_book.trace_serving.{Stage, opening, brought};
 ghost use Rattle.trace_loop.specs.trace_book.{run};
 ghost use Rattle.trace_loop.specs.head_loop.{CanOpen, OpensIn};
-ghost use Rattle.trace_text.specs.{HasDigits, IsOther, shown};
+ghost use Rattle.trace_text.specs.declared.Judged.TheVariants as judged;
+ghost use Rattle.trace_text.specs.{HasDigits, IsOther, IsSettled, shown, told};
 ghost use Rattle.takeover.specs.declared.standby.fault.Step.TheVariants as steps;
 ghost use Rattle.takeover.specs.standby.{IsSame, Stands, StandsSomewhere, Took, count_of, turn_of};
 
@@ -97,25 +98,27 @@ fn add(alloc: Global, hub: &mut Option<Hub>, config: Config) -> Result<(), NoMem
     hub.add(alloc, config).or(Err(NoMemory))
 }
 
-/// A channel line opens its channel.
+/// The line of a channel opens it.
 pub fn open(
     alloc: Global,
     channels: &mut Channels,
+    line: &Judged<'_>,
     version: u8,
     config: Config,
 ) -> Result<Step, FeedFault>
-    requires accepted { is_ok (accepted channels.old.state (channel_line version config.channel)) ≡ true }
-    requires tick { config.tick ≡ tick_of channels.old.state.head }
+    requires line { line.now ≡ judged.Channel version config }
+    requires accepted { is_ok (accepted channels.old.state (told line.now)) ≡ true }
+    requires settled { IsSettled (tick_of channels.old.state.head) line.now }
     requires stands { StandsSomewhere channels.old.hub channels.old.ids.items channels.old.events channels.old.state }
     ensures turn { (stage : Stage (List Served)) (number : ℕ) → Stands channels.old.hub channels.old.ids.items channels.old.events channels.old.state stage
         → number ≡ count_of channels.old.hub channels.old.ids.items channels.old.events + 1
-        → Took result (turn_of stage number (channel_line version config.channel)) (Stands channels.new.hub channels.new.ids.items channels.new.events channels.new.state) number }
+        → Took result (turn_of stage number (told line.now)) (Stands channels.new.hub channels.new.ids.items channels.new.events channels.new.state) number }
     ensures same { OnErr result (IsSame channels.old.hub channels.new.hub channels.old.ids.items channels.new.ids.items channels.old.events channels.new.events channels.old.state channels.new.state) }
     ensures count { OnOk result (count_of channels.new.hub channels.new.ids.items channels.new.events ≡ count_of channels.old.hub channels.old.ids.items channels.old.events + 1) }
     ensures step { IfOk result (λ step. step ≡ steps.GoesOn) }
 {
     add(alloc, &mut channels.hub, config)?;
-    channels.state.go_on(&Judged::Channel { version, config });
+    channels.state.go_on(line);
     channels.ids.push(config.channel().id);
     Ok(Step::GoesOn)
 }

@@ -44,7 +44,7 @@ fn after_line(alloc: Global, channels: &mut Channels, line: &Judged<'_>) -> Resu
     ensures count { result ≡ Ok steps.GoesOn → count_of channels.new.hub channels.new.ids.items channels.new.events ≡ count_of channels.old.hub channels.old.ids.items channels.old.events + 1 }
 {
     match line {
-        Judged::Channel { version, config } => open(alloc, channels, *version, *config),
+        Judged::Channel { version, config } => open(alloc, channels, line, *version, *config),
         Judged::Other(line) => after_other(alloc, channels, *line),
     }
 }
