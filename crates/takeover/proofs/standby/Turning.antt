@@ -29,11 +29,11 @@ later_of r line h = by (accepted r line) refl h
     by (Err fault) is h = absurd cc
 
 -- what was judged is accepted as that which it is, and goes on to the same
-pub accepts : (r : Reached) (j k : Judged) → j ≡ k → is_ok (accepted r (told j)) ≡ true → is_ok (accepted r (told k)) ≡ true
-accepts r j k is = subst (λ (x : Judged). is_ok (accepted r (told x)) ≡ true) is
+pub accepted_as : (r : Reached) (j k : Judged) → j ≡ k → is_ok (accepted r (told j)) ≡ true → is_ok (accepted r (told k)) ≡ true
+accepted_as r j k is = subst (λ (x : Judged). is_ok (accepted r (told x)) ≡ true) is
 
-pub goes_so : (r later : Reached) (j k : Judged) → j ≡ k → accepted r (told j) ≡ Ok later → accepted r (told k) ≡ Ok later
-goes_so r later j k is = subst (λ (x : Judged). accepted r (told x) ≡ Ok later) is
+pub goes_as : (r later : Reached) (j k : Judged) → j ≡ k → accepted r (told j) ≡ Ok later → accepted r (told k) ≡ Ok later
+goes_as r later j k is = subst (λ (x : Judged). accepted r (told x) ≡ Ok later) is
 
 -- it may come, and its numbers are in range
 pub may_be : (r : Reached) (line : TraceLine) → is_ok (accepted r line) ≡ true → (may_come r line ≡ true) × (line_in_range line ≡ true)

@@ -4,14 +4,14 @@ use Rattle.trace_text.specs.{shown, told}
 use Rattle.trace_text.specs.declared.Judged.{Judged}
 use Rattle.takeover.specs.standby.{Stands, Took, turn_of}
 use Rattle.trace_text.proofs.Judging.{settled}
-use Rattle.takeover.proofs.standby.Turning.{accepts, may_be}
+use Rattle.takeover.proofs.standby.Turning.{accepted_as, may_be}
 use Rattle.takeover.proofs.standby.line.after_line.Goals as goal
 
 pub after_other-requires-clause-may : goal.after_other-requires-clause-may
-after_other-requires-clause-may c = let r = c.args.channels.now.state in (may_be r (shown c.in-Other.line) (accepts r _ _ c.in-Other.is c.requires.accepted)).0
+after_other-requires-clause-may c = let r = c.args.channels.now.state in (may_be r (shown c.in-Other.line) (accepted_as r _ _ c.in-Other.is c.requires.accepted)).0
 
 pub after_other-requires-clause-range : goal.after_other-requires-clause-range
-after_other-requires-clause-range c = let r = c.args.channels.now.state in (may_be r (shown c.in-Other.line) (accepts r _ _ c.in-Other.is c.requires.accepted)).1
+after_other-requires-clause-range c = let r = c.args.channels.now.state in (may_be r (shown c.in-Other.line) (accepted_as r _ _ c.in-Other.is c.requires.accepted)).1
 
 pub after_other-requires-clause-other : goal.after_other-requires-clause-other
 after_other-requires-clause-other c = (settled c.args.channels.now.state _ _ c.in-Other.is c.requires.settled).0
