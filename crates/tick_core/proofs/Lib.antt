@@ -20,6 +20,7 @@ pub mod Within
 pub mod Spent
 pub mod Kept
 pub mod Sending
+pub mod Stepping
 pub mod Sized
 pub mod Sizing
 pub mod DueClients

@@ -8,6 +8,7 @@ use Rattle.tick_core.specs.Drafts.{Drafted, new_draft}
 use Rattle.tick_core.specs.Runs.{allowances_of, with_all_served}
 use Rattle.tick_core.specs.Repairs.{Repaired, with_all_wanted}
 use Rattle.tick_core.specs.Forgetting.{with_all_forgotten}
+use Rattle.tick_core.specs.Steps.{AreStepsOf}
 use Rattle.tick_core.specs.declared.plan.TickPlan.{TickPlan}
 
 -- what a tick may send at most, as it begins
@@ -37,6 +38,7 @@ planned_flags p = (drafted_repairs p).done
 pub record IsPlanOf (p : Parts) (plan : TickPlan) : Type 0 where
   pub answer_is : plan.answer ≡ planned_answer p
   pub done_is : plan.done.items ≡ planned_flags p
+  pub steps_do : AreStepsOf plan.steps.items plan.answer
 
 -- the note says that the repair is over: it was sent, or its packet is gone
 abbrev pub ends_wait : Wanted → Note → Bool
@@ -48,7 +50,8 @@ ends_wait w _ = Bool.false
 abbrev pub is_over : List Note → Wanted → Bool
 is_over notes w = list_any (ends_wait w) notes
 
--- The plan of the tick that comes after these events: the one lawful answer to it, and a flag for each pending repair, which is set exactly where one of the answer's notes ends it.
+-- The plan of the tick that comes after these events: the one lawful answer to it, a flag for each pending repair, which is set exactly where one of the answer's notes ends it, and what is done for the clients.
 pub record IsPlanFor (p : Parts) (events : List Event) (plan : TickPlan) : Type 0 where
   pub answer_is : plan.answer ≡ answer p.config events Tick
   pub done_is : plan.done.items ≡ map (is_over plan.answer.notes) (pending (history_of p.config events))
+  pub steps_do : AreStepsOf plan.steps.items plan.answer

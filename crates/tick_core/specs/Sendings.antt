@@ -27,15 +27,6 @@ with_sendings x c = record { table = changed (entry_after x) c.table x.client; b
 abbrev pub MaySend : Sendings → Committed → Type 0
 MaySend x c = IsNextSmallIfKnown x.of_burst (entry_of c.table x.client)
 
--- what is sent, where something is
-abbrev pub with_sent : Option Sendings → Committed → Committed
-with_sent None c = c
-with_sent (Some x) c = with_sendings x c
-
-abbrev pub MaySendIfAny : Option Sendings → Committed → Type 0
-MaySendIfAny None c = Unit {0}
-MaySendIfAny (Some x) c = MaySend x c
-
 -- the packet of this size that a note sends
 abbrev pub sending_of : ℕ → Note → Option Sendings
 sending_of size (BurstNote client n seq) = Some (one_sending client 1 size)

@@ -1,12 +1,10 @@
 -- The sizes on the wire of the packets that a tick sends.
 use Rattle.std.specs.Prelude.{ℕ, List, [], ◌∷◌}
-use Rattle.std.specs.Slice.Iter.{iter_rest}
 use Rattle.rams_model.specs.declared.{Order.Order, Order.TheVariants.Rtx, Order.TheVariants.Info, Held.Held, Note.Note}
 use Rattle.rams_model.specs.declared.Note.TheVariants.{Burst as BurstNote, Repair}
 use Rattle.rams_model.specs.Formats.{wire_size}
 use Rattle.rams_model.specs.Service.{Settings, size_of}
 use Rattle.channel_cache.specs.packet_ring.{packet_of}
-use Rattle.tick_core.specs.declared.sizes.Sizes.{Sizes}
 use Rattle.tick_core.specs.Committed.{Committed, with_sending, MayCommit}
 use Rattle.tick_core.specs.Sendings.{with_other}
 
@@ -15,9 +13,6 @@ abbrev pub sizes : List Order → List ℕ
 sizes [] = []
 sizes (Rtx client n seq packet ∷ orders) = wire_size packet ∷ sizes orders
 sizes (Info client info ∷ orders) = sizes orders
-
-abbrev pub sizes_left : Sizes → List ℕ
-sizes_left x = sizes (iter_rest x.orders)
 
 -- those of the packets that notes name
 abbrev pub sizes_named : List Held → List Note → List ℕ

@@ -1,11 +1,13 @@
 //! The notes and orders of a tick, as they are made.
-ghost use Rattle.std.specs.Prelude.{◌≡◌, ◌<◌, IfOk, OnOk, vec_len, vec_capacity};
+ghost use Rattle.std.specs.Prelude.{◌≡◌, ◌<◌, ◌++◌, true, false, IfOk, OnOk, option_to_list, vec_len, vec_capacity};
 ghost use Rattle.rams_model.specs.Service.{answered};
-ghost use Rattle.tick_core.specs.{new_draft, with_note, with_packet, with_end, told_end};
+ghost use Rattle.tick_core.specs.{new_draft, with_note, with_packet, with_end, told_end, sends, AreStepsOf};
 
+use crate::step::{Step, other_step, sending_of};
+use crate::steps::Steps;
 use channel_parts::response::end_info;
 use ram_io::NoMemory;
-use rams_model::{Answer, Cause, Held, Info, Note, Order};
+use rams_model::{Answer, Cause, Held, Info, Note, Order, RTX_OVERHEAD};
 use std::alloc::Global;
 use std::marker::Model;
 
@@ -21,14 +23,18 @@ pub struct Draft {
     notes: Vec<Note>,
     orders: Vec<Order>,
     left: u64,
+    /// What is done for the clients of these notes.
+    steps: Steps,
 }
 
 impl Model for Draft {
-    ghost use Rattle.tick_core.specs.{Drafted};
+    ghost use Rattle.tick_core.specs.{Drafted, AreInStep};
 
     ghost Value = { Drafted };
 
     ghost view = { λ d. record { notes = d.notes.items; orders = d.orders.items; left = d.left } };
+
+    ghost invariant = { λ d. AreInStep d.steps d.notes.items d.orders.items };
 }
 
 impl Draft {
@@ -40,6 +46,7 @@ impl Draft {
             notes: Vec::new(alloc),
             orders: Vec::new(alloc),
             left,
+            steps: Steps::new(alloc),
         }
     }
 
@@ -52,9 +59,12 @@ impl Draft {
 
     /// Makes a note that has no order.
     pub fn note(&mut self, note: Note) -> Result<(), NoMemory>
+        requires { sends note ≡ false }
         ensures { IfOk result (λ _. self.new ≡ with_note self.old note) }
     {
-        self.notes.push(note)?;
+        self.notes.reserve(1)?;
+        self.steps.push(other_step(&note))?;
+        self.notes.push_reserved(note);
         Ok(())
     }
 
@@ -62,10 +72,13 @@ impl Draft {
     /// (RFC 4588, 4).
     #[inline(always)]
     pub fn send(&mut self, note: Note, client: u64, seq: u16, held: &Held) -> Result<(), NoMemory>
+        requires { sends note ≡ true }
         ensures { IfOk result (λ _. self.new ≡ with_packet self.old note client seq held.now) }
     {
         let packet = held.packet.clone()?;
         make_room(&mut self.notes, &mut self.orders, self.left, held.wire)?;
+        let bytes = packet.len() as u64 + u64::from(RTX_OVERHEAD);
+        self.steps.send(sending_of(bytes, &note))?;
         self.notes.push_reserved(note);
         self.orders.push_reserved(Order::Rtx {
             client,
@@ -84,18 +97,21 @@ impl Draft {
         let Some(cause) = cause else {
             return Ok(());
         };
-        self.notes.push(Note::End { client, cause })?;
-        if let Some(order) = end_order(client, cause, last) {
-            self.orders.push(order)?;
-        }
+        self.notes.reserve(1)?;
+        self.orders.reserve(1)?;
+        self.steps.push(Some(Step::End { client }))?;
+        self.notes.push_reserved(Note::End { client, cause });
+        push_order(&mut self.orders, end_order(client, cause, last));
         Ok(())
     }
 
-    /// The answer that was drafted.
-    pub fn finish(self) -> Answer
-        ensures { result ≡ answered self.notes self.orders }
+    /// The answer that was drafted, and what is done for its clients.
+    pub fn finish(self) -> Result<(Answer, Vec<Step>), NoMemory>
+        ensures answer { IfOk result (λ drafted. drafted.0 ≡ answered self.notes self.orders) }
+        ensures steps { IfOk result (λ drafted. AreStepsOf drafted.1.items drafted.0) }
     {
-        Answer::new(self.notes, self.orders)
+        let steps = self.steps.finish()?;
+        Ok((Answer::new(self.notes, self.orders), steps))
     }
 }
 
@@ -120,6 +136,16 @@ fn make_room(
     notes.reserve(room + OTHER_NOTES)?;
     orders.reserve(room)?;
     Ok(())
+}
+
+/// An order more, where there is one. There is room.
+fn push_order(orders: &mut Vec<Order>, order: Option<Order>)
+    requires { vec_len orders.old < vec_capacity orders.old }
+    ensures { orders.new.items ≡ orders.old.items ++ option_to_list order }
+{
+    if let Some(order) = order {
+        orders.push_reserved(order);
+    }
 }
 
 /// What a client is told of the end of its burst (RFC 6285, 7.3), after what it was told last.

@@ -12,7 +12,8 @@ mod plan;
 mod repairs;
 mod runs;
 mod sendings;
-mod sizes;
+mod step;
+mod steps;
 
 pub use channel_parts::Parts;
 pub use commit::commit_tick;

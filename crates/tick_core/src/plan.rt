@@ -9,6 +9,7 @@ use crate::draft::Draft;
 use crate::forgetting::forget_clients;
 use crate::repairs::Repairs;
 use crate::runs::serve_clients;
+use crate::step::Step;
 use channel_parts::Parts;
 use ram_io::NoMemory;
 use rams_model::Answer;
@@ -19,6 +20,8 @@ use std::alloc::Global;
 pub struct TickPlan {
     pub answer: Answer,
     pub done: Vec<bool>,
+    /// What is done for its clients. Packets to one client one after another are one step.
+    pub steps: Vec<Step>,
 }
 
 /// Plans a tick of a channel, and changes nothing.
@@ -57,8 +60,10 @@ fn plan_of(alloc: Global, parts: &Parts) -> Result<TickPlan, NoMemory>
     repairs.repair_all(cache, queue)?;
     let (mut draft, done) = repairs.finish();
     forget_clients(config, queue, table, &mut draft)?;
+    let (answer, steps) = draft.finish()?;
     Ok(TickPlan {
-        answer: draft.finish(),
+        answer,
         done,
+        steps,
     })
 }

@@ -13,7 +13,7 @@ pub returns : goal.returns
 returns c =
     let p = c.args.parts.now in
     let made : IsMade p c.left.result c.open_tick.new.self c.new-draft.result c.serve_clients.new.draft c.finish-draft.result.0 c.forget_clients.new.draft (all_allowances p.config.channel.burst p.table.known (told_by c.in_ok-allowances.allowances))
-    c.new-repairs.result c.repair_all.new.self c.finish-draft.result.1.items c.finish.result = record {
+    c.new-repairs.result c.repair_all.new.self c.finish-draft.result.1.items c.in_ok-answer.answer = record {
       budget_is = c.open_tick.ensures;
       left_is = c.left.ensures.value;
       begun_is = c.new-draft.ensures;
@@ -24,7 +24,7 @@ returns c =
       draft_is = c.finish-draft.ensures.draft;
       done_is = c.finish-draft.ensures.done;
       end_is = c.in_ok-forget_clients.ensures;
-      answer_is = c.finish.ensures;
+      answer_is = c.in_ok-answer.ensures.answer;
     } in
     let plan = by_calls p _ _ _ _ _ _ _ _ _ _ _ made in
-    record { answer_is = plan.0; done_is = plan.1 }
+    record { answer_is = plan.0; done_is = plan.1; steps_do = c.in_ok-answer.ensures.steps }

@@ -22,6 +22,6 @@ pub returns : goal.returns
 returns c = record {
   stands = λ events stands.
       IfOk-weaker c.plan_of.result _ _
-      (λ made is. let plan = made_plan c.args.parts.now events made.answer made.done.items stands is.answer_is is.done_is in record { answer_is = plan.0; done_is = plan.1 })
+      (λ made is. let plan = made_plan c.args.parts.now events made.answer made.done.items stands is.answer_is is.done_is in record { answer_is = plan.0; done_is = plan.1; steps_do = is.steps_do })
       c.plan_of.ensures;
 }
