@@ -27,7 +27,7 @@ none_same k [] e = e
 none_same k (j ∷ js) e =
     let parts = or_parts (eqb k j) (list_any (eqb k) js) e in or_from (eqb j k) (is_among k js) (apart k j parts.0) (none_same k js parts.1)
 
-none_open : (o : Option Burst) → is_some o ≡ false → o ≡ None
+pub none_open : (o : Option Burst) → is_some o ≡ false → o ≡ None
 none_open None e = refl
 none_open (Some b) e = absurd (true≢false e)
 

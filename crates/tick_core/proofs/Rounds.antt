@@ -9,6 +9,7 @@ use Rattle.rams_model.specs.declared.Note.TheVariants.{Burst as BurstNote, Repai
 use Rattle.rams_model.specs.Service.{Settings, noted, History, sequence, next, newest_open, open_burst, has_open, Wanted, sent_now, is_burst_of, is_repair_of, kept_from_repairs, budget_of, cap, may_take, run, send, is_lost, is_stop, after_run, burst_served, all_served, repaired, all_repaired}
 use Rattle.rams_model.specs.Service.Bursts as model
 use Rattle.rams_model.specs.Packets.{from_number}
+use Rattle.rams_model.proofs.Turns.{none_open}
 use Rattle.client_table.specs.declared.Entry.{Entry}
 use Rattle.tick_core.specs.declared.allowance.Allowance.{Allowance}
 use Rattle.tick_core.specs.{Drafted, Rise, allowance_of, allowances_of, with_all_served}
@@ -144,10 +145,6 @@ still_open s held p k [] history above are = tt
 still_open s held p k (j ∷ js) history above are =
     let on = served_on (spares j) s held k (open_burst s k history) history (run_spares k j (λ same. omega (arith, above.0, same))) in
     (are.0 ∙ sym (ap (λ (bs : List model.Burst). is_some (newest_open bs)) (spared s j history _ on).bursts_same), still_open s held p k js history above.1 are.1)
-
-none_open : (o : Option model.Burst) → is_some o ≡ false → o ≡ None
-none_open None h = refl
-none_open (Some b) h = cc
 
 pub only_open : (s : Settings) (held : List Held) (p : ℕ → Bool) (ks : List ℕ) (history : History) → Rise ks → Each (λ k. p k ≡ has_open s k history) ks
     → all_served s held (filter p ks) history ≡ all_served s held ks history

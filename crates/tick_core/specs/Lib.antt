@@ -8,6 +8,7 @@ pub mod Committed
 pub mod Sendings
 pub mod Sizes
 pub mod Steps
+pub mod InStep
 unfoldable pub use Rattle.tick_core.specs.Drafts.{new_draft, with_note, with_packet, told_end, with_end}
 pub use Rattle.tick_core.specs.Drafts.{Drafted}
 unfoldable pub use Rattle.tick_core.specs.Runs.{unsent, after_packet, sent_after, run_from, with_run, IsInTime, AreInTime, run_of, after_run, end_of, kept_back, allowance, left_by_run, allowance_of, idle_allowance, with_served, with_all_served, allowances_of}
@@ -20,7 +21,9 @@ unfoldable pub use Rattle.tick_core.specs.Plans.{begun_left, drafted_runs, draft
 pub use Rattle.tick_core.specs.Plans.{IsPlanOf, IsPlanFor}
 unfoldable pub use Rattle.tick_core.specs.Committed.{opened_for_tick, counted_on, entry_begun, IsSmallIfOpen, IsSmallIfKnown, AreSmall, burst_ended, entry_ended, burst_sent, entry_sent, IsNextSmall, IsNextSmallIfKnown, entry_closed, amount_of, amount_for, committing, with_sending, with_closed, with_committed, with_all_committed, MayCommit, MayCommitAll}
 pub use Rattle.tick_core.specs.Committed.{IsSmallBurst, AreAllChanged, MayEnd}
-unfoldable pub use Rattle.tick_core.specs.Sendings.{one_sending, both_sendings, entry_after, with_sendings, MaySend, sending_of, with_other}
+unfoldable pub use Rattle.tick_core.specs.Sendings.{one_sending, both_sendings, entry_after, with_sendings, MaySend, sending_of}
 unfoldable pub use Rattle.tick_core.specs.Sizes.{sizes, sizes_named, first_size, later_sizes, sizes_behind, with_sized, with_all_sized, MayCommitSized}
-unfoldable pub use Rattle.tick_core.specs.Steps.{with_step, with_all_steps, MayDo, MayDoAll, other_step, sends, packets_sent, with_last}
-pub use Rattle.tick_core.specs.Steps.{AreStepsOf, AreInStep, AreBoth}
+unfoldable pub use Rattle.tick_core.specs.Steps.{with_step, with_all_steps, MayDo, MayDoAll, other_step, with_step_if, with_last}
+unfoldable pub use Rattle.tick_core.specs.InStep.{sends, packets_sent}
+pub use Rattle.tick_core.specs.Steps.{AreBoth}
+pub use Rattle.tick_core.specs.InStep.{AreStepsOf, AreInStep}

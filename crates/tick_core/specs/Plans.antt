@@ -8,7 +8,7 @@ use Rattle.tick_core.specs.Drafts.{Drafted, new_draft}
 use Rattle.tick_core.specs.Runs.{allowances_of, with_all_served}
 use Rattle.tick_core.specs.Repairs.{Repaired, with_all_wanted}
 use Rattle.tick_core.specs.Forgetting.{with_all_forgotten}
-use Rattle.tick_core.specs.Steps.{AreStepsOf}
+use Rattle.tick_core.specs.InStep.{AreStepsOf}
 use Rattle.tick_core.specs.declared.plan.TickPlan.{TickPlan}
 
 -- what a tick may send at most, as it begins

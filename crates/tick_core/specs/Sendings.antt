@@ -1,12 +1,11 @@
 -- Packets that were sent to one client, and are written down together.
 use Rattle.std.specs.Prelude.{ℕ, ◌+◌, ◌-◌, ◌%◌, Option, Some, None, option_map}
 use Rattle.rams_model.specs.declared.Note.{Note}
-use Rattle.rams_model.specs.declared.Note.TheVariants.{Burst as BurstNote, Repair, Gone, End, Forgot}
-use Rattle.rams_model.specs.Service.{Settings}
+use Rattle.rams_model.specs.declared.Note.TheVariants.{Burst as BurstNote, Repair}
 use Rattle.client_table.specs.declared.Entry.{Entry}
-use Rattle.client_table.specs.{entry_of, awake, changed, without}
+use Rattle.client_table.specs.{entry_of, changed}
 use Rattle.tick_core.specs.declared.sendings.Sendings.{Sendings}
-use Rattle.tick_core.specs.Committed.{Committed, burst_sent, with_closed, IsNextSmallIfKnown}
+use Rattle.tick_core.specs.Committed.{Committed, burst_sent, IsNextSmallIfKnown}
 
 -- one packet
 abbrev pub one_sending : ℕ → ℕ → ℕ → Sendings
@@ -32,10 +31,3 @@ abbrev pub sending_of : ℕ → Note → Option Sendings
 sending_of size (BurstNote client n seq) = Some (one_sending client 1 size)
 sending_of size (Repair client n seq) = Some (one_sending client 0 size)
 sending_of size _ = None
-
--- after a note that sends none
-abbrev pub with_other : Settings → Note → Committed → Committed
-with_other s (End client cause) c = with_closed s.channel.depth client c
-with_other s (Gone client n) c = record c { table = changed awake c.table client }
-with_other s (Forgot client) c = record c { table = without c.table client }
-with_other s _ c = c

@@ -6,7 +6,7 @@ use Rattle.rams_model.specs.Formats.{wire_size}
 use Rattle.rams_model.specs.Service.{Settings, size_of}
 use Rattle.channel_cache.specs.packet_ring.{packet_of}
 use Rattle.tick_core.specs.Committed.{Committed, with_sending, MayCommit}
-use Rattle.tick_core.specs.Sendings.{with_other}
+use Rattle.tick_core.specs.Steps.{other_step, with_step_if}
 
 -- those of the packets that orders send
 abbrev pub sizes : List Order → List ℕ
@@ -40,7 +40,7 @@ sizes_behind _ sizes = sizes
 abbrev pub with_sized : Settings → ℕ → Note → Committed → Committed
 with_sized s size (BurstNote client n seq) c = with_sending client 1 size c
 with_sized s size (Repair client n seq) c = with_sending client 0 size c
-with_sized s size note c = with_other s note c
+with_sized s size note c = with_step_if s.channel.depth (other_step note) c
 
 -- after these notes, whose packets have these sizes
 unfoldable pub with_all_sized : Settings → List ℕ → List Note → Committed → Committed

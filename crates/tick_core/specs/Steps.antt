@@ -1,14 +1,12 @@
 -- What is done for the clients of a tick, one step after another.
-use Rattle.std.specs.Prelude.{◌≡◌, ℕ, ◌+◌, Bool, true, false, if◌then◌else◌, List, [], ◌∷◌, ◌++◌, length, Option, Some, None}
-use Rattle.rams_model.specs.declared.{Note.Note, Order.Order}
-use Rattle.rams_model.specs.declared.Note.TheVariants.{Burst as BurstNote, Repair, Gone as GoneNote, End as EndNote, Forgot as ForgotNote}
-use Rattle.rams_model.specs.Service.{Settings, Answered, answered}
+use Rattle.std.specs.Prelude.{◌≡◌, ℕ, List, [], ◌∷◌, ◌++◌, Option, Some, None}
+use Rattle.rams_model.specs.declared.Note.{Note}
+use Rattle.rams_model.specs.declared.Note.TheVariants.{Gone as GoneNote, End as EndNote, Forgot as ForgotNote}
 use Rattle.client_table.specs.{entry_of, awake, changed, without}
 use Rattle.tick_core.specs.declared.{sendings.Sendings.Sendings, step.Step.Step}
 use Rattle.tick_core.specs.declared.step.Step.TheVariants.{Sent, End, Gone, Forgot}
 use Rattle.tick_core.specs.Committed.{Committed, with_closed, MayEnd}
 use Rattle.tick_core.specs.Sendings.{with_sendings, MaySend}
-use Rattle.tick_core.specs.Sizes.{sizes, with_all_sized, MayCommitSized}
 
 -- after a step
 abbrev pub with_step : ℕ → Step → Committed → Committed
@@ -39,26 +37,10 @@ other_step (GoneNote client n) = Some (Gone client)
 other_step (ForgotNote client) = Some (Forgot client)
 other_step _ = None
 
--- the note sends a packet
-abbrev pub sends : Note → Bool
-sends (BurstNote client n seq) = true
-sends (Repair client n seq) = true
-sends _ = false
-
--- how many packets the notes send
-abbrev pub packets_sent : List Note → ℕ
-packets_sent [] = 0
-packets_sent (note ∷ notes) = (if sends note then 1 else 0) + packets_sent notes
-
--- The steps do what the notes of this answer say is done, whose packets have the sizes that the orders say. They may be done where the notes may be.
-pub record AreStepsOf (steps : List Step) (answer : Answered) : Type 0 where
-  pub does : (s : Settings) (c : Committed) → with_all_steps s.channel.depth steps c ≡ with_all_sized s (sizes answer.orders) answer.notes c
-  pub may : (s : Settings) (c : Committed) → MayCommitSized s (sizes answer.orders) answer.notes c → MayDoAll s.channel.depth steps c
-
--- So do they for notes that are still being made. Each packet that these send is among the orders, and no other is.
-pub record AreInStep (steps : List Step) (notes : List Note) (orders : List Order) : Type 0 where
-  pub steps_do : AreStepsOf steps (answered notes orders)
-  pub sizes_are : packets_sent notes ≡ length (sizes orders)
+-- after a step, where there is one
+abbrev pub with_step_if : ℕ → Option Step → Committed → Committed
+with_step_if depth None c = c
+with_step_if depth (Some step) c = with_step depth step c
 
 -- The new steps do what the old ones do, and then what `more` do.
 pub record AreBoth (old more new : List Step) : Type 0 where

@@ -20,3 +20,5 @@ pub use commit::commit_tick;
 pub use plan::{TickPlan, plan_tick};
 pub use ram_io::NoMemory;
 pub use rams_model::{Answer, Note, Order};
+pub use sendings::Sendings;
+pub use step::Step;

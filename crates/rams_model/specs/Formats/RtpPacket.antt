@@ -1,6 +1,7 @@
 -- RTP packets (RFC 3550, 5.1) and their retransmissions (RFC 4588, 4).
 use Rattle.std.specs.Prelude.{ℕ, ◌+◌, ◌*◌, ◌/◌, ◌%◌, Bool, ◌&&◌, ◌==◌, nat_le, if◌then◌else◌, List, [], ◌∷◌, ◌++◌, length, drop, slice_index}
 use Rattle.std.specs.Int.{w16, w32, to_be_bytes, from_be_bytes}
+use Rattle.rams_model.specs.declared.wire.TheConstants.{RTX_OVERHEAD}
 
 pub record Packet : Type 0 where
   pub marker : Bool
@@ -38,9 +39,9 @@ spelling p = header p ++ p.csrc ++ p.extension ++ p.payload ++ p.padding
 abbrev pub stripped : Packet → List ℕ
 stripped p = spelling (record p { padding = [] })
 
--- the bytes that the retransmission of a stripped packet takes on the wire: two for the original number (RFC 4588, 4), 28 for the headers of IPv4 and UDP
+-- the bytes that the retransmission of a stripped packet takes on the wire
 abbrev pub wire_size : List ℕ → ℕ
-wire_size packet = length packet + 30
+wire_size packet = length packet + RTX_OVERHEAD
 
 -- the same packet under another type and number, its own number in front of its payload (RFC 4588, 4)
 abbrev pub retransmission : Packet → ℕ → ℕ → List ℕ

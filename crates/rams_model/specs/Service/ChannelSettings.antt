@@ -1,7 +1,7 @@
 -- A channel's settings with the tick of its trace, and which of them are lawful.
 use Rattle.std.specs.Prelude.{ℕ, ◌+◌, Bool, ◌&&◌, ◌==◌, not, nat_le, if◌then◌else◌, Result, Ok, Err}
 use Rattle.std.specs.Int.{is_in_range}
-use Rattle.rams_model.specs.declared.{channel.Channel.Channel, fault.ConfigFault.ConfigFault}
+use Rattle.rams_model.specs.declared.{channel.Channel.Channel, fault.ConfigFault.ConfigFault, wire.TheConstants.MOST_ON_WIRE}
 use Rattle.rams_model.specs.declared.fault.ConfigFault.TheVariants.{Range, Rule}
 
 pub record Settings : Type 0 where
@@ -23,8 +23,8 @@ names_in_range c = is_in_range 1 65535 c.id && nat_le c.pt 127 && nat_le c.rtx 1
 -- the amounts of bytes
 abbrev pub bytes_in_range : Channel → Bool
 bytes_in_range c =
-    is_in_range 1500 most_bytes c.share && is_in_range 1500 most_bytes c.reserve && is_in_range 1500 most_bytes c.burst
-    && nat_le c.declared most_bytes && is_in_range 42 1500 c.minwire && nat_le c.depth most_bytes && nat_le c.swell most_bytes
+    is_in_range MOST_ON_WIRE most_bytes c.share && is_in_range MOST_ON_WIRE most_bytes c.reserve && is_in_range MOST_ON_WIRE most_bytes c.burst
+    && nat_le c.declared most_bytes && is_in_range 42 MOST_ON_WIRE c.minwire && nat_le c.depth most_bytes && nat_le c.swell most_bytes
 
 -- how much is kept, and how long
 abbrev pub bounds_in_range : Channel → Bool
@@ -43,6 +43,6 @@ checked s =
     let c = s.channel in
     if not (tick_in_range s.tick && channel_in_range c) then Err Range
     else if c.pt == c.rtx then Err (Rule 1)
-    else if not (nat_le (c.declared + 1500) c.burst) then Err (Rule 2)
+    else if not (nat_le (c.declared + MOST_ON_WIRE) c.burst) then Err (Rule 2)
     else if not (nat_le (c.reserve + c.burst + c.depth) c.share) then Err (Rule 3)
     else Ok s

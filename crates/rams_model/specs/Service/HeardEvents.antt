@@ -1,6 +1,6 @@
 -- What a channel hears of an event: the event as it was read.
 use Rattle.std.specs.Prelude.{ℕ, ◌==◌, not, nat_lt, if◌then◌else◌, List, length, Result, Ok, Err}
-use Rattle.rams_model.specs.declared.{channel.Channel.Channel, event.Event.Event, fault.FrameFault.FrameFault, fault.RtpFault.RtpFault}
+use Rattle.rams_model.specs.declared.{channel.Channel.Channel, event.Event.Event, fault.FrameFault.FrameFault, fault.RtpFault.RtpFault, wire.TheConstants.MOST_PACKET}
 use Rattle.rams_model.specs.declared.note.LiveNote.{LiveNote}
 use Rattle.rams_model.specs.declared.event.Event.TheVariants.{Live, Feedback, Tick}
 use Rattle.rams_model.specs.declared.note.LiveNote.TheVariants.{ForeignSsrc, ForeignType, TooBig, Bad}
@@ -32,9 +32,9 @@ heard_packet c (Ok p) =
     else if not (p.payload_type == c.pt) then dropped ForeignType
     else live (arrival c p)
 
--- A live packet is tested in this order: at most 1,470 bytes, an RTP packet, the channel's media source, the channel's payload type.
+-- A live packet is tested in this order: at most `MOST_PACKET` bytes, an RTP packet, the channel's media source, the channel's payload type.
 abbrev pub heard_live : Channel → List ℕ → Heard
-heard_live c bytes = if nat_lt 1470 (length bytes) then dropped TooBig else heard_packet c (packet_at bytes)
+heard_live c bytes = if nat_lt MOST_PACKET (length bytes) then dropped TooBig else heard_packet c (packet_at bytes)
 
 -- a feedback datagram is framed whole before anything else
 abbrev pub heard_feedback : ℕ → Result (List Framed) FrameFault → Heard

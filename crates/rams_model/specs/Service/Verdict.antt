@@ -1,6 +1,6 @@
 -- The answer to a RAMS-R (RFC 6285, 6.2 and 7.2). Which response code stands for which refusal is this server's own choice.
 use Rattle.std.specs.Prelude.{ℕ, ◌+◌, ◌-◌, Bool, ◌&&◌, ◌==◌, not, nat_le, nat_lt, if◌then◌else◌, List, length, Option, Some, None, Result, Ok, Err, unwrap_or}
-use Rattle.rams_model.specs.declared.{fault.TlvFault.TlvFault, held.Held.Held, note.Note.Note}
+use Rattle.rams_model.specs.declared.{fault.TlvFault.TlvFault, held.Held.Held, note.Note.Note, wire.TheConstants.MOST_ON_WIRE}
 use Rattle.rams_model.specs.declared.note.Note.TheVariants.{Accept, Update, Again, Refuse}
 use Rattle.rams_model.specs.Service.ChannelSettings.{Settings}
 use Rattle.rams_model.specs.Formats.{Request, names}
@@ -17,7 +17,7 @@ asked_rate s r = rate_of r.bps s.tick s.channel.burst
 
 -- the rate can't catch up: it is below what is declared and one packet more
 abbrev pub is_slow : Settings → ℕ → Bool
-is_slow s rate = nat_lt rate (s.channel.declared + 1500)
+is_slow s rate = nat_lt rate (s.channel.declared + MOST_ON_WIRE)
 
 -- with what bursts leave for repairs it is more than the share
 abbrev pub is_too_much : Settings → ℕ → Bool

@@ -1,7 +1,7 @@
 -- The lines of a trace.
 use Rattle.std.specs.Prelude.{ℕ, ◌^◌, Bool, ◌&&◌, ◌||◌, ◌==◌, nat_lt, nat_le, if◌then◌else◌, List, [], ◌∷◌, length, Option, Some, None, Result, Ok, Err, option_and_then, option_map, codes, bytes_eq, decimal}
 use Rattle.std.specs.Int.{is_in_range}
-use Rattle.rams_model.specs.declared.{channel.Access.Access, channel.Channel.Channel, fault.LineFault.LineFault}
+use Rattle.rams_model.specs.declared.{channel.Access.Access, channel.Channel.Channel, fault.LineFault.LineFault, wire.TheConstants.MOST_ON_WIRE}
 use Rattle.rams_model.specs.declared.channel.Access.TheVariants.{Marker, Ts}
 use Rattle.rams_model.specs.declared.fault.LineFault.TheVariants.{Form, Range}
 use Rattle.rams_model.specs.Service.{most_bytes, tick_in_range, channel_in_range}
@@ -199,7 +199,7 @@ abbrev pub client_in_range : ℕ → Bool
 client_in_range client = nat_lt client (2 ^ 48)
 
 abbrev pub line_in_range : TraceLine → Bool
-line_in_range (head_line version tick link) = tick_in_range tick && is_in_range 1500 most_bytes link
+line_in_range (head_line version tick link) = tick_in_range tick && is_in_range MOST_ON_WIRE most_bytes link
 line_in_range (channel_line version c) = channel_in_range c
 line_in_range (live_line id hex) = id_in_range id
 line_in_range (feedback_line id client hex) = id_in_range id && client_in_range client

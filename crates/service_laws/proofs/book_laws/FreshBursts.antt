@@ -10,6 +10,7 @@ use Rattle.rams_model.specs.Service.{Settings, Message, Heard, live, tick, heard
 use Rattle.rams_model.specs.Packets.{hi, has_number}
 use Rattle.rams_model.proofs.OpenBurst.{open_sent, other_bursts, Holds, holds_of, Keeps, at_note, at_end_note, at_tick}
 use Rattle.rams_model.proofs.Legal.{is_tick, is_of_runs, Sends, Allows, IsLegal}
+use Rattle.rams_model.proofs.Turns.{none_open}
 use Rattle.rams_model.proofs.Items.{is_repair, is_forgotten, all_served_put, all_repaired_put, all_forgotten_put}
 use Rattle.rams_model.proofs.Granting.{accept_grants, update_grants, accepted_below}
 use Rattle.service_laws.specs.book_laws.{IsMoment}
@@ -103,10 +104,6 @@ unfolding bursts sendings arrivals
 gone_good s k c history none g =
     cond_both (eqb c k) 0 (sendings k history) (λ n. Holds (GoodBurst (hi (hold s history)) ((s.channel.seq0 + n) % 65536)) (open_burst s k history))
     (λ t. subst (Holds _) (sym (none t)) tt) (λ f. g)
-
-none_open : (o : Option Burst) → is_some o ≡ false → o ≡ None
-none_open None e = refl
-none_open (Some b) e = absurd (true≢false e)
 
 left_sound : (s : Settings) (k c : ℕ) (history : History) → has_open s c history ≡ false → Sound s k history → Sound s k (noted (note.Bye c) None ∷ history)
 left_sound s k c history none w =
