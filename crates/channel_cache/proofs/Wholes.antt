@@ -5,7 +5,9 @@ use Rattle.rams_model.specs.declared.Held.{Held}
 use Rattle.rams_model.specs.Packets.{last_of}
 use Rattle.rams_model.specs.Formats.{Packet, stripped, IsPacket}
 use Rattle.rams_model.proofs.RtpPackets.{read_so}
-use Rattle.channel_cache.specs.{IsBare, IsWhole, AreWhole, AreAtLeast}
+use Rattle.rams_model.specs.Laws.{AreAtLeast}
+use Rattle.rams_model.proofs.Holding.{drop_at_least}
+use Rattle.channel_cache.specs.{IsBare, IsWhole, AreWhole}
 
 -- a packet without its padding is bare
 pub stripped_bare : (p : Packet) → IsPacket p → length (stripped p) ≤ 1470 → IsBare (stripped p)
@@ -57,17 +59,12 @@ least_weaker : (m n : ℕ) (hs : List Held) → m ≤ n → AreAtLeast n hs → 
 least_weaker m n [] le all = tt
 least_weaker m n (h ∷ hs) le all = (omega (arith, all.0), least_weaker m n hs le all.1)
 
-least_drop : (n d : ℕ) (hs : List Held) → AreAtLeast n hs → AreAtLeast n (drop d hs)
-least_drop n zero hs all = all
-least_drop n (suc d) [] all = tt
-least_drop n (suc d) (h ∷ hs) all = least_drop n d hs all.1
-
 least_push : (n : ℕ) (hs : List Held) (h : Held) → AreAtLeast n hs → n ≤ h.wire → AreAtLeast n (hs ++ h ∷ [])
 least_push n [] h all one = (one, tt)
 least_push n (k ∷ hs) h all one = (all.0, least_push n hs h all.1 one)
 
 least_next : (n capacity : ℕ) (held : List Held) (h : Held) (b : Bool) → AreAtLeast n held → n ≤ h.wire → AreAtLeast n (if b then last_of capacity (held ++ h ∷ []) else h ∷ [])
-least_next n capacity held h true all one = least_drop n (length (held ++ h ∷ []) - capacity) (held ++ h ∷ []) (least_push n held h all one)
+least_next n capacity held h true all one = drop_at_least n (length (held ++ h ∷ []) - capacity) (held ++ h ∷ []) (least_push n held h all one)
 least_next n capacity held h false all one = (one, tt)
 
 -- the least size after a packet was put in

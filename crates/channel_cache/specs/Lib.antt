@@ -10,7 +10,7 @@ pub mod Step
 pub mod Seen
 pub mod Laws
 unfoldable pub use Rattle.channel_cache.specs.Arrivals.{arrival_of, note_heard, arrivals_heard, live_note_of, arrivals_after}
-unfoldable pub use Rattle.channel_cache.specs.Whole.{AreWhole, AreAtLeast}
+unfoldable pub use Rattle.channel_cache.specs.Whole.{AreWhole}
 pub use Rattle.channel_cache.specs.Whole.{IsBare, IsWhole}
 unfoldable pub use Rattle.channel_cache.specs.Waiting.{new_intake, packets_of, AreItems, total_of, UnlessKept}
 pub use Rattle.channel_cache.specs.Waiting.{IsItem, IsIntake, IsSettled, Grows, Holds}

@@ -5,7 +5,8 @@ use Rattle.channel_cache.specs.packet_ring.{empty_ring, pushed, IsRing}
 use Rattle.channel_cache.specs.packet_ring.Seen as rings
 use Rattle.channel_cache.specs.access_index.Seen as indexes
 use Rattle.channel_cache.specs.access_index.{StandsFor}
-use Rattle.channel_cache.specs.Whole.{AreWhole, AreAtLeast}
+use Rattle.rams_model.specs.Laws.{AreAtLeast}
+use Rattle.channel_cache.specs.Whole.{AreWhole}
 
 -- what is held
 pub record Seen : Type 0 where

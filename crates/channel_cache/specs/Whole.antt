@@ -1,6 +1,5 @@
 -- Packets as they are held.
 use Rattle.std.specs.Prelude.{◌≡◌, ℕ, ◌≤◌, List, [], ◌∷◌, length, Ok}
-use Rattle.std.specs.List.{AllByRecursion}
 use Rattle.rams_model.specs.declared.{Held.Held, wire.TheConstants.MOST_PACKET}
 use Rattle.rams_model.specs.Formats.{Packet, wire_size, packet_at}
 
@@ -19,7 +18,3 @@ pub record IsWhole (h : Held) : Type 0 where
 abbrev pub AreWhole : List Held → Type 0
 AreWhole [] = Unit {0}
 AreWhole (h ∷ hs) = IsWhole h × AreWhole hs
-
--- none of the packets is smaller on the wire
-abbrev pub AreAtLeast : ℕ → List Held → Type 0
-AreAtLeast least held = AllByRecursion (λ h. least ≤ h.wire) held

@@ -4,7 +4,8 @@ ghost use Rattle.rams_model.specs.Packets.{chosen, lo, hi, Arrival, live_note, s
 ghost use Rattle.rams_model.specs.Service.{heard_live, live};
 ghost use Rattle.channel_cache.specs.packet_ring.{packet_of, IsRing};
 ghost use Rattle.channel_cache.specs.access_index.{choice_of};
-ghost use Rattle.channel_cache.specs.{arrival_of, live_note_of, arrivals_after, UnlessTaken, new_cache, ring_of, StandsFor, StandsForFewer, DiffersInKept, AreInStep, Stand, Grows, total_of, kept_other, IsBare, IsWhole, AreAtLeast};
+ghost use Rattle.channel_cache.specs.{arrival_of, live_note_of, arrivals_after, UnlessTaken, new_cache, ring_of, StandsFor, StandsForFewer, DiffersInKept, AreInStep, Stand, Grows, total_of, kept_other, IsBare, IsWhole};
+ghost use Rattle.rams_model.specs.Laws.{AreAtLeast};
 
 use crate::access_index::Choice;
 use crate::incoming::{Incoming, read_live};

@@ -5,7 +5,8 @@ ghost use Rattle.rams_model.specs.Packets.{chosen, lo, hi};
 ghost use Rattle.channel_cache.specs.packet_ring.{packet_of, IsRing, StandsFor};
 ghost use Rattle.channel_cache.specs.access_index.{choice_of};
 ghost use Rattle.channel_cache.specs.Stocked.{empty_stock, stocked};
-ghost use Rattle.channel_cache.specs.{IsWhole, AreAtLeast};
+ghost use Rattle.rams_model.specs.Laws.{AreAtLeast};
+ghost use Rattle.channel_cache.specs.{IsWhole};
 
 use crate::access_index::{Choice, Index};
 use crate::packet_ring::Ring;

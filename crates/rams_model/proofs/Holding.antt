@@ -6,7 +6,7 @@ use Rattle.rams_model.specs.declared.held.Held.{Held}
 use Rattle.rams_model.specs.Packets.{lo, hi, from_number, is_consecutive, consecutive_end, source, Follows}
 use Rattle.rams_model.specs.Packets.Source as sources
 use Rattle.rams_model.specs.Service.{Settings, History, stream, hold}
-use Rattle.rams_model.specs.Laws.{Rises, IsLongestEnd}
+use Rattle.rams_model.specs.Laws.{Rises, IsLongestEnd, AreAtLeast}
 use Rattle.rams_model.proofs.Rising.{from_all}
 
 pub follows_from : (hs : List Held) → is_consecutive hs ≡ true → Follows (lo hs) hs
@@ -112,3 +112,9 @@ longest_end (h ∷ hs) =
         → is_consecutive other ≡ true → length other ≤ length (consecutive_end hs)
     shorter f rest [] other e c = absurd (both_ways (is_consecutive (h ∷ hs)) f (subst (λ (l : List Held). is_consecutive l ≡ true) (sym e) c))
     shorter f rest (b ∷ before) other e c = let later : hs ≡ before ++ other = cc in rest.longest before other later c
+
+-- none of those that are left is smaller
+pub drop_at_least : (size u : ℕ) (hs : List Held) → AreAtLeast size hs → AreAtLeast size (drop u hs)
+drop_at_least size zero hs a = a
+drop_at_least size (suc u) [] a = tt
+drop_at_least size (suc u) (h ∷ hs) a = drop_at_least size u hs a.1

@@ -5,7 +5,7 @@ use Rattle.std.proofs.Math.Seq.{take-add}
 use Rattle.std.proofs.lemmas.Bool.{cond_both, cond-false, lt-leb, and_left, and_right}
 use Rattle.rams_model.specs.declared.Held.{Held}
 use Rattle.rams_model.specs.Service.{Wanted}
-use Rattle.channel_cache.specs.{AreAtLeast}
+use Rattle.rams_model.specs.Laws.{AreAtLeast}
 use Rattle.channel_cache.specs.packet_ring.{packet_of}
 use Rattle.tick_core.specs.declared.allowance.Allowance.{Allowance}
 use Rattle.tick_core.specs.{Drafted, Repaired, allowance_for, fits, waiting, with_repair, with_wanted, with_all_wanted, IsSpent, FitsNowhere, AreHeld, IsGone}

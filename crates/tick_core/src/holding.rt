@@ -1,7 +1,7 @@
 //! What a channel holds, as a pass over its pending repairs asks for it.
 ghost use Rattle.std.specs.Prelude.{◌≡◌, ◌≤◌, true, length, take, drop, is_some, option_copied};
 ghost use Rattle.channel_cache.specs.packet_ring.{packet_of};
-ghost use Rattle.channel_cache.specs.{AreAtLeast};
+ghost use Rattle.rams_model.specs.Laws.{AreAtLeast};
 ghost use Rattle.tick_core.specs.{AreHeld, IsGone};
 
 use channel_cache::Cache;
@@ -28,7 +28,8 @@ impl<'a> Model for Holding<'a> {
     ghost use Rattle.rams_model.specs.declared.Held.{Held};
     ghost use Rattle.rams_model.specs.Packets.{lo, hi};
     ghost use Rattle.channel_cache.specs.packet_ring.{IsRing};
-    ghost use Rattle.channel_cache.specs.{ring_of, AreAtLeast};
+    ghost use Rattle.rams_model.specs.Laws.{AreAtLeast};
+    ghost use Rattle.channel_cache.specs.{ring_of};
 
     ghost Value = { List Held };
 

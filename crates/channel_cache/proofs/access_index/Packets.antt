@@ -6,6 +6,7 @@ use Rattle.std.proofs.lemmas.List.Sums.{sum_by_push}
 use Rattle.rams_model.specs.declared.Held.{Held}
 use Rattle.rams_model.specs.Packets.{wires, from_number, behind, last_timestamp, Follows}
 use Rattle.rams_model.proofs.Holding.{all_from, one_behind}
+use Rattle.rams_model.proofs.Rising.{not_from}
 use Rattle.channel_cache.specs.access_index.{AccessPoint, more_behind, point_of, points_of}
 
 -- an access point in front of others
@@ -16,10 +17,6 @@ in_front b p ps = if b then p ∷ ps else ps
 abbrev pub points_from : List Held → List AccessPoint
 points_from [] = []
 points_from (h ∷ hs) = in_front h.access (record { n = h.n; ts = h.ts; behind = wires (h ∷ hs) }) (points_from hs)
-
--- ---- the packets from a number on
-pub from_rest : (from : ℕ) (h : Held) (hs : List Held) → h.n < from → from_number from (h ∷ hs) ≡ from_number from hs
-from_rest from h hs low = ap (λ b. if b then h ∷ from_number from hs else from_number from hs) (let out : nat_le from h.n ≡ false = grind (arith, nat_tests) in out)
 
 -- ---- both say the same
 pub points_same_step : (all hs : List Held) (h : Held) (b : Bool) → behind h.n all ≡ wires (h ∷ hs) → map (point_of all) (filter (λ k. k.access) hs) ≡ points_from hs
@@ -33,7 +30,7 @@ pub points_same_in : (k : ℕ) (all hs : List Held) → Follows k hs → ((n : �
 points_same_in k all [] follows same = refl
 points_same_in k all (h ∷ hs) follows same =
     points_same_step all hs h h.access (ap wires (same h.n (omega (arith, follows.0)) ∙ all_from h.n k (h ∷ hs) follows (omega (arith, follows.0))))
-    (points_same_in (k + 1) all hs follows.1 (λ n above. same n (omega arith) ∙ from_rest n h hs (omega (arith, follows.0))))
+    (points_same_in (k + 1) all hs follows.1 (λ n above. same n (omega arith) ∙ not_from n h hs (omega (arith, follows.0))))
 
 pub points_same : (k : ℕ) (hs : List Held) → Follows k hs → points_of hs ≡ points_from hs
 points_same k hs follows = points_same_in k hs hs follows (λ n above. refl)
@@ -91,7 +88,7 @@ pub points_from-from_step : (k from : ℕ) (h : Held) (hs : List Held) → Follo
     → points_from (from_number from (h ∷ hs)) ≡ filter (λ p. nat_le from p.n) (points_from (h ∷ hs))
 points_from-from_step k from h hs follows (inr low) rest = ap points_from (all_from from k (h ∷ hs) follows low) ∙ sym (points_all_from k from (h ∷ hs) follows low)
 points_from-from_step k from h hs follows (inl high) rest =
-    ap points_from (from_rest from h hs (omega (arith, follows.0)))
+    ap points_from (not_from from h hs (omega (arith, follows.0)))
     ∙ (rest ∙ sym (failing_step (λ p. nat_le from p.n) (record { n = h.n; ts = h.ts; behind = wires (h ∷ hs) }) (points_from hs) h.access (let n = follows.0 in grind (arith, nat_tests))))
 
 pub points_from-from : (k from : ℕ) (hs : List Held) → Follows k hs → points_from (from_number from hs) ≡ filter (λ p. nat_le from p.n) (points_from hs)
@@ -107,7 +104,7 @@ follows-from_step k from h hs follows (inr low) rest =
 follows-from_step k from h hs follows (inl high) rest =
     let same : min (max (k + 1) from) (k + 1 + length hs) ≡ min (max k from) (k + length (h ∷ hs)) = omega arith in
     subst (λ (n : ℕ). Follows n (from_number from (h ∷ hs))) same
-    (subst (λ (js : List Held). Follows (min (max (k + 1) from) (k + 1 + length hs)) js) (sym (from_rest from h hs (omega (arith, follows.0)))) rest)
+    (subst (λ (js : List Held). Follows (min (max (k + 1) from) (k + 1 + length hs)) js) (sym (not_from from h hs (omega (arith, follows.0)))) rest)
 
 pub follows-from : (k from : ℕ) (hs : List Held) → Follows k hs → Follows (min (max k from) (k + length hs)) (from_number from hs)
 follows-from k from [] follows = tt
@@ -117,7 +114,7 @@ pub length-from_step : (k from : ℕ) (h : Held) (hs : List Held) → Follows k 
     → min (max (k + 1) from) (k + 1 + length hs) + length (from_number from hs) ≡ k + 1 + length hs
     → min (max k from) (k + length (h ∷ hs)) + length (from_number from (h ∷ hs)) ≡ k + length (h ∷ hs)
 length-from_step k from h hs follows (inr low) rest = omega (arith, ap length (all_from from k (h ∷ hs) follows low))
-length-from_step k from h hs follows (inl high) rest = omega (arith, rest, ap length (from_rest from h hs (omega (arith, follows.0))))
+length-from_step k from h hs follows (inl high) rest = omega (arith, rest, ap length (not_from from h hs (omega (arith, follows.0))))
 
 pub length-from : (k from : ℕ) (hs : List Held) → Follows k hs → min (max k from) (k + length hs) + length (from_number from hs) ≡ k + length hs
 length-from k from [] follows = omega arith
@@ -128,7 +125,7 @@ pub last-from_step : (k from : ℕ) (h : Held) (hs : List Held) → Follows k (h
     → (from < k + 1 + length hs → last_timestamp (from_number from hs) ≡ last_timestamp hs) → last_timestamp (from_number from (h ∷ hs)) ≡ last_timestamp (h ∷ hs)
 last-from_step k from h hs follows some (inr low) rest = ap last_timestamp (all_from from k (h ∷ hs) follows low)
 last-from_step k from h [] follows some (inl high) rest = absurd (omega arith)
-last-from_step k from h (j ∷ hs) follows some (inl high) rest = ap last_timestamp (from_rest from h (j ∷ hs) (omega (arith, follows.0))) ∙ rest (omega arith)
+last-from_step k from h (j ∷ hs) follows some (inl high) rest = ap last_timestamp (not_from from h (j ∷ hs) (omega (arith, follows.0))) ∙ rest (omega arith)
 
 pub last-from : (k from : ℕ) (hs : List Held) → Follows k hs → from < k + length hs → last_timestamp (from_number from hs) ≡ last_timestamp hs
 last-from k from [] follows some = refl

@@ -1,5 +1,6 @@
 -- A quiet burst, and the lists of numbers that catch up: why a burst keeps the join time that its client was told.
 use Rattle.std.specs.Prelude.{◌≡◌, ℕ, ◌+◌, ◌*◌, ◌<◌, ◌≤◌, ◌⊎◌, ◌==◌, if◌then◌else◌, List, [], ◌∷◌, drop}
+use Rattle.std.specs.List.{AllByRecursion}
 use Rattle.rams_model.specs.declared.held.Held.{Held}
 use Rattle.rams_model.specs.declared.note.Note.TheVariants.{Accept, Update, End}
 use Rattle.rams_model.specs.Service.{Settings, opened, is_among, tick, began, noted, History, stream}
@@ -50,8 +51,7 @@ JoinsSlowly s (later ∷ before ∷ moments) = (wires (source s later) ≤ wires
 
 -- the packets have at least this wire size
 abbrev pub AreAtLeast : ℕ → List Held → Type 0
-AreAtLeast size [] = Unit {0}
-AreAtLeast size (h ∷ hs) = (size ≤ h.wire) × AreAtLeast size hs
+AreAtLeast size held = AllByRecursion (λ h. size ≤ h.wire) held
 
 -- From a burst's first packet on nothing is missing in the source, no packet is smaller than declared, and no tick brings more than declared.
 pub record IsQuiet (s : Settings) (k first : ℕ) (history : History) : Type 0 where

@@ -1,6 +1,6 @@
 -- A burst that has sent nothing yet: its client is sent nothing else, so the number that its Accept named is the client's next one.
 use Rattle.std.proofs.Common.{◌≡◌, ℕ, ◌+◌, ◌%◌, ◌<◌, ◌≤◌, ◌≢◌, true, false, ⊎_elim, List, [], ◌∷◌, ◌++◌, length, Option, Some, None, refl, ap, sym, ◌∙◌, subst, arith, eqb, ltb}
-use Rattle.std.specs.Prelude.{is_some, Contains, not}
+use Rattle.std.specs.Prelude.{Contains, not}
 use Rattle.std.proofs.lemmas.Bool.{cond_both, both_ways, and_from, or_cases, cases_Bool, not_from_false, eqb-true, lt-ltb, true≢false}
 use Rattle.std.proofs.lemmas.List.Elements.{Contains-append_right}
 use Rattle.rams_model.specs.declared.{Event.Event, Held.Held, Note.Note}

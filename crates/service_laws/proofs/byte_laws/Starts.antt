@@ -24,7 +24,7 @@ SameNumbers numbers present = (m : ℕ) → has m numbers ≡ has_number m prese
 
 -- ---- one packet more
 
-has_with : (m : ℕ) (new : Held) (hs : List Held) → has_number m (with_packet new hs) ≡ (eqb new.n m || has_number m hs)
+pub has_with : (m : ℕ) (new : Held) (hs : List Held) → has_number m (with_packet new hs) ≡ (eqb new.n m || has_number m hs)
 has_with m new [] = refl
 has_with m new (h ∷ hs) =
     cond_both (ltb new.n h.n) (new ∷ h ∷ hs) (h ∷ with_packet new hs) (λ l. has_number m l ≡ (eqb new.n m || has_number m (h ∷ hs))) (λ t. refl)

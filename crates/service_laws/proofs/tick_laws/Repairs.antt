@@ -14,7 +14,8 @@ use Rattle.rams_model.proofs.Legal.{is_of_runs, IsGone}
 use Rattle.service_laws.specs.tick_laws.{HadItsTurn}
 use Rattle.service_laws.proofs.book_laws.Members.{first_or_later}
 use Rattle.service_laws.proofs.tick_laws.Takes.{may_keep, too_large_for_client, too_large_for_channel}
-use Rattle.service_laws.proofs.tick_laws.Ticks.{start, ran, repaired_all, tick_is, held_ran, of_filtered, passed}
+use Rattle.service_laws.proofs.book_laws.Members.{of_filter}
+use Rattle.service_laws.proofs.tick_laws.Ticks.{start, ran, repaired_all, tick_is, held_ran, passed}
 
 -- ---- runs and forgetting leave what waits as it is
 
@@ -86,7 +87,7 @@ one_turn : (s : Settings) (held : List Held) (v w : Wanted) (o : Option Held) (h
     → to ≡ since ++ repaired s held v o history → Contains (pending (repaired s held v o history)) w → Waited s held history (repaired s held v o history) to v w
 unfolding pending
 one_turn s held v w None history to since found splits c =
-    record { before = of_filtered _ (pending history) w c; turn = λ e. absurd (gone_from v.client v.n (pending history) (subst (λ (x : Wanted). Contains (filter (λ y. not (is_wanted v.client v.n y)) (pending history)) x) (sym e) c)) }
+    record { before = of_filter _ (pending history) w c; turn = λ e. absurd (gone_from v.client v.n (pending history) (subst (λ (x : Wanted). Contains (filter (λ y. not (is_wanted v.client v.n y)) (pending history)) x) (sym e) c)) }
 one_turn s held v w (Some h) history to since found splits c =
     by_case (leb h.wire (may_take s held v.client history) && leb h.wire (channel_left s history)) refl splits c
   where
@@ -107,7 +108,7 @@ one_turn s held v w (Some h) history to since found splits c =
     by_case : (b : Bool) → (leb h.wire (may_take s held v.client history) && leb h.wire (channel_left s history)) ≡ b → to ≡ since ++ cond b sent history
         → Contains (pending (cond b sent history)) w → Waited s held history (cond b sent history) to v w
     by_case true t splits c =
-        record { before = of_filtered _ (pending history) w c; turn = λ e. absurd (gone_from v.client v.n (pending history) (subst (λ (x : Wanted). Contains (filter (λ y. not (is_wanted v.client v.n y)) (pending history)) x) (sym e) c)) }
+        record { before = of_filter _ (pending history) w c; turn = λ e. absurd (gone_from v.client v.n (pending history) (subst (λ (x : Wanted). Contains (filter (λ y. not (is_wanted v.client v.n y)) (pending history)) x) (sym e) c)) }
     by_case false f splits c =
         record {
           before = c;

@@ -1,7 +1,7 @@
 -- The parts of a tick: runs, repairs, and whom it forgets.
 use Rattle.std.proofs.Common.{◌≡◌, Bool, true, List, ◌∷◌, refl, ap, ◌∙◌}
 use Rattle.std.specs.Prelude.{Contains, filter}
-use Rattle.std.proofs.lemmas.List.Elements.{All-contains, All-contains_itself, All-filter, filter_passes}
+use Rattle.std.proofs.lemmas.List.Elements.{All-contains, filter_passes}
 use Rattle.rams_model.specs.declared.{Event.Event, Held.Held, Note.Note, Event.TheVariants.Tick}
 use Rattle.rams_model.specs.Service.{Settings, tick, began, History, arrivals, hold, opened, bursts_served, repairs_sent, idle_forgotten, after_tick, after_hearing, heard_of, history_of}
 use Rattle.rams_model.specs.Packets.{Arrival, stream_of}
@@ -38,10 +38,6 @@ pub held_ran : (s : Settings) (events : List Event) → hold s (ran s events) �
 held_ran s events =
     same_held s _ (start s events) (ran s events) (all_served_put s (hold s (start s events)) (opened (start s events)) (start s events)) ∙ held_at_start s (history_of s events)
 
--- an item of a filtered list is one of the list
-pub of_filtered : {A : Type 0} (test : A → Bool) (xs : List A) (x : A) → Contains (filter test xs) x → Contains xs x
-of_filtered test xs x c = All-contains (Contains xs) (filter test xs) x (All-filter test (Contains xs) xs (All-contains_itself xs)) c
-
--- and passes the test
+-- an item of a filtered list passes the test
 pub passed : {A : Type 0} (test : A → Bool) (xs : List A) (x : A) → Contains (filter test xs) x → test x ≡ true
 passed test xs x c = All-contains (λ y. test y ≡ true) (filter test xs) x (filter_passes test xs) c

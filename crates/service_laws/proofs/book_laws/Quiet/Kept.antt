@@ -10,10 +10,11 @@ use Rattle.rams_model.specs.Packets.{hi, wires, from_number, Arrival, Follows, h
 use Rattle.rams_model.specs.Packets.Source as sources
 use Rattle.rams_model.proofs.Growing.{source_grows}
 use Rattle.rams_model.specs.Laws.{source, moments, AreAtLeast, JoinsSlowly, IsQuiet, told_join}
+use Rattle.rams_model.proofs.Holding.{drop_at_least}
 use Rattle.rams_model.proofs.Legal.{IsLegal}
 use Rattle.rams_model.proofs.Running.{wires-cons}
 use Rattle.service_laws.specs.book_laws.{ticks_since_told}
-use Rattle.service_laws.proofs.book_laws.Quiet.Packets.{follows_drop, follows_front, held_later, held_to, drop_at_least, count_fits}
+use Rattle.service_laws.proofs.book_laws.Quiet.Packets.{follows_drop, follows_front, held_later, held_to, count_fits}
 use Rattle.service_laws.proofs.book_laws.Quiet.Sizes.{AreSized, sized_filter, sized_source, at_most, at_least_one, ArriveSmall}
 use Rattle.service_laws.proofs.book_laws.Quiet.Near.{Near, wires_now, next_near}
 use Rattle.service_laws.proofs.book_laws.Quiet.States.{Quietly, Keeps, Good, has_sent, open_is}

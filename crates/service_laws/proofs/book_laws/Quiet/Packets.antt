@@ -196,11 +196,6 @@ times_size size (h ∷ hs) a =
 pub no_fewer : (hs : List Held) → AreAtLeast 1 hs → length hs ≤ wires hs
 no_fewer hs a = let times = times_size 1 hs a in omega (arith, times)
 
-pub drop_at_least : (size u : ℕ) (hs : List Held) → AreAtLeast size hs → AreAtLeast size (drop u hs)
-drop_at_least size zero hs a = a
-drop_at_least size (suc u) [] a = tt
-drop_at_least size (suc u) (h ∷ hs) a = drop_at_least size u hs a.1
-
 pub count_fits : (size most : ℕ) (hs : List Held) → AreAtLeast 1 hs → AreAtLeast size hs → wires hs ≤ most * size → length hs ≤ most
 count_fits zero most hs one a le = let count = no_fewer hs one in omega (arith, count, le)
 count_fits (suc size) most hs one a le =

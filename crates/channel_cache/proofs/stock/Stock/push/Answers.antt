@@ -4,7 +4,8 @@ use Rattle.rams_model.specs.Packets.{hi, from_number}
 use Rattle.channel_cache.specs.access_index.{StandsFor}
 use Rattle.channel_cache.specs.packet_ring.Seen as rings
 use Rattle.channel_cache.specs.Stocked.{Seen}
-use Rattle.channel_cache.specs.{AreWhole, AreAtLeast}
+use Rattle.rams_model.specs.Laws.{AreAtLeast}
+use Rattle.channel_cache.specs.{AreWhole}
 use Rattle.channel_cache.proofs.Wholes.{AreWhole-with, least_with}
 use Rattle.channel_cache.proofs.Stocking.{pushed_marks, next_mark, room_left}
 use Rattle.channel_cache.proofs.stock.Stock.push.Goals as goal
