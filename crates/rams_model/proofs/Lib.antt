@@ -31,3 +31,4 @@ pub mod Induction
 pub mod Turns
 pub mod Granting
 pub mod PieceCounts
+pub mod WireSizes

@@ -35,7 +35,7 @@ unfoldable pub use Rattle.rams_model.specs.Service.Verdict.{asked_rate, is_slow,
 unfoldable pub use Rattle.rams_model.specs.Service.Answers.{is_before, is_early, room, repair_note, held_answer, number_answer, after_numbers, after_nack, stop_set, on_stop, stop_burst, after_stop, is_bye_of, after_bye, after_message, after_messages}
 pub use Rattle.rams_model.specs.Service.Answers.{Room}
 unfoldable pub use Rattle.rams_model.specs.Service.Tick.{run, send, is_lost, is_stop, after_run, run_sent, burst_served, all_served, repaired, all_repaired, all_forgotten, bursts_served, repairs_sent, idle_forgotten, after_tick}
-unfoldable pub use Rattle.rams_model.specs.Service.Orders.{info_order, packet_order, again_order, update_order, end_order, order_of, newest_notes, newest_orders, newest_answer, client_of, sent_again, datagram}
+unfoldable pub use Rattle.rams_model.specs.Service.Orders.{info_order, packet_order, again_order, update_order, end_order, order_of, newest_notes, newest_orders, newest_answer, client_of, wire_sizes, sent_again, datagram}
 unfoldable pub use Rattle.rams_model.specs.Service.LawfulBook.{after_hearing, after, history_of, answer, Book, events_of, IsLawful, book}
 pub use Rattle.rams_model.specs.Service.LawfulBook.{Entry}
 unfoldable pub use Rattle.rams_model.specs.Service.EventAnswer.{answered}

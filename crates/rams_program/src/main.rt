@@ -106,8 +106,8 @@ fn unserved<R: Threads + Wait + Sync + Input + Print + Eprint>(
     command(rt, alloc, words, &mut wire, &mut clock, &report)
 }
 
-/// Runs `serve` over the ports of as many channels as a server may have, since its head isn't read yet. Where one of them can't be
-/// had, its wire fails.
+/// Runs `serve` over the ports of as many channels as a server may have, since its head isn't read yet. Where one of
+/// them can't be had, its wire fails.
 fn served<R: Threads + Wait + Net + rt::Clock + Sync + Input + Print + Eprint>(
     rt: &R,
     alloc: Global,

@@ -1,7 +1,6 @@
 -- How `pcap` ends.
 use Rattle.std.specs.Prelude.{◌⊎◌}
 use Rattle.std.proofs.Common.{◌≡◌, ℕ, List, length, Option, None, Some, Result, Ok, Err, IfOk, refl, sym, subst, ap}
-use Rattle.std.specs.Io.KnownBytes.{Appends}
 use Rattle.line_io.specs.Passes.{Passes}
 use Rattle.rams_model.specs.declared.Status.{Status}
 use Rattle.rams_model.specs.declared.Status.TheVariants.{Done, NoMemory, Words, ReadFault, WriteFault, BadTrace, WireFault, TooLong, BadCapture, BadSdp}
@@ -11,11 +10,8 @@ use Rattle.trace_loop.specs.declared.Stop.{Stop}
 use Rattle.trace_loop.specs.declared.Stop.TheVariants.{Memory, Read, Write, Wire}
 use Rattle.trace_loop.specs.{IfTold, IfBothTold, IsStopped, OnlyMemoryStops}
 use Rattle.converters.specs.capture_loop.{HasReadCapture, IsCaptureEnd, IsTrace, capture_text}
+use Rattle.rams_replay.proofs.Ending.{IsWhole}
 use Rattle.rams_replay.specs.{HasCapture, IsOrLacksMemory, WritesCapture, status_of}
-
--- the whole text of an outcome, with its status
-abbrev IsWhole : Option (List ℕ) → Option (List ℕ) → Outcome → Status → Type 0
-IsWhole held holds o status = (status ≡ o.status) × Appends held holds o.text
 
 -- no wire stops it
 abbrev pub HasNoWire : Result Status Stop → Type 0

@@ -21,7 +21,7 @@ stopped_by_source (Err Write) e ends = cc
 stopped_by_source (Err Wire) e ends = cc
 
 -- the whole text of an outcome, with its status
-abbrev IsWhole : Option (List ℕ) → Option (List ℕ) → Outcome → Status → Type 0
+abbrev pub IsWhole : Option (List ℕ) → Option (List ℕ) → Outcome → Status → Type 0
 IsWhole held holds o status = (status ≡ o.status) × Appends held holds o.text
 
 has_text : (held holds : Option (List ℕ)) (o : Outcome) (r : Result Status Stop) → IfOk r (IsWhole held holds o) → HasText held holds o (status_of r)

@@ -2,13 +2,14 @@
 use Rattle.std.proofs.Common.{◌≡◌, ℕ, ◌+◌, cond, false, List, [], ◌∷◌, ◌++◌, length, length-append, Option, Some, None, refl, ap, sym, ◌∙◌, subst, add_assoc, arith}
 use Rattle.std.specs.Prelude.{option_map, option_to_list}
 use Rattle.std.proofs.lemmas.Option.{same_Some}
-use Rattle.rams_model.specs.declared.{Note.Note, Order.Order, Info.Info, Cause.Cause, Order.TheVariants.Rtx, Order.TheVariants.Info as InfoOrder}
+use Rattle.rams_model.specs.declared.{Note.Note, Order.Order, Info.Info, Cause.Cause, Order.TheVariants.Rtx}
 use Rattle.rams_model.specs.declared.Note.TheVariants.{Burst as BurstNote, Repair, Gone as GoneNote, End as EndNote, Forgot as ForgotNote}
 use Rattle.rams_model.specs.Formats.{wire_size}
-use Rattle.rams_model.specs.Service.{Settings, info_order, end_info}
+use Rattle.rams_model.specs.Service.{Settings, info_order, end_info, wire_sizes}
+use Rattle.rams_model.proofs.WireSizes.{sizes_append}
 use Rattle.tick_core.specs.declared.{sendings.Sendings.Sendings, step.Step.Step}
 use Rattle.tick_core.specs.declared.step.Step.TheVariants.{Sent, End}
-use Rattle.tick_core.specs.{told_end, one_sending, both_sendings, with_sendings, MaySend, sending_of, sizes, first_size, sizes_behind, with_sized, with_all_sized, MayCommitSized, with_step, with_all_steps, MayDoAll, other_step, sends, packets_sent, AreInStep, AreBoth}
+use Rattle.tick_core.specs.{told_end, one_sending, both_sendings, with_sendings, MaySend, sending_of, first_size, sizes_behind, with_sized, with_all_sized, MayCommitSized, with_step, with_all_steps, MayDoAll, other_step, sends, packets_sent, AreInStep, AreBoth}
 use Rattle.tick_core.specs.Committed.{Committed}
 use Rattle.tick_core.proofs.Sending.{sent_both, may_both}
 
@@ -49,11 +50,6 @@ grown steps x y same = record {
 }
 
 -- ---- notes behind others
-sizes_append : (a b : List Order) → sizes (a ++ b) ≡ sizes a ++ sizes b
-sizes_append [] b = refl
-sizes_append (Rtx client n seq packet ∷ a) b = ap (λ (l : List ℕ). wire_size packet ∷ l) (sizes_append a b)
-sizes_append (InfoOrder client info ∷ a) b = sizes_append a b
-
 sent_append : (a b : List Note) → packets_sent (a ++ b) ≡ packets_sent a + packets_sent b
 sent_append [] b = omega arith
 sent_append (note ∷ a) b = ap (λ (k : ℕ). cond (sends note) 1 0 + k) (sent_append a b) ∙ sym (add_assoc (cond (sends note) 1 0) (packets_sent a) (packets_sent b))
@@ -101,16 +97,16 @@ joined old more new notes later orders others both first second = record {
     does = λ s c.
         both.does s.channel.depth c
         ∙ (ap (with_all_steps s.channel.depth more) (first.steps_do.does s c)
-        ∙ (second.steps_do.does s (with_all_sized s (sizes orders) notes c)
-        ∙ (sym (sized_append s (sizes orders) (sizes others) notes later c first.sizes_are) ∙ ap (λ (l : List ℕ). with_all_sized s l (notes ++ later) c) (sym (sizes_append orders others)))));
+        ∙ (second.steps_do.does s (with_all_sized s (wire_sizes orders) notes c)
+        ∙ (sym (sized_append s (wire_sizes orders) (wire_sizes others) notes later c first.sizes_are) ∙ ap (λ (l : List ℕ). with_all_sized s l (notes ++ later) c) (sym (sizes_append orders others)))));
     may = λ s c may.
-        let parts = may_split s (sizes orders) (sizes others) notes later c first.sizes_are (subst (λ (l : List ℕ). MayCommitSized s l (notes ++ later) c) (sizes_append orders others) may) in
+        let parts = may_split s (wire_sizes orders) (wire_sizes others) notes later c first.sizes_are (subst (λ (l : List ℕ). MayCommitSized s l (notes ++ later) c) (sizes_append orders others) may) in
         both.may s.channel.depth c (first.steps_do.may s c parts.0)
-        (subst (MayDoAll s.channel.depth more) (sym (first.steps_do.does s c)) (second.steps_do.may s (with_all_sized s (sizes orders) notes c) parts.1));
+        (subst (MayDoAll s.channel.depth more) (sym (first.steps_do.does s c)) (second.steps_do.may s (with_all_sized s (wire_sizes orders) notes c) parts.1));
   };
   sizes_are = sent_append notes later
       ∙ (ap (λ (k : ℕ). k + packets_sent later) first.sizes_are
-      ∙ (ap (λ (k : ℕ). length (sizes orders) + k) second.sizes_are ∙ (sym (length-append (sizes orders) (sizes others)) ∙ ap length (sym (sizes_append orders others)))));
+      ∙ (ap (λ (k : ℕ). length (wire_sizes orders) + k) second.sizes_are ∙ (sym (length-append (wire_sizes orders) (wire_sizes others)) ∙ ap length (sym (sizes_append orders others)))));
 }
 
 -- ---- what is done for one note
@@ -128,7 +124,7 @@ one_sent (Repair k m at) client n seq packet x is =
     (record { steps_do = record { does = λ s c. refl; may = λ s c may. may }; sizes_are = refl })
 one_sent note client n seq packet x is = absurd cc
 
-pub one_other : (note : Note) (orders : List Order) → sends note ≡ false → sizes orders ≡ [] → AreInStep (option_to_list (other_step note)) (note ∷ []) orders
+pub one_other : (note : Note) (orders : List Order) → sends note ≡ false → wire_sizes orders ≡ [] → AreInStep (option_to_list (other_step note)) (note ∷ []) orders
 unfolding with_all_steps MayDoAll with_all_sized MayCommitSized
 one_other (BurstNote k n seq) orders none empty = absurd cc
 one_other (Repair k n seq) orders none empty = absurd cc
@@ -137,7 +133,7 @@ one_other (GoneNote k n) orders none empty = record { steps_do = record { does =
 one_other (ForgotNote k) orders none empty = record { steps_do = record { does = λ s c. refl; may = λ s c may. may }; sizes_are = sym (ap length empty) }
 one_other note orders none empty = record { steps_do = record { does = λ s c. refl; may = λ s c may. tt }; sizes_are = sym (ap length empty) }
 
-told_unsized : (client : ℕ) (o : Option Info) → sizes (option_to_list (option_map (info_order client) o)) ≡ []
+told_unsized : (client : ℕ) (o : Option Info) → wire_sizes (option_to_list (option_map (info_order client) o)) ≡ []
 told_unsized client None = refl
 told_unsized client (Some info) = refl
 
@@ -149,7 +145,7 @@ as_made steps made_steps notes made_notes orders made_orders steps_are notes_are
     (subst (λ (l : List Note). AreInStep steps l made_orders) (sym notes_are) (subst (AreInStep steps notes) (sym orders_are) are))
 
 -- one note more, which sends no packet
-pub noted : (steps made_steps : List Step) (notes made_notes : List Note) (orders made_orders others : List Order) (note : Note) → AreInStep steps notes orders → sends note ≡ false → sizes others ≡ []
+pub noted : (steps made_steps : List Step) (notes made_notes : List Note) (orders made_orders others : List Order) (note : Note) → AreInStep steps notes orders → sends note ≡ false → wire_sizes others ≡ []
     → made_steps ≡ steps ++ option_to_list (other_step note) → made_notes ≡ notes ++ note ∷ [] → made_orders ≡ orders ++ others → AreInStep made_steps made_notes made_orders
 noted steps made_steps notes made_notes orders made_orders others note are none empty steps_are notes_are orders_are =
     let more = option_to_list (other_step note) in

@@ -1,20 +1,13 @@
 -- The sizes on the wire of the packets that a tick sends.
 use Rattle.std.specs.Prelude.{ℕ, List, [], ◌∷◌}
-use Rattle.rams_model.specs.declared.{Order.Order, Order.TheVariants.Rtx, Order.TheVariants.Info, Held.Held, Note.Note}
+use Rattle.rams_model.specs.declared.{Held.Held, Note.Note}
 use Rattle.rams_model.specs.declared.Note.TheVariants.{Burst as BurstNote, Repair}
-use Rattle.rams_model.specs.Formats.{wire_size}
 use Rattle.rams_model.specs.Service.{Settings, size_of}
 use Rattle.channel_cache.specs.packet_ring.{packet_of}
 use Rattle.tick_core.specs.Committed.{Committed, with_sending, MayCommit}
 use Rattle.tick_core.specs.Steps.{other_step, with_step_if}
 
--- those of the packets that orders send
-abbrev pub sizes : List Order → List ℕ
-sizes [] = []
-sizes (Rtx client n seq packet ∷ orders) = wire_size packet ∷ sizes orders
-sizes (Info client info ∷ orders) = sizes orders
-
--- those of the packets that notes name
+-- the sizes of the packets that notes name
 abbrev pub sizes_named : List Held → List Note → List ℕ
 sizes_named held [] = []
 sizes_named held (BurstNote client n seq ∷ notes) = size_of (packet_of n held) ∷ sizes_named held notes

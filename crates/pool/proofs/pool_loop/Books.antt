@@ -6,7 +6,7 @@ use Rattle.std.proofs.lemmas.List.{reverse-append, reverse-reverse, length-appen
 use Rattle.std.proofs.lemmas.List.Elements.{All-from_recursion, filter-append}
 use Rattle.rams_model.specs.declared.Event.{Event}
 use Rattle.rams_model.specs.declared.Event.TheVariants as event
-use Rattle.rams_model.specs.Service.{Settings, Answered, answer, book}
+use Rattle.rams_model.specs.Service.{Settings, Answered, answer, book, wire_sizes}
 use Rattle.rams_model.proofs.OneBook.{is_lawful}
 use Rattle.service_laws.specs.book_laws.{notes_in, orders_in, note_sends, order_sends, EachSendingIsOrderedOnce}
 use Rattle.channel_book.specs.declared.Entry.{Entry}
@@ -22,7 +22,7 @@ use Rattle.trace_loop.specs.journal_book.{text_for}
 use Rattle.pool.specs.declared.{link_pool.claim.Claim.Claim, pool_run.lane.Lane.Lane, pool_loop.dealing.Coming.Coming}
 use Rattle.pool.specs.declared.pool_loop.routes.Route.{Route}
 use Rattle.pool.specs.link_pool.{bytes_of, claims_of}
-use Rattle.pool.specs.pool_run.{sizes, sizes_of, IsFresh, IsBookOf, AreBooks, ClaimsAreSizes}
+use Rattle.pool.specs.pool_run.{sizes_of, IsFresh, IsBookOf, AreBooks, ClaimsAreSizes}
 use Rattle.pool.proofs.pool_run.Sizing.{sizes_append}
 use Rattle.pool.specs.pool_loop.{route_of, is_for_all, served_so, all_served, HaveAtMost, numbers_of, AllCanRender, ClaimsOf, IsLaneOf}
 use Rattle.pool.proofs.pool_loop.Walked.{event_in, IsPending, ArePending}
@@ -213,26 +213,26 @@ few_ticks (r ∷ routes) = by (is_for_all r) (few_ticks routes)
 
 -- ---- the claims
 
-orders_behind : (s : Settings) (before : List Event) (entries : List Entry) → LegalFrom s before entries → sizes (orders_in (book s (events_behind before entries))) ≡ sizes (orders_in (book s before)) ++ sizes_of entries
+orders_behind : (s : Settings) (before : List Event) (entries : List Entry) → LegalFrom s before entries → wire_sizes (orders_in (book s (events_behind before entries))) ≡ wire_sizes (orders_in (book s before)) ++ sizes_of entries
 unfolding book
-orders_behind s before [] legal = sym (append-nil (sizes (orders_in (book s before))))
+orders_behind s before [] legal = sym (append-nil (wire_sizes (orders_in (book s before))))
 orders_behind s before (e ∷ later) legal =
     orders_behind s (e.event ∷ before) later legal.1 ∙ ap (λ (l : List ℕ). l ++ sizes_of later) (sizes_append (orders_in (book s before)) (answer s before e.event).orders)
-    ∙ ap (λ (a : Answered). (sizes (orders_in (book s before)) ++ sizes a.orders) ++ sizes_of later) (sym legal.0) ∙ append_assoc (sizes (orders_in (book s before))) (sizes e.answer.orders) (sizes_of later)
+    ∙ ap (λ (a : Answered). (wire_sizes (orders_in (book s before)) ++ wire_sizes a.orders) ++ sizes_of later) (sym legal.0) ∙ append_assoc (wire_sizes (orders_in (book s before))) (wire_sizes e.answer.orders) (sizes_of later)
 
 behind_turned : (before : List Event) (entries : List Entry) → events_behind before entries ≡ reverse (map event_in entries) ++ before
 behind_turned before [] = refl
 behind_turned before (e ∷ later) =
     behind_turned (e.event ∷ before) later ∙ sym (append_assoc (reverse (map event_in later)) (e.event ∷ []) before) ∙ ap (λ (l : List Event). l ++ before) (sym (reverse-append (e.event ∷ []) (map event_in later)))
 
-none_in_book : (s : Settings) → sizes (orders_in (book s [])) ≡ []
+none_in_book : (s : Settings) → wire_sizes (orders_in (book s [])) ≡ []
 unfolding book
 none_in_book s = refl
 
-sizes_so : (c : Coming) (b : Kept) → IsBookFor c b → sizes_of b.entries ≡ sizes (orders_in (book c.config (reverse c.events.items)))
+sizes_so : (c : Coming) (b : Kept) → IsBookFor c b → sizes_of b.entries ≡ wire_sizes (orders_in (book c.config (reverse c.events.items)))
 sizes_so c b is =
     ap (λ (l : List ℕ). l ++ sizes_of b.entries) (sym (none_in_book c.config)) ∙ sym (orders_behind c.config [] b.entries is.legal)
-    ∙ ap (λ (es : List Event). sizes (orders_in (book c.config es))) (behind_turned [] b.entries ∙ append-nil (reverse (map event_in b.entries)) ∙ ap reverse is.events_are)
+    ∙ ap (λ (es : List Event). wire_sizes (orders_in (book c.config es))) (behind_turned [] b.entries ∙ append-nil (reverse (map event_in b.entries)) ∙ ap reverse is.events_are)
 
 filter_map-append : {A B : Type 0} (f : A → Option B) (xs ys : List A) → filter_map f (xs ++ ys) ≡ filter_map f xs ++ filter_map f ys
 filter_map-append f [] ys = refl

@@ -1,7 +1,7 @@
 -- What may be written of a trace for a pool.
 use Rattle.std.specs.Prelude.{◌≡◌, ℕ, ◌*◌, ◌<◌, ◌≤◌, List, [], ◌++◌, length, map, filter_map, slice_index_or, Option}
 use Rattle.rams_model.specs.declared.{Status.Status, Status.TheVariants.Done}
-use Rattle.rams_model.specs.Service.{book}
+use Rattle.rams_model.specs.Service.{book, wire_sizes}
 use Rattle.service_laws.specs.book_laws.{notes_in, orders_in, note_sends, order_sends}
 use Rattle.server_hub.specs.{id_of, ticks_among}
 use Rattle.server_hub.specs.Served.{Served}
@@ -11,7 +11,6 @@ use Rattle.trace_loop.specs.trace_book.{trace_text, served_by, came}
 use Rattle.pool.specs.declared.link_pool.claim.Claim.{Claim}
 use Rattle.pool.specs.link_pool.{Fill, PaidWithin, bytes_of, claims_of}
 use Rattle.pool.specs.ledger_text.{ledger_text}
-use Rattle.pool.specs.pool_run.{sizes}
 use Rattle.pool.specs.pool_loop.Routing.{pool}
 
 -- the numbers of a trace's channels, in the order of their lines
@@ -24,7 +23,7 @@ granted_in rate xs = ticks_among (came xs) * rate
 
 -- A channel's claims: one for each packet that its one lawful book sends again, of the packet's wire size, in order. These are the packets of its Burst and Repair notes.
 pub record ClaimsOf (c : Served) (claims : List Claim) : Type 0 where
-  pub sizes_are : map bytes_of claims ≡ sizes (orders_in (book c.settings c.events))
+  pub sizes_are : map bytes_of claims ≡ wire_sizes (orders_in (book c.settings c.events))
   pub of_notes : filter_map note_sends (notes_in (book c.settings c.events)) ≡ filter_map order_sends (orders_in (book c.settings c.events))
 
 -- What may be written of a trace that ends as it should: the text that `run` writes for it, and the ledger of its channels on a link of this rate.

@@ -2,7 +2,8 @@
 ghost use Rattle.std.specs.Prelude.{◌≡◌, ◌<◌, ◌≤◌, ◌∷◌, [], ◌++◌, All, map, OnOk};
 ghost use Rattle.server_hub.specs.session_core.{IsShort, SendsShort};
 ghost use Rattle.pool.specs.link_pool.{bytes_of};
-ghost use Rattle.pool.specs.pool_run.{sizes, AreSmall};
+ghost use Rattle.rams_model.specs.Service.{wire_sizes};
+ghost use Rattle.pool.specs.pool_run.{AreSmall};
 
 use crate::link_pool::{NoMemory, Pool, Taker};
 use rams_model::{Answer, Order, RTX_OVERHEAD};
@@ -34,7 +35,7 @@ fn claim_order(pool: &Pool, taker: &mut Taker, order: &Order) -> Result<(), NoMe
     requires small { AreSmall taker.old.claims }
     ensures pool { taker.new.pool ≡ taker.old.pool }
     ensures number { taker.new.number ≡ taker.old.number }
-    ensures claimed { OnOk result (map bytes_of taker.new.claims ≡ map bytes_of taker.old.claims ++ sizes (order.now ∷ [])) }
+    ensures claimed { OnOk result (map bytes_of taker.new.claims ≡ map bytes_of taker.old.claims ++ wire_sizes (order.now ∷ [])) }
     ensures small { OnOk result (AreSmall taker.new.claims) }
 {
     match order {
@@ -52,7 +53,7 @@ pub(crate) fn claim_answer(pool: &Pool, taker: &mut Taker, answer: &Answer) -> R
     requires small { AreSmall taker.old.claims }
     ensures pool { taker.new.pool ≡ taker.old.pool }
     ensures number { taker.new.number ≡ taker.old.number }
-    ensures claimed { OnOk result (map bytes_of taker.new.claims ≡ map bytes_of taker.old.claims ++ sizes answer.now.orders) }
+    ensures claimed { OnOk result (map bytes_of taker.new.claims ≡ map bytes_of taker.old.claims ++ wire_sizes answer.now.orders) }
     ensures small { OnOk result (AreSmall taker.new.claims) }
 {
     claim_orders(pool, taker, &answer.orders)
@@ -65,7 +66,7 @@ fn claim_orders(pool: &Pool, taker: &mut Taker, orders: &[Order]) -> Result<(), 
     requires small { AreSmall taker.old.claims }
     ensures pool { taker.new.pool ≡ taker.old.pool }
     ensures number { taker.new.number ≡ taker.old.number }
-    ensures claimed { OnOk result (map bytes_of taker.new.claims ≡ map bytes_of taker.old.claims ++ sizes orders.now) }
+    ensures claimed { OnOk result (map bytes_of taker.new.claims ≡ map bytes_of taker.old.claims ++ wire_sizes orders.now) }
     ensures small { OnOk result (AreSmall taker.new.claims) }
 {
     for order in orders {

@@ -5,7 +5,7 @@ use Rattle.rams_model.specs.declared.{note.Note.Note, answer.Order.TheVariants.R
 use Rattle.rams_model.specs.declared.note.Note.TheVariants.{Accept, Update, Again, Refuse, Burst as BurstNote, Repair, End}
 use Rattle.rams_model.specs.Service.EventAnswer.{Answered, answered}
 use Rattle.rams_model.specs.Service.ChannelSettings.{Settings}
-use Rattle.rams_model.specs.Formats.{Packet, retransmission, packet_at, rams_info}
+use Rattle.rams_model.specs.Formats.{Packet, wire_size, retransmission, packet_at, rams_info}
 use Rattle.rams_model.specs.Service.Infos.{accept_info, update_info, refuse_info, end_info}
 use Rattle.rams_model.specs.Service.ChannelHistory.{began, told, noted, History}
 use Rattle.rams_model.specs.Service.Clients.{sequence}
@@ -65,6 +65,12 @@ newest_answer s history = answered (newest_notes history []) (newest_orders s hi
 abbrev pub client_of : Order → ℕ
 client_of (Rtx client n sequence packet) = client
 client_of (InfoOrder client info) = client
+
+-- the sizes on the wire of the packets that orders send, in their order
+abbrev pub wire_sizes : List Order → List ℕ
+wire_sizes [] = []
+wire_sizes (Rtx client n sequence packet ∷ orders) = wire_size packet ∷ wire_sizes orders
+wire_sizes (InfoOrder client info ∷ orders) = wire_sizes orders
 
 -- the retransmission of a packet that was read; what a channel holds always reads
 abbrev pub sent_again : ℕ → ℕ → Result Packet RtpFault → List ℕ
