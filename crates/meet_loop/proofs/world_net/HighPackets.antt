@@ -5,10 +5,11 @@ use Rattle.std.proofs.lemmas.List.Folds.{list_any-append}
 use Rattle.rams_model.specs.declared.{Event.Event, Held.Held, LiveNote.LiveNote, LiveNote.TheVariants.Took, LiveNote.TheVariants.Restart}
 use Rattle.rams_model.specs.declared.Event.TheVariants as event
 use Rattle.rams_model.specs.Laws.{Rises}
-use Rattle.rams_model.specs.Packets.{hi, has_number, awaited, held_as, Arrival, Stream, stream_of, stream_after, live_note}
+use Rattle.rams_model.specs.Packets.{hi, has_number, with_packet, awaited, held_as, Arrival, Stream, stream_of, stream_after, live_note}
 use Rattle.rams_model.specs.Packets.Source as sources
 use Rattle.rams_model.specs.Formats.{framed}
 use Rattle.rams_model.specs.Service.{Settings, Heard, live, History, began, stream, heard_of, heard_live, arrivals, history_of}
+use Rattle.rams_model.proofs.ListFacts.{or_swap}
 use Rattle.rams_model.proofs.Growing.{source_rises}
 use Rattle.rams_model.proofs.HeldEnds.{hi-hold}
 use Rattle.rams_model.proofs.Induction.{arrivals_of_event}
@@ -19,9 +20,14 @@ use Rattle.server_hub.specs.Served.{Served}
 use Rattle.meet_loop.specs.world_laws.{source_of, takes, hears_number, as_it_came}
 use Rattle.service_laws.proofs.book_laws.CameBefore.{all_of, not_live}
 use Rattle.service_laws.proofs.byte_laws.Rising.{all_rises}
-use Rattle.service_laws.proofs.byte_laws.Starts.{has_with}
 
 -- ---- what came in time
+
+has_with : (n : ℕ) (new : Held) (hs : List Held) → has_number n (with_packet new hs) ≡ (eqb new.n n || has_number n hs)
+has_with n new [] = refl
+has_with n new (h ∷ hs) =
+    cond_both (ltb new.n h.n) (new ∷ h ∷ hs) (h ∷ with_packet new hs) (λ l. has_number n l ≡ (eqb new.n n || has_number n (h ∷ hs))) (λ t. refl)
+    (λ f. ap (λ (b : Bool). eqb h.n n || b) (has_with n new hs) ∙ or_swap (eqb h.n n) (eqb new.n n) (has_number n hs))
 
 -- a packet of this number came in time
 abbrev Came : ℕ → Stream → Type 0

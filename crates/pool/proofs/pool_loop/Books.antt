@@ -23,7 +23,7 @@ use Rattle.pool.specs.declared.{link_pool.claim.Claim.Claim, pool_run.lane.Lane.
 use Rattle.pool.specs.declared.pool_loop.routes.Route.{Route}
 use Rattle.pool.specs.link_pool.{bytes_of, claims_of}
 use Rattle.pool.specs.pool_run.{sizes_of, IsFresh, IsBookOf, AreBooks, ClaimsAreSizes}
-use Rattle.pool.proofs.pool_run.Sizing.{sizes_append}
+use Rattle.rams_model.proofs.WireSizes.{sizes_append}
 use Rattle.pool.specs.pool_loop.{route_of, is_for_all, served_so, all_served, HaveAtMost, numbers_of, AllCanRender, ClaimsOf, IsLaneOf}
 use Rattle.pool.proofs.pool_loop.Walked.{event_in, IsPending, ArePending}
 use Rattle.trace_loop.specs.journal_book.{behind}
