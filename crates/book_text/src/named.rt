@@ -29,7 +29,8 @@ impl Named {
     fn turn_to(&mut self, client: u64)
         ensures { self.new.client ≡ client }
     {
-        *self = Named::new(client);
+        self.client = client;
+        self.piece.set_spaced(client);
     }
 
     /// A space and the client's digits; where it was named last, nothing is spelled.

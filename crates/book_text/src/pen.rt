@@ -39,7 +39,9 @@ impl Front {
         ensures event { self.new.event ≡ event }
         ensures id { self.new.id ≡ id }
     {
-        *self = Front::new(event, id);
+        self.event = event;
+        self.id = id;
+        self.piece.set_front(event, id);
     }
 
     /// Turns to an event of a channel; where it was there already, nothing is written.
@@ -237,6 +239,7 @@ impl Pen {
     }
 
     /// The line of a note, and behind it that of a datagram to a client.
+    #[inline(always)]
     #[tactic(auto, unfolding(rams_model::specs::Texts::BookText::note_line, rams_model::specs::Texts::BookText::send_line))]
     pub fn append_told(
         &mut self,

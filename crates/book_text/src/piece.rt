@@ -41,11 +41,20 @@ impl Piece {
         ensures few { length result ≤ 42 }
     {
         let mut piece = Piece::new();
-        piece.byte(b' ');
-        piece.number(u64::from(id));
-        piece.byte(b' ');
-        piece.number(event);
+        piece.set_front(event, id);
         piece
+    }
+
+    /// Becomes such a front, where it stands: to move one that was just written would wait for its bytes.
+    pub(crate) fn set_front(&mut self, event: u64, id: u16)
+        ensures front { self.new ≡ decimal event ++ spaced id ++ codes " " }
+        ensures few { length self.new ≤ 42 }
+    {
+        self.clear();
+        self.byte(b' ');
+        self.number(u64::from(id));
+        self.byte(b' ');
+        self.number(event);
     }
 
     /// A space and a number.
@@ -54,9 +63,18 @@ impl Piece {
         ensures few { length result ≤ 21 }
     {
         let mut piece = Piece::new();
-        piece.number(n);
-        piece.byte(b' ');
+        piece.set_spaced(n);
         piece
+    }
+
+    /// Becomes a space and a number, where it stands.
+    pub(crate) fn set_spaced(&mut self, n: u64)
+        ensures spaced { self.new ≡ spaced n }
+        ensures few { length self.new ≤ 21 }
+    {
+        self.clear();
+        self.number(n);
+        self.byte(b' ');
     }
 
     /// How many bytes it has.
@@ -74,6 +92,13 @@ impl Piece {
         ensures end { drop (48 - length self.now) result.now ≡ self.now }
     {
         &self.bytes
+    }
+
+    #[inline]
+    fn clear(&mut self)
+        ensures { self.new ≡ [] }
+    {
+        self.start = PIECE;
     }
 
     #[inline]

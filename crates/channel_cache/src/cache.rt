@@ -137,7 +137,9 @@ impl Cache {
     }
 }
 
-// Numbers a packet of the channel, and takes it in where it comes in time.
+// Numbers a packet of the channel, and takes it in where it comes in time. (Where it is inlined, with what it calls,
+// the packet is moved once, into the ring: a copy of what was just written waits for it.)
+#[inline(always)]
 fn receive(numbering: &mut Numbering, intake: &mut Intake, incoming: Incoming) -> LiveNote
     requires in_step { AreInStep numbering.old intake.old }
     requires bare { IsBare incoming.packet }

@@ -59,6 +59,7 @@ fn is_access_point(access: Access, packet: &Rtp<'_>) -> bool
 
 impl Incoming {
     /// What a packet of the channel brings, in this memory. What it holds is dropped.
+    #[inline(always)]
     pub fn of(
         mut memory: Vec<u8>,
         channel: &Channel,

@@ -57,6 +57,7 @@ impl Stock {
     }
 
     /// Puts a packet behind the others. What the ring lets go for it, the index lets go too.
+    #[inline(always)]
     pub fn push(&mut self, held: Held)
         requires above { hi self.old.ring.held ≤ held.n }
         requires small { held.n < 2 ^ 62 }
