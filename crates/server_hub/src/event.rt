@@ -1,7 +1,7 @@
 //! What comes to a server, and what it answers.
 ghost use Rattle.std.specs.Prelude.{◌≡◌};
 ghost use Rattle.server_hub.specs.declared.event.AddFault.TheVariants as faults;
-ghost use Rattle.server_hub.specs.{answers_said, event_of, told, told_of};
+ghost use Rattle.server_hub.specs.{answers_said, event_of, told};
 
 use ram_io::NoMemory as OutOfMemory;
 use rams_model::{Answer, Octets};
@@ -73,18 +73,6 @@ pub enum HubAnswer {
     Answer(At),
     /// The answers of all channels to a tick, in the order in which they were added.
     Answers(Vec<At>),
-}
-
-impl HubAnswer {
-    /// What one channel answers; or that there is no channel of this number.
-    pub(crate) fn of_one(id: u16, answer: Option<Answer>) -> HubAnswer
-        ensures { told result ≡ told_of id answer }
-    {
-        match answer {
-            Some(answer) => HubAnswer::Answer(At { id, answer }),
-            None => HubAnswer::NoChannel(id),
-        }
-    }
 }
 
 /// The answers of the channels that answer.

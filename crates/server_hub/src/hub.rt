@@ -6,7 +6,7 @@ use crate::steps::{feedback_at, live_at};
 use crate::ticks::tick_all;
 use channel_config::{Config, MOST_CHANNELS};
 use ram_io::NoMemory;
-use rams_model::{Answer, Held, MOST_ON_WIRE};
+use rams_model::{Held, MOST_ON_WIRE};
 use std::alloc::Global;
 use std::marker::Model;
 
@@ -45,7 +45,7 @@ impl Hub {
     ghost use Rattle.std.specs.Prelude.{◌≡◌, ◌+◌, ◌^◌, ◌<◌, ◌≤◌, ◌++◌, ◌==◌, List, [], ◌∷◌, Err, IfNone, IfOk, IfSome, IsOkUnless, OnErr, OnOk, find, is_some, option_and_then, option_copied, option_map};
     ghost use Rattle.rams_model.specs.declared.Event.TheVariants as events;
     ghost use Rattle.server_hub.specs.declared.event.AddFault.TheVariants as faults;
-    ghost use Rattle.server_hub.specs.{served, hi_of, held_of, channel_of, answer_of, after_event_of, answers_to_tick, after_tick, event_of, told, told_to, after_event, AllKeepJoinTimes, IsHub, StandsFor, KeepsSettings, AddsSettings, new_hub, settings_of, has_id, refused};
+    ghost use Rattle.server_hub.specs.{served, hi_of, held_of, channel_of, answer_of, after_event_of, answers_to_tick, after_tick, event_of, told, told_of, told_to, after_event, AllKeepJoinTimes, IsHub, StandsFor, KeepsSettings, AddsSettings, new_hub, settings_of, has_id, refused};
     ghost use Rattle.server_hub.specs.Served.{Served};
 
     /// A hub without channels, for ticks of `tick_ms` ms and a link of so many bytes a tick. It takes the
@@ -137,51 +137,48 @@ impl Hub {
         Ok(())
     }
 
-    /// A live packet of a channel: what it answers, or `None` exactly where none has this number.
-    pub fn live(&mut self, alloc: Global, id: u16, bytes: &[u8]) -> Result<Option<Answer>, NoMemory>
+    // A live packet of a channel: what it answers, or that none has this number.
+    fn live(&mut self, alloc: Global, id: u16, bytes: &[u8]) -> Result<HubAnswer, NoMemory>
         requires { self.old.calls < 2 ^ 40 }
         ensures stands { (channels : List Served) → StandsFor self.old channels →
-            IfOk result (λ a. (a ≡ answer_of id (events.Live bytes.now) channels)
+            IfOk result (λ a. (told a ≡ told_of id (answer_of id (events.Live bytes.now) channels))
             × StandsFor self.new (after_event_of id (events.Live bytes.now) channels)) }
-        ensures there { IfOk result (λ a. is_some a ≡ has_id id (settings_of self.old)) }
         ensures settings { KeepsSettings self.old self.new }
         ensures calls { OnOk result (self.new.calls ≡ self.old.calls + 1) }
         ensures same { OnErr result (self.new ≡ self.old) }
     {
         let Some(place) = place_of(&self.ids, id) else {
             self.calls += 1;
-            return Ok(None);
+            return Ok(HubAnswer::NoChannel(id));
         };
         let answer = live_at(&mut self.cores, alloc, place, bytes)?;
         self.calls += 1;
-        Ok(Some(answer))
+        Ok(HubAnswer::Answer(At { id, answer }))
     }
 
-    /// A feedback datagram of a client of a channel: what the channel answers, or `None` exactly where
-    /// none has this number.
-    pub fn feedback(
+    // A feedback datagram of a client of a channel: what the channel answers, or that none has this number.
+    fn feedback(
         &mut self,
         alloc: Global,
         id: u16,
         client: u64,
         bytes: &[u8],
-    ) -> Result<Option<Answer>, NoMemory>
+    ) -> Result<HubAnswer, NoMemory>
         requires { self.old.calls < 2 ^ 40 }
         ensures stands { (channels : List Served) → StandsFor self.old channels →
-            IfOk result (λ a. (a ≡ answer_of id (events.Feedback client bytes.now) channels)
+            IfOk result (λ a. (told a ≡ told_of id (answer_of id (events.Feedback client bytes.now) channels))
             × StandsFor self.new (after_event_of id (events.Feedback client bytes.now) channels)) }
-        ensures there { IfOk result (λ a. is_some a ≡ has_id id (settings_of self.old)) }
         ensures settings { KeepsSettings self.old self.new }
         ensures calls { OnOk result (self.new.calls ≡ self.old.calls + 1) }
         ensures same { OnErr result (self.new ≡ self.old) }
     {
         let Some(place) = place_of(&self.ids, id) else {
             self.calls += 1;
-            return Ok(None);
+            return Ok(HubAnswer::NoChannel(id));
         };
         let answer = feedback_at(&mut self.cores, alloc, place, client, bytes)?;
         self.calls += 1;
-        Ok(Some(answer))
+        Ok(HubAnswer::Answer(At { id, answer }))
     }
 
     /// A tick of every channel, in the order in which they were added: what each answers. All are
@@ -216,11 +213,8 @@ impl Hub {
         ensures same { OnErr result (self.new ≡ self.old) }
     {
         match heard {
-            Heard::Live { id, bytes } => Ok(HubAnswer::of_one(id, self.live(alloc, id, bytes)?)),
-            Heard::Feedback { id, client, bytes } => {
-                let answer = self.feedback(alloc, id, client, bytes)?;
-                Ok(HubAnswer::of_one(id, answer))
-            }
+            Heard::Live { id, bytes } => self.live(alloc, id, bytes),
+            Heard::Feedback { id, client, bytes } => self.feedback(alloc, id, client, bytes),
             Heard::Tick => Ok(HubAnswer::Answers(self.tick(alloc)?)),
         }
     }

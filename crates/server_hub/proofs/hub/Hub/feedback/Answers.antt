@@ -1,8 +1,8 @@
-use Rattle.std.proofs.Common.{sym, subst, arith}
+use Rattle.std.proofs.Common.{sym, ap, subst, arith}
 use Rattle.rams_model.specs.declared.Event.TheVariants.{Feedback}
-use Rattle.server_hub.specs.{StandsFor}
+use Rattle.server_hub.specs.{StandsFor, told_of}
 use Rattle.server_hub.specs.Seen.{Seen}
-use Rattle.server_hub.proofs.Keeping.{written, kept, settings_kept, place_within, one_steps, one_is, none_steps, none_is}
+use Rattle.server_hub.proofs.Keeping.{written, kept, settings_kept, place_within, one_steps, none_steps}
 use Rattle.server_hub.proofs.hub.Hub.feedback.Goals as goal
 
 pub invariant_of-self : goal.invariant_of-self
@@ -10,10 +10,8 @@ invariant_of-self c = kept _ _ _ _ _ c.self.invariant (none_steps _ _ _ _ c.self
 
 pub returns-in_default-clause-stands : goal.returns-in_default-clause-stands
 returns-in_default-clause-stands c = λ channels s.
-    (none_steps _ _ _ _ c.self.invariant _ c.deref.ensures.value c.args.id (Feedback c.args.client c.args.bytes.now) c.in_default.ensures.none).stands channels (subst (λ (v : Seen). StandsFor v channels) (sym c.self.view_is) s)
-
-pub returns-in_default-clause-there : goal.returns-in_default-clause-there
-returns-in_default-clause-there c = rw (← c.self.view_is) (sym (none_is _ _ _ _ c.self.invariant _ c.deref.ensures.value c.args.id c.in_default.ensures.none).1)
+    let same = (none_steps _ _ _ _ c.self.invariant _ c.deref.ensures.value c.args.id (Feedback c.args.client c.args.bytes.now) c.in_default.ensures.none).stands channels (subst (λ (v : Seen). StandsFor v channels) (sym c.self.view_is) s) in
+    (ap (told_of c.args.id) same.0, same.1)
 
 pub feedback_at-requires : goal.feedback_at-requires
 feedback_at-requires c = record { place = omega (arith, place_within _ _ _ _ c.self.invariant _ c.deref.ensures.value c.args.id c.in-Some.place c.in-Some.ensures.there, c.deref_mut.ensures.len) }
@@ -28,11 +26,8 @@ pub returns-clause-stands : goal.returns-clause-stands
 returns-clause-stands c = λ channels s.
     let new = c.feedback_at.new.cores in
     let steps = one_steps _ _ _ _ c.self.invariant _ c.deref.ensures.value c.args.id (Feedback c.args.client c.args.bytes.now) c.in-Some.place _ new _ c.in-Some.ensures.there c.deref_mut.ensures.value c.in_ok-answer.ensures.steps in
-    rw (written c.self.inside.cores.len new c.self.inside.cores.items (omega (arith, c.feedback_at.auto.cores)))
-    (steps.stands channels (subst (λ (v : Seen). StandsFor v channels) (sym c.self.view_is) s))
-
-pub returns-clause-there : goal.returns-clause-there
-returns-clause-there c = rw (← c.self.view_is) (sym (one_is _ _ _ _ c.self.invariant _ c.deref.ensures.value c.args.id c.in-Some.place c.in-Some.ensures.there).1)
+    let same = steps.stands channels (subst (λ (v : Seen). StandsFor v channels) (sym c.self.view_is) s) in
+    rw (written c.self.inside.cores.len new c.self.inside.cores.items (omega (arith, c.feedback_at.auto.cores))) (ap (told_of c.args.id) same.0, same.1)
 
 pub returns-clause-settings : goal.returns-clause-settings
 returns-clause-settings c =
