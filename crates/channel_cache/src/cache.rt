@@ -12,7 +12,7 @@ use crate::incoming::{Incoming, read_live};
 use crate::intake::Intake;
 use channel_config::Config;
 use ram_io::NoMemory;
-use rams_model::{Held, LiveNote};
+use rams_model::{Held, LiveNote, MOST_ON_WIRE};
 use reckoning::ext_seq::{Noted, Numbering};
 use std::alloc::Global;
 use std::marker::Model;
@@ -145,7 +145,7 @@ fn receive(numbering: &mut Numbering, intake: &mut Intake, incoming: Incoming) -
     requires bare { IsBare incoming.packet }
     requires low { incoming.sequence < 65536 }
     requires numbered { IfSome numbering.old.greatest (λ g. g < 2 ^ 61) }
-    requires few { total_of intake.old + 1500 ≤ 2 ^ 60 }
+    requires few { total_of intake.old + MOST_ON_WIRE ≤ 2 ^ 60 }
     ensures in_step { AreInStep numbering.new intake.new }
     ensures grows { Grows intake.old intake.new 1 }
     ensures kept { UnlessTaken result ((numbering.new ≡ kept_other numbering.old numbering.new) × (intake.new ≡ intake.old)) }

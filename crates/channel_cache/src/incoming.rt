@@ -29,7 +29,7 @@ pub struct Incoming {
 /// that isn't true.
 pub fn read_live<'a>(channel: &Channel, bytes: &'a [u8]) -> Result<Rtp<'a>, LiveNote>
     ensures heard { MatchResult result (λ p. heard_live channel.now bytes.now ≡ live (arrival channel.now p)) (λ note. heard_live channel.now bytes.now ≡ dropped note) }
-    ensures lawful { IfOk result (λ p. IsPacket p × (length (stripped p) ≤ 1470)) }
+    ensures lawful { IfOk result (λ p. IsPacket p × (length (stripped p) ≤ MOST_PACKET)) }
 {
     if bytes.len() > MOST_PACKET as usize {
         return Err(LiveNote::TooBig);
@@ -66,7 +66,7 @@ impl Incoming {
         packet: &Rtp<'_>,
     ) -> Result<Incoming, NoMemory>
         requires lawful { IsPacket packet.now }
-        requires short { length (stripped packet.now) ≤ 1470 }
+        requires short { length (stripped packet.now) ≤ MOST_PACKET }
         ensures value { IfOk result (λ i. arrival_of i ≡ arrival channel.now packet.now) }
         ensures low { IfOk result (λ i. i.sequence < 65536) }
         ensures bare { IfOk result (λ i. IsBare i.packet) }

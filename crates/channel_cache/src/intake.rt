@@ -11,7 +11,7 @@ ghost use Rattle.channel_cache.specs.{new_intake, packets_of, IsIntake, IsSettle
 use crate::reorder_window::{Came, Window};
 use crate::stock::Stock;
 use ram_io::NoMemory;
-use rams_model::Held;
+use rams_model::{Held, MOST_ON_WIRE};
 use std::alloc::Global;
 
 /// The packets of a channel that came in time: those that wait for others, and those that are held.
@@ -53,7 +53,7 @@ impl Intake {
         requires settled { IsSettled self.old }
         requires small { held.n < 2 ^ 62 }
         requires whole { IsWhole held }
-        requires few { total_of self.old + 1500 ≤ 2 ^ 60 }
+        requires few { total_of self.old + MOST_ON_WIRE ≤ 2 ^ 60 }
         ensures came { result ≡ came_of self.old.window held.n }
         ensures settled { IsSettled self.new }
         ensures grows { Grows self.old self.new 1 }
@@ -80,7 +80,7 @@ impl Intake {
         requires next { IsAwaited self.old.window held.n }
         requires small { held.n < 2 ^ 62 }
         requires whole { IsWhole held }
-        requires few { total_of self.old + 1500 ≤ 2 ^ 60 }
+        requires few { total_of self.old + MOST_ON_WIRE ≤ 2 ^ 60 }
         ensures came { came_of self.old.window held.n ≡ Kept }
         ensures settled { IsSettled self.new }
         ensures grows { Grows self.old self.new 1 }

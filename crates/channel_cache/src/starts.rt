@@ -10,7 +10,7 @@ ghost use Rattle.channel_cache.specs.{arrival_of, IsIntake, IsSettled, Grows, to
 use crate::incoming::Incoming;
 use crate::intake::Intake;
 use crate::reorder_window::Came;
-use rams_model::LiveNote;
+use rams_model::{LiveNote, MOST_ON_WIRE};
 
 impl Intake {
     /// Takes a packet of the present start under its number.
@@ -19,7 +19,7 @@ impl Intake {
         requires settled { IsSettled self.old }
         requires small { n < 2 ^ 62 }
         requires bare { IsBare incoming.packet }
-        requires few { total_of self.old + 1500 ≤ 2 ^ 60 }
+        requires few { total_of self.old + MOST_ON_WIRE ≤ 2 ^ 60 }
         ensures settled { IsSettled self.new }
         ensures greatest { self.new.window.greatest ≡ max self.old.window.greatest n }
         ensures grows { Grows self.old self.new 1 }
@@ -37,7 +37,7 @@ impl Intake {
         requires above { hi self.old.stock.ring.held ≤ n }
         requires small { n < 2 ^ 62 }
         requires bare { IsBare incoming.packet }
-        requires few { total_of self.old + 1500 ≤ 2 ^ 60 }
+        requires few { total_of self.old + MOST_ON_WIRE ≤ 2 ^ 60 }
         ensures settled { IsSettled self.new }
         ensures greatest { self.new.window.greatest ≡ n }
         ensures grows { Grows self.old self.new 1 }
@@ -54,7 +54,7 @@ impl Intake {
         requires above { self.old.window.greatest < n }
         requires small { n < 2 ^ 62 }
         requires bare { IsBare incoming.packet }
-        requires few { total_of self.old + 1500 ≤ 2 ^ 60 }
+        requires few { total_of self.old + MOST_ON_WIRE ≤ 2 ^ 60 }
         ensures settled { IsSettled self.new }
         ensures greatest { self.new.window.greatest ≡ n }
         ensures grows { Grows self.old self.new 1 }

@@ -12,7 +12,7 @@ use crate::access_index::{Choice, Index};
 use crate::packet_ring::Ring;
 use channel_config::Channel;
 use ram_io::NoMemory;
-use rams_model::Held;
+use rams_model::{Held, MOST_ON_WIRE};
 use std::alloc::Global;
 use std::marker::Model;
 use std::mem;
@@ -122,7 +122,7 @@ impl Stock {
     /// Where a burst of the channel may begin.
     pub fn choose(&self, channel: &Channel, min_ms: u32, max_ms: Option<u32>) -> Choice
         requires ring { channel.now.ring ≤ 32768 }
-        requires minwire { channel.now.minwire ≤ 1500 }
+        requires minwire { channel.now.minwire ≤ MOST_ON_WIRE }
         requires declared { channel.now.declared ≤ 1000000000 }
         ensures { result ≡ choice_of self.now.ring.held (chosen channel.now self.now.ring.held min_ms max_ms) }
     {

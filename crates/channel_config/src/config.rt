@@ -111,7 +111,7 @@ pub fn is_channel_in_range(c: &Channel) -> bool
 
 /// Whether a tick of so many bytes has room for a packet, and they aren't too many.
 pub fn is_amount(bytes: u64) -> bool
-    ensures { result ≡ is_between 1500 most_bytes bytes }
+    ensures { result ≡ is_between MOST_ON_WIRE most_bytes bytes }
 {
     (LEAST_IN_A_TICK..=MOST_IN_A_TICK).contains(&bytes)
 }

@@ -12,7 +12,8 @@ use Rattle.std.proofs.lemmas.Bool.Decides.{nat_tests}
 use Rattle.std.proofs.lemmas.List.Elements.{Contains-append_right}
 use Rattle.std.proofs.lemmas.List.Kept.{IsStrictlySortedBy-filter}
 use Rattle.std.proofs.lemmas.Map.Views.{any-filter_same}
-use Rattle.client_table.specs.{pair_cmp, clients_in}
+use Rattle.rams_model.specs.Pairs.{pair_cmp}
+use Rattle.client_table.specs.{clients_in}
 use Rattle.client_table.proofs.Timing.{pair_is}
 
 -- where a test finds a pair of a client, the client is among those of the pairs

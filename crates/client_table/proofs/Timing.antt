@@ -6,19 +6,9 @@ use Rattle.std.specs.Ordering.{ordering_then, match_ordering}
 use Rattle.std.specs.declared.cmp.Ordering.{Ordering}
 use Rattle.std.proofs.lemmas.Bool.{cond-false, and_parts, eqb-true, lt-leb}
 use Rattle.std.proofs.lemmas.Bool.Decides.{nat_tests}
-use Rattle.client_table.specs.{pair_cmp, waiting_in}
-
-same_test : (n k : ℕ) → is_eq (nat_cmp n k) ≡ eqb n k
-same_test n k = grind (arith, nat_tests)
-
--- a pair is found by both of its numbers
-pub pair_test : (a b i m : ℕ) → is_at (pair_cmp (a, b)) (i, m) ≡ (eqb a i && eqb b m)
-pair_test a b i m = by (nat_cmp a i) (eqb a i) (same_test a i)
-  where
-    by : (o : Ordering) (t : Bool) → is_eq o ≡ t → is_eq (ordering_then o (nat_cmp b m)) ≡ (t && eqb b m)
-    by Equal t e = same_test b m ∙ ap (λ (x : Bool). x && eqb b m) e
-    by Less t e = ap (λ (x : Bool). x && eqb b m) e
-    by Greater t e = ap (λ (x : Bool). x && eqb b m) e
+use Rattle.rams_model.specs.Pairs.{pair_cmp}
+use Rattle.rams_model.proofs.Pairs.{pair_test}
+use Rattle.client_table.specs.{waiting_in}
 
 pub pair_is : (p q : ℕ × ℕ) → is_at (pair_cmp p) q ≡ true → p ≡ q
 pair_is p q t =

@@ -13,5 +13,5 @@ unfoldable pub use Rattle.client_table.specs.Left.{clients_left, bursts_left, le
 unfoldable pub use Rattle.client_table.specs.Changes.{AreAll, IsChanged, aged, awake, changed_by, changed, IsBurstChangedBy, IsBurstChanged}
 pub use Rattle.client_table.specs.Changes.{AreChanged}
 unfoldable pub use Rattle.client_table.specs.Hashed.{Tells}
-unfoldable pub use Rattle.client_table.specs.Timed.{pair_cmp, has_pair, clients_in, waiting_in, waiting, AreLater, times_of, times_at, AreInTime}
+unfoldable pub use Rattle.client_table.specs.Timed.{has_pair, clients_in, waiting_in, waiting, AreLater, times_of, times_at, AreInTime}
 pub use Rattle.client_table.specs.Timed.{MovesOnly, GoesOn, IsInTime}

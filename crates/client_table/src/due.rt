@@ -4,7 +4,8 @@ ghost use Rattle.std.specs.BTreeMap.{is_at};
 ghost use Rattle.std.specs.BTreeSet.{contains};
 ghost use Rattle.std.specs.List.Sorted.{IsStrictlySortedBy};
 ghost use Rattle.std.specs.Ordering.{nat_cmp};
-ghost use Rattle.client_table.specs.{pair_cmp, has_pair, waiting, waiting_in, clients_in, AreLater, MovesOnly, GoesOn, IsInTime};
+ghost use Rattle.rams_model.specs.Pairs.{pair_cmp};
+ghost use Rattle.client_table.specs.{has_pair, waiting, waiting_in, clients_in, AreLater, MovesOnly, GoesOn, IsInTime};
 
 use std::alloc::Global;
 use std::collections::btree_set::{BTreeSet, Range};

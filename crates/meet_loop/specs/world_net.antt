@@ -3,7 +3,7 @@ pub mod Ways
 pub mod Telling
 pub mod Seats
 pub mod States
-unfoldable pub use Rattle.meet_loop.specs.world_net.Pairs.{pair_cmp, at_pair}
+unfoldable pub use Rattle.meet_loop.specs.world_net.Pairs.{at_pair}
 unfoldable pub use Rattle.meet_loop.specs.world_net.Ways.{as_way, sent_of}
 unfoldable pub use Rattle.meet_loop.specs.world_net.Telling.{sent_note, note_with_sent, notes_with_sent, said_in, settled_notes, settled_sent, at_notes, at_sent, told_notes, told_sent}
 unfoldable pub use Rattle.meet_loop.specs.world_net.Seats.{next_by, far_by, seat_is_too_far, first_with, shown_in, all_shown, all_presented, FollowsBy, Follows, IsAt, HasFew, show_at, post_at, posted_at}

@@ -17,7 +17,7 @@ use crate::world_net::{Hub, World, WorldEvent, WorldNote};
 use crate::writer::write_notes;
 use channel_config::Config;
 use ram_io::{NoMemory, Sink};
-use rams_model::LineFault;
+use rams_model::{LineFault, MOST_ON_WIRE};
 use std::alloc::Global;
 use trace_loop::{Stop, TraceServer, Writer};
 use trace_text::{Judged, Line, Mode, State};
@@ -151,7 +151,7 @@ fn begin_or_end(alloc: Global, meeting: &mut Meeting, line: Line<'_>) -> Result<
 fn new_world(alloc: Global, tick_ms: u32, link: u64) -> Result<World, NoMemory>
     requires tick_least { 1 ≤ tick_ms }
     requires tick_most { tick_ms ≤ 1000 }
-    requires link_least { 1500 ≤ link }
+    requires link_least { MOST_ON_WIRE ≤ link }
     requires link_most { link ≤ 1000000000 }
     ensures { IfOk result (IsUnder tick_ms link) }
 {

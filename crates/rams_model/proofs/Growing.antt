@@ -5,7 +5,7 @@ use Rattle.rams_model.specs.declared.held.Held.{Held}
 use Rattle.rams_model.specs.declared.note.LiveNote.TheVariants.{Took, Late, Twice, Jump}
 use Rattle.rams_model.specs.Packets.{hi, Numbered, forward, backward, jump, restart, ahead, is_kept, after_greatest, numbered, Arrival, Stream, held_as, has_number, with_packet, awaited, in_time, note_of, live_note, stream_after, stream_of, source}
 use Rattle.rams_model.specs.Laws.{Rises}
-use Rattle.rams_model.proofs.Rising.{some_of_end, end_of, one_more_after, one_at_end, hi_of_end, below_hi, hi_grows, below, higher_bound, all_is_more, not_below, one_more, not_later}
+use Rattle.rams_model.proofs.Rising.{some_of_end, end_of, one_more_after, one_at_end, hi_of_end, below_hi, hi_grows, below, higher_bound, all_is_more, not_below, one_more, has_with, not_later}
 use Rattle.rams_model.proofs.Waiting.{from_first, is_missing_itself, none_before}
 
 -- in the packets of all starts the numbers rise; nothing stands in an ended start before the first packet
@@ -26,12 +26,7 @@ stays window s = ([], sym (append-nil (source window s)))
 
 -- what is not among more packets is not among fewer
 fewer_later : (at : ℕ) (hs : List Held) (new : Held) → has_number at (with_packet new hs) ≡ false → has_number at hs ≡ false
-fewer_later at [] new e = refl
-fewer_later at (k ∷ ks) new e =
-    cond_both (ltb new.n k.n) (new ∷ k ∷ ks) (k ∷ with_packet new ks) (λ l. has_number at l ≡ false → has_number at (k ∷ ks) ≡ false)
-    (λ t f. not_later at new (k ∷ ks) f)
-    (λ t f. or_from (eqb k.n at) (has_number at ks) (or_parts (eqb k.n at) (has_number at (with_packet new ks)) f).0
-    (fewer_later at ks new (not_later at k (with_packet new ks) f))) e
+fewer_later at hs new e = (or_parts (eqb new.n at) (has_number at hs) (sym (has_with at new hs) ∙ e)).1
 
 fewer : (at : ℕ) (h : Held) (hs : List Held) (new : Held) → has_number at (h ∷ with_packet new hs) ≡ false → has_number at (h ∷ hs) ≡ false
 fewer at h hs new e =

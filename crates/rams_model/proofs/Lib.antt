@@ -1,4 +1,5 @@
 pub mod ListFacts
+pub mod Pairs
 pub mod HeldEnds
 pub mod Newest
 pub mod Budgets

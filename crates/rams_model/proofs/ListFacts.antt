@@ -1,5 +1,6 @@
 -- Facts of tests and lists that speak of nothing that a channel has.
-use Rattle.std.proofs.Common.{◌≡◌, ℕ, ◌≤◌, Bool, true, false, cond, ◌||◌, ⊎_elim, List, [], ◌∷◌, length, map, Result, Ok, Err, OnErr, refl, sym, ◌∙◌, arith, eqb}
+use Rattle.std.proofs.Common.{◌≡◌, ℕ, zero, suc, ◌≤◌, Bool, true, false, cond, ◌||◌, ⊎_elim, List, [], ◌∷◌, length, map, Result, Ok, Err, OnErr, get_or, refl, sym, ◌∙◌, arith, eqb}
+use Rattle.std.proofs.Math.ListN.{replicate}
 use Rattle.std.specs.Prelude.{filter}
 use Rattle.std.specs.List.{AllByRecursion as Each}
 use Rattle.std.proofs.lemmas.Bool.{cond_both, cases_Bool, eqb-true, eqb-false, eq-eqb, ne_eqb}
@@ -33,3 +34,9 @@ map_cond f false x xs = refl
 pub on_failure : {T E : Type 0} (r : Result T E) (P : Type 0) → P → OnErr r P
 on_failure (Ok value) P p = tt
 on_failure (Err e) P p = p
+
+-- none of some marks is set at first
+pub none_marked : (k n : ℕ) → get_or (replicate k false) n false ≡ false
+none_marked zero n = refl
+none_marked (suc k) zero = refl
+none_marked (suc k) (suc n) = none_marked k n

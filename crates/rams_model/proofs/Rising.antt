@@ -1,10 +1,11 @@
 -- Packets whose numbers rise.
-use Rattle.std.proofs.Common.{◌≡◌, ℕ, ◌+◌, ◌<◌, ◌≤◌, ◌≢◌, Bool, false, cond, List, [], ◌∷◌, ◌++◌, refl, le_refl, ap, sym, ◌∙◌, arith, eqb, ltb, leb, ⊎_elim, subst}
+use Rattle.std.proofs.Common.{◌≡◌, ℕ, ◌+◌, ◌<◌, ◌≤◌, ◌≢◌, Bool, false, cond, ◌||◌, List, [], ◌∷◌, ◌++◌, refl, le_refl, ap, sym, ◌∙◌, arith, eqb, ltb, leb, ⊎_elim, subst}
 use Rattle.std.specs.Prelude.{filter}
 use Rattle.std.proofs.lemmas.Bool.{cond_both, cond-true, cond-false, ltb-true, ltb-false, eqb-false, lt-ltb, le-ltb, lt-leb, le-leb, ne_eqb, or_parts, or_from}
 use Rattle.rams_model.specs.declared.held.Held.{Held}
 use Rattle.rams_model.specs.Packets.{hi, has_number, from_number, with_packet}
 use Rattle.rams_model.specs.Laws.{Rises, IsAmong}
+use Rattle.rams_model.proofs.ListFacts.{or_swap}
 
 -- what rises from one number on rises from a lower one on
 pub lower : (n m : ℕ) (hs : List Held) → n ≤ m → Rises m hs → Rises n hs
@@ -33,6 +34,13 @@ not_first n h hs e = eqb-false h.n n (or_parts (eqb h.n n) (has_number n hs) e).
 
 pub not_later : (n : ℕ) (h : Held) (hs : List Held) → has_number n (h ∷ hs) ≡ false → has_number n hs ≡ false
 not_later n h hs e = (or_parts (eqb h.n n) (has_number n hs) e).1
+
+-- the numbers of one packet more
+pub has_with : (m : ℕ) (new : Held) (hs : List Held) → has_number m (with_packet new hs) ≡ (eqb new.n m || has_number m hs)
+has_with m new [] = refl
+has_with m new (h ∷ hs) =
+    cond_both (ltb new.n h.n) (new ∷ h ∷ hs) (h ∷ with_packet new hs) (λ l. has_number m l ≡ (eqb new.n m || has_number m (h ∷ hs))) (λ t. refl)
+    (λ f. ap (λ (b : Bool). eqb h.n m || b) (has_with m new hs) ∙ or_swap (eqb h.n m) (eqb new.n m) (has_number m hs))
 
 -- one more packet, whose number is new, is put in its place
 pub one_more : (n : ℕ) (new : Held) (hs : List Held) → n ≤ new.n → has_number new.n hs ≡ false → Rises n hs → Rises n (with_packet new hs)

@@ -1,3 +1,4 @@
+pub mod Pairs
 pub mod Formats
 pub mod Packets
 pub mod Service

@@ -7,7 +7,7 @@ ghost use Rattle.generated.specs.summary.Text.{count_lines};
 use crate::summary::counts::Counts;
 use book_text::append_count;
 use ram_io::NoMemory;
-use rams_model::{Answer, LiveNote, Note, Order, RTX_OVERHEAD};
+use rams_model::{Answer, LiveNote, MOST_ON_WIRE, Note, Order, RTX_OVERHEAD};
 use std::alloc::Global;
 use std::marker::Model;
 
@@ -121,7 +121,7 @@ fn bytes(orders: &[Order]) -> u64
     requires few { length orders.now < 2 ^ 32 }
     requires short { All IsShort orders.now }
     ensures value { result ≡ bytes_of orders.now }
-    ensures few { result ≤ length orders.now * 1500 }
+    ensures few { result ≤ length orders.now * MOST_ON_WIRE }
 {
     let mut sum = 0;
     for order in orders {

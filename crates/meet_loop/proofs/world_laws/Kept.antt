@@ -17,7 +17,7 @@ use Rattle.rams_model.proofs.RtpPackets.{spelled_so}
 use Rattle.rams_model.specs.Laws.{Rises}
 use Rattle.meet_loop.specs.world_laws.{takes, hears_number, as_it_came}
 use Rattle.service_laws.proofs.byte_laws.Low.{IsLow, live_note_low, high_present}
-use Rattle.service_laws.proofs.book_laws.CameBefore.{all_of, not_live}
+use Rattle.service_laws.proofs.book_laws.CameBefore.{all_of, not_live, WasRead, ReadSo, live_read}
 use Rattle.service_laws.proofs.book_laws.Members.{of_with, is_first}
 use Rattle.service_laws.proofs.byte_laws.Rising.{all_rises, stands_once}
 use Rattle.service_laws.specs.byte_laws.{HasBytes}
@@ -34,37 +34,6 @@ pub record IsKept (c : Channel) (look : ℕ → Option (List ℕ)) (h : Held) : 
   pub low : h.n % 65536 ≡ packet.sequence
   pub high : 65536 ≤ h.n
   pub is_it : h.packet ≡ stripped packet
-
--- ---- what is heard was read
-
-record WasRead (c : Channel) (bytes : List ℕ) (a : Arrival) : Type 0 where
-  packet : Packet
-  is_read : packet_at bytes ≡ Ok packet
-  media : packet.ssrc ≡ c.ssrc
-  kind : packet.payload_type ≡ c.pt
-  number : a.sequence ≡ packet.sequence
-  is_it : a.packet ≡ stripped packet
-
-abbrev ReadSo : Channel → List ℕ → Heard → Type 0
-ReadSo c bytes (live a) = WasRead c bytes a
-ReadSo c bytes _ = Unit {0}
-
-packet_read : (c : Channel) (bytes : List ℕ) (r : Result Packet RtpFault) → packet_at bytes ≡ r → ReadSo c bytes (heard_packet c r)
-packet_read c bytes (Err fault) e = tt
-packet_read c bytes (Ok p) e =
-    cond_both (not (eqb p.ssrc c.ssrc)) (dropped ForeignSsrc) (cond (not (eqb p.payload_type c.pt)) (dropped ForeignType) (live (arrival c p))) (ReadSo c bytes) (λ t. tt)
-    (λ f. cond_both (not (eqb p.payload_type c.pt)) (dropped ForeignType) (live (arrival c p)) (ReadSo c bytes) (λ t. tt)
-    (λ g. record {
-      packet = p;
-      is_read = e;
-      media = eqb-true p.ssrc c.ssrc (not-false (eqb p.ssrc c.ssrc) f);
-      kind = eqb-true p.payload_type c.pt (not-false (eqb p.payload_type c.pt) g);
-      number = refl;
-      is_it = refl;
-    }))
-
-live_read : (c : Channel) (bytes : List ℕ) → ReadSo c bytes (heard_live c bytes)
-live_read c bytes = cond_both (ltb 1470 (length bytes)) (dropped TooBig) (heard_packet c (packet_at bytes)) (ReadSo c bytes) (λ t. tt) (λ f. packet_read c bytes (packet_at bytes) refl)
 
 -- ---- one packet more
 
@@ -92,9 +61,9 @@ taken_kept c look bytes a m all h r small low high rises has c1 was = ⊎_elim n
       is_read = r.is_read;
       media = r.media;
       kind = r.kind;
-      low = low ∙ r.number;
+      low = low ∙ ap (λ (x : Arrival). x.sequence) r.is_it;
       high = high;
-      is_it = r.is_it;
+      is_it = ap (λ (x : Arrival). x.packet) r.is_it;
     })
 
     now : eqb m h.n ≡ true → IsKept c (with_taken m bytes look) h
@@ -143,7 +112,7 @@ unfolding arrivals stream_of
 heard_kept s events bytes (live a) h r small old has =
     let came = arrivals (history_of s events) in
     let st = stream_of s.channel.window came in
-    let few : a.sequence < 65536 = subst (λ (q : ℕ). q < 65536) (sym r.number) (spelled_so bytes r.packet (below_at bytes small) r.is_read).0.sequence in
+    let few : a.sequence < 65536 = subst (λ (q : ℕ). q < 65536) (sym (ap (λ (x : Arrival). x.sequence) r.is_it)) (spelled_so bytes r.packet (below_at bytes small) r.is_read).0.sequence in
     let low = live_note_low s.channel.window st a.sequence few (end_of 0 st.ended st.present (all_rises s.channel.window came)) (high_present st.ended st.present (λ k d. (old k d).high)) in
     note_kept s.channel (as_it_came s events) bytes st a (live_note s.channel.window st a.sequence) h r small low (all_rises s.channel.window (a ∷ came)) old has
 heard_kept s events bytes (dropped n) h r small old has = old h has

@@ -1,6 +1,6 @@
 -- A packet that came in time is of the source exactly where its number is below the end of what is held.
 use Rattle.std.proofs.Common.{◌≡◌, ℕ, ◌<◌, ◌≤◌, Bool, true, false, ◌||◌, not, cond, eqb, ltb, leb, List, [], ◌∷◌, ◌++◌, filter, Option, Some, ◌-◌, ◌≢◌, refl, sym, ap, ◌∙◌, subst, arith, ⊎_elim}
-use Rattle.std.proofs.lemmas.Bool.{cases_Bool, cond_both, eqb-true, eq-eqb, and_parts, ltb-true, ltb-false, lt-ltb}
+use Rattle.std.proofs.lemmas.Bool.{cases_Bool, cond_both, or_right, eqb-true, eq-eqb, and_parts, ltb-true, ltb-false, lt-ltb}
 use Rattle.std.proofs.lemmas.List.Folds.{list_any-append}
 use Rattle.rams_model.specs.declared.{Event.Event, Held.Held, LiveNote.LiveNote, LiveNote.TheVariants.Took, LiveNote.TheVariants.Restart}
 use Rattle.rams_model.specs.declared.Event.TheVariants as event
@@ -9,11 +9,10 @@ use Rattle.rams_model.specs.Packets.{hi, has_number, with_packet, awaited, held_
 use Rattle.rams_model.specs.Packets.Source as sources
 use Rattle.rams_model.specs.Formats.{framed}
 use Rattle.rams_model.specs.Service.{Settings, Heard, live, History, began, stream, heard_of, heard_live, arrivals, history_of}
-use Rattle.rams_model.proofs.ListFacts.{or_swap}
 use Rattle.rams_model.proofs.Growing.{source_rises}
 use Rattle.rams_model.proofs.HeldEnds.{hi-hold}
 use Rattle.rams_model.proofs.Induction.{arrivals_of_event}
-use Rattle.rams_model.proofs.Rising.{none_at_hi, hi_of_end, end_of}
+use Rattle.rams_model.proofs.Rising.{none_at_hi, hi_of_end, end_of, has_with}
 use Rattle.rams_model.proofs.Waiting.{from_first, is_missing_itself}
 use Rattle.server_hub.specs.{hi_of}
 use Rattle.server_hub.specs.Served.{Served}
@@ -22,12 +21,6 @@ use Rattle.service_laws.proofs.book_laws.CameBefore.{all_of, not_live}
 use Rattle.service_laws.proofs.byte_laws.Rising.{all_rises}
 
 -- ---- what came in time
-
-has_with : (n : ℕ) (new : Held) (hs : List Held) → has_number n (with_packet new hs) ≡ (eqb new.n n || has_number n hs)
-has_with n new [] = refl
-has_with n new (h ∷ hs) =
-    cond_both (ltb new.n h.n) (new ∷ h ∷ hs) (h ∷ with_packet new hs) (λ l. has_number n l ≡ (eqb new.n n || has_number n (h ∷ hs))) (λ t. refl)
-    (λ f. ap (λ (b : Bool). eqb h.n n || b) (has_with n new hs) ∙ or_swap (eqb h.n n) (eqb new.n n) (has_number n hs))
 
 -- a packet of this number came in time
 abbrev Came : ℕ → Stream → Type 0
@@ -39,10 +32,6 @@ came_by n st e = list_any-append (λ h. eqb h.n n) st.ended st.present ∙ e
 came_of : (n : ℕ) (st : Stream) → Came n st → (has_number n st.ended || has_number n st.present) ≡ true
 came_of n st e = sym (list_any-append (λ h. eqb h.n n) st.ended st.present) ∙ e
 
-or_true : (a b : Bool) → b ≡ true → (a || b) ≡ true
-or_true true b e = refl
-or_true false b e = e
-
 -- a packet more, or none
 note_came : (n : ℕ) (st : Stream) (a : Arrival) (note : LiveNote) (bytes got : List ℕ) (old : Option (List ℕ)) → (old ≡ Some got → Came n st) → cond (takes n note) (Some bytes) old ≡ Some got
     → Came n (stream_after st a note)
@@ -51,14 +40,14 @@ note_came n st a (Took m) bytes got old before e = by (eqb m n) refl e
     by : (b : Bool) → eqb m n ≡ b → cond b (Some bytes) old ≡ Some got → Came n (stream_after st a (Took m))
     by true t e =
         came_by n (stream_after st a (Took m))
-        (or_true (has_number n st.ended) _ (has_with n (held_as m a) st.present ∙ ap (λ (x : Bool). x || has_number n st.present) t))
+        (or_right (has_number n st.ended) _ (has_with n (held_as m a) st.present ∙ ap (λ (x : Bool). x || has_number n st.present) t))
     by false t e =
         came_by n (stream_after st a (Took m))
         (ap (λ (x : Bool). has_number n st.ended || x) (has_with n (held_as m a) st.present ∙ ap (λ (x : Bool). x || has_number n st.present) t) ∙ came_of n st (before e))
 note_came n st a (Restart m) bytes got old before e = by (eqb m n) refl e
   where
     by : (b : Bool) → eqb m n ≡ b → cond b (Some bytes) old ≡ Some got → Came n (stream_after st a (Restart m))
-    by true t e = came_by n (stream_after st a (Restart m)) (or_true (has_number n (all_of st)) _ (ap (λ (x : Bool). x || false) t))
+    by true t e = came_by n (stream_after st a (Restart m)) (or_right (has_number n (all_of st)) _ (ap (λ (x : Bool). x || false) t))
     by false t e = came_by n (stream_after st a (Restart m)) (ap (λ (x : Bool). x || has_number n (held_as m a ∷ [])) (before e))
 note_came n st a note bytes got old before e = before e
 

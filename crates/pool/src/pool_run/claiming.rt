@@ -6,7 +6,7 @@ ghost use Rattle.rams_model.specs.Service.{wire_sizes};
 ghost use Rattle.pool.specs.pool_run.{AreSmall};
 
 use crate::link_pool::{NoMemory, Pool, Taker};
-use rams_model::{Answer, Order, RTX_OVERHEAD};
+use rams_model::{Answer, MOST_ON_WIRE, Order, RTX_OVERHEAD};
 
 /// The most claims for which there can be memory: 2^37 of them take over three terabytes.
 const MOST_CLAIMS: usize = 1 << 37;
@@ -14,7 +14,7 @@ const MOST_CLAIMS: usize = 1 << 37;
 /// Claims the size of one packet.
 fn claim_packet(pool: &Pool, taker: &mut Taker, bytes: u64) -> Result<(), NoMemory>
     requires made { taker.old.pool ≡ pool.now.pool }
-    requires bytes { (0 < bytes) × (bytes ≤ 1500) }
+    requires bytes { (0 < bytes) × (bytes ≤ MOST_ON_WIRE) }
     requires small { AreSmall taker.old.claims }
     ensures pool { taker.new.pool ≡ taker.old.pool }
     ensures number { taker.new.number ≡ taker.old.number }

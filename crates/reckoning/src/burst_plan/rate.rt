@@ -25,7 +25,7 @@ pub fn rate_of(bps: Option<u64>, tick_ms: u32, burst: u64) -> u64
 /// source adds in a tick at most, and `depth` are those that the burst may keep from tick to tick.
 #[tactic(auto, using(crate::proofs::burst_plan::JoinTimes::ceiling_is))]
 pub fn join_ticks(behind: u64, rate: u64, declared: u64, depth: u64) -> u64
-    requires { declared + 1500 ≤ rate }
+    requires { declared + MOST_ON_WIRE ≤ rate }
     ensures { result ≡ join_ticks behind rate declared depth }
 {
     let most_waste = u64::from(MOST_ON_WIRE) - 1;

@@ -7,8 +7,7 @@ use Rattle.rams_model.specs.declared.{Held.Held, LiveNote.LiveNote}
 use Rattle.rams_model.specs.declared.LiveNote.TheVariants.{Took, Restart, Late, Twice, Jump}
 use Rattle.rams_model.specs.Packets.{hi, ahead, following, is_kept, Numbered, forward, backward, restart, jump, after_greatest, numbered, Arrival, Stream, held_as, has_number, with_packet, is_missing, awaited, in_time, note_of, live_note, stream_after}
 use Rattle.rams_model.specs.Laws.{Rises}
-use Rattle.rams_model.proofs.ListFacts.{or_swap}
-use Rattle.rams_model.proofs.Rising.{below_hi, none_at_hi}
+use Rattle.rams_model.proofs.Rising.{below_hi, none_at_hi, has_with}
 use Rattle.rams_model.proofs.Waiting.{from_first, is_missing_itself, none_before}
 use Rattle.service_laws.proofs.book_laws.RequestTable.{listed_contains, contains_listed}
 use Rattle.service_laws.specs.byte_laws.{with_note, jumped_by, MayStillCome, Start, IsWithinReach, IsOutOfReach, FollowsTheJump, NumbersSo}
@@ -23,12 +22,6 @@ abbrev pub SameNumbers : List ℕ → List Held → Type 0
 SameNumbers numbers present = (m : ℕ) → has m numbers ≡ has_number m present
 
 -- ---- one packet more
-
-pub has_with : (m : ℕ) (new : Held) (hs : List Held) → has_number m (with_packet new hs) ≡ (eqb new.n m || has_number m hs)
-has_with m new [] = refl
-has_with m new (h ∷ hs) =
-    cond_both (ltb new.n h.n) (new ∷ h ∷ hs) (h ∷ with_packet new hs) (λ l. has_number m l ≡ (eqb new.n m || has_number m (h ∷ hs))) (λ t. refl)
-    (λ f. ap (λ (b : Bool). eqb h.n m || b) (has_with m new hs) ∙ or_swap (eqb h.n m) (eqb new.n m) (has_number m hs))
 
 pub same_after : (st : Stream) (a : Arrival) (n : LiveNote) (numbers : List ℕ) → SameNumbers numbers st.present → SameNumbers (with_note n numbers) (stream_after st a n).present
 same_after st a (Took n) numbers same = λ m. ap (λ (b : Bool). eqb n m || b) (same m) ∙ sym (has_with m (held_as n a) st.present)

@@ -1,7 +1,7 @@
 -- What a piece more makes of the lines of some bytes.
 use Rattle.std.proofs.Common.{◌≡◌, ℕ, ◌+◌, ◌<◌, ◌==◌, ◌⊎◌, inl, inr, Bool, true, false, ◌||◌, List, [], ◌∷◌, ◌++◌, length, take, drop, refl, sym, ap, subst, ◌∙◌, arith, append_assoc, append-nil, length-append, length-take}
 use Rattle.std.specs.Prelude.{if◌then◌else◌}
-use Rattle.std.proofs.lemmas.Bool.{eqb-true}
+use Rattle.std.proofs.lemmas.Bool.{eqb-true, or_right}
 use Rattle.std.specs.List.{list_any}
 use Rattle.rams_model.specs.Texts.{whole_lines, into_first}
 use Rattle.line_io.specs.{HasNoFeed, IsCutAt}
@@ -12,10 +12,6 @@ neither : (a b : Bool) → (a || b) ≡ false → (a ≡ false) × (b ≡ false)
 neither false false h = (refl, refl)
 neither false true h = absurd cc
 neither true b h = absurd cc
-
-either_true : (a b : Bool) → b ≡ true → (a || b) ≡ true
-either_true true b h = refl
-either_true false b h = h
 
 -- a test of a list that no element passes, or one
 pub no_feed : (xs : List ℕ) → list_any is_feed xs ≡ false → HasNoFeed xs
@@ -36,7 +32,7 @@ any_more (x ∷ xs) more h = by (x == 10) h (any_more xs more)
 
 pub any_fed : (xs : List ℕ) → list_any is_feed (xs ++ 10 ∷ []) ≡ true
 any_fed [] = refl
-any_fed (x ∷ xs) = either_true (x == 10) (list_any is_feed (xs ++ 10 ∷ [])) (any_fed xs)
+any_fed (x ∷ xs) = or_right (x == 10) (list_any is_feed (xs ++ 10 ∷ [])) (any_fed xs)
 
 -- where there is a line feed there is a whole line
 pub record Some (lines : List (List ℕ)) : Type 0 where

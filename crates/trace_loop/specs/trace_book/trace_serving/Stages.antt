@@ -1,6 +1,7 @@
 -- What is so at each stage of a trace.
 use Rattle.std.specs.Prelude.{◌≡◌, ℕ, ◌≤◌, false, List, [], ◌∷◌, ◌++◌, map, Option, None, Some, option_to_list, Ok, All}
 use Rattle.rams_model.specs.Service.{Settings, most_bytes, checked}
+use Rattle.rams_model.specs.declared.wire.TheConstants.{MOST_ON_WIRE}
 use Rattle.rams_model.specs.Texts.{Head, Claim}
 use Rattle.server_hub.specs.{FitLink}
 use Rattle.trace_loop.specs.trace_book.trace_serving.Text.{Serving, Stage, goes_on, turn}
@@ -13,7 +14,7 @@ claim_of s = record { id = s.channel.id; share = s.channel.share }
 pub record IsHead (head : Head) : Type 0 where
   pub tick_least : 1 ≤ head.tick
   pub tick_most : head.tick ≤ 1000
-  pub link_least : 1500 ≤ head.link
+  pub link_least : MOST_ON_WIRE ≤ head.link
   pub link_most : head.link ≤ most_bytes
 
 abbrev pub AreLawful : Settings → Type 0

@@ -1,4 +1,4 @@
-use Rattle.repair_queue.proofs.Blocks.{none_marked}
+use Rattle.rams_model.proofs.ListFacts.{none_marked}
 use Rattle.repair_queue.proofs.block.Block.new.Goals as goal
 
 pub returns : goal.returns
