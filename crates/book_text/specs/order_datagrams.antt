@@ -1,2 +1,2 @@
 pub mod Rendering
-unfoldable pub use Rattle.book_text.specs.order_datagrams.Rendering.{Renders, IsRetransmission, EachOrderOfAnAnswerRenders, EachOrderOfABookRenders}
+unfoldable pub use Rattle.book_text.specs.order_datagrams.Rendering.{Renders, has_plain, IsRetransmission, EachOrderOfAnAnswerRenders, EachOrderOfABookRenders}

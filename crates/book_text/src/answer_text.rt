@@ -3,7 +3,8 @@
 mod answer;
 mod asking;
 mod entry;
+mod orders;
 
 pub use answer::{append_answer, append_answer_with};
-pub use asking::after;
 pub use entry::append_entry;
+pub use orders::Orders;

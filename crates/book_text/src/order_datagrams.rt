@@ -7,6 +7,7 @@ mod datagram;
 mod laws;
 
 pub use channel_config::Config;
+pub(crate) use datagram::{append_order_if, has_plain};
 pub use datagram::{append_order, client_of, render_order, renders};
 pub use laws::orders_of_answers_render;
 pub use ram_io::NoMemory;

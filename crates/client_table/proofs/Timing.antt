@@ -1,5 +1,5 @@
 -- What a change of the pairs of clients and ticks leaves.
-use Rattle.std.proofs.Common.{◌≡◌, ℕ, ◌<◌, ◌≤◌, Bool, true, false, cond, ◌&&◌, List, [], ◌∷◌, length, filter, Result, Ok, Err, suc, OnOk, OnErr, is_gt, refl, ap, sym, ◌∙◌, arith, eqb, leb, is_eq, Less, Equal, Greater, nat_cmp}
+use Rattle.std.proofs.Common.{◌≡◌, ℕ, ◌<◌, ◌≤◌, Bool, true, false, cond, List, [], ◌∷◌, length, filter, Result, Ok, Err, suc, OnOk, OnErr, is_gt, refl, ap, sym, ◌∙◌, arith, eqb, leb, Less, Equal, Greater, nat_cmp}
 use Rattle.std.specs.BTreeMap.{is_at}
 use Rattle.std.specs.BTreeSet.{BTreeSet, insert_key}
 use Rattle.std.specs.Ordering.{ordering_then, match_ordering}

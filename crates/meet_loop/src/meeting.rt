@@ -67,8 +67,6 @@ impl TraceServer for Meeting {
 
     ghost lines = { λ m answer. notes_lines m.events m.notes.items };
 
-    ghost can_write = { λ answer. Unit {0} };
-
     fn take_line(&mut self, alloc: Global, line: &[u8]) -> Result<Turn, NoMemory> {
         take_line(alloc, self, line)
     }

@@ -1,21 +1,19 @@
 -- What is written for the answers of the channels.
-use Rattle.std.proofs.Common.{◌≡◌, ◌≢◌, ℕ, List, [], ◌∷◌, ◌++◌, map, length, Option, None, Some, option_map, refl, sym, ap, subst, ◌∙◌, append_assoc, append-nil}
-use Rattle.std.specs.Prelude.{All, AllPairs, slice_get}
+use Rattle.std.proofs.Common.{◌≡◌, ◌≢◌, ℕ, List, [], ◌∷◌, ◌++◌, map, length, Option, None, Some, option_map, refl, sym, ap, ◌∙◌, append_assoc, append-nil}
+use Rattle.std.specs.Prelude.{AllPairs, slice_get}
 use Rattle.std.specs.List.{flat_map}
 use Rattle.rams_model.specs.declared.Event.{Event}
 use Rattle.rams_model.specs.declared.Event.TheVariants as event
 use Rattle.server_hub.specs.declared.{At.At, HubAnswer.HubAnswer, HubEvent.HubEvent}
-use Rattle.server_hub.specs.{IsHub, StandsFor, settings_of, ids_of, after_event, id_of, channel_of, answer_to, answer_of, answer_at, answers_to_tick, Told, says, told, told_of, told_to, answers_said}
+use Rattle.server_hub.specs.{IsHub, StandsFor, settings_of, ids_of, after_event, id_of, channel_of, answer_to, answer_of, answer_at, answers_to_tick, says, told, told_of, told_to}
 use Rattle.server_hub.specs.declared.HubEvent.TheVariants.{Live, Feedback, Tick}
 use Rattle.server_hub.specs.Seen.{Seen}
 use Rattle.server_hub.specs.Served.{Served}
 use Rattle.server_hub.proofs.Finding.{with_id, one_has, settings_found}
 use Rattle.trace_loop.specs.trace_book.{channel_text, event_text, named_text}
 use Rattle.trace_loop.specs.trace_book.Stages.{settings_of as settings_all}
-use Rattle.trace_loop.specs.journal_book.{AllRender}
 use Rattle.trace_loop.proofs.head_loop.Channels.{id_there, settings_there, settings_stand}
 use Rattle.trace_loop.proofs.trace_book.Served.{settings_after}
-use Rattle.trace_loop.proofs.journal_book.Renders.{said_renders}
 use Rattle.rams_replay.specs.{Tells, at_text, settled_text, told_text}
 
 -- what is written for one answer
@@ -58,5 +56,4 @@ pub hub_tells : (h : HubEvent) (channels : List Served) (w : Seen) (a : HubAnswe
 hub_tells h channels w a both hub = record {
   stands = both.1;
   text = λ n. ap (told_text (Some w) n) both.0 ∙ said_text h n channels w (settings_stand w (after_event h channels) both.1 ∙ settings_after h channels) hub;
-  renders = subst (λ (t : Told). All AllRender (answers_said t)) (sym both.0) (said_renders h channels);
 }

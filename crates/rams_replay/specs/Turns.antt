@@ -1,11 +1,11 @@
 -- What a line of a trace does, as code has it.
-use Rattle.std.specs.Prelude.{◌≡◌, ℕ, ◌+◌, ◌==◌, List, [], map, find, Option, Some, None, Ok, All}
+use Rattle.std.specs.Prelude.{◌≡◌, ℕ, ◌+◌, ◌==◌, List, [], map, find, Option, Some, None, Ok}
 use Rattle.std.specs.List.{flat_map}
 use Rattle.rams_model.specs.Service.{Answered, Settings}
 use Rattle.rams_model.specs.Texts.{answer_text, TraceLine, Reached, accepted}
 use Rattle.book_text.specs.{no_channel_line}
 use Rattle.server_hub.specs.declared.{At.At, HubEvent.HubEvent, HubAnswer.HubAnswer}
-use Rattle.server_hub.specs.{StandsFor, Told, no_channel, says, told, answers_said, settings_of, after_event}
+use Rattle.server_hub.specs.{StandsFor, Told, no_channel, says, told, settings_of, after_event}
 use Rattle.server_hub.specs.Seen.{Seen}
 use Rattle.server_hub.specs.Served.{Served}
 use Rattle.trace_loop.specs.trace_book.trace_serving.{Stage}
@@ -14,7 +14,6 @@ use Rattle.trace_loop.specs.declared.Turn.{Turn}
 use Rattle.trace_loop.specs.{ending, written, Took as TookSo}
 use Rattle.trace_loop.specs.trace_book.{event_text}
 use Rattle.trace_loop.specs.head_loop.{claim_of}
-use Rattle.trace_loop.specs.journal_book.{AllRender}
 use Rattle.takeover.specs.standby.{HubServes}
 
 -- What stands before a line: a hub for the channels, so many events, and these lines.
@@ -39,15 +38,10 @@ abbrev pub told_text : Option Seen → ℕ → Told → List ℕ
 told_text hub event (no_channel id) = no_channel_line event id
 told_text hub event (says all) = flat_map (at_text hub event) all
 
--- those of all that is said can be
-abbrev pub SaidRender : HubAnswer → Type 0
-SaidRender a = All AllRender (answers_said (told a))
-
 -- The answer tells what the server says to an event after what came to its channels, and the hub has served it.
 pub record Tells (e : HubEvent) (channels : List Served) (v : Seen) (a : HubAnswer) : Type 0 where
   pub stands : StandsFor v (after_event e channels)
   pub text : (event : ℕ) → told_text (Some v) event (told a) ≡ event_text event e channels
-  pub renders : SaidRender a
 
 -- The hub is of the same head line, and counts one more event.
 pub record CountsOne (old new : Seen) : Type 0 where

@@ -6,11 +6,11 @@ ghost use Rattle.server_hub.specs.Served.{Served};
 ghost use Rattle.rams_model.specs.Texts.{tick_of};
 ghost use Rattle.trace_text.specs.{shown, told, HasDigits, IsOther, IsSettled};
 ghost use Rattle.trace_loop.specs.trace_book.trace_serving.{Stage, opening, turn, after_line, counted, brought};
-ghost use Rattle.trace_loop.specs.{StandsSomewhere, CanWrite, ending};
+ghost use Rattle.trace_loop.specs.{StandsSomewhere};
 ghost use Rattle.trace_loop.specs.declared.Turn.TheVariants.{GoesOn};
 ghost use Rattle.trace_loop.specs.trace_book.{run};
 ghost use Rattle.trace_loop.specs.head_loop.{CanOpen, OpensIn};
-ghost use Rattle.rams_replay.specs.{Stands, Comes, CountsOne, Tells, Took, SaidRender, told_text};
+ghost use Rattle.rams_replay.specs.{Stands, Comes, CountsOne, Tells, Took, told_text};
 
 use crate::writer::write_said;
 use channel_config::Config;
@@ -58,8 +58,6 @@ impl TraceServer for Replay {
 
     ghost lines = { λ r answer. told_text r.hub r.events (said answer) };
 
-    ghost can_write = { SaidRender };
-
     fn take_line(&mut self, alloc: Global, line: &[u8]) -> Result<Turn, NoMemory> {
         take_line(alloc, self, line)
     }
@@ -77,9 +75,8 @@ impl TraceServer for Replay {
 /// What the next line does.
 fn take_line(alloc: Global, replay: &mut Replay, line: &[u8]) -> Result<Turn, NoMemory>
     requires { StandsSomewhere (Stands replay.old.hub replay.old.events replay.old.state) }
-    ensures turn { IfOk result (λ t. (stage : Stage (List Served)) (number : ℕ) → Stands replay.old.hub replay.old.events replay.old.state stage
+    ensures { IfOk result (λ t. (stage : Stage (List Served)) (number : ℕ) → Stands replay.old.hub replay.old.events replay.old.state stage
         → Took (turn run stage number line.now) replay.new.hub replay.new.events replay.new.state number t) }
-    ensures write { IfOk result (CanWrite SaidRender) }
 {
     match replay.state.judge(line) {
         Ok(read) => after_line(alloc, replay, &read),
@@ -91,9 +88,8 @@ fn take_line(alloc: Global, replay: &mut Replay, line: &[u8]) -> Result<Turn, No
 fn after_line(alloc: Global, replay: &mut Replay, line: &Judged<'_>) -> Result<Turn, NoMemory>
     requires settled { IsSettled (tick_of replay.old.state.head) line.now }
     requires comes { (stage : Stage (List Served)) × Comes replay.old.hub replay.old.events replay.old.state (told line.now) stage }
-    ensures turn { IfOk result (λ t. (stage : Stage (List Served)) (number : ℕ) → Comes replay.old.hub replay.old.events replay.old.state (told line.now) stage
+    ensures { IfOk result (λ t. (stage : Stage (List Served)) (number : ℕ) → Comes replay.old.hub replay.old.events replay.old.state (told line.now) stage
         → Took (after_line run stage replay.old.state (told line.now) (brought run (told line.now))) replay.new.hub replay.new.events replay.new.state number t) }
-    ensures write { IfOk result (CanWrite SaidRender) }
 {
     match line {
         Judged::Channel { config, .. } => open(alloc, &mut replay.hub, *config),
@@ -106,9 +102,8 @@ fn after_other(alloc: Global, replay: &mut Replay, line: Line<'_>) -> Result<Tur
     requires other { IsOther line }
     requires digits { HasDigits line }
     requires comes { (stage : Stage (List Served)) × Comes replay.old.hub replay.old.events replay.old.state (shown line) stage }
-    ensures turn { IfOk result (λ t. (stage : Stage (List Served)) (number : ℕ) → Comes replay.old.hub replay.old.events replay.old.state (shown line.entry) stage
+    ensures { IfOk result (λ t. (stage : Stage (List Served)) (number : ℕ) → Comes replay.old.hub replay.old.events replay.old.state (shown line.entry) stage
         → Took (after_line run stage replay.old.state (shown line.entry) (brought run (shown line.entry))) replay.new.hub replay.new.events replay.new.state number t) }
-    ensures write { IfOk result (CanWrite SaidRender) }
 {
     match line {
         Line::Head { tick_ms, link, .. } => {
@@ -166,9 +161,8 @@ fn serve(
 ) -> Result<Turn, NoMemory>
     requires stands { (stage : Stage (List Served)) × Stands hub.old events.old stage.reached stage }
     requires there { is_some hub.old ≡ true }
-    ensures turn { IfOk result (λ t. (stage : Stage (List Served)) (number : ℕ) → Stands hub.old events.old stage.reached stage
+    ensures { IfOk result (λ t. (stage : Stage (List Served)) (number : ℕ) → Stands hub.old events.old stage.reached stage
         → Took (counted run stage stage.reached (event_of heard.entry)) hub.new events.new stage.reached number t) }
-    ensures write { IfOk result (CanWrite SaidRender) }
 {
     if *events >= MOST_EVENTS {
         return Ok(Turn::TooLong);

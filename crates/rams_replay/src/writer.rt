@@ -1,20 +1,18 @@
 //! The lines of answers on their way to the sink, note by note.
-ghost use Rattle.std.specs.Prelude.{All, ◌≡◌, ℕ, ◌+◌, ◌++◌, IfErr, OnOk, length};
+ghost use Rattle.std.specs.Prelude.{ℕ, ◌+◌, ◌++◌, IfErr, OnOk, length};
 ghost use Rattle.std.specs.List.{flat_map};
 ghost use Rattle.line_io.specs.Passes.{Passes};
 ghost use Rattle.rams_model.specs.Texts.{answer_text};
-ghost use Rattle.book_text.specs.order_datagrams.{Renders};
 ghost use Rattle.server_hub.specs.{told};
 ghost use Rattle.book_text.specs.{no_channel_line};
 ghost use Rattle.trace_loop.specs.{IsStoppedByWrite, OnlyMemoryStops, StopsIn};
 ghost use Rattle.book_text.specs.answer_text.{entry_text};
-ghost use Rattle.trace_loop.specs.journal_book.{AllRender};
-ghost use Rattle.rams_replay.specs.{told_text, at_text, SaidRender};
+ghost use Rattle.rams_replay.specs.{told_text, at_text};
 
-use book_text::answer_text::{after, append_entry};
+use book_text::answer_text::{Orders, append_entry};
 use book_text::append_no_channel;
 use ram_io::Sink;
-use rams_model::{Answer, Note, Order};
+use rams_model::{Answer, Note};
 use server_hub::{At, Config, Hub, HubAnswer};
 use trace_loop::{Stop, Writer, settle};
 
@@ -26,17 +24,16 @@ fn write_answer<K: Sink>(
     event: u64,
     answer: &Answer,
 ) -> Result<(), Stop>
-    requires { All Renders answer.now.orders }
     ensures all { OnOk result (Passes (K.held sink.old) (K.held sink.new) (writer.old.gather ++ answer_text config.now event answer.now) writer.new.gather) }
     ensures front { IfErr result (StopsIn (K.held sink.old) (K.held sink.new) (writer.old.gather ++ answer_text config.now event answer.now) writer.new.gather) }
     ensures cause { IsStoppedByWrite (K.faults sink.old) (K.faults sink.new) result }
     ensures steady { (room : ℕ) → K.is_steady sink.old (length writer.old.gather + length (answer_text config.now event answer.now) + room)
         → OnlyMemoryStops result (K.is_steady sink.new (length writer.new.gather + room)) }
 {
-    let mut orders = answer.orders.as_slice();
+    let mut orders = Orders::of(&answer.orders);
     for note in answer.notes.iter() {
-        write_entry(writer, sink, config, event, note, orders)?;
-        orders = after(note, orders);
+        write_entry(writer, sink, config, event, note, &orders)?;
+        orders.pass(note);
     }
     Ok(())
 }
@@ -48,9 +45,8 @@ fn write_entry<K: Sink>(
     config: &Config,
     event: u64,
     note: &Note,
-    orders: &[Order],
+    orders: &Orders<'_>,
 ) -> Result<(), Stop>
-    requires { All Renders orders.now }
     ensures all { OnOk result (Passes (K.held sink.old) (K.held sink.new) (writer.old.gather ++ entry_text config.now event note.now orders.now) writer.new.gather) }
     ensures front { IfErr result (StopsIn (K.held sink.old) (K.held sink.new) (writer.old.gather ++ entry_text config.now event note.now orders.now) writer.new.gather) }
     ensures cause { IsStoppedByWrite (K.faults sink.old) (K.faults sink.new) result }
@@ -77,7 +73,6 @@ fn write_at<K: Sink>(
     event: u64,
     at: &At,
 ) -> Result<(), Stop>
-    requires { AllRender at.now }
     ensures all { OnOk result (Passes (K.held sink.old) (K.held sink.new) (writer.old.gather ++ at_text hub.now event at.now) writer.new.gather) }
     ensures front { IfErr result (StopsIn (K.held sink.old) (K.held sink.new) (writer.old.gather ++ at_text hub.now event at.now) writer.new.gather) }
     ensures cause { IsStoppedByWrite (K.faults sink.old) (K.faults sink.new) result }
@@ -99,7 +94,6 @@ fn write_all<K: Sink>(
     event: u64,
     all: &[At],
 ) -> Result<(), Stop>
-    requires { All AllRender all.now }
     ensures all { OnOk result (Passes (K.held sink.old) (K.held sink.new) (writer.old.gather ++ flat_map (at_text hub.now event) all.now) writer.new.gather) }
     ensures front { IfErr result (StopsIn (K.held sink.old) (K.held sink.new) (writer.old.gather ++ flat_map (at_text hub.now event) all.now) writer.new.gather) }
     ensures cause { IsStoppedByWrite (K.faults sink.old) (K.faults sink.new) result }
@@ -138,7 +132,6 @@ pub fn write_said<K: Sink>(
     event: u64,
     answer: &HubAnswer,
 ) -> Result<(), Stop>
-    requires { SaidRender answer.now }
     ensures all { OnOk result (Passes (K.held sink.old) (K.held sink.new) (writer.old.gather ++ told_text hub.now event (told answer.now)) writer.new.gather) }
     ensures front { IfErr result (StopsIn (K.held sink.old) (K.held sink.new) (writer.old.gather ++ told_text hub.now event (told answer.now)) writer.new.gather) }
     ensures cause { IsStoppedByWrite (K.faults sink.old) (K.faults sink.new) result }

@@ -1,9 +1,7 @@
 //! The datagrams of answers, to the wire.
-ghost use Rattle.std.specs.Prelude.{◌≡◌, ◌+◌, ◌*◌, ◌<◌, ◌^◌, ◌∷◌, ℕ, All, List, [], OnOk, length};
+ghost use Rattle.std.specs.Prelude.{◌≡◌, ◌+◌, ◌*◌, ◌<◌, ◌^◌, ◌∷◌, ℕ, List, [], OnOk, length};
 ghost use Rattle.ram_io.specs.{Outgoing};
-ghost use Rattle.book_text.specs.order_datagrams.{Renders};
 ghost use Rattle.server_hub.specs.{settings_of};
-ghost use Rattle.trace_loop.specs.journal_book.{AllRender};
 ghost use Rattle.serve_loop.specs.{Sends, IsStoppedByWire, OnlyMemoryStops, bytes_of, order_datagrams, at_datagrams, said_datagrams};
 
 use book_text::order_datagrams::{Config, append_order, client_of};
@@ -20,7 +18,6 @@ fn send_order<W: Wire>(
     port: u16,
     order: &Order,
 ) -> Result<(), Stop>
-    requires { Renders order.now }
     ensures all { OnOk result (Sends (W.sent wire.old) (W.sent wire.new) (order_datagrams config.now port (order.now ∷ [])) []) }
     ensures front { (rest : List Outgoing) × Sends (W.sent wire.old) (W.sent wire.new) (order_datagrams config.now port (order.now ∷ [])) rest }
     ensures untaken { W.arrivals wire.new ≡ W.arrivals wire.old }
@@ -45,7 +42,6 @@ pub fn send_orders<W: Wire>(
     port: u16,
     orders: &[Order],
 ) -> Result<(), Stop>
-    requires { All Renders orders.now }
     ensures all { OnOk result (Sends (W.sent wire.old) (W.sent wire.new) (order_datagrams config.now port orders.now) []) }
     ensures front { (rest : List Outgoing) × Sends (W.sent wire.old) (W.sent wire.new) (order_datagrams config.now port orders.now) rest }
     ensures untaken { W.arrivals wire.new ≡ W.arrivals wire.old }
@@ -67,7 +63,6 @@ fn send_at<W: Wire>(
     port: u16,
     at: &At,
 ) -> Result<(), Stop>
-    requires { AllRender at.now }
     ensures all { OnOk result (Sends (W.sent wire.old) (W.sent wire.new) (at_datagrams port (settings_of hub.now) at.now) []) }
     ensures front { (rest : List Outgoing) × Sends (W.sent wire.old) (W.sent wire.new) (at_datagrams port (settings_of hub.now) at.now) rest }
     ensures untaken { W.arrivals wire.new ≡ W.arrivals wire.old }
@@ -90,8 +85,7 @@ pub fn send_all<W: Wire>(
     first: u16,
     all: &[At],
 ) -> Result<(), Stop>
-    requires render { All AllRender all.now }
-    requires ports { first + 2 * length all.now < 2 ^ 16 }
+    requires { first + 2 * length all.now < 2 ^ 16 }
     ensures all { OnOk result (Sends (W.sent wire.old) (W.sent wire.new) (said_datagrams first (settings_of hub.now) all.now) []) }
     ensures front { (rest : List Outgoing) × Sends (W.sent wire.old) (W.sent wire.new) (said_datagrams first (settings_of hub.now) all.now) rest }
     ensures untaken { W.arrivals wire.new ≡ W.arrivals wire.old }

@@ -8,6 +8,5 @@ pub mod Heard
 pub mod Channels
 pub mod Spelled
 pub mod Orders
-pub mod Renders
 pub mod Turns
 pub mod Opened

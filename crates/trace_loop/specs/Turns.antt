@@ -34,11 +34,6 @@ abbrev pub written : {A : Type 0} → (A → List ℕ) → ℕ → Turn A → Li
 written lines number (Said a) = lines a
 written lines number t = last_line number t
 
--- where an answer can be written, the turn's text can be
-abbrev pub CanWrite : {A : Type 0} → (A → Type 0) → Turn A → Type 0
-CanWrite can (Said a) = can a
-CanWrite can _ = Unit {0}
-
 -- it stands for some stage
 abbrev pub StandsSomewhere : {State : Type 0} → (Stage State → Type 0) → Type 0
 StandsSomewhere {State} at = (stage : Stage State) × at stage

@@ -11,7 +11,7 @@ unfoldable pub use Rattle.trace_loop.specs.journal_book.Heard.{heard_from, heard
 pub use Rattle.trace_loop.specs.journal_book.Heard.{ServerTurn}
 unfoldable pub use Rattle.trace_loop.specs.journal_book.Journal.{line_of_event, event_line, event_lines, journal_of, behind, HasLine, CanCome}
 pub use Rattle.trace_loop.specs.journal_book.Journal.{IsNumber, IsDatagramOf}
-unfoldable pub use Rattle.trace_loop.specs.journal_book.Sent.{AreApart, own_event, AllRender, answer_datagrams, own_datagrams, datagrams_of, sent_for}
+unfoldable pub use Rattle.trace_loop.specs.journal_book.Sent.{AreApart, own_event, answer_datagrams, own_datagrams, datagrams_of, sent_for}
 unfoldable pub use Rattle.trace_loop.specs.journal_book.Replay.{event_read, datagrams_to, sent_after, replayed_from, replayed}
 unfoldable pub use Rattle.trace_loop.specs.journal_book.Heads.{starting}
 pub use Rattle.trace_loop.specs.journal_book.Heads.{Leads, nothing, line, Opens}

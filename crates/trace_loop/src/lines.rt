@@ -5,7 +5,7 @@ ghost use Rattle.line_io.specs.{HasNoFeed};
 ghost use Rattle.trace_loop.specs.declared.stop.Stop.TheVariants.{Read};
 ghost use Rattle.rams_model.specs.Texts.{lines_of};
 ghost use Rattle.trace_loop.specs.trace_book.trace_serving.{Stage, opening, text_from};
-ghost use Rattle.trace_loop.specs.{IsStopped, IsStoppedByRead, OnlyMemoryStops, StopsIn, IfTold, IfBothTold, IsFirstTurn, Ends, HasLinesText, StandsSomewhere, CanWrite, IsEnd, ending, written};
+ghost use Rattle.trace_loop.specs.{IsStopped, IsStoppedByRead, OnlyMemoryStops, StopsIn, IfTold, IfBothTold, IsFirstTurn, Ends, HasLinesText, StandsSomewhere, IsEnd, ending, written};
 
 use crate::server::TraceServer;
 use crate::stop::Stop;
@@ -33,7 +33,6 @@ fn next_turn<V: TraceServer, S: Source>(
         (prepend_known reader.old.kept (S.left source.old))
         (prepend_known reader.new.kept (S.left source.new)) }
     ensures unread { result ≡ Err Read → HasNoFeed reader.new.kept }
-    ensures write { IfOk result (CanWrite V.can_write) }
     ensures cause { IsStoppedByRead (S.faults source.old) (S.faults source.new) result }
     ensures steady { S.is_steady source.old → OnlyMemoryStops result (S.is_steady source.new) }
 {

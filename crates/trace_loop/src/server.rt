@@ -1,8 +1,8 @@
 //! What serves a trace, line by line.
-ghost use Rattle.std.specs.Prelude.{◌≡◌, ◌+◌, ◌++◌, IfOk, IfErr, OnOk, length};
+ghost use Rattle.std.specs.Prelude.{◌+◌, ◌++◌, IfOk, IfErr, OnOk, length};
 ghost use Rattle.line_io.specs.Passes.{Passes};
 ghost use Rattle.trace_loop.specs.trace_book.trace_serving.{turn};
-ghost use Rattle.trace_loop.specs.{StandsSomewhere, Took, ending, written, CanWrite, StopsIn, IsStoppedByWrite, OnlyMemoryStops};
+ghost use Rattle.trace_loop.specs.{StandsSomewhere, Took, ending, written, StopsIn, IsStoppedByWrite, OnlyMemoryStops};
 
 use crate::stop::Stop;
 use crate::turn::Turn;
@@ -35,15 +35,11 @@ pub trait TraceServer {
     /// The lines of an answer.
     ghost lines: { Self → Self.Answer → List ℕ };
 
-    /// The lines of an answer can be written.
-    ghost can_write: { Self.Answer → Type 0 };
-
     /// What the next line does.
     fn take_line(&mut self, alloc: Global, line: &[u8]) -> Result<Turn<Self::Answer>, NoMemory>
         requires { StandsSomewhere (stands self.old) }
         ensures turn { IfOk result (λ t. (stage : Stage state) (number : ℕ) → stands self.old stage
-            → Took (turn serving stage number line.now) (stands self.new) (ending t) (written (lines self.new) number t)) }
-        ensures write { IfOk result (CanWrite can_write) };
+            → Took (turn serving stage number line.now) (stands self.new) (ending t) (written (lines self.new) number t)) };
 
     /// Adds the lines of an answer.
     fn write_answer<K: Sink>(
@@ -52,7 +48,6 @@ pub trait TraceServer {
         sink: &mut K,
         answer: &Self::Answer,
     ) -> Result<(), Stop>
-        requires { can_write answer.now }
         ensures all { OnOk result (Passes (K.held sink.old) (K.held sink.new) (writer.old.gather ++ lines self.now answer.now) writer.new.gather) }
         ensures front { IfErr result (StopsIn (K.held sink.old) (K.held sink.new) (writer.old.gather ++ lines self.now answer.now) writer.new.gather) }
         ensures cause { IsStoppedByWrite (K.faults sink.old) (K.faults sink.new) result }

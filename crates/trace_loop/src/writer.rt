@@ -2,7 +2,7 @@
 ghost use Rattle.std.specs.Prelude.{◌≡◌, ℕ, ◌+◌, ◌<◌, ◌++◌, IfOk, IfErr, OnOk, OnErr, List, [], length};
 ghost use Rattle.ram_io.specs.{Rose};
 ghost use Rattle.line_io.specs.Passes.{Passes};
-ghost use Rattle.trace_loop.specs.{last_line, written, CanWrite, IsStoppedByWrite, OnlyMemoryStops, StopsIn};
+ghost use Rattle.trace_loop.specs.{last_line, written, IsStoppedByWrite, OnlyMemoryStops, StopsIn};
 
 use crate::server::TraceServer;
 use crate::stop::Stop;
@@ -103,7 +103,6 @@ pub(crate) fn write_turn<V: TraceServer, K: Sink>(
     number: u64,
     turn: &Turn<V::Answer>,
 ) -> Result<(), Stop>
-    requires { CanWrite V.can_write turn.now }
     ensures all { OnOk result (Passes (K.held sink.old) (K.held sink.new) (writer.old.gather ++ written (V.lines server.now) number turn.now) writer.new.gather) }
     ensures front { IfErr result (StopsIn (K.held sink.old) (K.held sink.new) (writer.old.gather ++ written (V.lines server.now) number turn.now) writer.new.gather) }
     ensures cause { IsStoppedByWrite (K.faults sink.old) (K.faults sink.new) result }

@@ -1,13 +1,13 @@
 //! The lines of an answer, note by note.
-ghost use Rattle.std.specs.Prelude.{All, ◌≡◌, ◌++◌, OnErr, OnOk, drop, if◌then◌else◌, map};
+ghost use Rattle.std.specs.Prelude.{◌≡◌, ◌++◌, OnErr, OnOk, drop, if◌then◌else◌, map};
 ghost use Rattle.std.specs.Io.{StartsWith};
 ghost use Rattle.rams_model.specs.Service.{datagram};
 ghost use Rattle.rams_model.specs.Texts.{answer_text};
-ghost use Rattle.book_text.specs.order_datagrams.{Renders};
 
 use crate::Pen;
-use crate::answer_text::asking::{after, asks};
+use crate::answer_text::asking::asks;
 use crate::answer_text::entry::{append_entry, append_entry_with};
+use crate::answer_text::orders::Orders;
 use crate::order_datagrams::Config;
 use ram_io::NoMemory;
 use rams_model::{Answer, Octets};
@@ -22,7 +22,6 @@ pub fn append_answer(
     event: u64,
     answer: &Answer,
 ) -> Result<(), NoMemory>
-    requires { All Renders answer.now.orders }
     ensures text { OnOk result (text.new.items ≡ text.old.items ++ answer_text config.now event answer.now) }
     ensures err { OnErr result (text.new.items ≡ text.old.items) }
 {
@@ -43,14 +42,13 @@ fn append_entries(
     event: u64,
     answer: &Answer,
 ) -> Result<(), NoMemory>
-    requires { All Renders answer.now.orders }
     ensures text { OnOk result (text.new.items ≡ text.old.items ++ answer_text config.now event answer.now) }
     ensures front { StartsWith text.new.items text.old.items }
 {
-    let mut orders = answer.orders.as_slice();
+    let mut orders = Orders::of(&answer.orders);
     for note in answer.notes.iter() {
-        append_entry(pen, text, room, config, event, note, orders)?;
-        orders = after(note, orders);
+        append_entry(pen, text, room, config, event, note, &orders)?;
+        orders.pass(note);
     }
     Ok(())
 }

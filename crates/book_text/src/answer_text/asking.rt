@@ -1,9 +1,8 @@
 //! Which notes ask for a datagram.
-ghost use Rattle.std.specs.Prelude.{All, ◌≡◌, ◌∷◌, [], MatchOption, drop, if◌then◌else◌, take};
+ghost use Rattle.std.specs.Prelude.{◌≡◌, if◌then◌else◌};
 ghost use Rattle.rams_model.specs.Texts.{order_count};
-ghost use Rattle.book_text.specs.order_datagrams.{Renders};
 
-use rams_model::{Cause, Note, Order};
+use rams_model::{Cause, Note};
 
 /// Whether a note asks for a datagram.
 pub(crate) fn asks(note: &Note) -> bool
@@ -34,28 +33,5 @@ pub(crate) fn asks(note: &Note) -> bool
         | Note::ByeIdle { .. }
         | Note::Gone { .. }
         | Note::Forgot { .. } => false,
-    }
-}
-
-/// The order that a note asks for, of those of this note and of the notes after it.
-pub(crate) fn asked<'a>(note: &Note, orders: &'a [Order]) -> Option<&'a Order>
-    requires { All Renders orders.now }
-    ensures asked { MatchOption result (take (order_count note.now) orders.now ≡ [])
-        (λ order. (take (order_count note.now) orders.now ≡ order.now ∷ []) × Renders order.now) }
-{
-    match (asks(note), orders) {
-        (true, [order, ..]) => Some(order),
-        _ => None,
-    }
-}
-
-/// The orders of the notes behind this one, of those of this note and of the notes after it.
-pub fn after<'a>(note: &Note, orders: &'a [Order]) -> &'a [Order]
-    ensures after { result.now ≡ drop (order_count note.now) orders.now }
-    ensures render { All Renders orders.now → All Renders result.now }
-{
-    match (asks(note), orders) {
-        (true, [_, rest @ ..]) => rest,
-        _ => orders,
     }
 }

@@ -1,12 +1,12 @@
 //! The lines of one note: its own, and that of the datagram that it asks for.
-ghost use Rattle.std.specs.Prelude.{All, ◌≡◌, ◌++◌, OnErr, OnOk, map};
+ghost use Rattle.std.specs.Prelude.{◌≡◌, ◌++◌, OnErr, OnOk, map};
 ghost use Rattle.rams_model.specs.Service.{datagram};
-ghost use Rattle.book_text.specs.order_datagrams.{Renders};
 ghost use Rattle.book_text.specs.answer_text.{entry_text};
 
 use crate::Pen;
-use crate::answer_text::asking::{asked, asks};
-use crate::order_datagrams::{Config, append_order, client_of};
+use crate::answer_text::asking::asks;
+use crate::answer_text::orders::Orders;
+use crate::order_datagrams::{Config, append_order_if, client_of};
 use ram_io::NoMemory;
 use rams_model::{Note, Octets, Order};
 
@@ -19,17 +19,16 @@ pub fn append_entry(
     config: &Config,
     event: u64,
     note: &Note,
-    orders: &[Order],
+    orders: &Orders<'_>,
 ) -> Result<(), NoMemory>
-    requires { All Renders orders.now }
     ensures text { OnOk result (text.new.items ≡ text.old.items ++ entry_text config.now event note.now orders.now) }
     ensures err { OnErr result (text.new.items ≡ text.old.items) }
 {
     let id = config.channel().id;
-    match asked(note, orders) {
-        Some(order) => {
+    match orders.asked(note) {
+        Some((order, plain)) => {
             room.clear();
-            append_order(room, config, order)?;
+            append_order_if(plain, room, config, order)?;
             pen.append_told(text, event, id, note, client_of(order), room)
         }
         None => pen.append_note(text, event, id, note),

@@ -1,8 +1,8 @@
 //! The datagrams that orders ask for.
-ghost use Rattle.std.specs.Prelude.{◌≡◌, ◌<◌, ◌++◌, ◌↔◌, ◌+◌, IsOk, IsTrue, IfOk, OnOk, OnErr, length, vec_len, vec_capacity};
+ghost use Rattle.std.specs.Prelude.{◌≡◌, true, ◌<◌, ◌++◌, ◌↔◌, ◌+◌, IsOk, IsTrue, IfOk, OnOk, OnErr, length, vec_len, vec_capacity};
 ghost use Rattle.rams_model.specs.Service.{client_of, datagram, sent_again};
 ghost use Rattle.rams_model.specs.Formats.{packet_at};
-ghost use Rattle.book_text.specs.order_datagrams.{Renders, IsRetransmission};
+ghost use Rattle.book_text.specs.order_datagrams.{Renders, has_plain, IsRetransmission};
 
 use channel_config::Config;
 use ram_io::NoMemory;
@@ -50,6 +50,25 @@ pub fn append_order(text: &mut Vec<u8>, config: &Config, order: &Order) -> Resul
     }
 }
 
+/// `append_order`, where it is told whether the order's packet has a fixed header alone.
+#[tactic(auto, unfolding(rams_model::specs::Service::Orders::datagram))]
+pub(crate) fn append_order_if(
+    plain: bool,
+    text: &mut Vec<u8>,
+    config: &Config,
+    order: &Order,
+) -> Result<(), NoMemory>
+    requires { plain ≡ true → has_plain order.now ≡ true }
+    ensures { OnOk result (text.new.items ≡ text.old.items ++ datagram config.now order.now) }
+{
+    match order {
+        Order::Rtx { seq, packet, .. } if plain => {
+            append_plain(text, packet, config.channel().rtx, *seq)
+        }
+        _ => append_order(text, config, order),
+    }
+}
+
 /// The retransmission of a packet, where it reads as one.
 fn append_retransmission(
     text: &mut Vec<u8>,
@@ -69,6 +88,16 @@ fn append_retransmission(
     match Rtp::read(packet) {
         Ok(original) => append_rtx(text, &original, rtx, seq),
         Err(_) => Ok(()),
+    }
+}
+
+/// Whether an order's packet, where it sends one, has a fixed header alone.
+pub(crate) fn has_plain(order: &Order) -> bool
+    ensures { result ≡ has_plain order.now }
+{
+    match order {
+        Order::Rtx { packet, .. } => is_plain(packet),
+        Order::Info { .. } => true,
     }
 }
 

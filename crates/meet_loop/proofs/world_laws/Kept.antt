@@ -1,15 +1,15 @@
 -- Each packet that came in time was read of a live event of the channel, and its bytes are those that came under its number.
-use Rattle.std.proofs.Common.{◌≡◌, ℕ, ◌%◌, ◌<◌, ◌≤◌, Bool, true, false, cond, not, ◌⊎◌, inl, inr, ⊎_elim, List, [], ◌∷◌, ◌++◌, length, Option, Some, refl, ap, sym, ◌∙◌, subst, arith, eqb, ltb}
-use Rattle.std.specs.Prelude.{Result, Ok, Err, All, Contains}
+use Rattle.std.proofs.Common.{◌≡◌, ℕ, ◌%◌, ◌<◌, ◌≤◌, Bool, true, false, cond, ◌⊎◌, inl, inr, ⊎_elim, List, [], ◌∷◌, ◌++◌, Option, Some, refl, ap, sym, ◌∙◌, subst, arith, eqb, ltb}
+use Rattle.std.specs.Prelude.{Ok, All, Contains}
 use Rattle.std.specs.List.{AllByRecursion}
-use Rattle.std.proofs.lemmas.Bool.{cases_Bool, cond_both, not-false, eqb-true, eq-eqb}
+use Rattle.std.proofs.lemmas.Bool.{cases_Bool, cond_both, eqb-true, eq-eqb}
 use Rattle.std.proofs.lemmas.List.Elements.{Contains-append_left, Contains-append_right, Contains-append_cases, Contains-push_cases}
-use Rattle.rams_model.specs.declared.{Channel.Channel, Event.Event, RtpFault.RtpFault, Held.Held, LiveNote.LiveNote}
+use Rattle.rams_model.specs.declared.{Channel.Channel, Event.Event, Held.Held, LiveNote.LiveNote}
 use Rattle.rams_model.specs.declared.Event.TheVariants.{Live, Feedback, Tick}
-use Rattle.rams_model.specs.declared.LiveNote.TheVariants.{Took, Restart, TooBig, ForeignSsrc, ForeignType}
+use Rattle.rams_model.specs.declared.LiveNote.TheVariants.{Took, Restart}
 use Rattle.rams_model.specs.Formats.{Packet, stripped, packet_at, framed}
 use Rattle.rams_model.specs.Packets.{Arrival, Stream, held_as, with_packet, live_note, stream_after, stream_of}
-use Rattle.rams_model.specs.Service.{Settings, Heard, live, dropped, feedback, unframed, tick, arrival, heard_packet, heard_live, heard_of, began, arrivals, stream, history_of}
+use Rattle.rams_model.specs.Service.{Settings, Heard, live, dropped, feedback, unframed, tick, heard_live, heard_of, began, arrivals, stream, history_of}
 use Rattle.rams_model.proofs.Induction.{arrivals_of_event}
 use Rattle.rams_model.proofs.PlainPackets.{below_at}
 use Rattle.rams_model.proofs.Rising.{end_of}

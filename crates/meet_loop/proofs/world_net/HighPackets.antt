@@ -5,7 +5,7 @@ use Rattle.std.proofs.lemmas.List.Folds.{list_any-append}
 use Rattle.rams_model.specs.declared.{Event.Event, Held.Held, LiveNote.LiveNote, LiveNote.TheVariants.Took, LiveNote.TheVariants.Restart}
 use Rattle.rams_model.specs.declared.Event.TheVariants as event
 use Rattle.rams_model.specs.Laws.{Rises}
-use Rattle.rams_model.specs.Packets.{hi, has_number, with_packet, awaited, held_as, Arrival, Stream, stream_of, stream_after, live_note}
+use Rattle.rams_model.specs.Packets.{hi, has_number, awaited, held_as, Arrival, Stream, stream_of, stream_after, live_note}
 use Rattle.rams_model.specs.Packets.Source as sources
 use Rattle.rams_model.specs.Formats.{framed}
 use Rattle.rams_model.specs.Service.{Settings, Heard, live, History, began, stream, heard_of, heard_live, arrivals, history_of}

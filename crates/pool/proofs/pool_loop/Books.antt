@@ -11,7 +11,6 @@ use Rattle.rams_model.proofs.OneBook.{is_lawful}
 use Rattle.service_laws.specs.book_laws.{notes_in, orders_in, note_sends, order_sends, EachSendingIsOrderedOnce}
 use Rattle.channel_book.specs.declared.Entry.{Entry}
 use Rattle.channel_book.specs.{Kept, LegalFrom, IsLegal, events_behind}
-use Rattle.book_text.specs.order_datagrams.{Renders, EachOrderOfAnAnswerRenders}
 use Rattle.server_hub.specs.declared.HubEvent.{HubEvent}
 use Rattle.server_hub.specs.declared.HubEvent.TheVariants.{Live, Feedback, Tick}
 use Rattle.server_hub.specs.{Pairwise, served, id_of, after_event, events_of, ticks_among}
@@ -24,7 +23,7 @@ use Rattle.pool.specs.declared.pool_loop.routes.Route.{Route}
 use Rattle.pool.specs.link_pool.{bytes_of, claims_of}
 use Rattle.pool.specs.pool_run.{sizes_of, IsFresh, IsBookOf, AreBooks, ClaimsAreSizes}
 use Rattle.rams_model.proofs.WireSizes.{sizes_append}
-use Rattle.pool.specs.pool_loop.{route_of, is_for_all, served_so, all_served, HaveAtMost, numbers_of, AllCanRender, ClaimsOf, IsLaneOf}
+use Rattle.pool.specs.pool_loop.{route_of, is_for_all, served_so, all_served, HaveAtMost, numbers_of, ClaimsOf, IsLaneOf}
 use Rattle.pool.proofs.pool_loop.Walked.{event_in, IsPending, ArePending}
 use Rattle.trace_loop.specs.journal_book.{behind}
 use Rattle.trace_loop.proofs.journal_book.Served.{one_behind}
@@ -71,18 +70,6 @@ lanes_fresh most (c ∷ cs) (l ∷ lanes) p short few = (
 
 pub all_fresh : (most : ℕ) (cs : List Coming) (lanes : List Lane) (channels : List Served) → Pairwise IsLaneOf cs lanes → channels ≡ all_served cs → HaveAtMost most channels → most ≤ 200000 → All IsFresh lanes
 all_fresh most cs lanes channels p are short few = All-from_recursion IsFresh lanes (lanes_fresh most cs lanes p (subst (HaveAtMost most) are short) few)
-
--- ---- the datagrams can be made
-
-entries_render : EachOrderOfAnAnswerRenders → (s : Settings) (before : List Event) (entries : List Entry) → LegalFrom s before entries → Each (λ (e : Entry). All Renders e.answer.orders) entries
-entries_render render s before [] legal = tt
-entries_render render s before (e ∷ later) legal = (subst (λ (a : Answered). All Renders a.orders) (sym legal.0) (render s before e.event), entries_render render s (e.event ∷ before) later legal.1)
-
-pub books_render : EachOrderOfAnAnswerRenders → (cs : List Coming) (bs : List Kept) → Pairwise IsBookFor cs bs → AllCanRender bs
-books_render render [] [] p = tt
-books_render render [] (b ∷ bs) p = absurd p
-books_render render (c ∷ cs) [] p = absurd p
-books_render render (c ∷ cs) (b ∷ bs) p = (entries_render render c.config [] b.entries p.0.legal, books_render render cs bs p.1)
 
 -- ---- which events come to a channel, the oldest first
 

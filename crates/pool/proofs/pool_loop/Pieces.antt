@@ -1,13 +1,9 @@
 -- Texts that are written one behind the other, and the pieces of what a pool writes.
-use Rattle.std.proofs.Common.{◌≡◌, ℕ, ◌+◌, ◌≤◌, ◌<◌, List, [], ◌∷◌, ◌++◌, get_or, length, drop, refl, sym, ap, ◌∙◌, subst}
-use Rattle.std.specs.List.{AllByRecursion as Each}
-use Rattle.std.specs.Prelude.{All, cond, Bool, true, false}
+use Rattle.std.proofs.Common.{◌≡◌, ℕ, ◌+◌, ◌≤◌, ◌<◌, List, [], ◌++◌, get_or, length, drop, sym, ap, ◌∙◌}
 use Rattle.std.proofs.lemmas.List.{drop_more, drop_all}
-use Rattle.channel_book.specs.declared.Entry.{Entry}
 use Rattle.channel_book.specs.{Kept}
-use Rattle.book_text.specs.order_datagrams.{Renders}
 use Rattle.pool.specs.declared.{link_pool.claim.Claim.Claim, pool_loop.routes.Route.Route}
-use Rattle.pool.specs.pool_loop.{reaches, number_of, turned, past, all_past, route_text, walk_text, CanRender, AllCanRender, numbers_of, closing_text}
+use Rattle.pool.specs.pool_loop.{all_past, route_text, walk_text, numbers_of, closing_text}
 
 -- ---- the events, one after another
 
@@ -25,20 +21,6 @@ walk_next routes books later i d below are =
 pub walk_past : (routes : List Route) (books : List Kept) (i : ℕ) → length routes ≤ i → walk_text (i + 1) (drop i routes) books ≡ []
 unfolding walk_text
 walk_past routes books i end = ap (λ (l : List Route). walk_text (i + 1) l books) (drop_all i routes end)
-
--- ---- what is left can still be rendered
-
-fewer_render : (entries : List Entry) → Each (λ (e : Entry). All Renders e.answer.orders) entries → Each (λ (e : Entry). All Renders e.answer.orders) (drop 1 entries)
-fewer_render [] each = tt
-fewer_render (e ∷ later) each = each.1
-
-one_renders : (route : Route) (b : Kept) (x : Bool) → reaches route (number_of b) ≡ x → CanRender b → CanRender (past route b)
-one_renders route b true is can = subst (λ (x : Bool). CanRender (cond x (turned b) b)) (sym is) (fewer_render b.entries can)
-one_renders route b false is can = subst (λ (x : Bool). CanRender (cond x (turned b) b)) (sym is) can
-
-pub still_render : (route : Route) (books : List Kept) → AllCanRender books → AllCanRender (all_past route books)
-still_render route [] can = tt
-still_render route (b ∷ books) can = (one_renders route b (reaches route (number_of b)) refl can.0, still_render route books can.1)
 
 -- ---- the parts of a pool's text, of which the rest is still to be written
 

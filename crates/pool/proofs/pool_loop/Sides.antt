@@ -7,7 +7,7 @@ use Rattle.pool.specs.declared.{pool_loop.routes.Route.TheVariants.To, pool_loop
 use Rattle.std.proofs.Math.Seq.{get_or-append_seam, set-append_seam, append_snoc}
 use Rattle.std.proofs.lemmas.List.{get_or-map, map-set, map-append, length-map}
 use Rattle.channel_book.specs.{Kept}
-use Rattle.pool.specs.pool_loop.{left_of, all_left, number_of, heard_text, past, all_past, unheard_text, CanRender, AllCanRender}
+use Rattle.pool.specs.pool_loop.{left_of, all_left, number_of, heard_text, past, all_past, unheard_text}
 
 module _ (number : ℕ) (route : Route) (first : List ℕ) (old : List Kept) where
   -- The event has gone past as many of them.
@@ -24,12 +24,7 @@ module _ (number : ℕ) (route : Route) (first : List ℕ) (old : List Kept) whe
 
   -- The next one, and what comes behind it.
   pub record Next (now : List Kept) (text : List ℕ) (place : ℕ) (b : Kept) : Type 0 where
-    pub can : AllCanRender old → CanRender b
     pub more : (new : Kept) (longer : List ℕ) → new ≡ past route b → longer ≡ text ++ heard_text number route b → Halfway (set now place new) longer (place + 1)
-
-  can_at : (done : List Kept) (b : Kept) (rest : List Kept) → AllCanRender (done ++ b ∷ rest) → CanRender b
-  can_at [] b rest can = can.0
-  can_at (x ∷ done) b rest can = can_at done b rest can.1
 
   texts_more : (done : List Kept) (b : Kept) → flat_map (heard_text number route) (done ++ b ∷ []) ≡ flat_map (heard_text number route) done ++ heard_text number route b
   texts_more [] b = append-nil (heard_text number route b)
@@ -43,7 +38,6 @@ module _ (number : ℕ) (route : Route) (first : List ℕ) (old : List Kept) whe
       let at : length (all_past route done) ≡ place = length-map done (past route) ∙ count in
       let is : get_or now place d ≡ b = ap (λ (l : List Kept). get_or l place d) n ∙ ap (λ (k : ℕ). get_or (all_past route done ++ b ∷ rest) k d) (sym at) ∙ get_or-append_seam (all_past route done) b rest d in
       let next : Next now text place b = record {
-        can = λ can. can_at done b rest (subst AllCanRender o can);
         more = λ new longer gone grows. record {
           done = done ++ b ∷ [];
           rest = rest;

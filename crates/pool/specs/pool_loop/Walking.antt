@@ -1,12 +1,11 @@
 -- The books of some channels, read side by side in the order of their events.
-use Rattle.std.specs.Prelude.{ℕ, ◌+◌, ◌==◌, if◌then◌else◌, List, [], ◌∷◌, ◌++◌, map, drop, All}
-use Rattle.std.specs.List.{flat_map, list_any, AllByRecursion as Each}
+use Rattle.std.specs.Prelude.{ℕ, ◌+◌, ◌==◌, if◌then◌else◌, List, [], ◌∷◌, ◌++◌, map, drop}
+use Rattle.std.specs.List.{flat_map, list_any}
 use Rattle.rams_model.specs.Service.{Settings}
 use Rattle.rams_model.specs.Texts.{answer_text}
 use Rattle.book_text.specs.{no_channel_line}
 use Rattle.channel_book.specs.declared.Entry.{Entry}
 use Rattle.channel_book.specs.{Kept}
-use Rattle.book_text.specs.order_datagrams.{Renders}
 use Rattle.pool.specs.declared.pool_loop.routes.Route.{Route}
 use Rattle.pool.specs.declared.pool_loop.routes.Route.TheVariants.{To, Everyone}
 use Rattle.pool.specs.declared.pool_loop.walking.Unwritten.{Unwritten}
@@ -66,10 +65,3 @@ route_text number route books = unheard_text number route books ++ flat_map (hea
 unfoldable pub walk_text : ℕ → List Route → List Kept → List ℕ
 walk_text number [] books = []
 walk_text number (route ∷ routes) books = route_text number route books ++ walk_text (number + 1) routes (all_past route books)
-
--- each datagram that the entries ask for can be made
-abbrev pub CanRender : Kept → Type 0
-CanRender b = Each (λ (e : Entry). All Renders e.answer.orders) b.entries
-
-abbrev pub AllCanRender : List Kept → Type 0
-AllCanRender books = Each CanRender books

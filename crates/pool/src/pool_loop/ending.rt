@@ -14,7 +14,6 @@ use crate::pool_loop::reading::read_trace;
 use crate::pool_loop::routes::ticks_among;
 use crate::pool_loop::writing::write_pooled;
 use crate::pool_run::run_pool;
-use book_text::order_datagrams::orders_of_answers_render;
 use ram_io::{Gate, Sink, Source};
 use rams_model::Status;
 use service_laws::book_laws::sendings::each_datagram_is_the_retransmission_of_a_source_packet;
@@ -43,7 +42,6 @@ fn run_and_write<R: Threads + Sync, K: Sink, G: Gate + Sync>(
 {
     traces_end_so();
     traces_are_served_by_their_lines();
-    orders_of_answers_render();
     each_datagram_is_the_retransmission_of_a_source_packet();
     let Dealt {
         channels,

@@ -3,7 +3,7 @@ ghost use Rattle.std.specs.Prelude.{◌≡◌, ◌++◌, ◌==◌, IfOk, OnErr, 
 ghost use Rattle.std.specs.Io.{StartsWith};
 ghost use Rattle.std.specs.List.{flat_map, list_any};
 ghost use Rattle.pool.specs.declared.pool_loop.routes.Route.TheVariants.{To};
-ghost use Rattle.pool.specs.pool_loop.{AllCanRender, CanRender, all_left, all_past, heard_text, left_of, next_text, number_of, past, route_text, turned, unheard_text};
+ghost use Rattle.pool.specs.pool_loop.{all_left, all_past, heard_text, left_of, next_text, number_of, past, route_text, turned, unheard_text};
 
 use crate::pool_loop::routes::{Route, reaches};
 use book_text::answer_text::append_answer;
@@ -43,7 +43,6 @@ fn append_next(
     left: &mut Unwritten<'_>,
     event: u64,
 ) -> Result<(), NoMemory>
-    requires { CanRender (left_of left.old) }
     ensures text { OnOk result (text.new.items ≡ text.old.items ++ next_text event (left_of left.old)) }
     ensures front { StartsWith text.new.items text.old.items }
     ensures left { OnOk result (left_of left.new ≡ turned (left_of left.old)) }
@@ -64,7 +63,6 @@ fn append_heard(
     event: u64,
     route: Route,
 ) -> Result<(), NoMemory>
-    requires { CanRender (left_of left.old) }
     ensures text { OnOk result (text.new.items ≡ text.old.items ++ heard_text event route (left_of left.old)) }
     ensures front { StartsWith text.new.items text.old.items }
     ensures left { OnOk result (left_of left.new ≡ past route (left_of left.old)) }
@@ -84,7 +82,6 @@ fn append_all(
     event: u64,
     route: Route,
 ) -> Result<(), NoMemory>
-    requires { AllCanRender (all_left left.old) }
     ensures text { OnOk result (text.new.items ≡ text.old.items ++ flat_map (heard_text event route) (all_left left.old)) }
     ensures front { StartsWith text.new.items text.old.items }
     ensures left { OnOk result (all_left left.new ≡ all_past route (all_left left.old)) }
@@ -144,7 +141,6 @@ pub(crate) fn append_event(
     event: u64,
     route: Route,
 ) -> Result<(), NoMemory>
-    requires { AllCanRender (all_left left.old) }
     ensures text { OnOk result (text.new.items ≡ text.old.items ++ route_text event route (all_left left.old)) }
     ensures left { OnOk result (all_left left.new ≡ all_past route (all_left left.old)) }
     ensures err { OnErr result (text.new.items ≡ text.old.items) }
@@ -166,7 +162,6 @@ fn append_routed(
     event: u64,
     route: Route,
 ) -> Result<(), NoMemory>
-    requires { AllCanRender (all_left left.old) }
     ensures text { OnOk result (text.new.items ≡ text.old.items ++ route_text event route (all_left left.old)) }
     ensures left { OnOk result (all_left left.new ≡ all_past route (all_left left.old)) }
     ensures front { StartsWith text.new.items text.old.items }

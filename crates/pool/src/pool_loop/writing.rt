@@ -5,7 +5,7 @@ ghost use Rattle.line_io.specs.Passes.{Passes};
 ghost use Rattle.rams_model.specs.declared.Status.TheVariants.{Done};
 ghost use Rattle.trace_loop.specs.{IsStoppedByWrite, OnlyMemoryStops, StopsIn};
 ghost use Rattle.pool.specs.link_pool.{claimed};
-ghost use Rattle.pool.specs.pool_loop.{AllCanRender, all_left, all_past, closing_text, numbers_of, pooled_text, route_text, walk_text};
+ghost use Rattle.pool.specs.pool_loop.{all_left, all_past, closing_text, numbers_of, pooled_text, route_text, walk_text};
 
 use crate::ledger_text::append_ledger;
 use crate::pool_loop::routes::Route;
@@ -26,7 +26,6 @@ fn write_event<K: Sink>(
     event: u64,
     route: &Route,
 ) -> Result<(), Stop>
-    requires { AllCanRender (all_left left.old) }
     ensures left { OnOk result (all_left left.new ≡ all_past route.now (all_left left.old)) }
     ensures all { OnOk result (Passes (K.held sink.old) (K.held sink.new) (writer.old.gather ++ route_text event route.now (all_left left.old)) writer.new.gather) }
     ensures front { IfErr result (StopsIn (K.held sink.old) (K.held sink.new) (writer.old.gather ++ route_text event route.now (all_left left.old)) writer.new.gather) }
@@ -52,7 +51,6 @@ fn write_events<K: Sink>(
     left: &mut [Unwritten<'_>],
     routes: &[Route],
 ) -> Result<(), Stop>
-    requires { AllCanRender (all_left left.old) }
     ensures all { OnOk result (Passes (K.held sink.old) (K.held sink.new) (writer.old.gather ++ walk_text 1 routes.now (all_left left.old)) writer.new.gather) }
     ensures front { IfErr result (StopsIn (K.held sink.old) (K.held sink.new) (writer.old.gather ++ walk_text 1 routes.now (all_left left.old)) writer.new.gather) }
     ensures cause { IsStoppedByWrite (K.faults sink.old) (K.faults sink.new) result }
@@ -106,7 +104,6 @@ fn write_parts<K: Sink>(
     routes: &[Route],
     pooled: &Pooled,
 ) -> Result<(), Stop>
-    requires rendered { AllCanRender pooled.now.books.items }
     requires few { claimed pooled.now.ledger.claims.items < 2 ^ 64 }
     ensures all { OnOk result (Passes (K.held sink.old) (K.held sink.new) (writer.old.gather ++ pooled_text routes.now pooled.now.books.items pooled.now.ledger.granted pooled.now.ledger.claims.items) writer.new.gather) }
     ensures front { IfErr result (StopsIn (K.held sink.old) (K.held sink.new) (writer.old.gather ++ pooled_text routes.now pooled.now.books.items pooled.now.ledger.granted pooled.now.ledger.claims.items) writer.new.gather) }
@@ -135,7 +132,6 @@ pub(crate) fn write_pooled<K: Sink>(
     routes: &[Route],
     pooled: &Pooled,
 ) -> Result<Status, Stop>
-    requires rendered { AllCanRender pooled.now.books.items }
     requires few { claimed pooled.now.ledger.claims.items < 2 ^ 64 }
     ensures status { IfOk result (λ status. status ≡ Done) }
     ensures text { OnOk result (Appends (K.held sink.old) (K.held sink.new) (pooled_text routes.now pooled.now.books.items pooled.now.ledger.granted pooled.now.ledger.claims.items)) }

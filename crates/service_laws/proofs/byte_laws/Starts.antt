@@ -5,7 +5,7 @@ use Rattle.std.specs.List.{list_any}
 use Rattle.std.proofs.lemmas.Bool.{cond_both, cases_Bool, both_ways, or_cases, or_left, or_right, and_parts, and_from, not-true, not_from_false, eqb-true, eq-eqb, ltb-true, ltb-false, leb-true, le-leb, true≢false, lt-ltb, le-ltb, ne_eqb, cases_lt}
 use Rattle.rams_model.specs.declared.{Held.Held, LiveNote.LiveNote}
 use Rattle.rams_model.specs.declared.LiveNote.TheVariants.{Took, Restart, Late, Twice, Jump}
-use Rattle.rams_model.specs.Packets.{hi, ahead, following, is_kept, Numbered, forward, backward, restart, jump, after_greatest, numbered, Arrival, Stream, held_as, has_number, with_packet, is_missing, awaited, in_time, note_of, live_note, stream_after}
+use Rattle.rams_model.specs.Packets.{hi, ahead, following, is_kept, Numbered, forward, backward, restart, jump, after_greatest, numbered, Arrival, Stream, held_as, has_number, is_missing, awaited, in_time, note_of, live_note, stream_after}
 use Rattle.rams_model.specs.Laws.{Rises}
 use Rattle.rams_model.proofs.Rising.{below_hi, none_at_hi, has_with}
 use Rattle.rams_model.proofs.Waiting.{from_first, is_missing_itself, none_before}

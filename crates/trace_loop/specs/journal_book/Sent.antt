@@ -1,11 +1,10 @@
 -- The datagrams that a server sends for its events.
-use Rattle.std.specs.Prelude.{◌≢◌, All, AllPairs, ℕ, ◌+◌, ◌==◌, if◌then◌else◌, List, [], ◌∷◌, ◌++◌, map, Option, Some, None}
+use Rattle.std.specs.Prelude.{◌≢◌, AllPairs, ℕ, ◌+◌, ◌==◌, if◌then◌else◌, List, [], ◌∷◌, ◌++◌, map, Option, Some, None}
 use Rattle.rams_model.specs.declared.Event.{Event}
 use Rattle.rams_model.specs.declared.Event.TheVariants as event
 use Rattle.rams_model.specs.Service.{Answered, Settings, client_of, datagram}
 use Rattle.ram_io.specs.{Outgoing, outgoing}
-use Rattle.book_text.specs.order_datagrams.{Renders}
-use Rattle.server_hub.specs.declared.{At.At, HubEvent.HubEvent}
+use Rattle.server_hub.specs.declared.{HubEvent.HubEvent}
 use Rattle.server_hub.specs.declared.HubEvent.TheVariants.{Live, Feedback, Tick}
 use Rattle.server_hub.specs.Served.{Served}
 use Rattle.server_hub.specs.{id_of, ids_of, answer_to, after_event}
@@ -20,10 +19,6 @@ abbrev pub own_event : HubEvent → Served → Option Event
 own_event (Live id bytes) c = if id_of c == id then Some (event.Live bytes) else None
 own_event (Feedback id client bytes) c = if id_of c == id then Some (event.Feedback client bytes) else None
 own_event Tick c = Some event.Tick
-
--- each order of an answer has a datagram
-abbrev pub AllRender : At → Type 0
-AllRender at = All Renders at.answer.orders
 
 -- the datagrams of an answer, in order: each from this port to its client
 abbrev pub answer_datagrams : ℕ → Settings → Answered → List Outgoing

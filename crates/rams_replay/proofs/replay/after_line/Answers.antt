@@ -23,8 +23,8 @@ after_other-requires-clause-other c = (settled c.args.replay.now.state _ _ c.in-
 pub after_other-requires-clause-digits : goal.after_other-requires-clause-digits
 after_other-requires-clause-digits c = (settled c.args.replay.now.state _ _ c.in-Other.is c.requires.settled).1
 
-pub returns-in-Channel-clause-turn : goal.returns-in-Channel-clause-turn
-returns-in-Channel-clause-turn c =
+pub returns-in-Channel : goal.returns-in-Channel
+returns-in-Channel c =
     let call = c.open in
     let r = c.args.replay.now in
     IfOk-weaker call.result _ _
@@ -35,12 +35,12 @@ returns-in-Channel-clause-turn c =
     (subst (λ (j : Judged). Took (after_line run stage r.state (told j) (brought run (told j))) call.new.hub r.events r.state number GoesOn) (sym c.in-Channel.is) took))
     call.ensures
 
-pub returns-in-Other-clause-turn : goal.returns-in-Other-clause-turn
-returns-in-Other-clause-turn c =
+pub returns-in-Other : goal.returns-in-Other
+returns-in-Other c =
     let call = c.after_other in
     let r = c.args.replay.now in
     IfOk-weaker call.result _ _
     (λ t took stage number comes.
     subst (λ (j : Judged). Took (after_line run stage r.state (told j) (brought run (told j))) call.new.replay.hub call.new.replay.events call.new.replay.state number t) (sym c.in-Other.is)
     (took stage number (subst (λ (j : Judged). Comes r.hub r.events r.state (told j) stage) c.in-Other.is comes)))
-    call.ensures.turn
+    call.ensures

@@ -55,8 +55,8 @@ serve-requires-in-Tick-clause-there c =
     event_has_hub r.hub r.events r.state tick_line c.requires.comes.0
     (subst (λ (l : Line). Comes r.hub r.events r.state (shown l) c.requires.comes.0) c.in-Tick.is c.requires.comes.1) refl
 
-pub returns-in_ok-new-in-Head-clause-turn : goal.returns-in_ok-new-in-Head-clause-turn
-returns-in_ok-new-in-Head-clause-turn c = λ stage number comes.
+pub returns-in_ok-new-in-Head : goal.returns-in_ok-new-in-Head
+returns-in_ok-new-in-Head c = λ stage number comes.
     let r = c.args.replay.now in
     let head = head_line c.in-Head.version c.in-Head.tick_ms c.in-Head.link in
     let come = subst (λ (l : Line). Comes r.hub r.events r.state (shown l) stage) c.in-Head.is comes in
@@ -64,8 +64,8 @@ returns-in_ok-new-in-Head-clause-turn c = λ stage number comes.
     (subst (λ (v : Seen). Took (eventless run stage r.state head) (Some v) r.events r.state number GoesOn) (sym c.in_ok-new-in-Head.ensures.value)
     (head_turn r.hub r.events c.in-Head.version c.in-Head.tick_ms c.in-Head.link number r.state stage come))
 
-pub returns-in_ok-decode_to-in-Live-clause-turn : goal.returns-in_ok-decode_to-in-Live-clause-turn
-returns-in_ok-decode_to-in-Live-clause-turn c =
+pub returns-in_ok-decode_to-in-Live : goal.returns-in_ok-decode_to-in-Live
+returns-in_ok-decode_to-in-Live c =
     let call = c.serve in
     let r = c.args.replay.now in
     let line = live_line c.in-Live.id c.in-Live.hex.now in
@@ -76,10 +76,10 @@ returns-in_ok-decode_to-in-Live-clause-turn c =
     (subst (λ (b : List ℕ). Took (counted run stage r.state (events.Live c.in-Live.id b)) call.new.hub call.new.events r.state number t)
     (c.deref.ensures.value ∙ c.in_ok-decode_to-in-Live.ensures)
     (took (record stage { reached = r.state }) number (event_stage r.hub r.events r.state line stage come refl))))
-    call.ensures.turn
+    call.ensures
 
-pub returns-in_ok-decode_to-in-Feedback-clause-turn : goal.returns-in_ok-decode_to-in-Feedback-clause-turn
-returns-in_ok-decode_to-in-Feedback-clause-turn c =
+pub returns-in_ok-decode_to-in-Feedback : goal.returns-in_ok-decode_to-in-Feedback
+returns-in_ok-decode_to-in-Feedback c =
     let call = c.serve-in-Feedback in
     let r = c.args.replay.now in
     let line = feedback_line c.in-Feedback.id c.in-Feedback.client c.in-Feedback.hex.now in
@@ -90,10 +90,10 @@ returns-in_ok-decode_to-in-Feedback-clause-turn c =
     (subst (λ (b : List ℕ). Took (counted run stage r.state (events.Feedback c.in-Feedback.id c.in-Feedback.client b)) call.new.hub call.new.events r.state number t)
     (c.deref-in-Feedback.ensures.value ∙ c.in_ok-decode_to-in-Feedback.ensures)
     (took (record stage { reached = r.state }) number (event_stage r.hub r.events r.state line stage come refl))))
-    call.ensures.turn
+    call.ensures
 
-pub returns-in-Tick-clause-turn : goal.returns-in-Tick-clause-turn
-returns-in-Tick-clause-turn c =
+pub returns-in-Tick : goal.returns-in-Tick
+returns-in-Tick c =
     let call = c.serve-in-Tick in
     let r = c.args.replay.now in
     IfOk-weaker call.result _ _
@@ -101,9 +101,9 @@ returns-in-Tick-clause-turn c =
     let come = subst (λ (l : Line). Comes r.hub r.events r.state (shown l) stage) c.in-Tick.is comes in
     subst (λ (l : Line). Took (after_line run stage r.state (shown l) (brought run (shown l))) call.new.hub call.new.events r.state number t) (sym c.in-Tick.is)
     (took (record stage { reached = r.state }) number (event_stage r.hub r.events r.state tick_line stage come refl)))
-    call.ensures.turn
+    call.ensures
 
-pub returns-in-Tune-clause-turn : goal.returns-in-Tune-clause-turn
-returns-in-Tune-clause-turn c = λ stage number comes.
+pub returns-in-Tune : goal.returns-in-Tune
+returns-in-Tune c = λ stage number comes.
     let r = c.args.replay.now in
     receiver_turn r.hub r.events number r.state stage c.args.line comes c.requires.other c.in-Tune.is

@@ -9,16 +9,16 @@ pub after_line-requires-clause-comes : goal.after_line-requires-clause-comes
 after_line-requires-clause-comes c =
     (c.requires.0, comes_next _ _ _ c.judge.new.self c.args.line.now (told c.in-Ok.read) c.requires.0 c.requires.1 c.in-Ok.ensures.ok)
 
-pub returns-in-Ok-clause-turn : goal.returns-in-Ok-clause-turn
-returns-in-Ok-clause-turn c =
+pub returns-in-Ok : goal.returns-in-Ok
+returns-in-Ok c =
     IfOk-weaker c.after_line.result _ _
     (λ t took stage number stands.
     judged_turn stage number c.args.line.now (told c.in-Ok.read) c.judge.new.self _ _ _ t
     (subst (λ (r : Reached). judged r c.args.line.now ≡ Ok (told c.in-Ok.read, c.judge.new.self)) stands.lines c.in-Ok.ensures.ok)
     (took stage number (comes_next _ _ _ c.judge.new.self c.args.line.now (told c.in-Ok.read) stage stands c.in-Ok.ensures.ok)))
-    c.after_line.ensures.turn
+    c.after_line.ensures
 
-pub returns-in-Err-clause-turn : goal.returns-in-Err-clause-turn
-returns-in-Err-clause-turn c = λ stage number stands.
+pub returns-in-Err : goal.returns-in-Err
+returns-in-Err c = λ stage number stands.
     refused_turn stage number c.args.line.now c.in-Err.fault _ _ _
     (subst (λ (r : Reached). judged r c.args.line.now ≡ Err c.in-Err.fault) stands.lines c.in-Err.ensures.err)

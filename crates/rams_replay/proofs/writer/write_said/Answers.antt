@@ -1,15 +1,10 @@
-use Rattle.std.proofs.Common.{List, ℕ, [], ◌++◌, IfErr, sym, subst}
-use Rattle.std.proofs.lemmas.List.Elements.{All-head}
+use Rattle.std.proofs.Common.{List, ℕ, ◌++◌, IfErr, sym, subst}
 use Rattle.server_hub.specs.declared.HubAnswer.{HubAnswer}
 use Rattle.server_hub.specs.{told}
 use Rattle.trace_loop.specs.{StopsIn}
-use Rattle.trace_loop.specs.journal_book.{AllRender}
-use Rattle.rams_replay.specs.{SaidRender, told_text}
+use Rattle.rams_replay.specs.{told_text}
 use Rattle.rams_replay.proofs.Telling.{one_is_told}
 use Rattle.rams_replay.proofs.writer.write_said.Goals as goal
-
-pub write_at-requires : goal.write_at-requires
-write_at-requires g c = All-head AllRender c.in-Answer.at [] (subst SaidRender c.in-Answer.is c.requires)
 
 pub returns-in-NoChannel-clause-front : goal.returns-in-NoChannel-clause-front
 returns-in-NoChannel-clause-front g c =

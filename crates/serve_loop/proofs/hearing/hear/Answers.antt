@@ -1,15 +1,14 @@
 use Rattle.std.proofs.Common.{◌≡◌, ℕ, List, [], ◌∷◌, ◌++◌, ◌+◌, ◌≤◌, false, not, Result, IfErr, sym, ap, subst, ◌∙◌, arith, length}
-use Rattle.std.specs.Prelude.{All, ◌==◌}
+use Rattle.std.specs.Prelude.{◌==◌}
 use Rattle.std.specs.List.{list_any}
 use Rattle.std.proofs.lemmas.Result.{err_from_is_err_and}
 use Rattle.ram_io.specs.{Outgoing}
-use Rattle.server_hub.specs.{answers_said, event_of, after_event, settings_of, told, Told}
+use Rattle.server_hub.specs.{answers_said, event_of, after_event, settings_of, told}
 use Rattle.server_hub.specs.declared.At.{At}
 use Rattle.line_io.proofs.Passing.{Passes-then}
-use Rattle.trace_loop.specs.journal_book.{behind, datagrams_of, event_line, AllRender}
+use Rattle.trace_loop.specs.journal_book.{behind, datagrams_of, event_line}
 use Rattle.trace_loop.specs.declared.Stop.{Stop}
 use Rattle.trace_loop.proofs.Stopping.{err_so, only_err}
-use Rattle.trace_loop.proofs.journal_book.Renders.{said_renders}
 use Rattle.trace_loop.proofs.Writing.{unwritten}
 use Rattle.serve_loop.proofs.Causes.{stopped_by_wire, write_stops}
 use Rattle.serve_loop.specs.{Broken, HasRoom, IsOutStop, Sends, Serving, bytes_of, said_datagrams}
@@ -18,13 +17,8 @@ use Rattle.serve_loop.proofs.Steps.{StopsIn-then, quiet_goes_on, line_breaks, se
 use Rattle.serve_loop.proofs.Telling.{said_few}
 use Rattle.serve_loop.proofs.hearing.hear.Goals as goal
 
-pub send_all-requires-clause-render : goal.send_all-requires-clause-render
-send_all-requires-clause-render g c =
-    let say = c.in_ok-answer.ensures.stands c.requires.stands.0 c.requires.stands.1 in
-    subst (All AllRender) (sym c.answers_of-answers.ensures) (subst (λ (t : Told). All AllRender (answers_said t)) (sym say.0) (said_renders (event_of c.args.heard) c.requires.stands.0))
-
-pub send_all-requires-clause-ports : goal.send_all-requires-clause-ports
-send_all-requires-clause-ports g c =
+pub send_all-requires : goal.send_all-requires
+send_all-requires g c =
     let say = c.in_ok-answer.ensures.stands c.requires.stands.0 c.requires.stands.1 in
     let few : length c.answers_of-answers.result.now ≤ 64 =
     subst (λ (l : List At). length l ≤ 64) (sym (c.answers_of-answers.ensures ∙ ap answers_said say.0)) (said_few (event_of c.args.heard) c.requires.stands.0 c.hear.new.self say.1 c.hear.ensures.lawful) in

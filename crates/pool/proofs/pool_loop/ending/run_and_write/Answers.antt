@@ -8,7 +8,7 @@ use Rattle.pool.specs.declared.pool_loop.routes.Route.{Route}
 use Rattle.server_hub.proofs.Pairing.{same_length}
 use Rattle.pool.specs.pool_loop.{is_for_all, IsLaneOf, pooled_text}
 use Rattle.pool.proofs.pool_loop.Taking.{as_many, few_channels}
-use Rattle.pool.proofs.pool_loop.Books.{all_fresh, books_are, books_render, few_ticks}
+use Rattle.pool.proofs.pool_loop.Books.{all_fresh, few_ticks}
 use Rattle.pool.proofs.pool_loop.Written.{pooled_end, pooled_front, pooled_room}
 use Rattle.pool.proofs.pool_loop.ending.run_and_write.Goals as goal
 
@@ -32,12 +32,6 @@ run_pool-requires-clause-ticks g c κs within =
     let h = c.requires.whole.2 in
     let ticks = c.ticks_among-ticks.ensures ∙ ap (λ (l : List Route). length (filter is_for_all l)) c.deref.ensures.value in
     omega (arith, ticks, few_ticks d.routes.items, as_many d c.requires.whole.0 c.requires.whole.1 h, h.few)
-
-pub write_pooled-requires-clause-rendered : goal.write_pooled-requires-clause-rendered
-write_pooled-requires-clause-rendered g c =
-    let d = c.args.dealt in
-    let books = c.in_ok-pooled.pooled.books.items in
-    books_render c.orders_of_answers_render.ensures.answers d.channels.items books (books_are d.channels.items c.in_ok-lanes.lanes.items books c.in_ok-lanes.ensures c.in_ok-pooled.ensures.books)
 
 pub returns-clause-text : goal.returns-clause-text
 returns-clause-text g c = λ xs r.

@@ -2,16 +2,11 @@ use Rattle.std.proofs.Common.{◌∙◌, ◌<◌, ◌≤◌, length, refl, arith
 use Rattle.std.proofs.lemmas.List.{length-set}
 use Rattle.book_text.proofs.answer_text.Fronts.{starts_on, starts_with_itself}
 use Rattle.pool.specs.pool_loop.{all_left}
-use Rattle.pool.proofs.pool_loop.Sides.{none_done, next_left, goes_on, all_done}
+use Rattle.pool.proofs.pool_loop.Sides.{none_done, goes_on, all_done}
 use Rattle.pool.proofs.pool_loop.walking.append_all.Goals as goal
 
 pub loop-place-init : goal.loop-place-init
 loop-place-init c = record { halfway = none_done c.args.event c.args.route c.args.text.now.items (all_left c.args.left.now) (all_left c.args.left.now) c.args.text.now.items refl refl; begun = starts_with_itself c.args.text.now.items; many = refl }
-
-pub append_heard-requires : goal.append_heard-requires
-append_heard-requires c =
-    let less : c.loop-place.place < length c.loop-place.left = omega (arith, c.loop-place-test.true, c.loop-place.invariant.many) in
-    (next_left c.args.event c.args.route c.args.text.now.items (all_left c.args.left.now) c.loop-place.left c.loop-place.text.items c.loop-place.place c.index-left-place.result c.loop-place.invariant.halfway less).can c.requires
 
 pub loop-place-preserved : goal.loop-place-preserved
 loop-place-preserved c =

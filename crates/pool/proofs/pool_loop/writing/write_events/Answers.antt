@@ -4,8 +4,8 @@ use Rattle.std.proofs.lemmas.Result.{err_from_is_err_and}
 use Rattle.trace_loop.specs.declared.Stop.{Stop}
 use Rattle.trace_loop.specs.{OnlyMemoryStops, StopsIn}
 use Rattle.trace_loop.proofs.Writing.{writing_has_room, writing_goes_on, writing_stops, writing_ends, writing_ends_steadily}
-use Rattle.pool.specs.pool_loop.{AllCanRender, all_left, walk_text}
-use Rattle.pool.proofs.pool_loop.Pieces.{walk_more, walk_next, walk_past, still_render}
+use Rattle.pool.specs.pool_loop.{all_left, walk_text}
+use Rattle.pool.proofs.pool_loop.Pieces.{walk_more, walk_next, walk_past}
 use Rattle.pool.proofs.pool_loop.writing.write_events.Goals as goal
 
 pub returns-in_err-write_event-clause-front : goal.returns-in_err-write_event-clause-front
@@ -32,7 +32,6 @@ loop-place-preserved g c =
     record {
       writing = writing_goes_on _ _ _ _ _ _ (g.K.Sink.held c.write_event.new.sink) (g.K.Sink.faults c.write_event.new.sink) (g.K.Sink.is_steady c.write_event.new.sink) _ _ _ _ _ _
           c.loop-place.invariant.writing (walk_next c.args.routes.now books (all_left c.write_event.new.left) c.loop-place.place _ c.loop-place-test.true past) c.in_ok-write_event.ensures.all c.write_event.ensures.cause.later c.in_ok-write_event.ensures.steady;
-      rendered = subst AllCanRender (sym past) (still_render _ books c.loop-place.invariant.rendered);
     }
 
 pub returns-clause-all : goal.returns-clause-all

@@ -6,7 +6,7 @@ use Rattle.trace_loop.specs.trace_book.{first_line}
 use Rattle.trace_loop.specs.declared.Stop.{Stop}
 use Rattle.trace_loop.specs.{StopsIn}
 use Rattle.trace_loop.proofs.Writing.{unwritten, writing_begins, writing_has_room, writing_goes_on, writing_stops}
-use Rattle.pool.specs.pool_loop.{AllCanRender, all_left, closing_text, numbers_of, pooled_text, walk_text}
+use Rattle.pool.specs.pool_loop.{all_left, closing_text, numbers_of, pooled_text, walk_text}
 use Rattle.trace_loop.proofs.Stopping.{err_so, only_err, together, writing_last}
 use Rattle.pool.proofs.pool_loop.Pieces.{last_part, from_events}
 use Rattle.pool.proofs.pool_loop.writing.write_parts.Goals as goal
@@ -98,9 +98,6 @@ returns-in_err-write_events-clause-steady g c = λ room h.
     let same = ap all_left c.deref_mut.ensures.value ∙ c.in_ok-left.ensures ∙ c.deref-2.ensures.value in
     only_err c.from_residual-in_err-write_events.result p.0 c.in_err-write_events.field-0.0 _ p.1 p.2
     (c.in_err-write_events.ensures.steady _ (writing_has_room a (g.K.Sink.held c.put.new.sink) n (g.K.Sink.faults c.put.new.sink) steady (g.K.Sink.is_steady c.put.new.sink) (waiting ++ text) c.put.new.gather (from_events routes books granted claims) (walk_text 1 routes (all_left c.deref_mut.result.now)) (last_part routes books granted claims) w1 (ap (λ (bs : List Kept). walk_text 1 routes bs ++ last_part routes books granted claims) (sym same)) room (together steady waiting text room h)))
-
-pub write_events-requires : goal.write_events-requires
-write_events-requires g c = subst AllCanRender (sym (ap all_left c.deref_mut.ensures.value ∙ c.in_ok-left.ensures ∙ c.deref-2.ensures.value)) c.requires.rendered
 
 pub returns-clause-all : goal.returns-clause-all
 returns-clause-all g c =
