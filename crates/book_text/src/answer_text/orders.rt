@@ -31,8 +31,8 @@ impl<'a> Model for Orders<'a> {
 }
 
 impl<'a> Orders<'a> {
-    /// Those of an answer. The first byte of each packet is read at once, so that they come from memory
-    /// together.
+    /// Those of an answer. The first bytes of their packets are read at once, up to one that isn't plain, so
+    /// that they come from memory together.
     pub fn of(orders: &'a [Order]) -> Orders<'a>
         ensures { result ≡ orders.now }
     {
