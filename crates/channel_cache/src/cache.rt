@@ -71,8 +71,8 @@ impl Cache {
             Ok(packet) => packet,
             Err(note) => return Ok(note),
         };
-        let memory = self.intake.stock.memory_for(alloc, packet.stripped_len())?;
-        let incoming = Incoming::of(memory, channel, &packet)?;
+        let kept = self.intake.stock.keep(alloc, &packet)?;
+        let incoming = Incoming::of(channel, &packet, kept);
         Ok(receive(&mut self.numbering, &mut self.intake, incoming))
     }
 

@@ -8,7 +8,6 @@ ghost use Rattle.channel_cache.specs.{arrival_of, IsBare, IsWhole};
 use crate::ts_access::has_access;
 use bytes::Bytes;
 use channel_config::{Access, Channel};
-use ram_io::NoMemory;
 use rams_model::{Held, LiveNote, MOST_PACKET, RTX_OVERHEAD};
 use wire_packets::rtp_record::Rtp;
 
@@ -58,27 +57,22 @@ fn is_access_point(access: Access, packet: &Rtp<'_>) -> bool
 }
 
 impl Incoming {
-    /// What a packet of the channel brings, in this memory. What it holds is dropped.
+    /// What a packet of the channel brings, which is kept without its padding.
     #[inline(always)]
-    pub fn of(
-        mut memory: Vec<u8>,
-        channel: &Channel,
-        packet: &Rtp<'_>,
-    ) -> Result<Incoming, NoMemory>
+    pub fn of(channel: &Channel, packet: &Rtp<'_>, kept: Bytes) -> Incoming
         requires lawful { IsPacket packet.now }
         requires short { length (stripped packet.now) ≤ MOST_PACKET }
-        ensures value { IfOk result (λ i. arrival_of i ≡ arrival channel.now packet.now) }
-        ensures low { IfOk result (λ i. i.sequence < 65536) }
-        ensures bare { IfOk result (λ i. IsBare i.packet) }
+        requires kept { kept ≡ stripped packet.now }
+        ensures value { arrival_of result ≡ arrival channel.now packet.now }
+        ensures low { result.sequence < 65536 }
+        ensures bare { IsBare result.packet }
     {
-        memory.clear();
-        packet.append_stripped(&mut memory)?;
-        Ok(Incoming {
+        Incoming {
             sequence: packet.sequence(),
             timestamp: packet.timestamp(),
             access: is_access_point(channel.access, packet),
-            packet: Bytes::from_vec(memory)?,
-        })
+            packet: kept,
+        }
     }
 
     /// The packet under a number.

@@ -6,6 +6,7 @@
 #![tactic(auto)]
 
 pub mod access_index;
+mod blocks;
 mod cache;
 mod incoming;
 mod intake;

@@ -1,6 +1,7 @@
 //! The packets that a channel holds, with the access points among them.
 ghost use Rattle.std.specs.Prelude.{◌≡◌, ◌+◌, ◌^◌, ◌<◌, ◌≤◌, ◌↔◌, List, [], ◌∷◌, ◌++◌, option_copied, IfOk, IfSome, IsSome};
 ghost use Rattle.rams_model.specs.declared.Held.{Held};
+ghost use Rattle.rams_model.specs.Formats.{stripped};
 ghost use Rattle.rams_model.specs.Packets.{chosen, lo, hi};
 ghost use Rattle.channel_cache.specs.packet_ring.{packet_of, IsRing, StandsFor};
 ghost use Rattle.channel_cache.specs.access_index.{choice_of};
@@ -9,13 +10,16 @@ ghost use Rattle.rams_model.specs.Laws.{AreAtLeast};
 ghost use Rattle.channel_cache.specs.{IsWhole};
 
 use crate::access_index::{Choice, Index};
+use crate::blocks::Blocks;
 use crate::packet_ring::Ring;
+use bytes::Bytes;
 use channel_config::Channel;
 use ram_io::NoMemory;
 use rams_model::{Held, MOST_ON_WIRE};
+use reckoning::ext_seq::SEQUENCE_NUMBERS;
 use std::alloc::Global;
 use std::marker::Model;
-use std::mem;
+use wire_packets::rtp_record::Rtp;
 
 /// The last packets of the source. The marks of the index are the packets of the ring.
 #[derive(Drop)]
@@ -24,10 +28,8 @@ pub struct Stock {
     index: Index,
     // None of the packets is smaller on the wire.
     least_wire: u32,
-    // The memory of the last packet that the ring let go.
-    spare: Vec<u8>,
-    // Most bytes that memory was taken for.
-    longest: usize,
+    // The memory of the packets.
+    blocks: Blocks,
 }
 
 impl Model for Stock {
@@ -51,8 +53,7 @@ impl Stock {
             ring: Ring::new(alloc, capacity)?,
             index: Index::new(alloc, capacity)?,
             least_wire: u32::MAX,
-            spare: Vec::new(alloc),
-            longest: 0,
+            blocks: Blocks::new(alloc, capacity),
         })
     }
 
@@ -68,22 +69,27 @@ impl Stock {
         ensures stands { (source : List Held) → StandsFor self.old.ring source → StandsFor self.new.ring (source ++ held ∷ []) }
     {
         let (n, ts, wire, access) = (held.n, held.ts, held.wire, held.access);
-        put_aside(&mut self.spare, self.ring.push(held));
+        self.blocks.give_back(self.ring.push(held));
         self.index.drop_below(self.ring.lo());
         self.index.push(n, ts, wire, access);
         self.least_wire = self.least_wire.min(wire);
     }
 
-    /// Memory for a packet of so many bytes, which may hold others: that of the last packet that was let
-    /// go. It has room for just the longest packet that memory was taken for.
-    pub fn memory_for(&mut self, alloc: Global, len: usize) -> Result<Vec<u8>, NoMemory>
-        ensures { self.new ≡ self.old }
+    /// The packet without its padding, in memory: one that comes in its turn behind the one before it, in a block
+    /// that they share; any other in memory of its own, since it may go before its neighbours.
+    pub fn keep(&mut self, alloc: Global, packet: &Rtp<'_>) -> Result<Bytes, NoMemory>
+        ensures kept { IfOk result (λ bytes. bytes ≡ stripped packet.now) }
+        ensures same { self.new ≡ self.old }
     {
-        self.longest = self.longest.max(len);
-        let mut memory = mem::replace(&mut self.spare, Vec::new(alloc));
-        memory.clear();
-        memory.reserve_exact(self.longest)?;
-        Ok(memory)
+        match packet.bare() {
+            Some(bytes) if self.is_awaited(packet.sequence()) => self.blocks.keep(alloc, bytes),
+            _ => Ok(Bytes::from_vec(packet.strip(alloc)?)?),
+        }
+    }
+
+    // Whether the next packet in order has this sequence number.
+    fn is_awaited(&self, sequence: u16) -> bool {
+        self.ring.hi() % SEQUENCE_NUMBERS == u64::from(sequence)
     }
 
     /// The number of the oldest packet; 0 while nothing is held.
@@ -129,18 +135,4 @@ impl Stock {
         let room = u64::from(channel.ring) * channel.minwire;
         self.index.choose(room, channel.declared, min_ms, max_ms)
     }
-}
-
-// Puts the memory of a packet that was let go aside, unless others still read it.
-fn put_aside(spare: &mut Vec<u8>, gone: Option<Held>) {
-    if let Some(memory) = gone.and_then(memory_of) {
-        *spare = memory;
-    }
-}
-
-// The memory of a packet, with no bytes in it; none where others still read it.
-fn memory_of(gone: Held) -> Option<Vec<u8>> {
-    let mut memory = gone.packet.reclaim()?;
-    memory.clear();
-    memory.into_vec().ok()
 }

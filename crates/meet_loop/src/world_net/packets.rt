@@ -13,8 +13,6 @@ use std::marker::Model;
 #[derive(Drop)]
 pub(crate) struct Packets {
     packets: BTreeMap<(u16, u64), Bytes>,
-    /// The length of the longest packet that came.
-    longest: usize,
 }
 
 impl Model for Packets {
@@ -32,7 +30,6 @@ impl Packets {
     {
         Packets {
             packets: BTreeMap::new(alloc),
-            longest: 0,
         }
     }
 
@@ -48,8 +45,7 @@ impl Packets {
     ) -> Result<(), NoMemory>
         ensures { OnOk result ((i m : ℕ) → at_pair self.new i m ≡ (if id == i && n == m then Some packet.now else at_pair self.old i m)) }
     {
-        self.longest = self.longest.max(packet.len());
-        let kept = shared(alloc, packet, held, self.longest)?;
+        let kept = shared(alloc, packet, held)?;
         self.packets.insert((id, n), kept)?;
         Ok(())
     }
@@ -65,20 +61,12 @@ impl Packets {
     }
 }
 
-// A packet's bytes: those that are held, where they are the same. What is held may have room for the
-// `longest` packet, so that a much shorter one is copied.
-fn shared(
-    alloc: Global,
-    packet: &[u8],
-    held: Option<&Held>,
-    longest: usize,
-) -> Result<Bytes, NoMemory>
+// A packet's bytes: those that are held, where they are the same.
+fn shared(alloc: Global, packet: &[u8], held: Option<&Held>) -> Result<Bytes, NoMemory>
     ensures { IfOk result (λ bytes. bytes ≡ packet.now) }
 {
     match held {
-        Some(held) if packet.len() >= longest / 2 && held.packet.as_slice() == packet => {
-            Ok(held.packet.clone()?)
-        }
+        Some(held) if held.packet.as_slice() == packet => Ok(held.packet.clone()?),
         _ => Ok(Bytes::copy_from_slice(alloc, packet)?),
     }
 }

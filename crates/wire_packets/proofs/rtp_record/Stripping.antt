@@ -1,8 +1,8 @@
 -- A packet without its padding is the front of its bytes with one bit cleared.
-use Rattle.std.proofs.Common.{◌≡◌, ℕ, suc, ◌+◌, ◌-◌, ◌*◌, ◌/◌, ◌<◌, List, [], ◌∷◌, ◌++◌, length, take, get_or, set, refl, sym, ap, ◌∙◌, arith, Result, Ok, Err}
-use Rattle.std.specs.Prelude.{if◌then◌else◌, OnErr}
+use Rattle.std.proofs.Common.{◌≡◌, ◌≢◌, ℕ, suc, ◌+◌, ◌-◌, ◌*◌, ◌/◌, ◌<◌, List, [], ◌∷◌, ◌++◌, length, take, get_or, set, refl, sym, ap, ◌∙◌, arith}
+use Rattle.std.specs.Prelude.{if◌then◌else◌}
 use Rattle.std.specs.Int.{w16, w32, to_be_bytes}
-use Rattle.std.proofs.lemmas.List.{append-nil, length-append, length-drop, length-set, length-take, take_at, set-append_right}
+use Rattle.std.proofs.lemmas.List.{append-nil, nil_from_length, length-append, length-drop, length-set, length-take, take_at, set-append_right}
 use Rattle.rams_model.specs.Formats.{Packet, flag, header, spelling, stripped, AreCsrc, behind_extension, padding_size, fields_of}
 use Rattle.rams_model.proofs.RtpPackets.{flag_below}
 use Rattle.wire_packets.specs.rtp_record.{ArePlaces, without_padding_bit}
@@ -61,6 +61,20 @@ stripped_length bytes extension payload padding h =
     ap length (stripped_at bytes extension payload padding h)
     ∙ length-set (take padding bytes) 0 (without_padding_bit (get_or bytes 0 0))
     ∙ (omega (arith, length-take padding bytes, h.padding_is))
+
+-- bytes that end where the padding would begin are the packet without it
+pub none_at : (bytes : List ℕ) (extension payload padding : ℕ) → ArePlaces bytes extension payload padding → padding ≡ length bytes → (fields_of bytes).padding ≡ []
+none_at bytes extension payload padding h ends =
+    nil_from_length (fields_of bytes).padding (omega (arith, padding_counted bytes extension payload padding h, h.padding_is, ends))
+
+pub bare_at : (bytes : List ℕ) (extension payload padding : ℕ) → ArePlaces bytes extension payload padding → padding ≡ length bytes → stripped (fields_of bytes) ≡ bytes
+bare_at bytes extension payload padding h ends =
+    sym (ap (λ (x : List ℕ). spelling (record (fields_of bytes) { padding = x })) (none_at bytes extension payload padding h ends)) ∙ h.is_spelled
+
+-- and where they go on there is some
+pub some_at : (bytes : List ℕ) (extension payload padding : ℕ) → ArePlaces bytes extension payload padding → padding ≢ length bytes → (fields_of bytes).padding ≢ []
+some_at bytes extension payload padding h goes_on none =
+    goes_on (omega (arith, padding_counted bytes extension payload padding h, h.padding_is, ap length none))
 
 -- a byte written behind what was there
 pub written_behind : (old piece : List ℕ) (n b : ℕ) → n ≡ length old → set (old ++ piece) n b ≡ old ++ set piece 0 b

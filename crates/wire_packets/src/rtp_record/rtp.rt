@@ -1,5 +1,5 @@
 //! Packets as they are read.
-ghost use Rattle.std.specs.Prelude.{◌≡◌, ℕ, ◌+◌, ◌++◌, ◌<◌, ◌/◌, ◌*◌, ◌%◌, IfOk, OnOk, OnErr, length, vec_len, vec_capacity};
+ghost use Rattle.std.specs.Prelude.{◌≡◌, ◌≢◌, ℕ, ◌+◌, [], ◌++◌, ◌<◌, ◌/◌, ◌*◌, ◌%◌, IfNone, IfOk, IfSome, OnOk, OnErr, length, vec_len, vec_capacity};
 ghost use Rattle.rams_model.specs.Formats.{Packet, spelling, stripped, packet_at, fields_of, csrc_size, extension_size, padding_size, IsPacket};
 ghost use Rattle.wire_packets.specs.rtp_record.{without_padding_bit, packet_of, unpadded};
 
@@ -155,6 +155,19 @@ impl<'a> Rtp<'a> {
         ensures { result ≡ length (stripped self.now) }
     {
         self.padding_at
+    }
+
+    /// The packet's bytes, exactly where it has no padding: nothing is stripped of them.
+    pub fn bare(&self) -> Option<&'a [u8]>
+        ensures bytes { IfSome result (λ bytes. bytes.now ≡ stripped self.now) }
+        ensures bare { IfSome result (λ bytes. self.now.padding ≡ []) }
+        ensures padded { IfNone result (self.now.padding ≢ []) }
+    {
+        if self.padding_at == self.bytes.len() {
+            Some(self.bytes)
+        } else {
+            None
+        }
     }
 
     /// The packet without its padding, in memory of its own.

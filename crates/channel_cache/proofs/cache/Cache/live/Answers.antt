@@ -24,11 +24,11 @@ returns-clause-stands c =
     let old = c.self.inside in
     let new = c.receive.new in
     let bytes = c.args.bytes.now in
-    let a = arrival_of c.in_ok-incoming.incoming in
-    let heard = subst (λ (ch : Channel). heard_live ch bytes ≡ live a) c.channel-channel.ensures.value (c.in-Ok.ensures.heard ∙ ap live (sym c.in_ok-incoming.ensures.value)) in
+    let a = arrival_of c.of-incoming.result in
+    let heard = subst (λ (ch : Channel). heard_live ch bytes ≡ live a) c.channel-channel.ensures.value (c.in-Ok.ensures.heard ∙ ap live (sym c.of-incoming.ensures.value)) in
     let grows = c.receive.ensures.grows in
-    let same = c.memory_for.ensures in
-    let intake : Intake = record old.intake { stock = c.memory_for.new.self } in
+    let same = c.keep.ensures.same in
+    let intake : Intake = record old.intake { stock = c.keep.new.self } in
     let shows = ap (λ (s : stocks.Seen). seen_at old.config old.numbering (record old.intake { stock = s })) same ∙ c.self.view_is in
     let ring = ap (λ (s : stocks.Seen). s.ring.capacity) same ∙ c.self.invariant.ring in
     subst (λ (v : Seen). Does v (seen_at old.config new.numbering new.intake) bytes c.receive.result) shows
@@ -43,4 +43,4 @@ receive-requires-clause-numbered c =
     subst (λ (v : Seen). IfSome v.numbering.greatest (λ n. n < 2 ^ 61)) (sym c.self.view_is) (numbers_have_room c.args.self.now c.requires)
 
 pub receive-requires-clause-few : goal.receive-requires-clause-few
-receive-requires-clause-few c = omega (arith, ap (λ (s : stocks.Seen). s.total) c.memory_for.ensures, ap (λ (v : Seen). v.total) c.self.view_is, c.requires.stands.total, c.requires.few)
+receive-requires-clause-few c = omega (arith, ap (λ (s : stocks.Seen). s.total) c.keep.ensures.same, ap (λ (v : Seen). v.total) c.self.view_is, c.requires.stands.total, c.requires.few)
