@@ -18,6 +18,7 @@ use crate::writer::write_notes;
 use channel_config::Config;
 use ram_io::{NoMemory, Sink};
 use rams_model::{LineFault, MOST_ON_WIRE};
+use receiver_core::Bump;
 use std::alloc::Global;
 use trace_loop::{Stop, TraceServer, Writer};
 use trace_text::{Judged, Line, Mode, State};
@@ -34,19 +35,22 @@ type Turn = trace_loop::Turn<()>;
 /// What stands before a line: the world, how many events there were, and the lines. What was said of the
 /// last event is kept until the next.
 #[derive(Drop)]
-pub(crate) struct Meeting {
+pub(crate) struct Meeting<'a> {
+    /// The bytes of packets and datagrams stay here as long as the world does.
+    arena: &'a Bump,
     /// `None` before the head line.
-    world: Option<World>,
+    world: Option<World<'a>>,
     events: u64,
     state: State,
-    notes: Vec<WorldNote>,
+    notes: Vec<WorldNote<'a>>,
 }
 
 /// Before the first line.
-pub(crate) fn new_meeting(alloc: Global) -> Meeting
+pub(crate) fn new_meeting(alloc: Global, arena: &Bump) -> Meeting<'_>
     ensures { Stands result.world result.events result.state (opening meet) }
 {
     Meeting {
+        arena,
         world: None,
         events: 0,
         state: State::new(Mode::Meet),
@@ -54,7 +58,7 @@ pub(crate) fn new_meeting(alloc: Global) -> Meeting
     }
 }
 
-impl TraceServer for Meeting {
+impl<'a> TraceServer for Meeting<'a> {
     type Answer = ();
 
     ghost state = { Worlds };
@@ -82,7 +86,7 @@ impl TraceServer for Meeting {
 }
 
 /// What the next line does.
-fn take_line(alloc: Global, meeting: &mut Meeting, line: &[u8]) -> Result<Turn, NoMemory>
+fn take_line(alloc: Global, meeting: &mut Meeting<'_>, line: &[u8]) -> Result<Turn, NoMemory>
     requires { StandsSomewhere (Stands meeting.old.world meeting.old.events meeting.old.state) }
     ensures { IfOk result (λ t. (stage : Stage Worlds) (number : ℕ) → Stands meeting.old.world meeting.old.events meeting.old.state stage
         → Took (turn meet stage number line.now) meeting.new.world meeting.new.events meeting.new.state meeting.new.notes.items number t) }
@@ -94,7 +98,7 @@ fn take_line(alloc: Global, meeting: &mut Meeting, line: &[u8]) -> Result<Turn, 
 }
 
 /// What a line does that may come.
-fn after_line(alloc: Global, meeting: &mut Meeting, line: &Judged<'_>) -> Result<Turn, NoMemory>
+fn after_line(alloc: Global, meeting: &mut Meeting<'_>, line: &Judged<'_>) -> Result<Turn, NoMemory>
     requires settled { IsSettled (tick_of meeting.old.state.head) line.now }
     requires comes { (stage : Stage Worlds) × Comes meeting.old.world meeting.old.events meeting.old.state (told line.now) stage }
     ensures { IfOk result (λ t. (stage : Stage Worlds) (number : ℕ) → Comes meeting.old.world meeting.old.events meeting.old.state (told line.now) stage
@@ -107,7 +111,7 @@ fn after_line(alloc: Global, meeting: &mut Meeting, line: &Judged<'_>) -> Result
 }
 
 /// What a line does that opens no channel.
-fn after_other(alloc: Global, meeting: &mut Meeting, line: Line<'_>) -> Result<Turn, NoMemory>
+fn after_other(alloc: Global, meeting: &mut Meeting<'_>, line: Line<'_>) -> Result<Turn, NoMemory>
     requires other { IsOther line }
     requires digits { HasDigits line }
     requires comes { (stage : Stage Worlds) × Comes meeting.old.world meeting.old.events meeting.old.state (shown line) stage }
@@ -128,7 +132,7 @@ fn after_other(alloc: Global, meeting: &mut Meeting, line: Line<'_>) -> Result<T
 
 /// A head line begins the world, and `end` ends the trace; every other line opens a channel or brings
 /// an event.
-fn begin_or_end(alloc: Global, meeting: &mut Meeting, line: Line<'_>) -> Result<Turn, NoMemory>
+fn begin_or_end(alloc: Global, meeting: &mut Meeting<'_>, line: Line<'_>) -> Result<Turn, NoMemory>
     requires other { IsOther line }
     requires silent { brought meet (shown line) ≡ None }
     requires comes { (stage : Stage Worlds) × Comes meeting.old.world meeting.old.events meeting.old.state (shown line) stage }
@@ -137,7 +141,7 @@ fn begin_or_end(alloc: Global, meeting: &mut Meeting, line: Line<'_>) -> Result<
 {
     match line {
         Line::Head { tick_ms, link, .. } => {
-            meeting.world = Some(new_world(alloc, tick_ms, link)?);
+            meeting.world = Some(new_world(alloc, meeting.arena, tick_ms, link)?);
             Ok(Turn::GoesOn)
         }
         Line::End => Ok(Turn::Done(meeting.events)),
@@ -146,7 +150,7 @@ fn begin_or_end(alloc: Global, meeting: &mut Meeting, line: Line<'_>) -> Result<
 }
 
 /// A world without channels, for ticks of `tick_ms` ms and a link of so many bytes a tick.
-fn new_world(alloc: Global, tick_ms: u32, link: u64) -> Result<World, NoMemory>
+fn new_world(alloc: Global, arena: &Bump, tick_ms: u32, link: u64) -> Result<World<'_>, NoMemory>
     requires tick_least { 1 ≤ tick_ms }
     requires tick_most { tick_ms ≤ 1000 }
     requires link_least { MOST_ON_WIRE ≤ link }
@@ -154,12 +158,12 @@ fn new_world(alloc: Global, tick_ms: u32, link: u64) -> Result<World, NoMemory>
     ensures { IfOk result (IsUnder tick_ms link) }
 {
     let hub = Hub::new(alloc, tick_ms, link)?;
-    Ok(World::new(alloc, hub))
+    Ok(World::new(alloc, arena, hub))
 }
 
 /// A channel line opens its channel. The lines before it have shown that it may stand there, so that
 /// only memory can be missing.
-fn open(alloc: Global, world: &mut Option<World>, config: Config) -> Result<Turn, NoMemory>
+fn open(alloc: Global, world: &mut Option<World<'_>>, config: Config) -> Result<Turn, NoMemory>
     requires { IsSomeAnd world.old (λ v. CanOpen v config) }
     ensures { IfOk result (λ t. (t ≡ GoesOn) × OpensIn config world.old world.new) }
 {
@@ -171,11 +175,11 @@ fn open(alloc: Global, world: &mut Option<World>, config: Config) -> Result<Turn
 }
 
 /// An event of the world, unless it is one too many, or brings a datagram too many.
-fn serve(
+fn serve<'a>(
     alloc: Global,
-    world: &mut Option<World>,
+    world: &mut Option<World<'a>>,
     events: &mut u64,
-    notes: &mut Vec<WorldNote>,
+    notes: &mut Vec<WorldNote<'a>>,
     event: &WorldEvent,
 ) -> Result<Turn, NoMemory>
     requires stands { (stage : Stage Worlds) × Stands world.old events.old stage.reached stage }
@@ -197,11 +201,11 @@ fn serve(
 }
 
 /// What is said of an event stands in `notes` then. Whether it brings no datagram too many.
-fn happen(
+fn happen<'a>(
     alloc: Global,
-    world: &mut World,
+    world: &mut World<'a>,
     event: &WorldEvent,
-    notes: &mut Vec<WorldNote>,
+    notes: &mut Vec<WorldNote<'a>>,
 ) -> Result<bool, NoMemory>
     requires { CameAtMost (2 ^ 40 - 1) world.old.kept }
     ensures said { IfOk result (λ fits. (w : Worlds) → StandsFor world.old w → Happens event.now w world.new notes.new.items fits) }

@@ -10,6 +10,7 @@ ghost use Rattle.meet_loop.specs.world_book.{meet, meet_text};
 use crate::meeting::new_meeting;
 use ram_io::{Sink, Source};
 use rams_model::Status;
+use receiver_core::Bump;
 use std::alloc::Global;
 use std::mem;
 use trace_loop::{Stop, write_text};
@@ -33,9 +34,11 @@ pub fn write_world<S: Source, K: Sink>(
     ensures steady { S.is_steady source.old → IfTold (S.left source.old)
         (λ xs. K.is_steady sink.old (length (meet_text xs).text) → OnlyMemoryStops result (Unit {0})) }
 {
-    let mut meeting = new_meeting(alloc);
+    let arena = Bump::new(alloc);
+    let mut meeting = new_meeting(alloc, &arena);
     let ended = write_text(alloc, &mut meeting, b"rams-world 1\n", source, sink);
     // The command ends here: to give its memory back block by block would only cost time.
     mem::forget(meeting);
+    mem::forget(arena);
     ended
 }

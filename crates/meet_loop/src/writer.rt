@@ -1,5 +1,5 @@
 //! What is said of an event on its way to the sink, note by note.
-ghost use Rattle.std.specs.Prelude.{◌≡◌, ℕ, ◌+◌, ◌<◌, ◌≤◌, ◌++◌, IfErr, OnOk, length};
+ghost use Rattle.std.specs.Prelude.{◌≡◌, ℕ, ◌+◌, ◌<◌, ◌≤◌, ◌++◌, IfErr, OnOk, length, take, drop};
 ghost use Rattle.line_io.specs.Passes.{Passes};
 ghost use Rattle.trace_loop.specs.{IsStoppedByWrite, OnlyMemoryStops, StopsIn};
 ghost use Rattle.meet_loop.specs.world_text.{notes_lines};
@@ -14,7 +14,7 @@ pub(crate) fn write_notes<K: Sink>(
     writer: &mut Writer,
     sink: &mut K,
     event: u64,
-    notes: &[WorldNote],
+    notes: &[WorldNote<'_>],
 ) -> Result<(), Stop>
     ensures all { OnOk result (Passes (K.held sink.old) (K.held sink.new) (writer.old.gather ++ notes_lines event notes.now) writer.new.gather) }
     ensures front { IfErr result (StopsIn (K.held sink.old) (K.held sink.new) (writer.old.gather ++ notes_lines event notes.now) writer.new.gather) }
@@ -22,17 +22,29 @@ pub(crate) fn write_notes<K: Sink>(
     ensures steady { (room : ℕ) → K.is_steady sink.old (length writer.old.gather + length (notes_lines event notes.now) + room)
         → OnlyMemoryStops result (K.is_steady sink.new (length writer.new.gather + room)) }
 {
-    let mut left = notes;
-    while !left.is_empty() {
-        let (part, rest) = left.split_at(part_len(left));
+    let mut written = 0;
+    while written < notes.len() {
+        let part = next_part(notes, written);
         write_part(writer, sink, event, part)?;
-        left = rest;
+        written += part.len();
     }
     Ok(())
 }
 
+/// The notes that are written at once, behind those that were.
+fn next_part<'s, 'a>(notes: &'s [WorldNote<'a>], written: usize) -> &'s [WorldNote<'a>]
+    requires { written < length notes.now }
+    ensures some { 0 < length result.now }
+    ensures few { length result.now ≤ 2 }
+    ensures within { written + length result.now ≤ length notes.now }
+    ensures those { result.now ≡ take (length result.now) (drop written notes.now) }
+{
+    let left = &notes[written..];
+    &left[..part_len(left)]
+}
+
 /// How many of some notes are written at once: a channel's note with its datagram behind it, or one.
-fn part_len(notes: &[WorldNote]) -> usize
+fn part_len(notes: &[WorldNote<'_>]) -> usize
     requires { 0 < length notes.now }
     ensures some { 0 < result }
     ensures few { result ≤ 2 }
@@ -45,7 +57,7 @@ fn part_len(notes: &[WorldNote]) -> usize
 }
 
 /// Whether the first is a channel's note, and the second a datagram.
-fn is_told(first: &WorldNote, second: &WorldNote) -> bool {
+fn is_told(first: &WorldNote<'_>, second: &WorldNote<'_>) -> bool {
     match (&first.item, &second.item) {
         (WorldItem::Note(_), WorldItem::Send { .. }) => true,
         _ => false,
@@ -57,7 +69,7 @@ fn write_part<K: Sink>(
     writer: &mut Writer,
     sink: &mut K,
     event: u64,
-    part: &[WorldNote],
+    part: &[WorldNote<'_>],
 ) -> Result<(), Stop>
     requires some { 0 < length part.now }
     requires few { length part.now ≤ 2 }

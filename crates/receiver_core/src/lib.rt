@@ -6,6 +6,7 @@
 
 mod asking;
 mod datagrams;
+mod lent;
 mod numbers;
 mod playing;
 mod reading;
@@ -13,7 +14,8 @@ mod receiver;
 mod shown;
 mod window;
 
-pub use bytes::Bytes;
+pub use bumpalo::Bump;
+pub use lent::Lent;
 pub use ram_io::NoMemory;
 pub use rams_model::{InfoCame, MediaCame, Octets, Tuned};
 pub use receiver::Receiver;

@@ -5,10 +5,12 @@ ghost use Rattle.rams_model.specs.Receiver.{or_begun, first_number, came_into, a
 ghost use Rattle.receiver_core.specs.{IsSafe, joining_by, as_shown};
 
 use crate::datagrams::join_datagram;
+use crate::lent::Lent;
 use crate::numbers::first_number;
+use crate::reading::stripped;
 use crate::shown::Shown;
 use crate::window::Window;
-use bytes::Bytes;
+use bumpalo::Bump;
 use ram_io::NoMemory;
 use rams_model::{MediaCame, Tuned};
 use std::alloc::Global;
@@ -16,17 +18,17 @@ use wire_packets::rtp_record::Rtp;
 
 /// A retransmission with this sequence number came, of the packet with these low 16 bits. It may fix
 /// the first number, and arrives then as any other. After want of memory all is as before.
-pub(crate) fn arrive_again(
+pub(crate) fn arrive_again<'a>(
     alloc: Global,
     named: Option<u16>,
-    play: &mut Option<Window>,
+    play: &mut Option<Window<'a>>,
     sequence: u16,
     low: u16,
-    packet: Bytes,
+    packet: Lent<'a>,
 ) -> Result<MediaCame, NoMemory>
     requires { IfSome play.old IsSafe }
     ensures came { IfOk result (λ c. c ≡ came_into (or_begun play.old (first_number named sequence low)) low) }
-    ensures after { OnOk result (play.new ≡ option_map (arrived low packet) (or_begun play.old (first_number named sequence low))) }
+    ensures after { OnOk result (play.new ≡ option_map (arrived low packet.entry) (or_begun play.old (first_number named sequence low))) }
     ensures same { OnErr result (play.new ≡ play.old) }
 {
     if let Some(window) = play {
@@ -45,11 +47,12 @@ pub(crate) fn arrive_again(
 
 /// A packet of the multicast came. Where the receiver joins with it, it is answered with the RAMS-T
 /// that says so. After want of memory all is as before.
-pub(crate) fn arrive_by_multicast(
+pub(crate) fn arrive_by_multicast<'a>(
     alloc: Global,
+    arena: &'a Bump,
     tuned: &Tuned,
-    play: &mut Option<Window>,
-    packet: &Rtp<'_>,
+    play: &mut Option<Window<'a>>,
+    packet: &Rtp<'a>,
 ) -> Result<(MediaCame, Option<Vec<u8>>), NoMemory>
     requires { IfSome play.old IsSafe }
     ensures came { IfOk result (λ r. r.0 ≡ came_into play.old packet.now.sequence) }
@@ -60,22 +63,22 @@ pub(crate) fn arrive_by_multicast(
     let Some(window) = play else {
         return Ok((MediaCame::BeforeFirst, None));
     };
-    let stripped = Bytes::from_vec(packet.strip(alloc)?)?;
+    let stripped = stripped(alloc, arena, packet)?;
     arrive_and_join(alloc, tuned, window, packet.sequence(), stripped)
 }
 
 // A packet of the multicast with these low 16 bits arrives, and the receiver may join with it.
-fn arrive_and_join(
+fn arrive_and_join<'a>(
     alloc: Global,
     tuned: &Tuned,
-    window: &mut Window,
+    window: &mut Window<'a>,
     low: u16,
-    packet: Bytes,
+    packet: Lent<'a>,
 ) -> Result<(MediaCame, Option<Vec<u8>>), NoMemory>
     requires { IsSafe window.old }
     ensures came { IfOk result (λ r. r.0 ≡ came_into (Some window.old) low) }
     ensures join { IfOk result (λ r. option_map (λ v. v.items) r.1 ≡ option_map (join_datagram tuned.now) (joining_by low (Some window.old))) }
-    ensures after { OnOk result (window.new ≡ arrived_by_multicast low packet window.old) }
+    ensures after { OnOk result (window.new ≡ arrived_by_multicast low packet.entry window.old) }
     ensures same { OnErr result (window.new ≡ window.old) }
 {
     let n = window.number_of(low);
@@ -89,7 +92,7 @@ fn arrive_and_join(
 }
 
 /// The next packet, presented, where it arrived.
-pub(crate) fn present(play: &mut Option<Window>) -> Option<Shown>
+pub(crate) fn present<'a>(play: &mut Option<Window<'a>>) -> Option<Shown<'a>>
     requires { IfSome play.old IsSafe }
     ensures shown { result ≡ option_map as_shown (option_and_then presented play.old) }
     ensures after { play.new ≡ option_map after_presenting play.old }

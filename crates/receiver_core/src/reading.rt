@@ -1,13 +1,14 @@
 //! What datagrams are to a receiver.
 ghost use Rattle.std.specs.Prelude.{◌≡◌, ℕ, ◌<◌, ◌≤◌, length, option_map, IfOk, IfSome};
 ghost use Rattle.rams_model.specs.Receiver.{again, brought_again, brought_by_multicast, told_by, first_info, if_info, is_of, tells_of_burst, info_about};
-ghost use Rattle.rams_model.specs.Formats.{original_number, spelling, original, packet_at, feedback_of};
+ghost use Rattle.rams_model.specs.Formats.{original_number, spelling, stripped, original, packet_at, feedback_of};
 ghost use Rattle.rams_model.specs.Service.{sent_again};
 ghost use Rattle.wire_packets.specs.rtcp_frame.{packets_left, shown_packet};
 ghost use Rattle.wire_packets.specs.rtcp_feedback.{shown_feedback};
 ghost use Rattle.receiver_core.specs.{as_again, as_multicast, as_told};
 
-use bytes::Bytes;
+use crate::lent::Lent;
+use bumpalo::Bump;
 use ram_io::NoMemory;
 use rams_model::response::{ACCEPTED, UPDATED};
 use rams_model::{FMT_RAMS, Info, InfoCame, MediaCame, SFMT_RAMS_I, Tuned};
@@ -42,7 +43,12 @@ pub(crate) fn read_again<'a>(tuned: &Tuned, bytes: &'a [u8]) -> Result<Rtp<'a>, 
 }
 
 /// The number of the packet that a retransmission brings, and the packet.
-pub(crate) fn original_of(alloc: Global, packet: &Rtp<'_>, pt: u8) -> Result<(u16, Bytes), NoMemory>
+pub(crate) fn original_of<'a>(
+    alloc: Global,
+    arena: &'a Bump,
+    packet: &Rtp<'_>,
+    pt: u8,
+) -> Result<(u16, Lent<'a>), NoMemory>
     requires { pt < 128 }
     ensures number { IfOk result (λ r. r.0 ≡ original_number packet.now) }
     ensures packet { IfOk result (λ r. r.1 ≡ spelling (original packet.now pt)) }
@@ -50,7 +56,7 @@ pub(crate) fn original_of(alloc: Global, packet: &Rtp<'_>, pt: u8) -> Result<(u1
     let Ok((low, original)) = restore(alloc, packet, pt) else {
         return Err(NoMemory);
     };
-    Ok((low, Bytes::from_vec(original)?))
+    Ok((low, Lent::copied(arena, &original)?))
 }
 
 /// The sequence number of a packet whose retransmission under this payload type, whatever its sequence
@@ -102,6 +108,20 @@ pub(crate) fn read_multicast<'a>(tuned: &Tuned, bytes: &'a [u8]) -> Result<Rtp<'
         return Err(MediaCame::Foreign);
     }
     Ok(packet)
+}
+
+/// A packet without its padding. Its own bytes are lent where it has none.
+pub(crate) fn stripped<'a>(
+    alloc: Global,
+    arena: &'a Bump,
+    packet: &Rtp<'a>,
+) -> Result<Lent<'a>, NoMemory>
+    ensures { IfOk result (λ lent. lent ≡ stripped packet.now) }
+{
+    if let Some(bytes) = packet.bare() {
+        return Ok(Lent::of(bytes));
+    }
+    Lent::copied(arena, &packet.strip(alloc)?)
 }
 
 /// The RAMS-I to take up in a datagram, or what becomes of the datagram (RFC 6285, 7.3).

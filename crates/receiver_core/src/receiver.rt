@@ -1,6 +1,7 @@
 //! The receiver.
 use crate::asking::ask_in_play;
 use crate::datagrams::{bye_datagram, request_datagram};
+use crate::lent::Lent;
 use crate::numbers::distance_from;
 use crate::playing::{arrive_again, arrive_by_multicast, present};
 use crate::reading::{
@@ -8,26 +9,26 @@ use crate::reading::{
 };
 use crate::shown::Shown;
 use crate::window::Window;
-use bytes::Bytes;
+use bumpalo::Bump;
 use ram_io::NoMemory;
 use rams_model::response::{ACCEPTED, BURST_LOST, COMPLETED};
 use rams_model::{Info, InfoCame, MediaCame, Octets, Tuned};
 use std::alloc::Global;
 use std::marker::Model;
 
-/// A receiver of one channel.
+/// A receiver of one channel. The packets that wait to be presented are lent by an arena.
 #[derive(Drop)]
-pub struct Receiver {
+pub struct Receiver<'a> {
     tuned: Tuned,
     /// The sequence number with which the burst begins, of the RAMS-I that was taken.
     named: Option<u16>,
     /// The end of the burst was told after that.
     ended: bool,
     /// What is played, once the first number is fixed.
-    play: Option<Window>,
+    play: Option<Window<'a>>,
 }
 
-impl Model for Receiver {
+impl<'a> Model for Receiver<'a> {
     ghost use Rattle.std.specs.Prelude.{◌<◌, ◌^◌, IfSome};
     ghost use Rattle.receiver_core.specs.States.{Seen, IsBounded};
 
@@ -42,7 +43,7 @@ impl Model for Receiver {
     } };
 }
 
-impl Receiver {
+impl<'a> Receiver<'a> {
     ghost use Rattle.std.specs.Prelude.{◌≡◌, ◌+◌, ◌<◌, ◌≤◌, ◌^◌, option_map, IfOk, IfErr, IfSome, OnOk, OnErr};
     ghost use Rattle.rams_model.specs.Formats.{packet_at};
     ghost use Rattle.rams_model.specs.Service.{sent_again};
@@ -51,7 +52,7 @@ impl Receiver {
 
     /// A receiver that has got nothing, and the datagram by which it asks for a burst: a RAMS-R (RFC
     /// 6285, 7.2) behind a report and its name. Payload types are below 128.
-    pub fn tune(alloc: Global, t: Tuned) -> Result<(Receiver, Vec<u8>), NoMemory>
+    pub fn tune(alloc: Global, t: Tuned) -> Result<(Receiver<'a>, Vec<u8>), NoMemory>
         requires media { t.pt < 128 }
         requires again { t.rtx < 128 }
         ensures receiver { IfOk result (λ r. r.0 ≡ just_tuned t) }
@@ -89,7 +90,12 @@ impl Receiver {
 
     /// What becomes of a datagram of the retransmission session (RFC 4588, 4). After want of memory
     /// all is as before.
-    pub fn rtx(&mut self, alloc: Global, bytes: &[u8]) -> Result<MediaCame, NoMemory>
+    pub fn rtx(
+        &mut self,
+        alloc: Global,
+        arena: &'a Bump,
+        bytes: &[u8],
+    ) -> Result<MediaCame, NoMemory>
         requires few { reach self.old < 2 ^ 40 }
         ensures came { IfOk result (λ c. c ≡ media_answer (brought_again self.old.tuned bytes.now) self.old.got) }
         ensures after { OnOk result (self.new ≡ with_got (after_media (brought_again self.old.tuned bytes.now) self.old.got) self.old) }
@@ -100,17 +106,18 @@ impl Receiver {
             Ok(packet) => packet,
             Err(came) => return Ok(came),
         };
-        let (low, original) = original_of(alloc, &packet, self.tuned.pt)?;
+        let (low, original) = original_of(alloc, arena, &packet, self.tuned.pt)?;
         self.come(alloc, packet.sequence(), low, original)
     }
 
     /// What becomes of the retransmission of a packet under this payload type, below 128, and sequence
     /// number: what `rtx` says of its bytes (RFC 4588, 4). Where it brings the packet again byte for byte
-    /// it isn't spelled, and what waits shares the packet. After want of memory all is as before.
+    /// it isn't spelled, and what waits is the packet as it is lent. After want of memory all is as before.
     pub fn again(
         &mut self,
         alloc: Global,
-        packet: &Bytes,
+        arena: &'a Bump,
+        packet: &'a [u8],
         payload_type: u8,
         sequence: u16,
     ) -> Result<MediaCame, NoMemory>
@@ -123,10 +130,9 @@ impl Receiver {
     {
         let Some(low) = number_brought(&self.tuned, packet, payload_type) else {
             let bytes = spell_again(alloc, packet, payload_type, sequence)?;
-            return self.rtx(alloc, &bytes);
+            return self.rtx(alloc, arena, &bytes);
         };
-        let shared = packet.clone()?;
-        self.come(alloc, sequence, low, shared)
+        self.come(alloc, sequence, low, Lent::of(packet))
     }
 
     // A retransmission with this sequence number comes, of the packet with these low 16 bits. After want
@@ -136,11 +142,11 @@ impl Receiver {
         alloc: Global,
         sequence: u16,
         low: u16,
-        packet: Bytes,
+        packet: Lent<'a>,
     ) -> Result<MediaCame, NoMemory>
         requires few { reach self.old < 2 ^ 40 }
-        ensures came { IfOk result (λ c. c ≡ media_answer (again sequence low packet) self.old.got) }
-        ensures after { OnOk result (self.new ≡ with_got (after_media (again sequence low packet) self.old.got) self.old) }
+        ensures came { IfOk result (λ c. c ≡ media_answer (again sequence low packet.entry) self.old.got) }
+        ensures after { OnOk result (self.new ≡ with_got (after_media (again sequence low packet.entry) self.old.got) self.old) }
         ensures few { reach self.new ≤ reach self.old + 1 }
         ensures same { OnErr result (self.new ≡ self.old) }
     {
@@ -153,7 +159,8 @@ impl Receiver {
     pub fn multicast(
         &mut self,
         alloc: Global,
-        bytes: &[u8],
+        arena: &'a Bump,
+        bytes: &'a [u8],
     ) -> Result<(MediaCame, Option<Vec<u8>>), NoMemory>
         requires few { reach self.old < 2 ^ 40 }
         ensures came { IfOk result (λ r. r.0 ≡ media_answer (brought_by_multicast self.old.tuned bytes.now) self.old.got) }
@@ -167,7 +174,7 @@ impl Receiver {
             Ok(packet) => packet,
             Err(came) => return Ok((came, None)),
         };
-        let answer = arrive_by_multicast(alloc, &self.tuned, &mut self.play, &packet)?;
+        let answer = arrive_by_multicast(alloc, arena, &self.tuned, &mut self.play, &packet)?;
         Ok(answer)
     }
 
@@ -189,7 +196,7 @@ impl Receiver {
 
     /// The next packet, presented; `None` exactly where the first number isn't fixed, or the next
     /// number didn't arrive.
-    pub fn present(&mut self) -> Option<Shown>
+    pub fn present(&mut self) -> Option<Shown<'a>>
         ensures shown { result ≡ option_map as_shown (shown_now self.old.got) }
         ensures after { self.new ≡ with_got (after_shown self.old.got) self.old }
         ensures reach { reach self.new ≡ reach self.old }
@@ -198,9 +205,9 @@ impl Receiver {
     }
 
     /// The receiver leaves: its BYE (RFC 3550, 6.6). After want of memory it is handed back.
-    pub fn leave(self, alloc: Global) -> Result<Vec<u8>, (Receiver, NoMemory)>
-        ensures datagram { IfOk result (λ v. v.items ≡ bye_datagram self.tuned) }
-        ensures back { IfErr result (λ e. e.0 ≡ self) }
+    pub fn leave(self, alloc: Global) -> Result<Vec<u8>, (Receiver<'a>, NoMemory)>
+        ensures datagram { IfOk result (λ v. v.items ≡ bye_datagram self.entry.tuned) }
+        ensures back { IfErr result (λ e. e.0 ≡ self.entry) }
     {
         match bye_datagram(alloc, &self.tuned) {
             Ok(text) => Ok(text),

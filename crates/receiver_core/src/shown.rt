@@ -1,11 +1,11 @@
 //! What a receiver presents.
-use bytes::Bytes;
+use crate::lent::Lent;
 
 /// A packet that a receiver presents.
 #[derive(Drop)]
-pub struct Shown {
+pub struct Shown<'a> {
     /// The receiver's number of it.
     pub n: u64,
     /// The packet, without its padding.
-    pub packet: Bytes,
+    pub packet: Lent<'a>,
 }

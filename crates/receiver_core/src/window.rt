@@ -4,9 +4,9 @@ ghost use Rattle.std.specs.List.{insert};
 ghost use Rattle.rams_model.specs.Receiver.{Playing, playing_from, nearest, came, has_piece, with_arrival, joining, join_kept, presented, after_presenting, last_number, missing, most_named};
 ghost use Rattle.receiver_core.specs.{as_shown, pieces_of, Rise, AreBelow, IsPlace, IsGap};
 
+use crate::lent::Lent;
 use crate::numbers::{ROOM, nearest};
 use crate::shown::Shown;
-use bytes::Bytes;
 use ram_io::NoMemory;
 use rams_model::MediaCame;
 use reckoning::ext_seq::SEQUENCE_NUMBERS;
@@ -20,16 +20,16 @@ const MOST_NAMED: usize = 256;
 /// What a receiver plays. Most packets come in order: one goes behind those that wait, and is presented
 /// from their front.
 #[derive(Drop)]
-pub(crate) struct Window {
+pub(crate) struct Window<'a> {
     first: u64,
     next: u64,
     /// The packets that arrived and aren't presented, by rising number.
-    waits: VecDeque<Shown>,
+    waits: VecDeque<Shown<'a>>,
     /// The number of the packet with which the receiver joined the multicast.
     joined: Option<u64>,
 }
 
-impl Model for Window {
+impl<'a> Model for Window<'a> {
     ghost use Rattle.rams_model.specs.Receiver.{Playing};
     ghost use Rattle.receiver_core.specs.Pieces.{pieces_of, Rise};
 
@@ -40,9 +40,9 @@ impl Model for Window {
     ghost invariant = { λ w. Rise w.next w.waits.items };
 }
 
-impl Window {
+impl<'a> Window<'a> {
     /// Nothing arrived yet, and this number is the first. It takes no memory.
-    pub(crate) fn new(alloc: Global, first: u64) -> Window
+    pub(crate) fn new(alloc: Global, first: u64) -> Window<'a>
         ensures { result ≡ playing_from first }
     {
         Window {
@@ -85,10 +85,10 @@ impl Window {
 
     /// A packet with this number arrives: it is kept where it is new and has room. After want of
     /// memory all is as before.
-    pub(crate) fn arrive(&mut self, n: u64, packet: Bytes) -> Result<MediaCame, NoMemory>
+    pub(crate) fn arrive(&mut self, n: u64, packet: Lent<'a>) -> Result<MediaCame, NoMemory>
         requires { self.old.next < 2 ^ 62 }
         ensures came { IfOk result (λ c. c ≡ came self.old n) }
-        ensures after { OnOk result (self.new ≡ with_arrival n packet self.old) }
+        ensures after { OnOk result (self.new ≡ with_arrival n packet.entry self.old) }
         ensures same { OnErr result (self.new ≡ self.old) }
     {
         if n < self.next {
@@ -126,7 +126,7 @@ impl Window {
     }
 
     /// The next packet, where it arrived.
-    pub(crate) fn present(&mut self) -> Option<Shown>
+    pub(crate) fn present(&mut self) -> Option<Shown<'a>>
         requires { self.old.next < 2 ^ 62 }
         ensures shown { result ≡ option_map as_shown (presented self.old) }
         ensures after { self.new ≡ after_presenting self.old }
@@ -172,7 +172,7 @@ impl Window {
 }
 
 // Whether the packet with a number waits, where so many wait with numbers below it.
-fn waits_at(waits: &VecDeque<Shown>, passed: usize, n: u64) -> bool
+fn waits_at(waits: &VecDeque<Shown<'_>>, passed: usize, n: u64) -> bool
     requires rise { Rise 0 waits.now.items }
     requires below { AreBelow n waits.now.items passed }
     ensures waits { result ≡ has_piece n (pieces_of waits.now.items) }
@@ -185,9 +185,9 @@ fn waits_at(waits: &VecDeque<Shown>, passed: usize, n: u64) -> bool
 }
 
 // Puts a packet at this place among those that wait. Most come in order, and go behind the last.
-fn put(waits: &mut VecDeque<Shown>, place: usize, shown: Shown) -> Result<(), NoMemory>
+fn put<'a>(waits: &mut VecDeque<Shown<'a>>, place: usize, shown: Shown<'a>) -> Result<(), NoMemory>
     requires { place ≤ length waits.old.items }
-    ensures items { OnOk result (waits.new.items ≡ insert waits.old.items place shown) }
+    ensures items { OnOk result (waits.new.items ≡ insert waits.old.items place shown.entry) }
     ensures same { OnErr result (waits.new.items ≡ waits.old.items) }
 {
     if place == waits.len() {
@@ -199,7 +199,7 @@ fn put(waits: &mut VecDeque<Shown>, place: usize, shown: Shown) -> Result<(), No
 }
 
 // Where the packet with a number waits, or where it would.
-fn place_in(waits: &VecDeque<Shown>, n: u64) -> Result<usize, usize>
+fn place_in(waits: &VecDeque<Shown<'_>>, n: u64) -> Result<usize, usize>
     requires { Rise 0 waits.now.items }
     ensures { MatchResult result (IsPlace n waits.now.items) (IsGap n waits.now.items) }
 {

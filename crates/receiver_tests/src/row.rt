@@ -2,7 +2,7 @@
 ghost use Rattle.std.specs.Prelude.{◌≡◌, ◌+◌, ◌<◌, ◌≤◌, ◌^◌, IfOk, OnOk, length};
 ghost use Rattle.receiver_core.specs.{reach};
 
-use receiver_core::{InfoCame, MediaCame, Receiver, Shown, Tuned};
+use receiver_core::{Bump, InfoCame, Lent, MediaCame, Receiver, Shown, Tuned};
 use std::alloc::Global;
 use std::fmt::Display;
 use std::process::Abort;
@@ -55,7 +55,7 @@ pub fn datagram(alloc: Global, message: &[&str]) -> Result<Vec<u8>, Fail> {
 }
 
 /// A receiver that has got nothing.
-pub fn tuned(alloc: Global) -> Result<Receiver, Fail>
+pub fn tuned<'a>(alloc: Global) -> Result<Receiver<'a>, Fail>
     ensures { IfOk result (λ receiver. reach receiver ≡ 0) }
 {
     let Ok((receiver, _)) = Receiver::tune(alloc, TUNED) else {
@@ -73,7 +73,7 @@ fn same<T: PartialEq, C: Display>(rt: &impl Abort, got: &T, want: &T, of: &C) {
 fn expect_told(
     rt: &impl Abort,
     alloc: Global,
-    receiver: &mut Receiver,
+    receiver: &mut Receiver<'_>,
     words: Words,
     expected: InfoCame,
     place: usize,
@@ -86,10 +86,11 @@ fn expect_told(
 }
 
 // A retransmission is answered so.
-fn expect_again(
+fn expect_again<'a>(
     rt: &impl Abort,
     alloc: Global,
-    receiver: &mut Receiver,
+    arena: &'a Bump,
+    receiver: &mut Receiver<'a>,
     words: Words,
     expected: MediaCame,
     place: usize,
@@ -97,23 +98,33 @@ fn expect_again(
     requires { reach receiver.old < 2 ^ 40 }
     ensures { OnOk result (reach receiver.new ≤ reach receiver.old + 1) }
 {
-    let Ok(came) = receiver.rtx(alloc, &bytes_of(alloc, words)?) else {
+    let Ok(came) = receiver.rtx(alloc, arena, &bytes_of(alloc, words)?) else {
         return Err(Fail::new("no memory"));
     };
     same(rt, &came, &expected, &place);
     Ok(())
 }
 
+// The bytes, in the arena.
+fn lend<'a>(arena: &'a Bump, bytes: &[u8]) -> Result<&'a [u8], Fail> {
+    match Lent::copied(arena, bytes) {
+        Ok(lent) => Ok(lent.as_slice()),
+        Err(_) => Err(Fail::new("no memory")),
+    }
+}
+
 // The answer to a packet of the multicast.
-fn answer(
+fn answer<'a>(
     alloc: Global,
-    receiver: &mut Receiver,
+    arena: &'a Bump,
+    receiver: &mut Receiver<'a>,
     words: Words,
 ) -> Result<(MediaCame, Option<Vec<u8>>), Fail>
     requires { reach receiver.old < 2 ^ 40 }
     ensures { OnOk result (reach receiver.new ≤ reach receiver.old + 1) }
 {
-    let Ok(answer) = receiver.multicast(alloc, &bytes_of(alloc, words)?) else {
+    let packet = lend(arena, &bytes_of(alloc, words)?)?;
+    let Ok(answer) = receiver.multicast(alloc, arena, packet) else {
         return Err(Fail::new("no memory"));
     };
     Ok(answer)
@@ -144,10 +155,11 @@ fn expect_answer(
 }
 
 // A packet of the multicast is answered so.
-fn expect_multicast(
+fn expect_multicast<'a>(
     rt: &impl Abort,
     alloc: Global,
-    receiver: &mut Receiver,
+    arena: &'a Bump,
+    receiver: &mut Receiver<'a>,
     words: Words,
     said: Said,
     place: usize,
@@ -155,7 +167,7 @@ fn expect_multicast(
     requires { reach receiver.old < 2 ^ 40 }
     ensures { OnOk result (reach receiver.new ≤ reach receiver.old + 1) }
 {
-    let (came, text) = answer(alloc, receiver, words)?;
+    let (came, text) = answer(alloc, arena, receiver, words)?;
     expect_answer(rt, alloc, came, text, said, place)
 }
 
@@ -163,7 +175,7 @@ fn expect_multicast(
 fn expect_datagrams(
     rt: &impl Abort,
     alloc: Global,
-    receiver: &Receiver,
+    receiver: &Receiver<'_>,
     messages: &[Words],
     place: usize,
 ) -> Result<(), Fail> {
@@ -179,10 +191,11 @@ fn expect_datagrams(
 }
 
 // A call is answered so.
-fn expect(
+fn expect<'a>(
     rt: &impl Abort,
     alloc: Global,
-    receiver: &mut Receiver,
+    arena: &'a Bump,
+    receiver: &mut Receiver<'a>,
     call: Call,
     said: Said,
     place: usize,
@@ -195,9 +208,9 @@ fn expect(
             expect_told(rt, alloc, receiver, words, expected, place)
         }
         (Call::Rtx(words), Said::Came(expected)) => {
-            expect_again(rt, alloc, receiver, words, expected, place)
+            expect_again(rt, alloc, arena, receiver, words, expected, place)
         }
-        (Call::Multicast(words), _) => expect_multicast(rt, alloc, receiver, words, said, place),
+        (Call::Multicast(words), _) => expect_multicast(rt, alloc, arena, receiver, words, said, place),
         (Call::Ask, Said::Asks(messages)) => expect_datagrams(rt, alloc, receiver, messages, place),
         _ => {
             assert!(rt; false, "{place}");
@@ -207,7 +220,7 @@ fn expect(
 }
 
 // What is presented next. The call stands alone, as its contract is long.
-fn presented(receiver: &mut Receiver) -> Option<Shown>
+fn presented<'a>(receiver: &mut Receiver<'a>) -> Option<Shown<'a>>
     ensures { reach receiver.new ≡ reach receiver.old }
 {
     receiver.present()
@@ -217,7 +230,7 @@ fn presented(receiver: &mut Receiver) -> Option<Shown>
 fn expect_shown(
     rt: &impl Abort,
     alloc: Global,
-    receiver: &mut Receiver,
+    receiver: &mut Receiver<'_>,
     shown: &[(u64, Words)],
 ) -> Result<(), Fail>
     ensures { OnOk result (reach receiver.new ≡ reach receiver.old) }
@@ -237,10 +250,11 @@ fn expect_shown(
 }
 
 // The rows' calls of a receiver that has got nothing.
-fn expect_rows(
+fn expect_rows<'a>(
     rt: &impl Abort,
     alloc: Global,
-    receiver: &mut Receiver,
+    arena: &'a Bump,
+    receiver: &mut Receiver<'a>,
     rows: &[Row],
 ) -> Result<(), Fail>
     requires few { length rows.now < 1000 }
@@ -248,7 +262,7 @@ fn expect_rows(
 {
     let mut place = 0usize;
     for (call, said, shown) in rows {
-        expect(rt, alloc, receiver, *call, *said, place)?;
+        expect(rt, alloc, arena, receiver, *call, *said, place)?;
         expect_shown(rt, alloc, receiver, shown)?;
         place = place.wrapping_add(1);
     }
@@ -258,8 +272,9 @@ fn expect_rows(
 /// Each row's call of a receiver is answered as the row says, and what it says is presented.
 pub fn expect_all(rt: &impl Abort, alloc: Global, rows: &[Row]) -> Result<(), Fail> {
     assert!(rt; rows.len() < 1000);
+    let arena = Bump::new(alloc);
     let mut receiver = tuned(alloc)?;
-    let expected = expect_rows(rt, alloc, &mut receiver, rows);
+    let expected = expect_rows(rt, alloc, &arena, &mut receiver, rows);
     let_go(receiver);
     expected
 }

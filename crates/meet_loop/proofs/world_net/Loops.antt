@@ -1,6 +1,6 @@
 -- Lists that grow by what is left of others.
-use Rattle.std.proofs.Common.{◌≡◌, ℕ, ◌+◌, ◌<◌, ◌≤◌, List, [], ◌∷◌, ◌++◌, map, length, get_or, take, drop, sym, ap, ◌∙◌, append_assoc, append-nil}
-use Rattle.std.proofs.lemmas.List.{drop_more, drop_all}
+use Rattle.std.proofs.Common.{◌≡◌, ℕ, ◌+◌, ◌<◌, ◌≤◌, min, List, [], ◌∷◌, ◌++◌, map, length, get_or, take, drop, sym, ap, ◌∙◌, append_assoc, append-nil}
+use Rattle.std.proofs.lemmas.List.{drop_more, drop_all, drop_min, drop-drop, length-take}
 use Rattle.rams_model.specs.declared.Note.{Note}
 use Rattle.rams_model.specs.Texts.{order_count}
 use Rattle.meet_loop.specs.world_laws.World.{Datagram}
@@ -14,6 +14,10 @@ goes_on {B} new done more next rest whole is inv e =
 
 pub goes_on_one : {B : Type 0} (new done more rest whole : List B) (x y : B) → new ≡ done ++ x ∷ [] → x ≡ y → done ++ more ≡ whole → more ≡ y ∷ rest → new ++ rest ≡ whole
 goes_on_one {B} new done more rest whole x y is same inv e = goes_on new done more (y ∷ []) rest whole (is ∙ ap (λ (z : B). done ++ z ∷ []) same) inv e
+
+-- what is made of the same bytes stands behind what was there
+pub with_bytes : {B : Type 0} {new : List B} (done : List B) (f : List ℕ → B) {xs ys : List ℕ} → new ≡ done ++ f xs ∷ [] → xs ≡ ys → new ≡ done ++ f ys ∷ []
+with_bytes {B} done f is same = is ∙ ap (λ (bytes : List ℕ). done ++ f bytes ∷ []) same
 
 -- with nothing left
 pub ended : {B : Type 0} (done more whole : List B) → done ++ more ≡ whole → more ≡ [] → done ≡ whole
@@ -34,6 +38,13 @@ notes_step id notes i d left front back count new done whole below asks first ot
     ∙ ap (λ (l : List Datagram). note_with_sent id n l ++ notes_with_sent id (drop (i + 1) notes) (drop count left)) (sym first)
     ∙ ap (λ (l : List Datagram). note_with_sent id n front ++ notes_with_sent id (drop (i + 1) notes) l) (sym others) in
     goes_on new done (notes_with_sent id (drop i notes) left) (note_with_sent id n front) (notes_with_sent id (drop (i + 1) notes) back) whole is inv more
+
+-- so many of what is left, or all of it, are left behind
+pub drop_told : {A : Type 0} (xs : List A) (told count : ℕ) (those : List A) → those ≡ take count (drop told xs) → drop (told + length those) xs ≡ drop count (drop told xs)
+drop_told {A} xs told count those is =
+    let left = drop told xs in
+    let long : length those ≡ min count (length left) = ap length is ∙ length-take count left in
+    sym (drop-drop (length those) told xs) ∙ ap (λ (n : ℕ). drop n left) long ∙ drop_min count left
 
 pub notes_past : (id : ℕ) (notes : List Note) (sent : List Datagram) (i : ℕ) → length notes ≤ i → notes_with_sent id (drop i notes) sent ≡ []
 unfolding notes_with_sent

@@ -3,8 +3,8 @@ ghost use Rattle.std.specs.Prelude.{◌≡◌, ◌<◌, ◌++◌, IfOk, IfSome, 
 ghost use Rattle.rams_model.specs.Formats.{packet_at};
 ghost use Rattle.rams_model.specs.Service.{sent_again};
 
-use bytes::Bytes;
 use ram_io::NoMemory;
+use receiver_core::Lent;
 use std::marker::Model;
 use wire_packets::rtp_record::Rtp;
 use wire_packets::rtx_payload::{append_plain, append_rtx, is_plain};
@@ -16,16 +16,16 @@ struct Again {
     sequence: u16,
 }
 
-/// The bytes of a datagram. A retransmission shares the packet that it repeats, and is spelled only
+/// The bytes of a datagram. A retransmission is lent the packet that it repeats, and is spelled only
 /// where it is read.
 #[derive(Drop)]
-pub struct SentBytes {
-    bytes: Bytes,
+pub struct SentBytes<'a> {
+    bytes: Lent<'a>,
     /// The bytes are the packet of a retransmission.
     again: Option<Again>,
 }
 
-impl Model for SentBytes {
+impl<'a> Model for SentBytes<'a> {
     ghost use Rattle.std.specs.Prelude.{List, ℕ, ◌<◌, IfSome};
 
     ghost Value = { List ℕ };
@@ -37,50 +37,30 @@ impl Model for SentBytes {
     ghost invariant = { λ sent. IfSome sent.again (λ again. again.payload_type < 128) };
 }
 
-impl SentBytes {
+impl<'a> SentBytes<'a> {
     /// These bytes. It takes no memory.
-    pub fn whole(bytes: Bytes) -> SentBytes
-        ensures { result ≡ bytes }
+    pub fn whole(bytes: &'a [u8]) -> SentBytes<'a>
+        ensures { result ≡ bytes.now }
     {
-        SentBytes { bytes, again: None }
+        SentBytes {
+            bytes: Lent::of(bytes),
+            again: None,
+        }
     }
 
     /// The retransmission of a packet (RFC 4588, 4); no bytes where it doesn't read as one. It takes no
     /// memory.
-    pub fn again(packet: Bytes, payload_type: u8, sequence: u16) -> SentBytes
+    pub fn again(packet: &'a [u8], payload_type: u8, sequence: u16) -> SentBytes<'a>
         requires { payload_type < 128 }
-        ensures { result ≡ sent_again payload_type sequence (packet_at packet) }
+        ensures { result ≡ sent_again payload_type sequence (packet_at packet.now) }
     {
         SentBytes {
-            bytes: packet,
+            bytes: Lent::of(packet),
             again: Some(Again {
                 payload_type,
                 sequence,
             }),
         }
-    }
-
-    /// The same bytes, which it shares.
-    pub fn share(&self) -> Result<SentBytes, NoMemory>
-        ensures { IfOk result (λ sent. sent ≡ self.now) }
-    {
-        Ok(SentBytes {
-            bytes: self.bytes.clone()?,
-            again: self.again,
-        })
-    }
-
-    /// The packet that they repeat, where they were made of one.
-    pub fn repeat(&self) -> Option<Repeat<'_>>
-        ensures bytes { IfSome result (λ r. self.now ≡ sent_again r.payload_type r.sequence (packet_at r.packet.now)) }
-        ensures kind { IfSome result (λ r. r.payload_type < 128) }
-    {
-        let again = self.again?;
-        Some(Repeat {
-            packet: &self.bytes,
-            payload_type: again.payload_type,
-            sequence: again.sequence,
-        })
     }
 
     /// Appends them to a text. An error changes nothing.
@@ -89,8 +69,15 @@ impl SentBytes {
         ensures same { OnErr result (text.new.items ≡ text.old.items) }
     {
         match self.again {
-            Some(again) => { append_again(text, &self.bytes, again.payload_type, again.sequence) }
-            None => Ok(text.extend_from_slice(&self.bytes)?),
+            Some(again) => {
+                append_again(
+                    text,
+                    self.bytes.as_slice(),
+                    again.payload_type,
+                    again.sequence,
+                )
+            }
+            None => Ok(text.extend_from_slice(self.bytes.as_slice())?),
         }
     }
 }
@@ -98,7 +85,7 @@ impl SentBytes {
 /// A retransmission by its packet (RFC 4588, 4).
 #[derive(Clone, Copy)]
 pub struct Repeat<'a> {
-    pub packet: &'a Bytes,
+    pub packet: &'a [u8],
     /// Below 128.
     pub payload_type: u8,
     pub sequence: u16,

@@ -1,7 +1,7 @@
 //! What happens in a world, and what is said of it.
 use crate::world_laws::sent_bytes::SentBytes;
-use bytes::Bytes;
 use rams_model::{InfoCame, MediaCame, Note};
+use receiver_core::Lent;
 use server_hub::HubEvent;
 
 /// One event of a world.
@@ -23,21 +23,37 @@ pub enum WorldEvent {
 
 /// What is said of an event of a world.
 #[derive(Drop)]
-pub enum WorldItem {
+pub enum WorldItem<'a> {
     /// There is no channel of this number.
     NoChannel(u16),
     /// A note of the channel.
     Note(Note),
     /// A datagram of the server to this client.
-    Send { client: u64, bytes: SentBytes },
+    Send {
+        client: u64,
+        bytes: SentBytes<'a>,
+    },
     /// A datagram of this client's receiver to the feedback target (RFC 4585).
-    Post { client: u64, bytes: Bytes },
+    Post {
+        client: u64,
+        bytes: Lent<'a>,
+    },
     /// What became of a RAMS-I (RFC 6285, 7.3) that was delivered.
-    Info { client: u64, came: InfoCame },
+    Info {
+        client: u64,
+        came: InfoCame,
+    },
     /// What became of a retransmission or a multicast packet that was delivered.
-    Media { client: u64, came: MediaCame },
+    Media {
+        client: u64,
+        came: MediaCame,
+    },
     /// A receiver presents this packet, under the receiver's number of it.
-    Show { client: u64, n: u64, packet: Bytes },
+    Show {
+        client: u64,
+        n: u64,
+        packet: Lent<'a>,
+    },
     /// This client was tuned to the channel before.
     TunedBefore(u64),
     /// This client has no receiver of the channel.
@@ -52,7 +68,7 @@ pub enum WorldItem {
 
 /// What is said, and of which channel; the number is 0 where a datagram isn't there.
 #[derive(Drop)]
-pub struct WorldNote {
+pub struct WorldNote<'a> {
     pub id: u16,
-    pub item: WorldItem,
+    pub item: WorldItem<'a>,
 }

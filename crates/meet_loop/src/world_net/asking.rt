@@ -12,14 +12,14 @@ use crate::world_net::telling::say;
 use ram_io::NoMemory;
 use std::alloc::Global;
 
-impl Parts {
+impl<'a> Parts<'a> {
     /// The client's receiver of a channel asks.
     pub(crate) fn ask(
         &mut self,
         alloc: Global,
         id: u16,
         client: u64,
-        notes: &mut Vec<WorldNote>,
+        notes: &mut Vec<WorldNote<'a>>,
     ) -> Result<(), NoMemory>
         ensures goes { (w : World) → Stands self.old w → OnOk result (Goes (asking id client (channel_of id w.channels) w) notes.old.items notes.new.items self.new) }
         ensures few { (n : ℕ) → AreFew n self.old → AreFew n self.new }
@@ -34,7 +34,7 @@ impl Parts {
             unreachable!()
         };
         let datagrams = receiver.ask(alloc)?;
-        post_all(id, client, datagrams, notes, &mut self.parcels)
+        post_all(self.arena, id, client, datagrams, notes, &mut self.parcels)
     }
 
     /// It leaves.
@@ -43,7 +43,7 @@ impl Parts {
         alloc: Global,
         id: u16,
         client: u64,
-        notes: &mut Vec<WorldNote>,
+        notes: &mut Vec<WorldNote<'a>>,
     ) -> Result<(), NoMemory>
         ensures goes { (w : World) → Stands self.old w → OnOk result (Goes (leaving id client (channel_of id w.channels) w) notes.old.items notes.new.items self.new) }
         ensures few { (n : ℕ) → AreFew n self.old → AreFew n self.new }
@@ -60,6 +60,6 @@ impl Parts {
         let Ok(bye) = receiver.leave(alloc) else {
             return Err(NoMemory);
         };
-        post(id, client, bye, notes, &mut self.parcels)
+        post(self.arena, id, client, &bye, notes, &mut self.parcels)
     }
 }

@@ -17,13 +17,13 @@ use ram_io::NoMemory;
 use server_hub::Heard;
 use std::alloc::Global;
 
-impl Parts {
+impl<'a> Parts<'a> {
     /// The datagram of this number is delivered.
     pub(crate) fn give(
         &mut self,
         alloc: Global,
         number: u64,
-        notes: &mut Vec<WorldNote>,
+        notes: &mut Vec<WorldNote<'a>>,
     ) -> Result<(), NoMemory>
         requires { AreFew (2 ^ 40 - 1) self.old }
         ensures goes { (w : World) → Stands self.old w → OnOk result (Goes (giving number (datagram_at number w) w) notes.old.items notes.new.items self.new) }
@@ -45,7 +45,7 @@ impl Parts {
         &mut self,
         alloc: Global,
         at: usize,
-        notes: &mut Vec<WorldNote>,
+        notes: &mut Vec<WorldNote<'a>>,
     ) -> Result<(), NoMemory>
         requires there { at < length self.old.parcels.items }
         requires few { AreFew (2 ^ 40 - 1) self.old }
@@ -61,11 +61,18 @@ impl Parts {
             bytes: &self.room,
         };
         let answer = self.hub.hear(alloc, heard)?;
-        tell(alloc, &self.hub, answer, notes, &mut self.parcels)
+        tell(
+            alloc,
+            self.arena,
+            &self.hub,
+            answer,
+            notes,
+            &mut self.parcels,
+        )
     }
 
     // A RAMS-I comes to the receiver to which it was sent.
-    fn give_info(&mut self, at: usize, notes: &mut Vec<WorldNote>) -> Result<(), NoMemory>
+    fn give_info(&mut self, at: usize, notes: &mut Vec<WorldNote<'a>>) -> Result<(), NoMemory>
         requires there { at < length self.old.parcels.items }
         ensures goes { (w : World) (d : Datagram) → Stands self.old w → slice_get self.old.parcels.items at ≡ Some d
             → OnOk result (Goes (giving_by tells d w) notes.old.items notes.new.items self.new) }
@@ -85,7 +92,7 @@ impl Parts {
         alloc: Global,
         at: usize,
         n: u64,
-        notes: &mut Vec<WorldNote>,
+        notes: &mut Vec<WorldNote<'a>>,
     ) -> Result<(), NoMemory>
         requires there { at < length self.old.parcels.items }
         requires few { AreFew (2 ^ 40 - 1) self.old }
@@ -102,7 +109,17 @@ impl Parts {
         }
         let seat = &mut self.seats[place];
         let parcel = &self.parcels[at];
-        let heard = hear_again(alloc, seat, id, client, n, parcel, &mut self.room, notes);
+        let heard = hear_again(
+            alloc,
+            self.arena,
+            seat,
+            id,
+            client,
+            n,
+            parcel,
+            &mut self.room,
+            notes,
+        );
         self.places.keep(id, client, place);
         heard
     }
@@ -124,7 +141,7 @@ impl Parts {
         id: u16,
         client: u64,
         n: u64,
-        notes: &mut Vec<WorldNote>,
+        notes: &mut Vec<WorldNote<'a>>,
     ) -> Result<(), NoMemory>
         requires { AreFew (2 ^ 40 - 1) self.old }
         ensures goes { (w : World) → Stands self.old w → OnOk result (Goes (casting id client n (channel_of id w.channels) w) notes.old.items notes.new.items self.new) }
@@ -143,12 +160,21 @@ impl Parts {
             return say(notes, id, WorldItem::TooFar(client));
         }
         let seat = &mut self.seats[place];
-        hear_multicast(alloc, seat, id, client, packet, notes, &mut self.parcels)
+        hear_multicast(
+            alloc,
+            self.arena,
+            seat,
+            id,
+            client,
+            packet,
+            notes,
+            &mut self.parcels,
+        )
     }
 }
 
 // The packet of this number as it came, where it is below the end of what the channel holds.
-fn source_packet(packets: &Packets, id: u16, n: u64, hi: u64) -> Option<&[u8]>
+fn source_packet<'a>(packets: &Packets<'a>, id: u16, n: u64, hi: u64) -> Option<&'a [u8]>
     ensures { option_map (λ packet. packet.now) result ≡ packet_below (at_pair packets.now id n) n hi }
 {
     if n >= hi {

@@ -14,16 +14,16 @@ use crate::world_net::presenting::present_all;
 use crate::world_net::seat::{Seat, first_with};
 use crate::world_net::telling::say;
 use ram_io::NoMemory;
-use receiver_core::{MediaCame, Receiver};
+use receiver_core::{Bump, MediaCame, Receiver};
 use std::alloc::Global;
 
 /// A RAMS-I (RFC 6285, 7.3) is delivered to the client's receiver.
-pub(crate) fn hear_info(
-    seat: &mut Seat,
+pub(crate) fn hear_info<'a>(
+    seat: &mut Seat<'a>,
     id: u16,
     client: u64,
     bytes: &[u8],
-    notes: &mut Vec<WorldNote>,
+    notes: &mut Vec<WorldNote<'a>>,
 ) -> Result<(), NoMemory>
     requires there { IsSome seat.old.receiver }
     ensures takes { (l : Listener) → Follows seat.old l → IsAt id client l
@@ -41,15 +41,16 @@ pub(crate) fn hear_info(
 
 /// A retransmission (RFC 4588) of the source's packet `x` is delivered to it. Where it is spelled, it is
 /// in `room`.
-pub(crate) fn hear_again(
+pub(crate) fn hear_again<'a>(
     alloc: Global,
-    seat: &mut Seat,
+    arena: &'a Bump,
+    seat: &mut Seat<'a>,
     id: u16,
     client: u64,
     x: u64,
-    parcel: &Parcel,
+    parcel: &Parcel<'a>,
     room: &mut Vec<u8>,
-    notes: &mut Vec<WorldNote>,
+    notes: &mut Vec<WorldNote<'a>>,
 ) -> Result<(), NoMemory>
     requires there { IsSome seat.old.receiver }
     requires few { IfSome seat.old.receiver (λ r. reach r < 2 ^ 40) }
@@ -61,7 +62,7 @@ pub(crate) fn hear_again(
     let Some(receiver) = &mut seat.receiver else {
         unreachable!()
     };
-    let (came, first) = come_again(alloc, receiver, seat.first, x, parcel, room)?;
+    let (came, first) = come_again(alloc, arena, receiver, seat.first, x, parcel, room)?;
     seat.first = first;
     say(notes, id, WorldItem::Media { client, came })?;
     present_all(receiver, id, client, notes)
@@ -69,12 +70,13 @@ pub(crate) fn hear_again(
 
 // What becomes of a retransmission of the source's packet `x`, and the source's number of the first packet
 // then. Once that is fixed, the retransmission of a packet needn't be spelled.
-fn come_again(
+fn come_again<'a>(
     alloc: Global,
-    receiver: &mut Receiver,
+    arena: &'a Bump,
+    receiver: &mut Receiver<'a>,
     first: Option<u64>,
     x: u64,
-    parcel: &Parcel,
+    parcel: &Parcel<'a>,
     room: &mut Vec<u8>,
 ) -> Result<(MediaCame, Option<u64>), NoMemory>
     requires few { reach receiver.old < 2 ^ 40 }
@@ -86,18 +88,24 @@ fn come_again(
     if first.is_some()
         && let Some(repeat) = parcel.repeat()
     {
-        let came = receiver.again(alloc, repeat.packet, repeat.payload_type, repeat.sequence)?;
+        let came = receiver.again(
+            alloc,
+            arena,
+            repeat.packet,
+            repeat.payload_type,
+            repeat.sequence,
+        )?;
         return Ok((came, first));
     }
     parcel.spell(room)?;
     let first = first_after(first, receiver, x, room);
-    let came = receiver.rtx(alloc, room)?;
+    let came = receiver.rtx(alloc, arena, room)?;
     Ok((came, first))
 }
 
 // The source's number of the first packet once a retransmission of its packet `x` comes, which may fix
 // it.
-fn first_after(first: Option<u64>, receiver: &Receiver, x: u64, bytes: &[u8]) -> Option<u64>
+fn first_after(first: Option<u64>, receiver: &Receiver<'_>, x: u64, bytes: &[u8]) -> Option<u64>
     ensures { result ≡ first_with first x (distance_of (brought_again receiver.now.tuned bytes.now) receiver.now.got) }
 {
     match first {
@@ -108,14 +116,15 @@ fn first_after(first: Option<u64>, receiver: &Receiver, x: u64, bytes: &[u8]) ->
 
 /// The source's packet `x` is delivered to it by multicast. It may join with it, and posts a RAMS-T
 /// (RFC 6285, 7.4) then.
-pub(crate) fn hear_multicast(
+pub(crate) fn hear_multicast<'a>(
     alloc: Global,
-    seat: &mut Seat,
+    arena: &'a Bump,
+    seat: &mut Seat<'a>,
     id: u16,
     client: u64,
-    bytes: &[u8],
-    notes: &mut Vec<WorldNote>,
-    parcels: &mut Vec<Parcel>,
+    bytes: &'a [u8],
+    notes: &mut Vec<WorldNote<'a>>,
+    parcels: &mut Vec<Parcel<'a>>,
 ) -> Result<(), NoMemory>
     requires there { IsSome seat.old.receiver }
     requires few { IfSome seat.old.receiver (λ r. reach r < 2 ^ 40) }
@@ -128,8 +137,8 @@ pub(crate) fn hear_multicast(
     let Some(receiver) = &mut seat.receiver else {
         unreachable!()
     };
-    let (came, joined) = receiver.multicast(alloc, bytes)?;
+    let (came, joined) = receiver.multicast(alloc, arena, bytes)?;
     say(notes, id, WorldItem::Media { client, came })?;
-    post_joined(id, client, joined, notes, parcels)?;
+    post_joined(arena, id, client, joined, notes, parcels)?;
     present_all(receiver, id, client, notes)
 }

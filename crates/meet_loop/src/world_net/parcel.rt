@@ -11,6 +11,7 @@ use book_text::order_datagrams::{Config, render_order};
 use bytes::Bytes;
 use ram_io::NoMemory;
 use rams_model::Order;
+use receiver_core::{Bump, Lent};
 use std::alloc::Global;
 use std::marker::Model;
 
@@ -30,7 +31,7 @@ pub(crate) enum Way {
 const ROOM: usize = 1 << 16;
 
 /// Makes that room. Where there is none, it grows as it is needed.
-pub(crate) fn make_room(parcels: &mut Vec<Parcel>)
+pub(crate) fn make_room(parcels: &mut Vec<Parcel<'_>>)
     ensures { parcels.new.items ≡ parcels.old.items }
 {
     if parcels.capacity() == 0 {
@@ -47,14 +48,14 @@ enum Kind {
     Repeated,
 }
 
-/// A datagram that was sent. Its bytes are shared with what is said of it. A world keeps very many, so
+/// A datagram that was sent. Its bytes are lent, as to what is said of it. A world keeps very many, so
 /// that its parts are few bytes.
 #[derive(Drop)]
-pub(crate) struct Parcel {
+pub(crate) struct Parcel<'a> {
     client: u64,
     /// The number of the packet that is repeated; 0 where none is.
     n: u64,
-    bytes: Bytes,
+    bytes: Lent<'a>,
     id: u16,
     /// What a retransmission has in place of its packet's own (RFC 4588, 4); 0 of all else.
     sequence: u16,
@@ -62,7 +63,7 @@ pub(crate) struct Parcel {
     kind: Kind,
 }
 
-impl Model for Parcel {
+impl<'a> Model for Parcel<'a> {
     ghost use Rattle.std.specs.Prelude.{◌<◌};
     ghost use Rattle.meet_loop.specs.world_laws.World.{Datagram};
     ghost use Rattle.meet_loop.specs.world_net.Ways.{way_by, bytes_by};
@@ -74,15 +75,15 @@ impl Model for Parcel {
     ghost invariant = { λ p. p.payload_type < 128 };
 }
 
-impl Parcel {
+impl<'a> Parcel<'a> {
     /// A datagram of this client's receiver.
-    pub(crate) fn posted(id: u16, client: u64, bytes: Bytes) -> Parcel
-        ensures { result ≡ record { id = id; client = client; way = posts; bytes = bytes } }
+    pub(crate) fn posted(id: u16, client: u64, bytes: &'a [u8]) -> Parcel<'a>
+        ensures { result ≡ record { id = id; client = client; way = posts; bytes = bytes.now } }
     {
         Parcel {
             client,
             n: 0,
-            bytes,
+            bytes: Lent::of(bytes),
             id,
             sequence: 0,
             payload_type: 0,
@@ -90,9 +91,15 @@ impl Parcel {
         }
     }
 
-    /// The datagram of an order of a channel with these settings.
+    /// The datagram of an order of a channel with these settings. The packet that is sent again stays in
+    /// the arena.
     #[tactic(auto, unfolding(rams_model::specs::Service::Orders::datagram))]
-    pub(crate) fn ordered(alloc: Global, config: &Config, order: Order) -> Result<Parcel, NoMemory>
+    pub(crate) fn ordered(
+        alloc: Global,
+        arena: &'a Bump,
+        config: &Config,
+        order: Order,
+    ) -> Result<Parcel<'a>, NoMemory>
         ensures { IfOk result (λ parcel. parcel ≡ sent_of config.now order) }
     {
         match order {
@@ -104,7 +111,7 @@ impl Parcel {
             } => Ok(Parcel {
                 client,
                 n,
-                bytes: packet,
+                bytes: lend(arena, packet)?,
                 id: config.channel().id,
                 sequence: seq,
                 payload_type: config.channel().rtx,
@@ -113,7 +120,7 @@ impl Parcel {
             Order::Info { client, .. } => Ok(Parcel {
                 client,
                 n: 0,
-                bytes: Bytes::from_vec(render_order(alloc, config, &order)?)?,
+                bytes: Lent::copied(arena, &render_order(alloc, config, &order)?)?,
                 id: config.channel().id,
                 sequence: 0,
                 payload_type: 0,
@@ -147,13 +154,13 @@ impl Parcel {
     }
 
     /// The packet that its bytes repeat, where they are a retransmission.
-    pub(crate) fn repeat(&self) -> Option<Repeat<'_>>
+    pub(crate) fn repeat(&self) -> Option<Repeat<'a>>
         ensures bytes { IfSome result (λ r. self.now.bytes ≡ sent_again r.payload_type r.sequence (packet_at r.packet.now)) }
         ensures kind { IfSome result (λ r. r.payload_type < 128) }
     {
         match self.kind {
             Kind::Repeated => Some(Repeat {
-                packet: &self.bytes,
+                packet: self.bytes.as_slice(),
                 payload_type: self.payload_type,
                 sequence: self.sequence,
             }),
@@ -161,15 +168,15 @@ impl Parcel {
         }
     }
 
-    // Its bytes, which are shared.
-    fn share(&self) -> Result<SentBytes, NoMemory>
-        ensures { IfOk result (λ bytes. bytes ≡ self.now.bytes) }
+    // Its bytes.
+    fn sent(&self) -> SentBytes<'a>
+        ensures { result ≡ self.now.bytes }
     {
-        let bytes = self.bytes.clone()?;
-        Ok(match self.kind {
+        let bytes = self.bytes.as_slice();
+        match self.kind {
             Kind::Repeated => SentBytes::again(bytes, self.payload_type, self.sequence),
             Kind::Posted | Kind::Told => SentBytes::whole(bytes),
-        })
+        }
     }
 
     /// Its bytes stand in `room` then; what stood there goes.
@@ -177,16 +184,26 @@ impl Parcel {
         ensures { OnOk result (room.new.items ≡ self.now.bytes) }
     {
         room.clear();
-        self.share()?.append_to(room)
+        self.sent().append_to(room)
     }
 
     /// What is said of it where the server sent it.
-    pub(crate) fn as_sent(&self) -> Result<WorldItem, NoMemory>
-        ensures { IfOk result (λ said. said ≡ item.Send self.now.client self.now.bytes) }
+    pub(crate) fn as_sent(&self) -> WorldItem<'a>
+        ensures { result ≡ item.Send self.now.client self.now.bytes }
     {
-        Ok(WorldItem::Send {
+        WorldItem::Send {
             client: self.client,
-            bytes: self.share()?,
-        })
+            bytes: self.sent(),
+        }
     }
+}
+
+// The bytes of a packet, which stays in the arena with its block of memory.
+fn lend<'a>(arena: &'a Bump, packet: Bytes) -> Result<Lent<'a>, NoMemory>
+    ensures { IfOk result (λ lent. lent ≡ packet) }
+{
+    let Ok(kept) = arena.try_alloc(packet) else {
+        return Err(NoMemory);
+    };
+    Ok(Lent::of(kept.as_slice()))
 }

@@ -9,11 +9,11 @@ use ram_io::NoMemory;
 use receiver_core::Receiver;
 
 /// Presents all that can be, and adds what is said of that.
-pub(crate) fn present_all(
-    receiver: &mut Receiver,
+pub(crate) fn present_all<'a>(
+    receiver: &mut Receiver<'a>,
     id: u16,
     client: u64,
-    notes: &mut Vec<WorldNote>,
+    notes: &mut Vec<WorldNote<'a>>,
 ) -> Result<(), NoMemory>
     ensures notes { OnOk result (notes.new.items ≡ notes.old.items ++ map (show_at id client) (all_shown receiver.old.got)) }
     ensures receiver { OnOk result (receiver.new ≡ with_got (all_presented receiver.old.got) receiver.old) }

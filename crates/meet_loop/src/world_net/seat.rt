@@ -7,14 +7,14 @@ use receiver_core::Receiver;
 
 /// A receiver that was tuned.
 #[derive(Drop)]
-pub(crate) struct Seat {
+pub(crate) struct Seat<'a> {
     /// `None` once it left.
-    pub receiver: Option<Receiver>,
+    pub receiver: Option<Receiver<'a>>,
     /// The source's number of the receiver's first packet, once that is fixed.
     pub first: Option<u64>,
 }
 
-impl Seat {
+impl<'a> Seat<'a> {
     /// Whether the source's packet of this number is too far from the one that is presented next: its low
     /// 16 bits could stand for a nearer one.
     pub(crate) fn is_too_far(&self, x: u64) -> bool

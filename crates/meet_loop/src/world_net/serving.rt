@@ -11,48 +11,54 @@ use crate::world_net::parts::Parts;
 use crate::world_net::telling::tell;
 use ram_io::NoMemory;
 use rams_model::{LiveNote, Note};
-use server_hub::{Heard, Hub, HubAnswer, answers_of};
+use receiver_core::Bump;
+use server_hub::{Heard, HubAnswer, answers_of};
 use std::alloc::Global;
 
-impl Parts {
+impl<'a> Parts<'a> {
     /// Something comes to the server.
     pub(crate) fn serve(
         &mut self,
         alloc: Global,
         heard: Heard<'_>,
-        notes: &mut Vec<WorldNote>,
+        notes: &mut Vec<WorldNote<'a>>,
     ) -> Result<(), NoMemory>
         requires { AreFew (2 ^ 40 - 1) self.old }
         ensures goes { (w : World) → Stands self.old w → OnOk result (Goes (serving (event_of heard.entry) w) notes.old.items notes.new.items self.new) }
         ensures few { (n : ℕ) → AreFew n self.old → AreFew (n + 1) self.new }
     {
         let answer = self.hub.hear(alloc, heard)?;
-        keep_live(alloc, &mut self.packets, &self.hub, heard, &answer)?;
-        tell(alloc, &self.hub, answer, notes, &mut self.parcels)
+        keep_live(self.arena, &mut self.packets, heard, &answer)?;
+        tell(
+            alloc,
+            self.arena,
+            &self.hub,
+            answer,
+            notes,
+            &mut self.parcels,
+        )
     }
 }
 
 // Keeps what is heard, where it is a live packet that its channel took.
-fn keep_live(
-    alloc: Global,
-    packets: &mut Packets,
-    hub: &Hub,
+fn keep_live<'a>(
+    arena: &'a Bump,
+    packets: &mut Packets<'a>,
     heard: Heard<'_>,
     answer: &HubAnswer,
 ) -> Result<(), NoMemory>
     ensures { OnOk result (KeepsHeard (event_of heard.entry) (told answer.now) packets.old packets.new) }
 {
     match heard {
-        Heard::Live { id, bytes } => keep(alloc, packets, hub, id, bytes, answer),
+        Heard::Live { id, bytes } => keep(arena, packets, id, bytes, answer),
         _ => Ok(()),
     }
 }
 
 // Keeps a live packet, where the channel took it.
-fn keep(
-    alloc: Global,
-    packets: &mut Packets,
-    hub: &Hub,
+fn keep<'a>(
+    arena: &'a Bump,
+    packets: &mut Packets<'a>,
     id: u16,
     bytes: &[u8],
     answer: &HubAnswer,
@@ -60,7 +66,7 @@ fn keep(
     ensures { OnOk result (Keeps id bytes.now (taken_number (told answer.now)) packets.old packets.new) }
 {
     if let Some(n) = number_taken(answer) {
-        packets.add(alloc, id, n, bytes, hub.held(id, n))?;
+        packets.add(arena, id, n, bytes)?;
     }
     Ok(())
 }

@@ -14,7 +14,7 @@ use ram_io::NoMemory;
 use receiver_core::{Receiver, Tuned};
 use std::alloc::Global;
 
-impl Parts {
+impl<'a> Parts<'a> {
     /// The client tunes to a channel, and its receiver asks for a burst. A client does so once on a
     /// channel, even where its receiver left.
     pub(crate) fn tune(
@@ -23,7 +23,7 @@ impl Parts {
         id: u16,
         client: u64,
         ssrc: u32,
-        notes: &mut Vec<WorldNote>,
+        notes: &mut Vec<WorldNote<'a>>,
     ) -> Result<(), NoMemory>
         ensures goes { (w : World) → Stands self.old w → OnOk result (Goes (tuning id client ssrc (channel_of id w.channels) w) notes.old.items notes.new.items self.new) }
         ensures few { (n : ℕ) → AreFew n self.old → AreFew n self.new }
@@ -48,6 +48,6 @@ impl Parts {
             receiver: Some(receiver),
             first: None,
         })?;
-        post(id, client, request, notes, &mut self.parcels)
+        post(self.arena, id, client, &request, notes, &mut self.parcels)
     }
 }

@@ -4,19 +4,20 @@ use crate::world_net::packets::Packets;
 use crate::world_net::parts::Parts;
 use crate::world_net::places::Places;
 use ram_io::NoMemory;
+use receiver_core::Bump;
 use server_hub::{AddFault, Config, Hub};
 use std::alloc::Global;
 use std::marker::Model;
 
 /// A server's channels, the datagrams that were sent, and the receivers that were tuned.
 #[derive(Drop)]
-pub struct World {
-    parts: Parts,
+pub struct World<'a> {
+    parts: Parts<'a>,
     /// An event was cut off for want of memory.
     cut_off: bool,
 }
 
-impl Model for World {
+impl<'a> Model for World<'a> {
     ghost use Rattle.meet_loop.specs.world_net.States.{Seen, kept_of};
 
     ghost Value = { Seen };
@@ -24,7 +25,7 @@ impl Model for World {
     ghost view = { λ w. record { kept = kept_of w.parts; cut_off = w.cut_off } };
 }
 
-impl World {
+impl<'a> World<'a> {
     ghost use Rattle.std.specs.Prelude.{◌≡◌, ℕ, ◌+◌, ◌-◌, ◌^◌, List, [], true, All, Err, IsErr, IfNone, IfOk, IfSome, IsOkUnless, OnErr, OnOk, length};
     ghost use Rattle.server_hub.specs.declared.AddFault.TheVariants as faults;
     ghost use Rattle.server_hub.specs.Seen as hubs;
@@ -34,8 +35,9 @@ impl World {
     ghost use Rattle.meet_loop.specs.world_laws.World.{World as Worlds};
     ghost use Rattle.meet_loop.specs.world_net.{StandsFor, CameAtMost, with_channel};
 
-    /// A world of a hub to which no event came, without receivers. It takes no memory.
-    pub fn new(alloc: Global, hub: Hub) -> World
+    /// A world of a hub to which no event came, without receivers, whose packets and datagrams will stay
+    /// in this arena. It takes no memory.
+    pub fn new(alloc: Global, arena: &'a Bump, hub: Hub) -> World<'a>
         requires { hub.calls ≡ 0 }
         ensures stands { (channels : List Served) → hubs.StandsFor hub channels → All (λ c. c.events ≡ []) channels → StandsFor result (new_world channels) }
         ensures hub { result.kept.hub ≡ hub }
@@ -44,6 +46,7 @@ impl World {
         World {
             parts: Parts {
                 hub,
+                arena,
                 packets: Packets::new(alloc),
                 parcels: Vec::new(alloc),
                 places: Places::new(alloc),
@@ -75,7 +78,7 @@ impl World {
         &mut self,
         alloc: Global,
         event: &WorldEvent,
-        notes: &mut Vec<WorldNote>,
+        notes: &mut Vec<WorldNote<'a>>,
     ) -> Result<(), NoMemory>
         requires { CameAtMost (2 ^ 40 - 1) self.old.kept }
         ensures stands { (w : Worlds) → StandsFor self.old w
@@ -109,11 +112,11 @@ ghost use Rattle.meet_loop.specs.world_net.{Stands, Goes, AreFew};
 
 // What happens: adds what is said of it.
 #[tactic(auto, unfolding(crate::specs::world_laws::Happening::happens), using(crate::proofs::world_net::Steps::are_few))]
-fn happen(
-    parts: &mut Parts,
+fn happen<'a>(
+    parts: &mut Parts<'a>,
     alloc: Global,
     event: &WorldEvent,
-    notes: &mut Vec<WorldNote>,
+    notes: &mut Vec<WorldNote<'a>>,
 ) -> Result<(), NoMemory>
     requires { AreFew (2 ^ 40 - 1) parts.old }
     ensures goes { (w : Worlds) → Stands parts.old w → OnOk result (Goes (happens event.now w) notes.old.items notes.new.items parts.new) }

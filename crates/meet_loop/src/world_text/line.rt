@@ -17,7 +17,7 @@ pub fn append_world_note(
     text: &mut Vec<u8>,
     room: &mut Vec<u8>,
     event: u64,
-    note: &WorldNote,
+    note: &WorldNote<'_>,
 ) -> Result<(), NoMemory>
     ensures text { OnOk result (text.new.items ≡ text.old.items ++ world_line event note.now) }
     ensures err { OnErr result (text.new.items ≡ text.old.items) }
@@ -27,11 +27,17 @@ pub fn append_world_note(
         WorldItem::NoChannel(_) => append_no_channel(text, event, id),
         WorldItem::Note(note) => pen.append_note(text, event, id, note),
         WorldItem::Send { client, bytes } => append_sent(text, room, event, id, *client, bytes),
-        WorldItem::Post { client, bytes } => append_post(text, event, id, *client, bytes),
+        WorldItem::Post { client, bytes } => append_post(
+            text,
+            event,
+            id,
+            *client,
+            bytes.as_slice(),
+        ),
         WorldItem::Info { client, came } => append_info(text, event, id, *client, *came),
         WorldItem::Media { client, came } => append_media(pen, text, event, id, *client, *came),
         WorldItem::Show { client, n, packet } => {
-            pen.append_numbered(text, event, id, b"show", *client, *n, packet)
+            pen.append_numbered(text, event, id, b"show", *client, *n, packet.as_slice())
         }
         WorldItem::TunedBefore(client) => append_named(text, event, id, b"tuned-before", *client),
         WorldItem::NoReceiver(client) => append_named(text, event, id, b"no-receiver", *client),
@@ -49,7 +55,7 @@ pub fn append_world_part(
     text: &mut Vec<u8>,
     room: &mut Vec<u8>,
     event: u64,
-    part: &[WorldNote],
+    part: &[WorldNote<'_>],
 ) -> Result<(), NoMemory>
     requires some { 0 < length part.now }
     requires few { length part.now ≤ 2 }
@@ -70,8 +76,8 @@ fn append_pair(
     text: &mut Vec<u8>,
     room: &mut Vec<u8>,
     event: u64,
-    first: &WorldNote,
-    second: &WorldNote,
+    first: &WorldNote<'_>,
+    second: &WorldNote<'_>,
 ) -> Result<(), NoMemory>
     ensures text { OnOk result (text.new.items ≡ text.old.items ++ (world_line event first.now ++ world_line event second.now)) }
     ensures err { OnErr result (text.new.items ≡ text.old.items) }
@@ -97,7 +103,7 @@ fn append_told(
     id: u16,
     note: &Note,
     client: u64,
-    bytes: &SentBytes,
+    bytes: &SentBytes<'_>,
 ) -> Result<(), NoMemory>
     ensures text { OnOk result (text.new.items ≡ text.old.items ++ (note_line event id note.now ++ send_line event id client bytes.now)) }
     ensures err { OnErr result (text.new.items ≡ text.old.items) }
@@ -113,8 +119,8 @@ fn append_both(
     text: &mut Vec<u8>,
     room: &mut Vec<u8>,
     event: u64,
-    first: &WorldNote,
-    second: &WorldNote,
+    first: &WorldNote<'_>,
+    second: &WorldNote<'_>,
 ) -> Result<(), NoMemory>
     ensures text { OnOk result (text.new.items ≡ text.old.items ++ (world_line event first.now ++ world_line event second.now)) }
     ensures err { OnErr result (text.new.items ≡ text.old.items) }
@@ -135,7 +141,7 @@ fn append_sent(
     event: u64,
     id: u16,
     client: u64,
-    bytes: &SentBytes,
+    bytes: &SentBytes<'_>,
 ) -> Result<(), NoMemory>
     ensures text { OnOk result (text.new.items ≡ text.old.items ++ send_line event id client bytes.now) }
     ensures err { OnErr result (text.new.items ≡ text.old.items) }

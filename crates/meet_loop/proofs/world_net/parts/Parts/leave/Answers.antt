@@ -3,7 +3,8 @@ use Rattle.receiver_core.specs.States.{Seen}
 use Rattle.server_hub.specs.Served.{Served}
 use Rattle.server_hub.specs.{channel_of}
 use Rattle.meet_loop.specs.world_laws.{leaving, leave}
-use Rattle.meet_loop.specs.world_net.{Kept, kept_of}
+use Rattle.meet_loop.specs.world_net.{Kept, kept_of, post_at, posted_at}
+use Rattle.meet_loop.proofs.world_net.Loops.{with_bytes}
 use Rattle.meet_loop.proofs.world_net.Turned.{ok_both}
 use Rattle.meet_loop.proofs.world_net.Steps.{sits, seat_has, listens_there, ok_then, not_listening, is_listening, in_channel, some_of, left, byes_so, Went}
 use Rattle.meet_loop.proofs.world_net.parts.Parts.leave.Goals as goal
@@ -43,6 +44,6 @@ returns-clause-goes c = λ w k.
     let bye = byes_so v _ _ _ s _ _ _ c.index_mut.ensures.value c.in-Some-take.ensures.value c.in-Ok.ensures.datagram in
     ok_both c.post.result c.post.ensures.notes c.post.ensures.parcels (λ said sent.
     let r = in_channel (later None) old new (λ o. leaving c.args.id c.args.client o w) (channel_of c.args.id w.channels) channel.0 channel.1
-    (is_listening v w _ _ _ s x (λ l. leave l w) (Went (later None) old new) (left v w _ _ _ s x _ c.index_mut.result.now.first old new c.post.new.parcels.items k bye said sent)) in
+    (is_listening v w _ _ _ s x (λ l. leave l w) (Went (later None) old new) (left v w _ _ _ s x _ c.index_mut.result.now.first old new c.post.new.parcels.items k bye (with_bytes old (post_at c.args.id c.args.client) said c.deref.ensures.value) (with_bytes v.parcels (posted_at c.args.id c.args.client) sent c.deref.ensures.value))) in
     let q = subst (λ (o : Option Seen). Went (later o) old new (leaving c.args.id c.args.client (channel_of c.args.id w.channels) w)) (sym c.take.ensures.after) r in
     record { notes = q.0; stands = q.1 })

@@ -5,7 +5,8 @@ use Rattle.receiver_core.specs.{just_tuned}
 use Rattle.rams_model.specs.Service.{Settings}
 use Rattle.server_hub.specs.Served.{Served}
 use Rattle.server_hub.specs.{channel_of}
-use Rattle.meet_loop.specs.world_net.{kept_of, at_pair}
+use Rattle.meet_loop.specs.world_net.{kept_of, at_pair, post_at, posted_at}
+use Rattle.meet_loop.proofs.world_net.Loops.{with_bytes}
 use Rattle.meet_loop.proofs.world_net.Turned.{ok_both}
 use Rattle.meet_loop.proofs.world_net.Steps.{ok_then, some_of, was_tuned, not_tuned, tuned_before, tunes}
 use Rattle.meet_loop.proofs.world_net.parts.Parts.tune.Goals as goal
@@ -29,5 +30,5 @@ returns-clause-goes c = λ w k.
     ok_both c.post.result c.post.ensures.notes c.post.ensures.parcels (λ said sent.
     let r = tunes v w c.args.id c.args.client c.args.ssrc channel.0 c.in_ok-receiver.receiver c.in_ok-receiver.request.items c.add.new.self c.push.new.self.items c.post.new.parcels.items _ _ k channel.1
     none.0 none.1 (c.in_ok-receiver.ensures.receiver ∙ ap (λ (x : Channel). just_tuned (t x)) its) (c.in_ok-receiver.ensures.datagram ∙ ap (λ (x : Channel). request_datagram (t x)) its)
-    (λ i n. c.in_ok-add.ensures i n ∙ ap (λ (x : ℕ). cond (eqb c.args.id i && eqb c.args.client n) (Some x) (at_pair v.places i n)) count) c.in_ok-push.ensures.items said sent in
+    (λ i n. c.in_ok-add.ensures i n ∙ ap (λ (x : ℕ). cond (eqb c.args.id i && eqb c.args.client n) (Some x) (at_pair v.places i n)) count) c.in_ok-push.ensures.items (with_bytes c.args.notes.now.items (post_at c.args.id c.args.client) said c.deref.ensures.value) (with_bytes v.parcels (posted_at c.args.id c.args.client) sent c.deref.ensures.value) in
     record { notes = r.0; stands = r.1 })
