@@ -210,7 +210,9 @@ fn expect<'a>(
         (Call::Rtx(words), Said::Came(expected)) => {
             expect_again(rt, alloc, arena, receiver, words, expected, place)
         }
-        (Call::Multicast(words), _) => expect_multicast(rt, alloc, arena, receiver, words, said, place),
+        (Call::Multicast(words), _) => expect_multicast(
+            rt, alloc, arena, receiver, words, said, place,
+        ),
         (Call::Ask, Said::Asks(messages)) => expect_datagrams(rt, alloc, receiver, messages, place),
         _ => {
             assert!(rt; false, "{place}");
