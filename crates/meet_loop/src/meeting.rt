@@ -12,7 +12,7 @@ ghost use Rattle.meet_loop.specs.world_text.{notes_lines};
 ghost use Rattle.meet_loop.specs.world_book.{meet};
 ghost use Rattle.meet_loop.specs.{Stands, Comes, CanOpen, OpensIn, IsUnder, Happens, Took};
 
-use crate::event::event_of;
+use crate::event::{event_of, give_back};
 use crate::world_net::{Hub, World, WorldEvent, WorldNote};
 use crate::writer::write_notes;
 use channel_config::Config;
@@ -43,6 +43,8 @@ pub(crate) struct Meeting<'a> {
     events: u64,
     state: State,
     notes: Vec<WorldNote<'a>>,
+    /// An event's bytes stand here.
+    room: Vec<u8>,
 }
 
 /// Before the first line.
@@ -55,6 +57,7 @@ pub(crate) fn new_meeting(alloc: Global, arena: &Bump) -> Meeting<'_>
         events: 0,
         state: State::new(Mode::Meet),
         notes: Vec::new(alloc),
+        room: Vec::new(alloc),
     }
 }
 
@@ -118,14 +121,18 @@ fn after_other(alloc: Global, meeting: &mut Meeting<'_>, line: Line<'_>) -> Resu
     ensures { IfOk result (λ t. (stage : Stage Worlds) (number : ℕ) → Comes meeting.old.world meeting.old.events meeting.old.state (shown line.entry) stage
         → Took (after_line meet stage meeting.old.state (shown line.entry) (brought meet (shown line.entry))) meeting.new.world meeting.new.events meeting.new.state meeting.new.notes.items number t) }
 {
-    match event_of(alloc, line)? {
-        Some(event) => serve(
-            alloc,
-            &mut meeting.world,
-            &mut meeting.events,
-            &mut meeting.notes,
-            &event,
-        ),
+    match event_of(alloc, &mut meeting.room, line)? {
+        Some(event) => {
+            let turn = serve(
+                alloc,
+                &mut meeting.world,
+                &mut meeting.events,
+                &mut meeting.notes,
+                &event,
+            );
+            give_back(event, &mut meeting.room);
+            turn
+        }
         None => begin_or_end(alloc, meeting, line),
     }
 }

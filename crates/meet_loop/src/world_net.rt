@@ -6,6 +6,7 @@
 mod asking;
 mod delivering;
 mod hearing;
+mod lending;
 mod packets;
 mod parcel;
 mod parts;

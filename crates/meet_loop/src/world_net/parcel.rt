@@ -7,8 +7,8 @@ ghost use Rattle.meet_loop.specs.declared.world_laws.world.WorldItem.TheVariants
 ghost use Rattle.meet_loop.specs.world_net.{as_way, sent_of};
 
 use crate::world_laws::{Repeat, SentBytes, WorldItem};
+use crate::world_net::lending::lend;
 use book_text::order_datagrams::{Config, render_order};
-use bytes::Bytes;
 use ram_io::NoMemory;
 use rams_model::Order;
 use receiver_core::{Bump, Lent};
@@ -196,14 +196,4 @@ impl<'a> Parcel<'a> {
             bytes: self.sent(),
         }
     }
-}
-
-// The bytes of a packet, which stays in the arena with its block of memory.
-fn lend<'a>(arena: &'a Bump, packet: Bytes) -> Result<Lent<'a>, NoMemory>
-    ensures { IfOk result (λ lent. lent ≡ packet) }
-{
-    let Ok(kept) = arena.try_alloc(packet) else {
-        return Err(NoMemory);
-    };
-    Ok(Lent::of(kept.as_slice()))
 }

@@ -12,7 +12,7 @@ use crate::world_net::telling::tell;
 use ram_io::NoMemory;
 use rams_model::{LiveNote, Note};
 use receiver_core::Bump;
-use server_hub::{Heard, HubAnswer, answers_of};
+use server_hub::{Heard, Hub, HubAnswer, answers_of};
 use std::alloc::Global;
 
 impl<'a> Parts<'a> {
@@ -28,7 +28,7 @@ impl<'a> Parts<'a> {
         ensures few { (n : ℕ) → AreFew n self.old → AreFew (n + 1) self.new }
     {
         let answer = self.hub.hear(alloc, heard)?;
-        keep_live(self.arena, &mut self.packets, heard, &answer)?;
+        keep_live(self.arena, &mut self.packets, &self.hub, heard, &answer)?;
         tell(
             alloc,
             self.arena,
@@ -44,13 +44,14 @@ impl<'a> Parts<'a> {
 fn keep_live<'a>(
     arena: &'a Bump,
     packets: &mut Packets<'a>,
+    hub: &Hub,
     heard: Heard<'_>,
     answer: &HubAnswer,
 ) -> Result<(), NoMemory>
     ensures { OnOk result (KeepsHeard (event_of heard.entry) (told answer.now) packets.old packets.new) }
 {
     match heard {
-        Heard::Live { id, bytes } => keep(arena, packets, id, bytes, answer),
+        Heard::Live { id, bytes } => keep(arena, packets, hub, id, bytes, answer),
         _ => Ok(()),
     }
 }
@@ -59,6 +60,7 @@ fn keep_live<'a>(
 fn keep<'a>(
     arena: &'a Bump,
     packets: &mut Packets<'a>,
+    hub: &Hub,
     id: u16,
     bytes: &[u8],
     answer: &HubAnswer,
@@ -66,7 +68,7 @@ fn keep<'a>(
     ensures { OnOk result (Keeps id bytes.now (taken_number (told answer.now)) packets.old packets.new) }
 {
     if let Some(n) = number_taken(answer) {
-        packets.add(arena, id, n, bytes)?;
+        packets.add(arena, id, n, bytes, hub.held(id, n))?;
     }
     Ok(())
 }

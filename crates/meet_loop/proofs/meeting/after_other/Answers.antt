@@ -4,14 +4,14 @@ use Rattle.trace_text.specs.{shown}
 use Rattle.meet_loop.proofs.Turning.{event_stage, brought_turn}
 use Rattle.meet_loop.proofs.meeting.after_other.Goals as goal
 
-pub serve-requires-clause-there : goal.serve-requires-clause-there
-serve-requires-clause-there c =
+pub serve-turn-requires-clause-there : goal.serve-turn-requires-clause-there
+serve-turn-requires-clause-there c =
     let m = c.args.meeting.now in
     (event_stage m.world m.events m.state (shown c.args.line) c.in-Some.event c.requires.comes.0 (sym c.in_ok-event.ensures ∙ c.in-Some.is) c.requires.comes.1).there
 
 pub returns-in-Some : goal.returns-in-Some
 returns-in-Some c =
-    let call = c.serve in
+    let call = c.serve-turn in
     let m = c.args.meeting.now in
     IfOk-weaker call.result _ _
     (λ t took stage number comes.

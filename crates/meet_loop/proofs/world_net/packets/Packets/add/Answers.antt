@@ -8,4 +8,4 @@ returns c = λ i m.
     let old = c.self.inside.packets.entries in
     let new = c.insert.new.self.entries in
     subst (λ (es : List ((ℕ × ℕ) × List ℕ)). at_pair new i m ≡ cond (eqb c.args.id i && eqb c.args.n m) (Some c.args.packet.now) (at_pair es i m)) c.self.view_is
-    (entry_more old new c.args.id c.args.n i m _ c.args.packet.now (c.in_ok-insert.ensures.updates.0 (i, m)) c.in_ok-copied.ensures)
+    (entry_more old new c.args.id c.args.n i m _ c.args.packet.now (c.in_ok-insert.ensures.updates.0 (i, m)) c.in_ok-kept.ensures)
