@@ -3,6 +3,7 @@ pub mod AllShown
 pub mod Turned
 pub mod Listeners
 pub mod Pairs
+pub mod InRuns
 pub mod Counting
 pub mod CameLive
 pub mod HighPackets

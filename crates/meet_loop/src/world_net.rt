@@ -13,6 +13,7 @@ mod parts;
 mod places;
 mod posting;
 mod presenting;
+mod runs;
 mod seat;
 mod sending;
 mod serving;

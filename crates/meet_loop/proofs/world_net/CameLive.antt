@@ -14,7 +14,7 @@ use Rattle.server_hub.specs.{id_of, with_event, answer_to, channel_of, after_eve
 use Rattle.server_hub.specs.Served.{Served}
 use Rattle.meet_loop.specs.world_laws.{takes, hears_number, as_it_came}
 use Rattle.meet_loop.proofs.world_laws.Right.{found_in_map, one_event}
-use Rattle.meet_loop.specs.world_net.{at_pair, number_taken, number_in, taken_number, came_at, Keeps}
+use Rattle.meet_loop.specs.world_net.{number_taken, number_in, taken_number, came_at, Keeps}
 
 -- ---- one channel
 
@@ -118,23 +118,23 @@ came_after i id n bytes (Some c) taken old new its is was now = now ∙ by (eqb 
     by false t = was ∙ ap (λ (b : Bool). came_at (Some (cond b (with_event (event.Live bytes) c) c)) n) (sym (test ∙ t))
 
 -- what is kept is as before, or has one packet more
-keeps_one : (id : ℕ) (bytes : List ℕ) (taken : Option ℕ) (old new : List ((ℕ × ℕ) × List ℕ)) (i n : ℕ) → Keeps id bytes taken old new
-    → at_pair new i n ≡ cond (eqb id i) (came_more taken bytes n (at_pair old i n)) (at_pair old i n)
+keeps_one : (id : ℕ) (bytes : List ℕ) (taken : Option ℕ) (old new : (ℕ → ℕ → Option (List ℕ))) (i n : ℕ) → Keeps id bytes taken old new
+    → new i n ≡ cond (eqb id i) (came_more taken bytes n (old i n)) (old i n)
 keeps_one id bytes None old new i n k = k i n ∙ by (eqb id i)
   where
-    by : (b : Bool) → at_pair old i n ≡ cond b (at_pair old i n) (at_pair old i n)
+    by : (b : Bool) → old i n ≡ cond b (old i n) (old i n)
     by true = refl
     by false = refl
 keeps_one id bytes (Some m) old new i n k = k i n ∙ by (eqb id i) (eqb m n)
   where
-    by : (a b : Bool) → cond (a && b) (Some bytes) (at_pair old i n) ≡ cond a (cond b (Some bytes) (at_pair old i n)) (at_pair old i n)
+    by : (a b : Bool) → cond (a && b) (Some bytes) (old i n) ≡ cond a (cond b (Some bytes) (old i n)) (old i n)
     by true b = refl
     by false b = refl
 
-pub live_kept : (channels : List Served) (id : ℕ) (bytes : List ℕ) (old new : List ((ℕ × ℕ) × List ℕ)) → ((i n : ℕ) → at_pair old i n ≡ came_at (channel_of i channels) n)
-    → Keeps id bytes (taken_number (told_to (hub.Live id bytes) channels)) old new → (i n : ℕ) → at_pair new i n ≡ came_at (channel_of i (after_event (hub.Live id bytes) channels)) n
+pub live_kept : (channels : List Served) (id : ℕ) (bytes : List ℕ) (old new : (ℕ → ℕ → Option (List ℕ))) → ((i n : ℕ) → old i n ≡ came_at (channel_of i channels) n)
+    → Keeps id bytes (taken_number (told_to (hub.Live id bytes) channels)) old new → (i n : ℕ) → new i n ≡ came_at (channel_of i (after_event (hub.Live id bytes) channels)) n
 live_kept channels id bytes old new was keeps i n =
-    came_after i id n bytes (channel_of i channels) (taken_number (told_to (hub.Live id bytes) channels)) (at_pair old i n) (at_pair new i n) (found_id i channels)
+    came_after i id n bytes (channel_of i channels) (taken_number (told_to (hub.Live id bytes) channels)) (old i n) (new i n) (found_id i channels)
     (λ t. ap (λ (k : ℕ). number_in (answers_said (told_of id (option_map (answer_to (event.Live bytes)) (channel_of k channels))))) (eqb-true id i t)) (was i n)
     (keeps_one id bytes (taken_number (told_to (hub.Live id bytes) channels)) old new i n keeps)
     ∙ ap (λ (o : Option Served). came_at o n) (sym (found_in_map (one_event id (event.Live bytes)) (keeps_id id (event.Live bytes)) i channels))

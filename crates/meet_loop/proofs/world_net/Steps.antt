@@ -26,7 +26,7 @@ use Rattle.meet_loop.specs.declared.{world_laws.world.WorldItem.WorldItem, world
 use Rattle.meet_loop.specs.declared.{world_net.parts.Parts.Parts, world_net.seat.Seat.Seat}
 use Rattle.meet_loop.specs.declared.world_laws.world.WorldItem.TheVariants as item
 use Rattle.meet_loop.specs.world_laws.{listener_of, listens, first_replaced, presented_all, posted, after_turns, all_sent, serving, refused, if_listening, next_number, is_too_far, delivering, delivering_near, source_of, packet_of_source, as_it_came, post_all, leave, is_listener, tuned_to, new_listener, with_listener, tuning, datagram_at, giving, giving_by}
-use Rattle.meet_loop.specs.world_net.{kept_of, CameAtMost, Goes, EndsAt, EndsSo, packet_below, seat_is_too_far, Kept, KeptFor, at_pair, if_there, listening_at, came_at, place_of, key_of, AreApart, Follows, FollowsBy, IsAt, Hears, HasFew, Took, KeepsHeard, told_notes, told_sent, post_at, posted_at}
+use Rattle.meet_loop.specs.world_net.{kept_of, CameAtMost, Goes, EndsAt, EndsSo, packet_below, seat_is_too_far, Kept, KeptFor, Packed, packet_in, at_pair, if_there, listening_at, came_at, place_of, key_of, AreApart, Follows, FollowsBy, IsAt, Hears, HasFew, Took, KeepsHeard, told_notes, told_sent, post_at, posted_at}
 use Rattle.meet_loop.proofs.world_net.Answered.{settings_all, told_is_said}
 use Rattle.meet_loop.proofs.world_net.CameLive.{found_id, live_kept, feedback_kept, tick_kept}
 use Rattle.meet_loop.proofs.world_net.Counting.{far_is}
@@ -35,14 +35,14 @@ use Rattle.meet_loop.proofs.world_net.Listeners.{found, somebody, nobody, gone, 
 
 -- ---- what comes to the server
 
-packets_after : (h : HubEvent) (channels : List Served) (old new : List ((ℕ × ℕ) × List ℕ)) → ((i n : ℕ) → at_pair old i n ≡ came_at (channel_of i channels) n)
-    → KeepsHeard h (told_to h channels) old new → (i n : ℕ) → at_pair new i n ≡ came_at (channel_of i (after_event h channels)) n
+packets_after : (h : HubEvent) (channels : List Served) (old new : (ℕ → ℕ → Option (List ℕ))) → ((i n : ℕ) → old i n ≡ came_at (channel_of i channels) n)
+    → KeepsHeard h (told_to h channels) old new → (i n : ℕ) → new i n ≡ came_at (channel_of i (after_event h channels)) n
 packets_after (hub.Live id bytes) channels old new was keeps i n = live_kept channels id bytes old new was keeps i n
 packets_after (hub.Feedback id client bytes) channels old new was keeps i n = keeps i n ∙ was i n ∙ feedback_kept channels id client bytes i n
 packets_after hub.Tick channels old new was keeps i n = keeps i n ∙ was i n ∙ tick_kept channels i n
 
-pub served : (h : HubEvent) (w : World) (v : Kept) (later : hubs.Seen) (t : Told) (packets : List ((ℕ × ℕ) × List ℕ)) (parcels : List Datagram) (old new : List WorldNote) → KeptFor v w
-    → (t ≡ told_to h w.channels) × hubs.StandsFor later (after_event h w.channels) → KeepsSettings v.hub later → (h ≡ hub.Tick → IsHub later) → KeepsHeard h t v.packets packets
+pub served : (h : HubEvent) (w : World) (v : Kept) (later : hubs.Seen) (t : Told) (packets : Packed) (parcels : List Datagram) (old new : List WorldNote) → KeptFor v w
+    → (t ≡ told_to h w.channels) × hubs.StandsFor later (after_event h w.channels) → KeepsSettings v.hub later → (h ≡ hub.Tick → IsHub later) → KeepsHeard h t (packet_in v.packets) (packet_in packets)
     → new ≡ old ++ told_notes (settings_of later) t → parcels ≡ v.parcels ++ told_sent (settings_of later) t
     → (new ≡ old ++ (serving h w).notes) × KeptFor (record { hub = later; packets = packets; parcels = parcels; places = v.places; seats = v.seats }) (serving h w).world
 served h w v later t packets parcels old new k answered keeps lawful kept said sent =
@@ -53,7 +53,7 @@ served h w v later t packets parcels old new k answered keeps lawful kept said s
       said ∙ ap (λ (l : List WorldNote). old ++ l) notes,
       record {
         hub = answered.1;
-        packets = packets_after h w.channels v.packets packets k.packets (subst (λ (x : Told). KeepsHeard h x v.packets packets) answered.0 kept);
+        packets = packets_after h w.channels (packet_in v.packets) (packet_in packets) k.packets (subst (λ (x : Told). KeepsHeard h x (packet_in v.packets) (packet_in packets)) answered.0 kept);
         parcels = sent ∙ ap (λ (l : List Datagram). v.parcels ++ l) datagrams ∙ ap (λ (l : List Datagram). l ++ all_sent h w.channels) k.parcels;
         places = k.places;
         apart = k.apart;
@@ -260,10 +260,10 @@ source_by c n None room is = ap (λ (o : Option (List ℕ)). cond (has_number n 
 source_by c n (Some got) room is =
     ap (λ (o : Option (List ℕ)). cond (has_number n (source_of c)) o None) is ∙ ap (λ (b : Bool). cond b (Some got) None) (in_source c n got room is)
 
-pub source_is : (v : Kept) (w : World) (id n hi : ℕ) (e : EndsAt hi (channel_of id w.channels)) → KeptFor v w → packet_of_source e.channel n ≡ packet_below (at_pair v.packets id n) n hi
+pub source_is : (v : Kept) (w : World) (id n hi : ℕ) (e : EndsAt hi (channel_of id w.channels)) → KeptFor v w → packet_of_source e.channel n ≡ packet_below (packet_in v.packets id n) n hi
 source_is v w id n hi e k =
-    let came : at_pair v.packets id n ≡ as_it_came e.channel.settings e.channel.events n = k.packets id n ∙ ap (λ (o : Option Served). came_at o n) e.is_it in
-    source_by e.channel n (at_pair v.packets id n) e.room (sym came) ∙ ap (packet_below (at_pair v.packets id n) n) (sym e.end)
+    let came : packet_in v.packets id n ≡ as_it_came e.channel.settings e.channel.events n = k.packets id n ∙ ap (λ (o : Option Served). came_at o n) e.is_it in
+    source_by e.channel n (packet_in v.packets id n) e.room (sym came) ∙ ap (packet_below (packet_in v.packets id n) n) (sym e.end)
 
 -- a step of a channel's number, a client and bytes
 pub of_three : (P : Step → Type 0) (g : ℕ → ℕ → List ℕ → Step) (a i b n : ℕ) (x y : List ℕ) → a ≡ i → b ≡ n → x ≡ y → P (g a b x) → P (g i n y)

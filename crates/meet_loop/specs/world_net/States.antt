@@ -13,12 +13,13 @@ use Rattle.meet_loop.specs.world_laws.World.{Datagram, Listener, World, Step}
 use Rattle.meet_loop.specs.declared.{world_laws.world.WorldNote.WorldNote, world_net.parts.Parts.Parts, world_net.seat.Seat.Seat}
 use Rattle.meet_loop.specs.world_net.Seats.{Follows, HasFew}
 use Rattle.meet_loop.specs.world_net.Pairs.{at_pair}
+use Rattle.meet_loop.specs.world_net.Runs.{Packed, packet_in}
 
 -- what a world keeps
 pub record Kept : Type 0 where
   pub hub : hubs.Seen
-  -- live packets as they came, by their channel's number and their own
-  pub packets : List ((ℕ × ℕ) × List ℕ)
+  -- live packets as they came
+  pub packets : Packed
   pub parcels : List Datagram
   -- where the receivers are, by their channel's number and their client
   pub places : List ((ℕ × ℕ) × ℕ)
@@ -76,7 +77,7 @@ AreApart (k ∷ ks) = (place_of k.0 k.1 ks ≡ None) × AreApart ks
 -- What is kept stands for a world.
 pub record KeptFor (v : Kept) (w : World) : Type 0 where
   pub hub : hubs.StandsFor v.hub w.channels
-  pub packets : (id n : ℕ) → at_pair v.packets id n ≡ came_at (channel_of id w.channels) n
+  pub packets : (id n : ℕ) → packet_in v.packets id n ≡ came_at (channel_of id w.channels) n
   pub parcels : v.parcels ≡ w.datagrams
   pub places : (id client : ℕ) → at_pair v.places id client ≡ place_of id client (map key_of w.listeners)
   pub apart : AreApart (map key_of w.listeners)
@@ -108,14 +109,14 @@ abbrev pub with_channel : Settings → World → World
 with_channel s w = record w { channels = w.channels ++ served s [] ∷ [] }
 
 -- Beside what some entries have, others have these bytes at a pair of numbers, where there is one.
-abbrev pub Keeps : ℕ → List ℕ → Option ℕ → List ((ℕ × ℕ) × List ℕ) → List ((ℕ × ℕ) × List ℕ) → Type 0
-Keeps id bytes None old new = (i m : ℕ) → at_pair new i m ≡ at_pair old i m
-Keeps id bytes (Some n) old new = (i m : ℕ) → at_pair new i m ≡ (if id == i && n == m then Some bytes else at_pair old i m)
+abbrev pub Keeps : ℕ → List ℕ → Option ℕ → (ℕ → ℕ → Option (List ℕ)) → (ℕ → ℕ → Option (List ℕ)) → Type 0
+Keeps id bytes None old new = (i m : ℕ) → new i m ≡ old i m
+Keeps id bytes (Some n) old new = (i m : ℕ) → new i m ≡ (if id == i && n == m then Some bytes else old i m)
 
 -- that, of a live packet; of all else nothing is kept
-abbrev pub KeepsHeard : HubEvent → Told → List ((ℕ × ℕ) × List ℕ) → List ((ℕ × ℕ) × List ℕ) → Type 0
+abbrev pub KeepsHeard : HubEvent → Told → (ℕ → ℕ → Option (List ℕ)) → (ℕ → ℕ → Option (List ℕ)) → Type 0
 KeepsHeard (hub.Live id bytes) t old new = Keeps id bytes (taken_number t) old new
-KeepsHeard _ t old new = (i m : ℕ) → at_pair new i m ≡ at_pair old i m
+KeepsHeard _ t old new = (i m : ℕ) → new i m ≡ old i m
 
 -- what a channel's end is, and that the channel has room for a packet
 pub record EndsAt (hi : ℕ) (o : Option Served) : Type 0 where

@@ -5,7 +5,7 @@ ghost use Rattle.server_hub.specs.Served.{Served};
 ghost use Rattle.server_hub.specs.Seen as hubs;
 ghost use Rattle.meet_loop.specs.world_laws.{posts, tells, repeats, datagram_at, giving, giving_by, casting};
 ghost use Rattle.meet_loop.specs.world_laws.World.{World, Datagram};
-ghost use Rattle.meet_loop.specs.world_net.{Stands, Goes, AreFew, EndsSo, at_pair, packet_below};
+ghost use Rattle.meet_loop.specs.world_net.{Stands, Goes, AreFew, EndsSo, packet_in, packet_below};
 
 use crate::world_laws::{WorldItem, WorldNote};
 use crate::world_net::hearing::{hear_again, hear_info, hear_multicast};
@@ -175,7 +175,7 @@ impl<'a> Parts<'a> {
 
 // The packet of this number as it came, where it is below the end of what the channel holds.
 fn source_packet<'a>(packets: &Packets<'a>, id: u16, n: u64, hi: u64) -> Option<&'a [u8]>
-    ensures { option_map (λ packet. packet.now) result ≡ packet_below (at_pair packets.now id n) n hi }
+    ensures { option_map (λ packet. packet.now) result ≡ packet_below (packet_in packets.now id n) n hi }
 {
     if n >= hi {
         return None;

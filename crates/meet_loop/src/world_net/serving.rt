@@ -3,7 +3,7 @@ ghost use Rattle.std.specs.Prelude.{◌≡◌, ◌+◌, ◌-◌, ◌^◌, ℕ, O
 ghost use Rattle.server_hub.specs.{event_of, told};
 ghost use Rattle.meet_loop.specs.world_laws.{serving};
 ghost use Rattle.meet_loop.specs.world_laws.World.{World};
-ghost use Rattle.meet_loop.specs.world_net.{Stands, Goes, AreFew, taken_number, Keeps, KeepsHeard};
+ghost use Rattle.meet_loop.specs.world_net.{Stands, Goes, AreFew, taken_number, packet_in, Keeps, KeepsHeard};
 
 use crate::world_laws::WorldNote;
 use crate::world_net::packets::Packets;
@@ -28,7 +28,14 @@ impl<'a> Parts<'a> {
         ensures few { (n : ℕ) → AreFew n self.old → AreFew (n + 1) self.new }
     {
         let answer = self.hub.hear(alloc, heard)?;
-        keep_live(self.arena, &mut self.packets, &self.hub, heard, &answer)?;
+        keep_live(
+            alloc,
+            self.arena,
+            &mut self.packets,
+            &self.hub,
+            heard,
+            &answer,
+        )?;
         tell(
             alloc,
             self.arena,
@@ -42,22 +49,24 @@ impl<'a> Parts<'a> {
 
 // Keeps what is heard, where it is a live packet that its channel took.
 fn keep_live<'a>(
+    alloc: Global,
     arena: &'a Bump,
     packets: &mut Packets<'a>,
     hub: &Hub,
     heard: Heard<'_>,
     answer: &HubAnswer,
 ) -> Result<(), NoMemory>
-    ensures { OnOk result (KeepsHeard (event_of heard.entry) (told answer.now) packets.old packets.new) }
+    ensures { OnOk result (KeepsHeard (event_of heard.entry) (told answer.now) (packet_in packets.old) (packet_in packets.new)) }
 {
     match heard {
-        Heard::Live { id, bytes } => keep(arena, packets, hub, id, bytes, answer),
+        Heard::Live { id, bytes } => keep(alloc, arena, packets, hub, id, bytes, answer),
         _ => Ok(()),
     }
 }
 
 // Keeps a live packet, where the channel took it.
 fn keep<'a>(
+    alloc: Global,
     arena: &'a Bump,
     packets: &mut Packets<'a>,
     hub: &Hub,
@@ -65,10 +74,10 @@ fn keep<'a>(
     bytes: &[u8],
     answer: &HubAnswer,
 ) -> Result<(), NoMemory>
-    ensures { OnOk result (Keeps id bytes.now (taken_number (told answer.now)) packets.old packets.new) }
+    ensures { OnOk result (Keeps id bytes.now (taken_number (told answer.now)) (packet_in packets.old) (packet_in packets.new)) }
 {
     if let Some(n) = number_taken(answer) {
-        packets.add(arena, id, n, bytes, hub.held(id, n))?;
+        packets.add(alloc, arena, id, n, bytes, hub.held(id, n))?;
     }
     Ok(())
 }
