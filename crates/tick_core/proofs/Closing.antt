@@ -26,8 +26,9 @@ use Rattle.channel_parts.proofs.Tables.{entry_among}
 use Rattle.channel_parts.proofs.Given.{held_is, moment}
 use Rattle.channel_parts.proofs.Staying.{cache_stays}
 use Rattle.tick_core.specs.declared.plan.TickPlan.{TickPlan}
-use Rattle.tick_core.specs.{begun_left, ends_wait, is_over, IsPlanFor, Rise, opened_for_tick, entry_begun, burst_ended, entry_ended, AreAllChanged, committing, with_all_committed, MayCommitAll}
-use Rattle.tick_core.specs.Committed.{Committed}
+use Rattle.tick_draft.specs.{opened_for_tick, entry_begun, burst_ended, entry_ended, AreAllChanged, committing, with_all_committed, MayCommitAll}
+use Rattle.tick_core.specs.{begun_left, ends_wait, is_over, IsPlanFor, Rise}
+use Rattle.tick_draft.specs.Committed.{Committed}
 use Rattle.tick_core.proofs.Serving.{tick_open}
 use Rattle.tick_core.proofs.Idling.{idle_counted}
 use Rattle.tick_core.proofs.Planning.{tick_is}

@@ -19,7 +19,8 @@ use Rattle.client_table.specs.{clients_of, AreRising, entry_of}
 use Rattle.client_table.specs.Clients.{Clients}
 use Rattle.client_table.proofs.ChangedAll.{each_found}
 use Rattle.repair_queue.specs.{count_of}
-use Rattle.tick_core.specs.{Drafted, with_note, idle_after, with_forgotten, with_forgotten_if, with_due_forgotten, with_all_forgotten}
+use Rattle.tick_draft.specs.{Drafted, with_note}
+use Rattle.tick_core.specs.{idle_after, with_forgotten, with_forgotten_if, with_due_forgotten, with_all_forgotten}
 
 abbrev goes_of : Settings → List Wanted → ℕ → Option Entry → Bool
 goes_of s ws k None = false

@@ -11,7 +11,8 @@ use Rattle.client_table.specs.declared.{Burst.Burst, Entry.Entry}
 use Rattle.repair_queue.specs.{IsWithinLimits}
 use Rattle.channel_cache.specs.packet_ring.{packet_of}
 use Rattle.tick_core.specs.declared.allowance.Allowance.{Allowance}
-use Rattle.tick_core.specs.{Drafted, with_note, with_packet, with_end, run_of, after_run, end_of, with_run, with_served, with_all_served, Repaired, allowance_for, fits, waiting, with_repair, with_wanted, with_all_wanted, idle_after, with_all_forgotten, ends_wait, is_over}
+use Rattle.tick_draft.specs.{Drafted, with_note, with_packet, with_end}
+use Rattle.tick_core.specs.{run_of, after_run, end_of, with_run, with_served, with_all_served, Repaired, allowance_for, fits, waiting, with_repair, with_wanted, with_all_wanted, idle_after, with_all_forgotten, ends_wait, is_over}
 
 -- one note more
 over_more : (w : Wanted) (notes : List Note) (note : Note) → is_over (notes ++ note ∷ []) w ≡ (is_over notes w || (ends_wait w note || false))

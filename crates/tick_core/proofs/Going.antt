@@ -9,7 +9,8 @@ use Rattle.rams_model.specs.Service.{is_before, run, is_lost}
 use Rattle.channel_cache.proofs.packet_ring.Following.{stand_in_order}
 use Rattle.channel_cache.specs.packet_ring.{packet_of}
 use Rattle.tick_core.specs.declared.runs.Sent.{Sent}
-use Rattle.tick_core.specs.{Drafted, with_packet, AreInOrder, IsNext, run_from, after_packet, sent_after, with_run}
+use Rattle.tick_draft.specs.{Drafted, with_packet}
+use Rattle.tick_core.specs.{AreInOrder, IsNext, run_from, after_packet, sent_after, with_run}
 
 -- a packet of another number isn't sent
 other_stops : (stop : Option ℕ) (n left : ℕ) (h : Held) (hs : List Held) → eqb h.n n ≡ false → run stop n left (h ∷ hs) ≡ []

@@ -10,7 +10,8 @@ use Rattle.rams_model.specs.Service.{Settings, tick, began, noted, History, is_a
 use Rattle.rams_model.specs.Service.Bursts as model
 use Rattle.client_table.specs.declared.Entry.{Entry}
 use Rattle.repair_queue.specs.{is_of, count_of}
-use Rattle.tick_core.specs.{Drafted, with_note, idle_after, with_all_forgotten, counted_on}
+use Rattle.tick_draft.specs.{Drafted, with_note, counted_on}
+use Rattle.tick_core.specs.{idle_after, with_all_forgotten}
 use Rattle.tick_core.proofs.Sparing.{GoesOn, same, more, one, spares, serves, IsSpared, spared}
 use Rattle.tick_core.proofs.Shown.{Shows, shows_forgot}
 use Rattle.tick_core.proofs.Serving.{tick_open}

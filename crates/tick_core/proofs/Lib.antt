@@ -18,9 +18,6 @@ pub mod Closing
 pub mod Carrying
 pub mod Within
 pub mod Spent
-pub mod Kept
-pub mod Sending
-pub mod Stepping
 pub mod Sized
 pub mod Sizing
 pub mod DueClients

@@ -16,7 +16,8 @@ use Rattle.channel_parts.proofs.Ordered.{known_rise}
 use Rattle.channel_parts.proofs.Given.{moment}
 use Rattle.reckoning.specs.link_budget.Amounts.{Amounts}
 use Rattle.tick_core.specs.declared.allowance.Allowance.{Allowance}
-use Rattle.tick_core.specs.{Drafted, new_draft, allowance_of, idle_allowance, or_changed, all_allowances, AreOfBursts, AreOfKnown, allowances_of, with_all_served, Repaired, with_all_wanted, with_all_forgotten, begun_left, drafted_runs, drafted_repairs, drafted_tick, planned_answer, planned_flags, is_over}
+use Rattle.tick_draft.specs.{Drafted, new_draft}
+use Rattle.tick_core.specs.{allowance_of, idle_allowance, or_changed, all_allowances, AreOfBursts, AreOfKnown, allowances_of, with_all_served, Repaired, with_all_wanted, with_all_forgotten, begun_left, drafted_runs, drafted_repairs, drafted_tick, planned_answer, planned_flags, is_over}
 use Rattle.tick_core.proofs.Planning.{each_found, planned}
 use Rattle.tick_core.proofs.Walking.{whose, rise_sorted}
 

@@ -10,7 +10,8 @@ use Rattle.rams_model.specs.Service.Bursts as model
 use Rattle.channel_cache.specs.packet_ring.{packet_of}
 use Rattle.channel_cache.proofs.packet_ring.Following.{has_its_number}
 use Rattle.tick_core.specs.declared.allowance.Allowance.{Allowance}
-use Rattle.tick_core.specs.{with_packet, Repaired, Rise, clients_of, allowance_for, after_repair, with_taken, fits, waiting, with_repair, with_wanted, with_all_wanted}
+use Rattle.tick_draft.specs.{with_packet}
+use Rattle.tick_core.specs.{Repaired, Rise, clients_of, allowance_for, after_repair, with_taken, fits, waiting, with_repair, with_wanted, with_all_wanted}
 use Rattle.tick_core.proofs.Placing.{clients_stay}
 use Rattle.tick_core.proofs.Sparing.{one, spares, spared}
 use Rattle.tick_core.proofs.Shown.{Shows, shows_repair, shows_gone}

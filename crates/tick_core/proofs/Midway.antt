@@ -13,16 +13,17 @@ use Rattle.channel_config.specs.{IsLawful}
 use Rattle.reckoning.specs.link_budget.{amounts}
 use Rattle.reckoning.specs.link_budget.Amounts.{Amounts}
 use Rattle.client_table.specs.declared.{Burst.Burst, Entry.Entry}
-use Rattle.client_table.specs.{clients_of, entry_of, awake, changed, changed_by}
+use Rattle.client_table.specs.{clients_of, entry_of, awake, changed}
 use Rattle.client_table.specs.Clients.{Clients}
 use Rattle.client_table.specs.Clients as tables
 use Rattle.channel_cache.specs.packet_ring.{packet_of}
 use Rattle.channel_parts.specs.{IsBudget}
 use Rattle.channel_parts.proofs.Facts.{open_bursts_are_within_bounds, each_burst_is_reserved, ends_release, other_notes_reserve_nothing, the_end_of_the_held_never_falls}
 use Rattle.channel_parts.proofs.Ordered.{Rise, known_rise}
-use Rattle.channel_parts.proofs.Tables.{clients-with_entry, entry-with_entry, others-with_entry, clients-without, others-without, entry_among, has_entry}
-use Rattle.tick_core.specs.{entry_sent, burst_sent, entry_closed, amount_of, amount_for, with_committed, with_all_committed, IsNextSmall, IsNextSmallIfKnown, MayCommit, MayCommitAll}
-use Rattle.tick_core.specs.Committed.{Committed}
+use Rattle.channel_parts.proofs.Tables.{clients-without, others-without, entry_among, has_entry}
+use Rattle.tick_draft.specs.{entry_sent, burst_sent, entry_closed, amount_of, amount_for, with_committed, with_all_committed, IsNextSmall, IsNextSmallIfKnown, MayCommit, MayCommitAll}
+use Rattle.tick_draft.specs.Committed.{Committed}
+use Rattle.tick_draft.proofs.Changing.{is_change}
 use Rattle.tick_core.proofs.Sparing.{spares, one as spared_one, serves, known_kept, IsSpared, spared}
 use Rattle.tick_core.proofs.Idling.{idle_same, busy_spared, idle_anew}
 use Rattle.tick_core.proofs.Serving.{burst_open, repair_open, end_open, burst_sequence, repair_sequence}
@@ -45,26 +46,6 @@ pub record IsMid (s : Settings) (history : History) (c : Committed) : Type 0 whe
   pub entries : (k : ℕ) (e : Entry) → entry_of c.table k ≡ Some e → IsMidEntry s k history e
   pub others : (k : ℕ) → is_among k (known history) ≡ false → open_burst s k history ≡ None
   pub budget : IsBudget s history c.budget
-
--- ---- a changed entry
--- what a change of an entry is to a table
-pub record IsChange (f : Entry → Entry) (k : ℕ) (t u : Clients) : Type 0 where
-  pub most : u.most ≡ t.most
-  pub clients : clients_of u ≡ clients_of t
-  pub own : entry_of u k ≡ option_map f (entry_of t k)
-  pub away : (j : ℕ) → j ≢ k → entry_of u j ≡ entry_of t j
-
-pub is_change : (f : Entry → Entry) (k : ℕ) (t : Clients) → IsChange f k t (changed f t k)
-is_change f k t = change_by (entry_of t k) refl
-  where
-    change_by : (o : Option Entry) → entry_of t k ≡ o → IsChange f k t (changed_by f t k o)
-    change_by None is = record { most = refl; clients = refl; own = is ∙ ap (option_map f) (sym is); away = λ j differ. refl }
-    change_by (Some e) is = record {
-      most = refl;
-      clients = clients-with_entry t k (f e);
-      own = entry-with_entry t k (f e) (entry_among t k e is) ∙ ap (option_map f) (sym is);
-      away = λ j differ. others-with_entry t k (f e) j differ;
-    }
 
 pub mapped_some : (f : Entry → Entry) (o : Option Entry) (e : Entry) → option_map f o ≡ Some e → (x : Entry) × (o ≡ Some x) × (f x ≡ e)
 mapped_some f None e is = absurd cc

@@ -23,7 +23,8 @@ use Rattle.repair_queue.specs.{IsWithinLimits}
 use Rattle.channel_parts.specs.declared.Parts.{Parts}
 use Rattle.channel_parts.specs.{burst_kept, IsEntry, StandsFor}
 use Rattle.channel_parts.proofs.Given.{held_is as held_are}
-use Rattle.tick_core.specs.{new_draft, allowances_of, Repaired, Rise, clients_of, idle_after, begun_left, drafted_runs, drafted_repairs, drafted_tick, planned_answer, planned_flags, is_over}
+use Rattle.tick_draft.specs.{new_draft}
+use Rattle.tick_core.specs.{allowances_of, Repaired, Rise, clients_of, idle_after, begun_left, drafted_runs, drafted_repairs, drafted_tick, planned_answer, planned_flags, is_over}
 use Rattle.tick_core.proofs.Sparing.{GoesOn, then, kept as kept_by, spares, serves, known_kept, arrivals_kept}
 use Rattle.tick_core.proofs.Walking.{whose_all}
 use Rattle.tick_core.proofs.Shown.{Shows}

@@ -6,7 +6,8 @@ use Rattle.channel_cache.specs.packet_ring.{packet_of}
 use Rattle.rams_model.specs.declared.{Held.Held, Note.TheVariants.Repair}
 use Rattle.rams_model.specs.Service.{Wanted, wanted}
 use Rattle.tick_core.specs.declared.allowance.Allowance.{Allowance}
-use Rattle.tick_core.specs.{Drafted, with_packet, Repaired, fits, waiting, with_repair, with_taken, with_wanted, with_all_wanted}
+use Rattle.tick_draft.specs.{Drafted, with_packet}
+use Rattle.tick_core.specs.{Repaired, fits, waiting, with_repair, with_taken, with_wanted, with_all_wanted}
 
 abbrev pub repaired : Drafted → List Allowance → List Bool → Repaired
 repaired d allowances done = record { draft = d; allowances = allowances; done = done }

@@ -12,7 +12,8 @@ use Rattle.rams_model.specs.Packets.{from_number}
 use Rattle.rams_model.proofs.Turns.{none_open}
 use Rattle.client_table.specs.declared.Entry.{Entry}
 use Rattle.tick_core.specs.declared.allowance.Allowance.{Allowance}
-use Rattle.tick_core.specs.{Drafted, Rise, allowance_of, allowances_of, with_all_served}
+use Rattle.tick_draft.specs.{Drafted}
+use Rattle.tick_core.specs.{Rise, allowance_of, allowances_of, with_all_served}
 use Rattle.tick_core.proofs.Sparing.{GoesOn, same, then, one, spares, serves, IsSpared, spared}
 use Rattle.tick_core.proofs.Walking.{whose}
 use Rattle.tick_core.proofs.Shown.{Shows}

@@ -13,7 +13,8 @@ use Rattle.channel_parts.specs.declared.Parts.{Parts}
 use Rattle.channel_parts.specs.{burst_kept, StandsFor}
 use Rattle.channel_parts.proofs.Facts.{open_bursts_are_within_bounds, open_bursts_have_a_tick_left}
 use Rattle.channel_parts.proofs.Given.{held_is, moment}
-use Rattle.tick_core.specs.{AreInOrder, IsInTime, AreInTime, IsSmallIfOpen, IsSmallIfKnown, AreSmall}
+use Rattle.tick_draft.specs.{IsSmallIfOpen, IsSmallIfKnown, AreSmall}
+use Rattle.tick_core.specs.{AreInOrder, IsInTime, AreInTime}
 
 pub in_order : (p : Parts) (events : List Event) → StandsFor p events → AreInOrder p.cache.held
 in_order p events stands =

@@ -12,7 +12,8 @@ use Rattle.rams_model.specs.Service.Tick as ticks
 use Rattle.rams_model.proofs.OpenBurst.{changed_open}
 use Rattle.client_table.specs.declared.{Burst.Burst, Entry.Entry}
 use Rattle.tick_core.specs.declared.{allowance.Allowance.Allowance, runs.Sent.Sent}
-use Rattle.tick_core.specs.{Drafted, with_packet, with_end, unsent, after_packet, sent_after, with_run, run_of, after_run, end_of, allowance, left_by_run, allowance_of, with_served}
+use Rattle.tick_draft.specs.{Drafted, with_packet, with_end}
+use Rattle.tick_core.specs.{unsent, after_packet, sent_after, with_run, run_of, after_run, end_of, allowance, left_by_run, allowance_of, with_served}
 use Rattle.tick_core.proofs.Shown.{Shows, shows_burst, shows_end}
 
 -- ---- the open burst after a note of its client

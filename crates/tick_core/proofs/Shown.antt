@@ -6,7 +6,7 @@ use Rattle.rams_model.specs.declared.Note.TheVariants.{Burst, Repair, Gone, End,
 use Rattle.rams_model.specs.Service.{Settings, noted, History, size_of, open_burst, after_sending, channel_left, order_of, end_order, newest_notes, newest_orders}
 use Rattle.rams_model.specs.Service.Bursts as model
 use Rattle.rams_model.proofs.Newest.{notes_behind, orders_behind}
-use Rattle.tick_core.specs.{Drafted, with_note, with_packet, with_end, told_end}
+use Rattle.tick_draft.specs.{Drafted, with_note, with_packet, with_end, told_end}
 
 -- What a history has noted of its newest event, with its orders, and what the channel's budget has left.
 pub record Shows (s : Settings) (history : History) (d : Drafted) : Type 0 where

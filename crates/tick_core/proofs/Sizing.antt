@@ -11,8 +11,9 @@ use Rattle.channel_parts.specs.declared.Parts.{Parts}
 use Rattle.channel_parts.specs.{StandsFor}
 use Rattle.channel_parts.proofs.Given.{held_is}
 use Rattle.tick_core.specs.declared.plan.TickPlan.{TickPlan}
-use Rattle.tick_core.specs.{IsPlanFor, with_committed, with_all_committed, MayCommitAll, sizes_named, first_size, sizes_behind, with_sized, with_all_sized, MayCommitSized}
-use Rattle.tick_core.specs.Committed.{Committed}
+use Rattle.tick_draft.specs.{with_committed, with_all_committed, MayCommitAll, sizes_named, first_size, sizes_behind, with_sized, with_all_sized, MayCommitSized}
+use Rattle.tick_core.specs.{IsPlanFor}
+use Rattle.tick_draft.specs.Committed.{Committed}
 use Rattle.tick_core.proofs.Adding.{Fits, Adds, none, plus}
 use Rattle.tick_core.proofs.Closing.{is_tick}
 use Rattle.tick_core.proofs.Sized.{held_sized}

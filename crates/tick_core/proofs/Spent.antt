@@ -8,7 +8,8 @@ use Rattle.rams_model.specs.Service.{Wanted}
 use Rattle.rams_model.specs.Laws.{AreAtLeast}
 use Rattle.channel_cache.specs.packet_ring.{packet_of}
 use Rattle.tick_core.specs.declared.allowance.Allowance.{Allowance}
-use Rattle.tick_core.specs.{Drafted, Repaired, allowance_for, fits, waiting, with_repair, with_wanted, with_all_wanted, IsSpent, FitsNowhere, AreHeld, IsGone}
+use Rattle.tick_draft.specs.{Drafted}
+use Rattle.tick_core.specs.{Repaired, allowance_for, fits, waiting, with_repair, with_wanted, with_all_wanted, IsSpent, FitsNowhere, AreHeld, IsGone}
 use Rattle.tick_core.proofs.Within.{some_there}
 
 -- what holds of all holds of the one that is found

@@ -15,7 +15,8 @@ use Rattle.client_table.proofs.Opened.{below}
 use Rattle.rams_model.specs.declared.Held.{Held}
 use Rattle.rams_model.specs.Service.{Settings, is_lost}
 use Rattle.tick_core.specs.declared.allowance.Allowance.{Allowance}
-use Rattle.tick_core.specs.{Drafted, Rise, clients_of, allowance_of, allowances_of, with_served, with_all_served}
+use Rattle.tick_draft.specs.{Drafted}
+use Rattle.tick_core.specs.{Rise, clients_of, allowance_of, allowances_of, with_served, with_all_served}
 
 -- one more client was served
 pub served_turn : (s : Settings) (held : List Held) (e : ℕ × Entry) (es rest : List (ℕ × Entry)) (d d2 end : Drafted) → es ≡ e ∷ rest → d2 ≡ with_served s held e.0 e.1 e.1.burst d

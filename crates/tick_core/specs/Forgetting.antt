@@ -6,7 +6,7 @@ use Rattle.client_table.specs.declared.Entry.{Entry}
 use Rattle.client_table.specs.{entry_of}
 use Rattle.client_table.specs.Clients.{Clients}
 use Rattle.repair_queue.specs.{count_of}
-use Rattle.tick_core.specs.Drafts.{Drafted, with_note}
+use Rattle.tick_draft.specs.Drafts.{Drafted, with_note}
 
 -- a client's idle count after a tick, by what its entry counts: one more, unless it had an open burst or a pending repair as the tick began
 abbrev pub idle_after : List Wanted → ℕ → Entry → ℕ

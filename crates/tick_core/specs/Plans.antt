@@ -4,11 +4,11 @@ use Rattle.std.specs.List.{list_any}
 use Rattle.rams_model.specs.declared.{Event.Event, Note.Note, Event.TheVariants.Tick, Note.TheVariants.Repair, Note.TheVariants.Gone}
 use Rattle.rams_model.specs.Service.{Answered, answered, Wanted, is_wanted, pending, answer, history_of}
 use Rattle.channel_parts.specs.declared.Parts.{Parts}
-use Rattle.tick_core.specs.Drafts.{Drafted, new_draft}
+use Rattle.tick_draft.specs.Drafts.{Drafted, new_draft}
 use Rattle.tick_core.specs.Runs.{allowances_of, with_all_served}
 use Rattle.tick_core.specs.Repairs.{Repaired, with_all_wanted}
 use Rattle.tick_core.specs.Forgetting.{with_all_forgotten}
-use Rattle.tick_core.specs.InStep.{AreStepsOf}
+use Rattle.tick_draft.specs.InStep.{AreStepsOf}
 use Rattle.tick_core.specs.declared.plan.TickPlan.{TickPlan}
 
 -- what a tick may send at most, as it begins

@@ -8,7 +8,7 @@ use Rattle.channel_cache.specs.packet_ring.{packet_of}
 use Rattle.tick_core.specs.declared.allowance.Allowance.{Allowance}
 use Rattle.client_table.specs.declared.Entry.{Entry}
 use Rattle.tick_core.specs.Runs.{idle_allowance}
-use Rattle.tick_core.specs.Drafts.{Drafted, with_note, with_packet}
+use Rattle.tick_draft.specs.Drafts.{Drafted, with_note, with_packet}
 
 -- the repairs so far: the notes, what each client's repairs may still take, and which of them are over
 pub record Repaired : Type 0 where

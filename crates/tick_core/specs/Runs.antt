@@ -9,7 +9,7 @@ use Rattle.client_table.specs.declared.{Burst.Burst, Entry.Entry}
 use Rattle.client_table.specs.{entry_of, opened_of}
 use Rattle.client_table.specs.Clients.{Clients}
 use Rattle.tick_core.specs.declared.{allowance.Allowance.Allowance, runs.Sent.Sent}
-use Rattle.tick_core.specs.Drafts.{Drafted, with_packet, with_end}
+use Rattle.tick_draft.specs.Drafts.{Drafted, with_packet, with_end}
 
 -- a burst as a tick begins: nothing of its budget is spent
 abbrev pub unsent : ℕ → Burst → Sent

@@ -3,12 +3,12 @@ ghost use Rattle.std.specs.Prelude.{◌≡◌, ◌==◌, IfOk};
 ghost use Rattle.client_table.specs.{entry_of, AreRising};
 ghost use Rattle.tick_core.specs.{idle_after, with_forgotten_if, with_all_forgotten};
 
-use crate::draft::Draft;
 use channel_config::Config;
 use client_table::{Entry, Table};
 use ram_io::NoMemory;
 use rams_model::Note;
 use repair_queue::Queue;
+use tick_draft::Draft;
 
 /// A client's idle count after a tick: one more, unless it had an open burst or a pending repair as the
 /// tick began.

@@ -4,21 +4,15 @@
 mod allowance;
 mod allowances;
 mod commit;
-mod draft;
-mod entries;
 mod forgetting;
 mod holding;
 mod plan;
 mod repairs;
 mod runs;
-mod sendings;
-mod step;
-mod steps;
 
 pub use channel_parts::Parts;
 pub use commit::commit_tick;
 pub use plan::{TickPlan, plan_tick};
 pub use ram_io::NoMemory;
 pub use rams_model::{Answer, Note, Order};
-pub use sendings::Sendings;
-pub use step::Step;
+pub use tick_draft::{Sendings, Step};

@@ -5,15 +5,14 @@ ghost use Rattle.channel_parts.specs.{StandsFor};
 ghost use Rattle.client_table.specs.{AreRising};
 ghost use Rattle.tick_core.specs.{AreInOrder, AreInTime, IsPlanOf, IsPlanFor};
 
-use crate::draft::Draft;
 use crate::forgetting::forget_clients;
 use crate::repairs::Repairs;
 use crate::runs::serve_clients;
-use crate::step::Step;
 use channel_parts::Parts;
 use ram_io::NoMemory;
 use rams_model::Answer;
 use std::alloc::Global;
+use tick_draft::{Draft, Step};
 
 /// What a tick does: its notes and orders, and a flag for each pending repair, set where it is over.
 #[derive(Drop)]

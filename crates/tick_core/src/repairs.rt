@@ -7,7 +7,6 @@ ghost use Rattle.repair_queue.specs.{all_of};
 
 use crate::allowance::Allowance;
 use crate::allowances::Allowances;
-use crate::draft::Draft;
 use crate::holding::Holding;
 use crate::runs::idle_allowance;
 use channel_cache::Cache;
@@ -17,6 +16,7 @@ use rams_model::{Held, Note};
 use repair_queue::{MOST_PENDING, Piece, Queue, Wanted};
 use std::alloc::Global;
 use std::marker::Model;
+use tick_draft::Draft;
 
 /// The repairs of a tick so far: what was noted, what each client's repairs may still take, and which of
 /// them are over.

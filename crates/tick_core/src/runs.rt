@@ -6,7 +6,6 @@ ghost use Rattle.tick_core.specs.{AreInOrder, AreInTime, IsInTime, IsNext, run_f
 
 use crate::allowance::Allowance;
 use crate::allowances::Allowances;
-use crate::draft::Draft;
 use channel_cache::Cache;
 use channel_config::Config;
 use channel_parts::is_before_stop;
@@ -14,6 +13,7 @@ use client_table::{Burst, Entry, Table};
 use ram_io::NoMemory;
 use rams_model::{Cause, Held, Note};
 use std::alloc::Global;
+use tick_draft::Draft;
 
 /// How far a burst has come in a tick.
 #[derive(Clone, Copy, PartialEq, Eq)]

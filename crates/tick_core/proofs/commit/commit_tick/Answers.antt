@@ -1,6 +1,6 @@
 use Rattle.std.proofs.Common.{refl, ap, ◌∙◌}
 use Rattle.rams_model.specs.declared.Channel.{Channel}
-use Rattle.tick_core.specs.{committing}
+use Rattle.tick_draft.specs.{committing}
 use Rattle.tick_core.proofs.Safe.{small_parts}
 use Rattle.tick_core.proofs.Closing.{flags_long, made_parts}
 use Rattle.tick_core.proofs.Carrying.{steps_carry, may_do_steps}

@@ -1,0 +1,5 @@
+pub mod Changing
+pub mod Doing
+pub mod Kept
+pub mod Sending
+pub mod Stepping
