@@ -1,7 +1,7 @@
 //! What the lines of a trace bring to a world.
 ghost use Rattle.std.specs.Prelude.{◌≡◌, IfOk, IsTrue};
 ghost use Rattle.rams_model.specs.Texts.{is_hex, bytes_in};
-ghost use Rattle.trace_text.specs.{shown, HasDigits};
+ghost use Rattle.trace_lines.specs.{shown, HasDigits};
 ghost use Rattle.trace_loop.specs.trace_book.trace_serving.{brought};
 ghost use Rattle.meet_loop.specs.world_book.{meet};
 

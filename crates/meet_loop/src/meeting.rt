@@ -1,7 +1,8 @@
 //! The trace of a world, line by line.
 ghost use Rattle.std.specs.Prelude.{◌≡◌, ◌≤◌, ◌+◌, ◌-◌, ◌^◌, ℕ, true, IfOk, IsSomeAnd, is_some, None};
 ghost use Rattle.rams_model.specs.Texts.{tick_of};
-ghost use Rattle.trace_text.specs.{shown, told, HasDigits, IsOther, IsSettled};
+ghost use Rattle.trace_lines.specs.{shown, HasDigits};
+ghost use Rattle.trace_text.specs.{told, IsOther, IsSettled};
 ghost use Rattle.trace_loop.specs.trace_book.trace_serving.{Stage, opening, turn, after_line, eventless, counted, brought};
 ghost use Rattle.trace_loop.specs.{StandsSomewhere};
 ghost use Rattle.trace_loop.specs.declared.Turn.TheVariants.{GoesOn};

@@ -16,9 +16,10 @@ use Rattle.trace_loop.specs.declared.Turn.TheVariants.{GoesOn, Said, Refused}
 use Rattle.trace_loop.specs.trace_book.{run, most_events, event_text}
 use Rattle.trace_loop.proofs.head_loop.Claims.{claims_kept, no_channel}
 use Rattle.rams_replay.specs.{Comes, Stands, CountsOne, Tells, Took}
-use Rattle.trace_text.specs.declared.Line.{Line}
-use Rattle.trace_text.specs.{shown, IsOther}
-use Rattle.trace_text.specs.declared.Line.TheVariants.{Channel as ChannelLine, Tune, Give, Mcast, Ask, Drop}
+use Rattle.trace_lines.specs.declared.Line.{Line}
+use Rattle.trace_lines.specs.{shown}
+use Rattle.trace_lines.specs.declared.Line.TheVariants.{Channel as ChannelLine, Tune, Give, Mcast, Ask, Drop}
+use Rattle.trace_text.specs.{IsOther}
 use Rattle.takeover.specs.standby.{HubServes}
 
 -- what is judged well was accepted

@@ -2,7 +2,7 @@
 //! written, and each fault at its edge. Expected values are worked out by hand from the documents.
 //!
 //! `digits` has the tests of `hex_text`, `settings` of `channel_config`, `book_lines` of `book_text`, and the
-//! others of `trace_text`, as tables where like cases are many.
+//! others of `trace_lines` and `trace_text`, as tables where like cases are many.
 #![tactic(auto)]
 
 #[cfg(test)]
@@ -16,7 +16,7 @@ mod settings;
 #[cfg(test)]
 mod trace_channels;
 #[cfg(test)]
-mod trace_lines;
+mod trace_kinds;
 #[cfg(test)]
 mod trace_orders;
 #[cfg(test)]

@@ -14,9 +14,10 @@ use Rattle.server_hub.specs.Served.{Served}
 use Rattle.trace_loop.specs.trace_book.trace_serving.{Stage, claim_of, after_line, brought}
 use Rattle.trace_loop.proofs.trace_book.trace_serving.Judged.{channel_so, claim}
 use Rattle.trace_loop.specs.trace_book.{settings_of}
-use Rattle.trace_text.specs.declared.Line.{Line}
-use Rattle.trace_text.specs.{shown, IsOther}
-use Rattle.trace_text.specs.declared.Line.TheVariants as line
+use Rattle.trace_lines.specs.declared.Line.{Line}
+use Rattle.trace_lines.specs.{shown}
+use Rattle.trace_lines.specs.declared.Line.TheVariants as line
+use Rattle.trace_text.specs.{IsOther}
 use Rattle.trace_loop.specs.journal_book.{HasLine}
 use Rattle.threads_loop.specs.declared.dealing.Dealt.{Dealt}
 use Rattle.trace_loop.specs.declared.whole_trace.Does.{Does}

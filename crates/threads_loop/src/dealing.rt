@@ -2,7 +2,8 @@
 ghost use Rattle.std.specs.Prelude.{◌≡◌, ◌+◌, ◌<◌, ◌≤◌, ◌++◌, ℕ, List, [], IfOk, OnOk, length, map, slice_index_or};
 ghost use Rattle.rams_model.specs.Texts.{tick_of};
 ghost use Rattle.server_hub.specs.Served.{Served};
-ghost use Rattle.trace_text.specs.{told, shown, HasDigits, IsOther, IsSettled};
+ghost use Rattle.trace_lines.specs.{shown, HasDigits};
+ghost use Rattle.trace_text.specs.{told, IsOther, IsSettled};
 ghost use Rattle.trace_loop.specs.trace_book.trace_serving.{Stage, opening, turn, after_line, brought, event_at};
 ghost use Rattle.trace_loop.specs.head_loop.{with_feed};
 ghost use Rattle.threads_loop.specs.{threads, list_of, Comes, Grows, HasDealtBy, HasDealtSome, IsDealt, Took};

@@ -3,9 +3,9 @@ use Rattle.std.proofs.Common.{◌≡◌, ℕ, Bool, true, false, if◌then◌els
 use Rattle.rams_model.specs.Texts.{word32, TraceLine, tick_line, end_line, whole, head_in, live_in, feedback_in, tune_in, give_in, mcast_in, ask_in, drop_in, line_in, line_words, line_has_form}
 use Rattle.rams_model.specs.Texts.TraceLines.{Words}
 use Rattle.trace_text.proofs.ChannelWords.{Is, channel_is}
-use Rattle.trace_text.proofs.Spelled.{number_is, and_both, is_word}
-use Rattle.trace_text.proofs.Steps.{hex_is, version_is, field_step, one_step, whole_step}
-use Rattle.trace_text.proofs.Word32.{word32_is}
+use Rattle.trace_lines.proofs.Spelled.{number_is, and_both, is_word}
+use Rattle.trace_lines.proofs.Steps.{hex_is, version_is, field_step, one_step, whole_step}
+use Rattle.trace_lines.proofs.Word32.{word32_is}
 
 live_is : (ws : Words) (l : TraceLine) → live_in ws ≡ Some l → Is ws l
 unfolding live_in

@@ -5,16 +5,16 @@ use Rattle.std.specs.List.{list_all}
 use Rattle.rams_model.specs.declared.Channel.{Channel}
 use Rattle.rams_model.specs.Texts.{number_in, word32_in, word32, channel_line, access_in, access_word, channel_in, line_has_form, channel_words, is_short, is_word32}
 use Rattle.rams_model.specs.Texts.TraceLines.{Words}
-use Rattle.trace_text.specs.declared.{channel_line.Numbers.Numbers, channel_line.Names.Names, channel_line.Places.Places}
-use Rattle.trace_text.specs.declared.{channel_line.Amounts.Amounts, channel_line.Bounds.Bounds, channel_line.Keeping.Keeping}
-use Rattle.trace_text.specs.{names_in, places_in, amounts_in, bounds_in, keeping_in, numbers_in, line_of_numbers}
+use Rattle.trace_lines.specs.{LineNumbers as Numbers, LineNames as Names, LinePlaces as Places}
+use Rattle.trace_lines.specs.{LineAmounts as Amounts, LineBounds as Bounds, LineKeeping as Keeping}
+use Rattle.trace_lines.specs.{names_in, places_in, amounts_in, bounds_in, keeping_in, numbers_in, line_of_numbers}
 use Rattle.trace_text.proofs.ChannelWords.{named, placed, amounting, bounded, kept, names_fit, places_fit, amounts_fit, bounds_fit, Fits, Formed, formed, all_words}
-use Rattle.trace_text.proofs.Joins.{has_no_space}
-use Rattle.trace_text.proofs.ReadParts.{channel_is_numbers}
-use Rattle.trace_text.proofs.Spaces.{in_decimal, in_word32, in_access}
-use Rattle.trace_text.proofs.Spelled.{number_back, and_both}
-use Rattle.trace_text.proofs.Steps.{access_back, field_back, two_versions}
-use Rattle.trace_text.proofs.Word32.{word32_back}
+use Rattle.trace_lines.proofs.Joins.{has_no_space}
+use Rattle.trace_lines.proofs.ReadParts.{channel_is_numbers}
+use Rattle.trace_lines.proofs.Spaces.{in_decimal, in_word32, in_access}
+use Rattle.trace_lines.proofs.Spelled.{number_back, and_both}
+use Rattle.trace_lines.proofs.Steps.{access_back, field_back, two_versions}
+use Rattle.trace_lines.proofs.Word32.{word32_back}
 
 names_back : (n : Names) (rest : Words) → names_fit n ≡ true → names_in (named n rest) ≡ Some (n, rest)
 unfolding names_in

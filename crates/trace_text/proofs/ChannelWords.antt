@@ -3,13 +3,13 @@ use Rattle.std.proofs.Common.{◌≡◌, Bool, true, ◌&&◌, ◌||◌, ◌==�
 use Rattle.std.proofs.lemmas.Bool.{and_parts}
 use Rattle.rams_model.specs.Texts.{word32, TraceLine, access_word, channel_in, line_words, line_has_form, is_short, is_word32, is_version}
 use Rattle.rams_model.specs.Texts.TraceLines.{Words}
-use Rattle.trace_text.specs.declared.{channel_line.Numbers.Numbers, channel_line.Names.Names, channel_line.Places.Places}
-use Rattle.trace_text.specs.declared.{channel_line.Amounts.Amounts, channel_line.Bounds.Bounds, channel_line.Keeping.Keeping}
-use Rattle.trace_text.specs.{names_in, places_in, amounts_in, bounds_in, keeping_in, numbers_in, line_of_numbers}
-use Rattle.trace_text.proofs.ReadParts.{channel_is_numbers}
-use Rattle.trace_text.proofs.Spelled.{number_is, and_both}
-use Rattle.trace_text.proofs.Steps.{access_is, field_then, whole_step}
-use Rattle.trace_text.proofs.Word32.{word32_is}
+use Rattle.trace_lines.specs.{LineNumbers as Numbers, LineNames as Names, LinePlaces as Places}
+use Rattle.trace_lines.specs.{LineAmounts as Amounts, LineBounds as Bounds, LineKeeping as Keeping}
+use Rattle.trace_lines.specs.{names_in, places_in, amounts_in, bounds_in, keeping_in, numbers_in, line_of_numbers}
+use Rattle.trace_lines.proofs.ReadParts.{channel_is_numbers}
+use Rattle.trace_lines.proofs.Spelled.{number_is, and_both}
+use Rattle.trace_lines.proofs.Steps.{access_is, field_then, whole_step}
+use Rattle.trace_lines.proofs.Word32.{word32_is}
 
 -- the words of each part, in front of others
 abbrev pub named : Names → Words → Words

@@ -8,11 +8,13 @@ use Rattle.rams_model.specs.declared.LineFault.TheVariants.{Form, Order, Range, 
 use Rattle.rams_model.specs.declared.LineKind.TheVariants as kind
 use Rattle.rams_model.specs.Service.{Settings, settings, channel_in_range, checked}
 use Rattle.rams_model.specs.Texts.{Head, joined, with_channel, front, TraceLine, head_line, channel_line, live_line, feedback_line, tick_line, end_line, tune_line, give_line, mcast_line, ask_line, drop_line, line_of, line_words, channel_words, line_in_range, line_has_form, is_version, Reached, version_of, version_spelled, kind_named, kind_may_come, named_may_come, may_come, expected, line_is_served, with_line, accepted, with_reached, judged_line, judged, tick_of}
-use Rattle.trace_text.specs.declared.{line.Judged.Judged, line.Line.Line}
-use Rattle.trace_text.specs.declared.line.Line.TheVariants as line
-use Rattle.trace_text.specs.{shown, is_ranged, Unread, HasDigits, told, judged_as, IsJudged, IsSettled, by_rules, with_settled, with_ranged}
+use Rattle.trace_lines.specs.declared.Line.{Line}
+use Rattle.trace_lines.specs.declared.Line.TheVariants as line
+use Rattle.trace_lines.specs.{shown, is_ranged, Unread, HasDigits}
+use Rattle.trace_text.specs.declared.judged.Judged.{Judged}
+use Rattle.trace_text.specs.{told, judged_as, IsJudged, IsSettled, by_rules, with_settled, with_ranged}
 use Rattle.trace_text.proofs.Spelling.{is_text}
-use Rattle.trace_text.proofs.Steps.{two_versions}
+use Rattle.trace_lines.proofs.Steps.{two_versions}
 
 -- a channel line has as many words as its version says
 version_is : (v : ℕ) (c : Channel) → is_version v ≡ true → version_spelled (channel_words v c) ≡ v

@@ -4,11 +4,11 @@ use Rattle.std.proofs.lemmas.Bool.{and_parts}
 use Rattle.std.specs.List.{list_all}
 use Rattle.rams_model.specs.Texts.{is_hex, number_in, word32, word32_in, TraceLine, head_line, channel_line, live_line, feedback_line, tick_line, end_line, tune_line, give_line, mcast_line, ask_line, drop_line, hex_in, version_in, head_in, live_in, feedback_in, tune_in, give_in, mcast_in, ask_in, drop_in, line_in, line_words, is_short, is_word32, is_version, line_has_form}
 use Rattle.trace_text.proofs.ChannelBack.{channel_back, in_channel}
-use Rattle.trace_text.proofs.Joins.{has_no_space}
-use Rattle.trace_text.proofs.Spaces.{in_decimal, in_word32, in_hex, in_version}
-use Rattle.trace_text.proofs.Spelled.{number_back, and_both}
-use Rattle.trace_text.proofs.Steps.{hex_back, version_back, field_back, one_back}
-use Rattle.trace_text.proofs.Word32.{word32_back}
+use Rattle.trace_lines.proofs.Joins.{has_no_space}
+use Rattle.trace_lines.proofs.Spaces.{in_decimal, in_word32, in_hex, in_version}
+use Rattle.trace_lines.proofs.Spelled.{number_back, and_both}
+use Rattle.trace_lines.proofs.Steps.{hex_back, version_back, field_back, one_back}
+use Rattle.trace_lines.proofs.Word32.{word32_back}
 
 -- what is spelled is read again
 pub line_back : (l : TraceLine) → line_has_form l ≡ true → line_in (line_words l) ≡ Some l

@@ -6,11 +6,11 @@ use Rattle.std.specs.List.{list_all}
 use Rattle.rams_model.specs.declared.LineFault.{LineFault}
 use Rattle.rams_model.specs.Texts.{words_of, text_of, TraceLine, head_line, channel_line, live_line, feedback_line, tick_line, end_line, tune_line, give_line, mcast_line, ask_line, drop_line, line_in, line_of, line_at, ranged, line_words, line_text, line_has_form, line_in_range, is_spelled}
 use Rattle.rams_model.specs.Texts.TraceLines.{Words}
-use Rattle.trace_text.specs.{is_end}
+use Rattle.trace_lines.specs.{is_end}
 use Rattle.trace_text.proofs.AsRead.{line_is}
-use Rattle.trace_text.proofs.Joins.{has_no_space, words_of-text_of, text_of-words_of}
+use Rattle.trace_lines.proofs.Joins.{has_no_space, words_of-text_of, text_of-words_of}
 use Rattle.trace_text.proofs.ReadAgain.{line_back, no_spaces}
-use Rattle.trace_text.proofs.Spelled.{and_both}
+use Rattle.trace_lines.proofs.Spelled.{and_both}
 
 -- a line has a word
 some_word : (l : TraceLine) → is_end (line_words l) ≡ false

@@ -5,10 +5,11 @@ use Rattle.rams_model.specs.declared.{Channel.Channel, ConfigFault.ConfigFault, 
 use Rattle.rams_model.specs.declared.LineFault.TheVariants.{Order, Range, Twice}
 use Rattle.rams_model.specs.Service.{Settings, settings, channel_in_range, checked}
 use Rattle.rams_model.specs.Texts.{TraceLine, channel_line, Head, Reached, accepted, judged, line_fault, joined}
-use Rattle.trace_text.specs.declared.{line.Judged.Judged, line.Line.Line}
-use Rattle.trace_text.specs.declared.line.Judged.TheVariants as judged_line
-use Rattle.trace_text.specs.declared.line.Line.TheVariants as line
-use Rattle.trace_text.specs.Shown.{shown, HasDigits}
+use Rattle.trace_lines.specs.declared.Line.{Line}
+use Rattle.trace_lines.specs.declared.Line.TheVariants as line
+use Rattle.trace_lines.specs.{shown, HasDigits}
+use Rattle.trace_text.specs.declared.judged.Judged.{Judged}
+use Rattle.trace_text.specs.declared.judged.Judged.TheVariants as judged_line
 
 -- the line that it is
 abbrev pub told : Judged → TraceLine

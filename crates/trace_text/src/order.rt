@@ -1,11 +1,10 @@
 //! What lines are to the order of a trace.
 ghost use Rattle.std.specs.Prelude.{◌≡◌};
 ghost use Rattle.rams_model.specs.Texts.{kind_of, kind_named, version_spelled, is_event_word, is_receiver_word, has_receivers, has_events, has_one_channel, first_word, words_of};
-ghost use Rattle.trace_text.specs.{shown};
+ghost use Rattle.trace_lines.specs.{shown};
 
-use crate::line::Line;
-use crate::words::{Words, first_word};
 use rams_model::{LineKind, Mode};
+use trace_lines::{Line, Words, first_word};
 
 /// Words of a channel line in version 1.
 const WORDS_OF_VERSION_1: usize = 34;

@@ -3,19 +3,19 @@ ghost use Rattle.std.specs.Prelude.{◌≡◌, ◌≤◌, Ok, Err, Some, true, �
 ghost use Rattle.rams_model.specs.declared.LineFault.TheVariants.{Rule, Twice};
 ghost use Rattle.rams_model.specs.Service.{settings, tick_in_range};
 ghost use Rattle.rams_model.specs.Texts.{line_of, nothing_reached, tick_of, version_of, has_channel, kind_may_come, may_come_next, may_come, has_version, spells_version, line_is_served, line_in_range, with_line, with_channel, expected, accepted, judged, words_of};
-ghost use Rattle.trace_text.specs.{shown, told, judged_as, settled, with_ranged, IsJudged, IsOther, IsSettled, Unread};
+ghost use Rattle.trace_lines.specs.{shown, Unread};
+ghost use Rattle.trace_text.specs.{told, judged_as, settled, with_ranged, IsJudged, IsOther, IsSettled};
 ghost use Rattle.std.specs.List.{list_any};
 
-use crate::line::{Judged, Line};
+use crate::judged::Judged;
 use crate::order::{
     has_events, has_one_channel, has_receivers, kind_of, kind_of_first_word, version_spelled,
 };
-use crate::ranges::is_in_range;
-use crate::read::read_unranged;
 use arrayvec::ArrayVec;
 use channel_config::{Config, MOST_CHANNELS};
 use rams_model::{Channel, ConfigFault, LineFault, LineKind, Mode};
 use std::marker::Model;
+use trace_lines::{Line, is_in_range, read_unranged};
 
 /// What the head line said.
 #[derive(Clone, Copy)]

@@ -1,14 +1,15 @@
 //! The text of a line.
 ghost use Rattle.std.specs.Prelude.{◌≡◌, ◌∷◌, ◌++◌, true, Ok, IfOk, OnOk, decimal};
 ghost use Rattle.rams_model.specs.Texts.{head_line, line_words, line_text, line_at, is_spelled, channel_words, kept_words, access_word, text_of, spaced_words, word32};
-ghost use Rattle.trace_text.specs.{names_words, places_words, amounts_words, bounds_words, shown};
+ghost use Rattle.trace_lines.specs.{shown};
+ghost use Rattle.trace_text.specs.{names_words, places_words, amounts_words, bounds_words};
 
-use crate::line::Line;
 use hex_text::encode_into;
 use itoa::Buffer;
 use ram_io::NoMemory;
 use rams_model::{Access, Channel};
 use std::alloc::Global;
+use trace_lines::Line;
 
 /// The text of a line, without a line feed. It reads back as the line where each number is in its
 /// range and has at most 15 digits, the version is 1 or 2, a channel of version 1 keeps nothing from

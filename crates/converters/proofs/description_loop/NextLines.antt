@@ -5,9 +5,10 @@ use Rattle.line_io.specs.{HasNoFeed, IsCutOff, TakesNext}
 use Rattle.line_io.specs.declared.Next.TheVariants.{Line, Long, End}
 use Rattle.rams_model.specs.declared.{LineFault.LineFault, LineFault.TheVariants.Form, LineFault.TheVariants.Order}
 use Rattle.rams_model.specs.Texts.{TraceLine, Reached, judged, lines_of}
-use Rattle.trace_text.specs.declared.Line as code
-use Rattle.trace_text.specs.declared.Line.TheVariants as line
-use Rattle.trace_text.specs.{shown, IsOther}
+use Rattle.trace_lines.specs.declared.Line as code
+use Rattle.trace_lines.specs.declared.Line.TheVariants as line
+use Rattle.trace_lines.specs.{shown}
+use Rattle.trace_text.specs.{IsOther}
 use Rattle.trace_loop.specs.{IfBothTold}
 use Rattle.trace_loop.proofs.LongLines.{judged_by}
 use Rattle.converters.specs.declared.description_loop.said.Said.{Said}

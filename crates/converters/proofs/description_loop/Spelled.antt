@@ -8,7 +8,7 @@ use Rattle.rams_model.specs.Service.{Settings, settings, channel_in_range}
 use Rattle.rams_model.specs.Texts.{head_line, channel_line, line_in_range, line_has_form, line_text, is_spelled, version_says}
 use Rattle.converters.specs.declared.description_loop.sdp_config.sdp.Sdp.{Sdp}
 use Rattle.converters.specs.description_loop.sdp_config.{IsInRange}
-use Rattle.trace_text.proofs.Spelled.{and_both}
+use Rattle.trace_lines.proofs.Spelled.{and_both}
 use Rattle.trace_text.proofs.Spelling.{le_true}
 use Rattle.line_io.specs.{HasNoFeed}
 use Rattle.converters.specs.description_loop.{Heading, with_settings, with_sdp}

@@ -10,9 +10,9 @@ use Rattle.rams_model.specs.declared.{Access.Access, Access.TheVariants.Marker, 
 use Rattle.rams_model.specs.Texts.{text_of, spaced_words, bytes_in, word32, word32_in, is_digit, is_hex_digit, head_line, channel_line, line_words, kept_words, channel_words, access_word, line_has_form, is_short, is_word32, is_version, version_says, channel_has_form}
 use Rattle.rams_model.specs.Texts.TraceLines.{Words}
 use Rattle.line_io.specs.{HasNoFeed}
-use Rattle.trace_text.proofs.Spelled.{digits_of, and_both}
-use Rattle.trace_text.proofs.Steps.{two_versions}
-use Rattle.trace_text.proofs.Word32.{word32_back, word32_digits}
+use Rattle.trace_lines.proofs.Spelled.{digits_of, and_both}
+use Rattle.trace_lines.proofs.Steps.{two_versions}
+use Rattle.trace_lines.proofs.Word32.{word32_back, word32_digits}
 use Rattle.trace_loop.proofs.journal_book.EventLines.{all_weaker, no_feed}
 
 abbrev pub is_inner : ℕ → Bool

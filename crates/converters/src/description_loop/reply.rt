@@ -2,7 +2,7 @@
 ghost use Rattle.std.specs.Prelude.{◌≡◌, ◌≤◌, ◌++◌, IfOk, OnOk, codes};
 ghost use Rattle.rams_model.specs.declared.Status.TheVariants.{Done, BadSdp};
 ghost use Rattle.rams_model.specs.Texts.{line_text};
-ghost use Rattle.trace_text.specs.{shown};
+ghost use Rattle.trace_lines.specs.{shown};
 ghost use Rattle.converters.specs.description_loop.sdp_config.{sdp_at};
 ghost use Rattle.trace_loop.specs.trace_book.trace_serving.{ended, refused};
 ghost use Rattle.trace_loop.specs.head_loop.{with_feed};

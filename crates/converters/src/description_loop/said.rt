@@ -1,7 +1,8 @@
 //! What the lines of a head say.
 ghost use Rattle.std.specs.Prelude.{◌≡◌, Ok};
 ghost use Rattle.rams_model.specs.Texts.{Reached, tick_of};
-ghost use Rattle.trace_text.specs.{shown, told, IsOther, IsSettled};
+ghost use Rattle.trace_lines.specs.{shown};
+ghost use Rattle.trace_text.specs.{told, IsOther, IsSettled};
 ghost use Rattle.converters.specs.description_loop.{Says, SaysOf, said_fault};
 
 use channel_config::Config;

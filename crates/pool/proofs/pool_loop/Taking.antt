@@ -12,9 +12,10 @@ use Rattle.server_hub.specs.Served.{Served}
 use Rattle.trace_loop.specs.trace_book.trace_serving.{Stage, goes_on, after_line, brought, Stand, claim_of}
 use Rattle.trace_loop.proofs.trace_book.trace_serving.Judged.{judged_so}
 use Rattle.trace_loop.specs.trace_book.{run, settings_of}
-use Rattle.trace_text.specs.declared.Line.{Line}
-use Rattle.trace_text.specs.{shown, IsOther}
-use Rattle.trace_text.specs.declared.Line.TheVariants as line
+use Rattle.trace_lines.specs.declared.Line.{Line}
+use Rattle.trace_lines.specs.{shown}
+use Rattle.trace_lines.specs.declared.Line.TheVariants as line
+use Rattle.trace_text.specs.{IsOther}
 use Rattle.pool.specs.declared.{pool_loop.dealing.Coming.Coming, pool_loop.dealing.Dealt.Dealt, pool_loop.routes.Route.Route}
 use Rattle.trace_loop.specs.declared.whole_trace.Does.{Does}
 use Rattle.trace_loop.specs.declared.whole_trace.Does.TheVariants.{GoesOn, Ends, Refused, TooLong}

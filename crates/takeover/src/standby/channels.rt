@@ -8,7 +8,8 @@ ghost use Rattle.trace_loop.specs.trace_book.trace_serving.{Stage, opening, brou
 ghost use Rattle.trace_loop.specs.trace_book.{run};
 ghost use Rattle.trace_loop.specs.head_loop.{CanOpen, OpensIn};
 ghost use Rattle.trace_text.specs.declared.Judged.TheVariants as judged;
-ghost use Rattle.trace_text.specs.{HasDigits, IsOther, IsSettled, shown, told};
+ghost use Rattle.trace_lines.specs.{HasDigits, shown};
+ghost use Rattle.trace_text.specs.{IsOther, IsSettled, told};
 ghost use Rattle.takeover.specs.declared.standby.fault.Step.TheVariants as steps;
 ghost use Rattle.takeover.specs.standby.{IsSame, Stands, StandsSomewhere, Took, count_of, turn_of};
 

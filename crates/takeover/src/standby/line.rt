@@ -4,7 +4,8 @@ ghost use Rattle.rams_model.specs.Texts.{accepted, may_come, line_in_range, tick
 ghost use Rattle.server_hub.specs.Served.{Served};
 ghost use Rattle.trace_loop.specs.trace_book.trace_serving.{Stage, turn};
 ghost use Rattle.trace_loop.specs.trace_book.{run};
-ghost use Rattle.trace_text.specs.{shown, told, HasDigits, IsOther, IsSettled};
+ghost use Rattle.trace_lines.specs.{shown, HasDigits};
+ghost use Rattle.trace_text.specs.{told, IsOther, IsSettled};
 ghost use Rattle.takeover.specs.declared.standby.fault.Step.TheVariants as steps;
 ghost use Rattle.takeover.specs.standby.{Halting, IsSame, Stands, StandsSomewhere, Took, count_of, turn_of};
 

@@ -14,9 +14,10 @@ use Rattle.trace_loop.specs.trace_book.trace_serving.{Stage, eventless, done, en
 use Rattle.trace_loop.specs.trace_book.{run}
 use Rattle.trace_loop.specs.trace_book.Stages.{settings_of as settings_all}
 use Rattle.trace_loop.proofs.trace_book.trace_serving.Judged.{IsAccepted, IsJoined, judged_so, channel_so}
-use Rattle.trace_text.specs.declared.Line.{Line}
-use Rattle.trace_text.specs.{shown, IsOther}
-use Rattle.trace_text.specs.declared.Line.TheVariants as line
+use Rattle.trace_lines.specs.declared.Line.{Line}
+use Rattle.trace_lines.specs.{shown}
+use Rattle.trace_lines.specs.declared.Line.TheVariants as line
+use Rattle.trace_text.specs.{IsOther}
 use Rattle.trace_loop.specs.declared.head_loop.head.HeadLine.TheVariants.{GoesOn, Ends}
 use Rattle.trace_loop.specs.head_loop.{HasOpened, HubServes, Serves, CanOpen, OpensIn, Comes, Took, claim_of}
 use Rattle.trace_loop.proofs.head_loop.Channels.{settings_stand, numbers_append, numbers_length}

@@ -11,8 +11,8 @@ use Rattle.hex_text.proofs.Written.{written_decodes}
 use Rattle.rams_model.specs.declared.LineFault.{LineFault}
 use Rattle.rams_model.specs.Texts.{text_of, spaced_words, is_digit, is_hex_digit, is_hex, hex_word, decoded, bytes_in, is_short, TraceLine, line_in_range, line_of, line_at, ranged, line_words, line_text, line_has_form, is_spelled}
 use Rattle.line_io.specs.{HasNoFeed}
-use Rattle.trace_text.proofs.Hexes.{word_digits}
-use Rattle.trace_text.proofs.Spelled.{digits_of, and_both, is_word}
+use Rattle.trace_lines.proofs.Hexes.{word_digits}
+use Rattle.trace_lines.proofs.Spelled.{digits_of, and_both, is_word}
 use Rattle.trace_text.proofs.Spelling.{spelled_is_read}
 use Rattle.server_hub.specs.declared.HubEvent.{HubEvent}
 use Rattle.server_hub.specs.declared.HubEvent.TheVariants.{Live, Feedback, Tick}

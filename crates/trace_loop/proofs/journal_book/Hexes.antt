@@ -4,7 +4,7 @@ use Rattle.std.specs.List.{list_all}
 use Rattle.hex.specs.Hex.{encode_lower, encode_with}
 use Rattle.hex_text.proofs.Written.{lower_is_written}
 use Rattle.rams_model.specs.Texts.{bytes_in, decoded, hex_word, is_hex, is_hex_digit}
-use Rattle.trace_text.proofs.Spelled.{is_word}
+use Rattle.trace_lines.proofs.Spelled.{is_word}
 
 -- the parts of a word of digits
 some_digits : (long even digits : Bool) → (false || ((long && even) && digits)) ≡ true → (long ≡ true) × ((even && digits) ≡ true)

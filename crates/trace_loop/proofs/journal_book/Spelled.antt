@@ -9,7 +9,7 @@ use Rattle.hex.specs.Hex.{encode_lower, lower_digits, IsBytes}
 use Rattle.hex.proofs.HexLemmas.{length-encode_with}
 use Rattle.hex_text.proofs.Written.{written_is_lower}
 use Rattle.rams_model.specs.Texts.{is_hex, hex_word, id_in_range, line_text, is_spelled}
-use Rattle.trace_text.proofs.Spelled.{and_both, short_true}
+use Rattle.trace_lines.proofs.Spelled.{and_both, short_true}
 use Rattle.trace_text.proofs.Spelling.{le_true}
 use Rattle.server_hub.specs.declared.HubEvent.TheVariants.{Live, Feedback, Tick}
 use Rattle.trace_loop.specs.journal_book.{IsDatagramOf, EventsAreSpelled}

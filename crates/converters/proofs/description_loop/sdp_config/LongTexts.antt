@@ -5,7 +5,7 @@ use Rattle.std.specs.Option.{option_or}
 use Rattle.std.proofs.lemmas.Bool.{and_parts, eqb-true}
 use Rattle.std.proofs.lemmas.Bool.Decides.{nat_tests}
 use Rattle.std.specs.List.{onto_first}
-use Rattle.trace_text.proofs.Spelled.{and_both}
+use Rattle.trace_lines.proofs.Spelled.{and_both}
 use Rattle.converters.specs.declared.description_loop.sdp_config.sdp.SdpFault.{SdpFault}
 use Rattle.converters.specs.declared.description_loop.sdp_config.sdp.SdpFault.TheVariants.{Form, Long}
 use Rattle.converters.specs.description_loop.sdp_config.{lines_in, bare, is_line, line_fault, first_fault, settings_of, settings_in, sdp_at}

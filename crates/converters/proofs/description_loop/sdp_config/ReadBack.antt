@@ -4,7 +4,7 @@ use Rattle.std.proofs.lemmas.Bool.{lt-ltb, ne_eqb}
 use Rattle.std.proofs.lemmas.Bool.Decides.{nat_tests}
 use Rattle.std.specs.List.{list_all, list_any, find}
 use Rattle.rams_model.specs.declared.Channel.{Channel}
-use Rattle.trace_text.proofs.Spelled.{same_word, number_back, and_both}
+use Rattle.trace_lines.proofs.Spelled.{same_word, number_back, and_both}
 use Rattle.converters.specs.declared.description_loop.sdp_config.attribute.Attribute.TheVariants.{RtxMap, RtxOf}
 use Rattle.converters.specs.declared.description_loop.sdp_config.section.Role.TheVariants.{Media, Repair}
 use Rattle.converters.specs.description_loop.sdp_config.{Section, is_line, pieces_of, behind, type_in, offers_bursts, ssrc_number, is_padded, has_apt, sections_of, formats_of, has_line, first_ssrc, is_wanted, first_format, first_found, text_fault, settings_in, settings_of, sdp_at, session_lines, media_lines, offer_lines, repair_lines, description, shown_channel}

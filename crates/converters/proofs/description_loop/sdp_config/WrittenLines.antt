@@ -8,7 +8,7 @@ use Rattle.std.proofs.lemmas.List.Splits.{slice_split-cons_yes, slice_split-cons
 use Rattle.std.specs.Int.{is_in_range}
 use Rattle.std.specs.List.{list_all, onto_first}
 use Rattle.rams_model.specs.Texts.{is_digit, is_short}
-use Rattle.trace_text.proofs.Spelled.{digits_of, and_both}
+use Rattle.trace_lines.proofs.Spelled.{digits_of, and_both}
 use Rattle.converters.specs.description_loop.sdp_config.{lines_in, is_line, pieces_of, joined_lines, first_fault}
 use Rattle.converters.proofs.description_loop.sdp_config.Cuts.{lines-feed, lines-return, lines-other, lines-none}
 use Rattle.trace_loop.proofs.journal_book.EventLines.{all_weaker}

@@ -1,6 +1,6 @@
 use Rattle.std.proofs.Common.{sym, ◌∙◌}
 use Rattle.std.proofs.lemmas.Result.{IfOk-weaker}
-use Rattle.trace_text.specs.{shown}
+use Rattle.trace_lines.specs.{shown}
 use Rattle.meet_loop.proofs.Turning.{event_stage, brought_turn}
 use Rattle.meet_loop.proofs.meeting.after_other.Goals as goal
 

@@ -1,7 +1,7 @@
 use Rattle.std.proofs.Common.{Some, sym, subst}
 use Rattle.trace_loop.specs.trace_book.trace_serving.{eventless}
-use Rattle.trace_text.specs.declared.Line.{Line}
-use Rattle.trace_text.specs.{shown}
+use Rattle.trace_lines.specs.declared.Line.{Line}
+use Rattle.trace_lines.specs.{shown}
 use Rattle.trace_loop.specs.declared.Turn.TheVariants.{GoesOn}
 use Rattle.meet_loop.specs.world_book.{meet}
 use Rattle.meet_loop.specs.{Comes, Took}

@@ -5,8 +5,8 @@ use Rattle.server_hub.specs.Seen.{Seen}
 use Rattle.rams_model.specs.Texts.{head_line, live_line, feedback_line, tick_line}
 use Rattle.trace_loop.specs.trace_book.trace_serving.{after_line, counted, eventless, brought}
 use Rattle.trace_loop.specs.trace_book.{run}
-use Rattle.trace_text.specs.declared.Line.{Line}
-use Rattle.trace_text.specs.{shown}
+use Rattle.trace_lines.specs.declared.Line.{Line}
+use Rattle.trace_lines.specs.{shown}
 use Rattle.trace_loop.specs.declared.Turn.TheVariants.{GoesOn}
 use Rattle.rams_replay.specs.{Comes, Took}
 use Rattle.rams_replay.proofs.Opening.{head_bounds, head_turn}

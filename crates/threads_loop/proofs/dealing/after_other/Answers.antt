@@ -2,8 +2,8 @@ use Rattle.std.proofs.Common.{ℕ, List, ◌∙◌, sym, subst, refl}
 use Rattle.rams_model.specs.declared.Event.TheVariants as event
 use Rattle.std.proofs.lemmas.Result.{IfOk-weaker}
 use Rattle.trace_loop.specs.trace_book.trace_serving.{after_line, brought}
-use Rattle.trace_text.specs.declared.Line.{Line}
-use Rattle.trace_text.specs.{shown, HasDigits}
+use Rattle.trace_lines.specs.declared.Line.{Line}
+use Rattle.trace_lines.specs.{shown, HasDigits}
 use Rattle.trace_loop.specs.declared.whole_trace.Does.TheVariants.{GoesOn, Ends}
 use Rattle.threads_loop.specs.{threads, Comes, IsDealt, Took}
 use Rattle.threads_loop.proofs.Taking.{takes_head, takes_end, takes_tick, takes_live, takes_feedback, no_other}

@@ -1,7 +1,7 @@
 use Rattle.std.proofs.Common.{◌++◌, List, ℕ, ap, ◌∙◌}
 use Rattle.rams_model.specs.Texts.{line_text}
 use Rattle.trace_text.proofs.Spelling.{text_reads}
-use Rattle.trace_text.specs.{shown}
+use Rattle.trace_lines.specs.{shown}
 use Rattle.trace_text.proofs.text.write_line.Goals as goal
 
 pub returns-clause-read : goal.returns-clause-read

@@ -1,5 +1,5 @@
 use Rattle.std.proofs.Common.{refl}
-use Rattle.trace_text.specs.{shown}
+use Rattle.trace_lines.specs.{shown}
 use Rattle.converters.proofs.description_loop.NextLines.{of_no_head}
 use Rattle.converters.proofs.description_loop.said.said_otherwise.Goals as goal
 

@@ -6,8 +6,8 @@ use Rattle.server_hub.specs.{after_event_of}
 use Rattle.server_hub.specs.declared.HubEvent.TheVariants.{Live, Feedback, Tick}
 use Rattle.trace_loop.specs.trace_book.{run}
 use Rattle.trace_loop.specs.trace_book.trace_serving.{after_line, brought}
-use Rattle.trace_text.specs.declared.Line.{Line}
-use Rattle.trace_text.specs.{shown}
+use Rattle.trace_lines.specs.declared.Line.{Line}
+use Rattle.trace_lines.specs.{shown}
 use Rattle.trace_loop.specs.declared.whole_trace.Does.TheVariants.{GoesOn, Ends}
 use Rattle.pool.specs.declared.pool_loop.routes.Route.TheVariants.{To}
 use Rattle.pool.specs.pool_loop.{pool, Comes, IsDealt, Took}

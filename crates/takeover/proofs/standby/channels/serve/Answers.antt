@@ -2,7 +2,7 @@ use Rattle.std.proofs.Common.{Option, ap, subst, ◌∙◌}
 use Rattle.std.specs.Prelude.{is_ok}
 use Rattle.server_hub.specs.{event_of}
 use Rattle.server_hub.specs.Seen as hubs
-use Rattle.trace_text.specs.{shown}
+use Rattle.trace_lines.specs.{shown}
 use Rattle.takeover.specs.standby.{Stands}
 use Rattle.takeover.proofs.standby.Turning.{accepts, begun_by, served_turn, too_long_turn}
 use Rattle.takeover.proofs.standby.channels.serve.Goals as goal

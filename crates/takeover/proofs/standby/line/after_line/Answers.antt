@@ -1,6 +1,7 @@
 use Rattle.std.proofs.Common.{sym, subst}
 use Rattle.rams_model.specs.Texts.{accepted}
-use Rattle.trace_text.specs.{shown, told}
+use Rattle.trace_lines.specs.{shown}
+use Rattle.trace_text.specs.{told}
 use Rattle.trace_text.specs.declared.Judged.{Judged}
 use Rattle.takeover.specs.standby.{Stands, Took, turn_of}
 use Rattle.trace_text.proofs.Judging.{settled}

@@ -1,8 +1,8 @@
 use Rattle.std.proofs.Common.{◌≡◌, true, ap, sym, subst, ◌∙◌}
 use Rattle.rams_model.specs.Texts.{Reached, end_line, may_come}
 use Rattle.trace_loop.specs.trace_book.trace_serving.{done, ends}
-use Rattle.trace_text.specs.{shown}
-use Rattle.trace_text.specs.declared.Line.{Line}
+use Rattle.trace_lines.specs.{shown}
+use Rattle.trace_lines.specs.declared.Line.{Line}
 use Rattle.takeover.specs.standby.{turn_of}
 use Rattle.takeover.proofs.standby.Turning.{end_turn}
 use Rattle.takeover.proofs.standby.line.after_other.Goals as goal

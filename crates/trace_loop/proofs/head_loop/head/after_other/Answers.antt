@@ -3,8 +3,8 @@ use Rattle.server_hub.specs.Seen.{Seen}
 use Rattle.rams_model.specs.Texts.{head_line}
 use Rattle.trace_loop.specs.trace_book.trace_serving.{after_line, eventless, brought}
 use Rattle.trace_loop.specs.trace_book.{run}
-use Rattle.trace_text.specs.declared.Line.{Line}
-use Rattle.trace_text.specs.{shown}
+use Rattle.trace_lines.specs.declared.Line.{Line}
+use Rattle.trace_lines.specs.{shown}
 use Rattle.trace_loop.specs.declared.head_loop.head.HeadLine.TheVariants.{GoesOn, Ends}
 use Rattle.trace_loop.specs.head_loop.{Comes, Took}
 use Rattle.trace_loop.proofs.head_loop.Opening.{head_bounds, head_turn, end_turn, no_other}

@@ -1,5 +1,5 @@
 use Rattle.rams_model.specs.Texts.{tick_of}
-use Rattle.trace_text.specs.{shown}
+use Rattle.trace_lines.specs.{shown}
 use Rattle.trace_text.proofs.Judging.{judges, refusals}
 use Rattle.trace_text.proofs.state.State.inspect.Goals as goal
 

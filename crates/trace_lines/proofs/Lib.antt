@@ -1,0 +1,13 @@
+pub mod ReadParts
+pub mod Steps
+pub mod Spaces
+pub mod Cuts
+pub mod Digits
+pub mod Hexes
+pub mod Joins
+pub mod Spelled
+pub mod TooWide
+pub mod Word32
+pub mod LastWord
+pub mod FirstNumber
+pub mod Fronts
