@@ -38,9 +38,9 @@ fn tick(alloc: Global, parts: &mut Parts) -> Result<(usize, usize, u64), Fail>
     let Ok(plan) = plan_tick(alloc, parts) else {
         return Err(Fail::new("no memory"));
     };
-    commit_tick(parts, &plan);
+    commit_tick(parts, &plan.work);
     let noted = plan.answer.notes.as_slice().len();
-    Ok((noted, plan.done.len(), parts.budget.left()))
+    Ok((noted, plan.work.done.len(), parts.budget.left()))
 }
 
 /// Two ticks of parts to which nothing came keep up to the swell.

@@ -3,3 +3,5 @@ pub mod Short
 pub mod Counting
 pub mod Planned
 pub mod JoinTimes
+pub mod TickNotes
+pub mod TickSums

@@ -12,4 +12,4 @@ pub use channel_config::Config;
 pub use feedback_core::{LONGEST_DATAGRAM, Most, most_in};
 pub use ram_io::NoMemory;
 pub use rams_model::{Answer, Event, LiveNote};
-pub use tick_core::TickPlan;
+pub use tick_core::{Sums, TickPlan};

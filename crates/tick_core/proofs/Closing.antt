@@ -179,6 +179,10 @@ is_tick p events stands =
       adds = subst (Adds s held start) (sym of_tick.end_is) all;
     }
 
+-- the flags of a plan, by its own notes
+done_of : (p : Parts) (events : List Event) (plan : TickPlan) → IsPlanFor p events plan → plan.work.done.items ≡ map (is_over plan.answer.notes) (pending (history_of p.config events))
+done_of p events plan is = is.work_is.done_is ∙ ap (λ (a : Answered). map (is_over a.notes) (pending (history_of p.config events))) (sym is.answer_is)
+
 -- the notes of a plan are carried out
 pub carried_out : (p : Parts) (events : List Event) (plan : TickPlan) (c : Committed) → StandsFor p events → IsPlanFor p events plan → AreAllChanged (λ _. entry_begun) p.table c.table
     → c.budget ≡ record p.budget { left = begun_left p } → let end = history_of p.config (Tick ∷ events) in IsCarriedOut p.config p.cache.held plan.answer.notes end c
@@ -203,7 +207,7 @@ carried_out p events plan c stands is change budget =
 pub committed : (p : Parts) (events : List Event) (plan : TickPlan) (c : Committed) (table : Clients) (budget : Amounts) (queue : List Wanted) → StandsFor p events → IsPlanFor p events plan
     → AreAllChanged (λ _. entry_begun) p.table c.table → c.budget ≡ record p.budget { left = begun_left p }
     → let after = with_all_committed p.config p.cache.held plan.answer.notes c in
-    AreAllChanged (λ k. entry_ended p.config.channel.depth) after.table table → budget ≡ after.budget → queue ≡ unmarked p.queue plan.done.items
+    AreAllChanged (λ k. entry_ended p.config.channel.depth) after.table table → budget ≡ after.budget → queue ≡ unmarked p.queue plan.work.done.items
     → StandsFor (record { config = p.config; cache = p.cache; budget = budget; queue = queue; table = table }) (Tick ∷ events)
 unfolding newest_notes arrivals pending
 committed p events plan c table budget queue stands is change budget_begun change_end budget_is queue_is =
@@ -218,7 +222,7 @@ committed p events plan c table budget queue stands is change budget_begun chang
     let notes_are : newest_notes end [] ≡ plan.answer.notes = sym (ap (λ (a : Answered). a.notes) is.answer_is) in
     let pending_is : queue ≡ pending end =
     queue_is
-    ∙ (ap (unmarked p.queue) is.done_is
+    ∙ (ap (unmarked p.queue) (done_of p events plan is)
     ∙ (ap (λ (ws : List Wanted). unmarked p.queue (map (is_over plan.answer.notes) ws)) (sym stands.queue.pending_is)
     ∙ (unmarked_by (is_over plan.answer.notes) p.queue
     ∙ (ap (filter (λ w. not (is_over plan.answer.notes w))) stands.queue.pending_is
@@ -240,12 +244,12 @@ pub may_carry_out : (p : Parts) (events : List Event) (plan : TickPlan) (notes :
 may_carry_out p events plan notes table budget stands is notes_are change begun =
     subst (λ (l : List Note). MayCommitAll p.config p.cache.held l (committing table budget)) (sym notes_are) (carried_out p events plan (committing table budget) stands is change begun).may
 
-pub flags_long : (p : Parts) (events : List Event) (plan : TickPlan) (done : List Bool) → StandsFor p events → IsPlanFor p events plan → done ≡ plan.done.items → length done ≡ length p.queue
+pub flags_long : (p : Parts) (events : List Event) (plan : TickPlan) (done : List Bool) → StandsFor p events → IsPlanFor p events plan → done ≡ plan.work.done.items → length done ≡ length p.queue
 flags_long p events plan done stands is same =
-    ap length (same ∙ (is.done_is ∙ ap (map (is_over plan.answer.notes)) (sym stands.queue.pending_is))) ∙ length-map p.queue (is_over plan.answer.notes)
+    ap length (same ∙ ((done_of p events plan is) ∙ ap (map (is_over plan.answer.notes)) (sym stands.queue.pending_is))) ∙ length-map p.queue (is_over plan.answer.notes)
 
 pub made_parts : (p : Parts) (events : List Event) (plan : TickPlan) (notes : List Note) (done : List Bool) (table0 table1 table2 : Clients) (budget0 budget1 : Amounts) (queue : List Wanted) (depth : ℕ) → StandsFor p events → IsPlanFor p events plan
-    → notes ≡ plan.answer.notes → done ≡ plan.done.items → depth ≡ p.config.channel.depth
+    → notes ≡ plan.answer.notes → done ≡ plan.work.done.items → depth ≡ p.config.channel.depth
     → AreAllChanged (λ _. entry_begun) p.table table0 → budget0 ≡ record p.budget { left = begun_left p }
     → committing table1 budget1 ≡ with_all_committed p.config p.cache.held notes (committing table0 budget0) → AreAllChanged (λ k. entry_ended depth) table1 table2 → queue ≡ unmarked p.queue done
     → StandsFor (record { config = p.config; cache = p.cache; budget = budget1; queue = queue; table = table2 }) (Tick ∷ events)

@@ -11,6 +11,8 @@ pub mod Idling
 pub mod Flags
 pub mod Planning
 pub mod Safe
+pub mod Behind
+pub mod Leading
 pub mod Made
 pub mod Adding
 pub mod Midway

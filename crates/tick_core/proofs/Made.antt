@@ -1,5 +1,5 @@
 -- The plan of parts that stand for some events.
-use Rattle.std.proofs.Common.{◌≡◌, ℕ, List, [], ◌∷◌, Bool, true, false, Option, Some, None, is_some, IsSome, filter, map, refl, ap, sym, ◌∙◌}
+use Rattle.std.proofs.Common.{◌≡◌, ℕ, List, [], ◌∷◌, ◌++◌, Bool, true, false, Option, Some, None, is_some, IsSome, filter, map, refl, ap, sym, ◌∙◌, subst}
 use Rattle.std.specs.List.{AllByRecursion as Each}
 use Rattle.std.specs.Map.{keys_of}
 use Rattle.std.proofs.lemmas.Bool.{cond_both, both_ways, false≢true}
@@ -14,19 +14,34 @@ use Rattle.channel_parts.specs.{StandsFor}
 use Rattle.channel_parts.proofs.Facts.{opened_are_the_known_with_bursts, repairs_are_within_limits}
 use Rattle.channel_parts.proofs.Ordered.{known_rise}
 use Rattle.channel_parts.proofs.Given.{moment}
-use Rattle.reckoning.specs.link_budget.Amounts.{Amounts}
 use Rattle.tick_core.specs.declared.allowance.Allowance.{Allowance}
-use Rattle.tick_draft.specs.{Drafted, new_draft}
-use Rattle.tick_core.specs.{allowance_of, idle_allowance, or_changed, all_allowances, AreOfBursts, AreOfKnown, allowances_of, with_all_served, Repaired, with_all_wanted, with_all_forgotten, begun_left, drafted_runs, drafted_repairs, drafted_tick, planned_answer, planned_flags, is_over}
+use Rattle.tick_draft.specs.{Drafted, new_draft, AreStepsOf, Counted, IsCountOf}
+use Rattle.tick_draft.specs.declared.Step.{Step}
+use Rattle.tick_draft.proofs.Stepping.{steps_behind}
+use Rattle.tick_core.specs.declared.plan.{TickPlan.TickPlan, TickWork.TickWork}
+use Rattle.tick_core.specs.{allowance_of, idle_allowance, or_changed, all_allowances, AreOfBursts, AreOfKnown, allowances_of, Repaired, with_all_wanted, with_all_forgotten, drafted_runs, repairs_behind, tick_behind, drafted_tick, planned_answer, planned_flags, IsPlanBehind, IsWorkOf, IsPlanOf, IsWorkFor, IsPlanFor, is_over}
+use Rattle.tick_core.proofs.Behind.{behind, rest_of}
 use Rattle.tick_core.proofs.Planning.{each_found, planned}
 use Rattle.tick_core.proofs.Walking.{whose, rise_sorted}
 
-pub made_plan : (p : Parts) (events : List Event) (a : Answered) (done : List Bool) → StandsFor p events → a ≡ planned_answer p → done ≡ planned_flags p
-    → (a ≡ answer p.config events Tick) × (done ≡ map (is_over a.notes) (pending (history_of p.config events)))
-made_plan p events a done stands answer_is done_is =
+-- the plan is lawful
+record IsLawfulPlan (p : Parts) (events : List Event) : Type 0 where
+  answer_is : planned_answer p ≡ answer p.config events Tick
+  done_is : planned_flags p ≡ map (is_over (answer p.config events Tick).notes) (pending (history_of p.config events))
+
+made_lawful : (p : Parts) (events : List Event) → StandsFor p events → IsLawfulPlan p events
+made_lawful p events stands =
     let before = history_of p.config events in
     let plan = planned p events stands (known_rise before) (opened_are_the_known_with_bursts p.config events stands.lawful) (repairs_are_within_limits p.config before (moment p.config events)) in
-    (answer_is ∙ plan.answer_is, done_is ∙ (plan.done_is ∙ ap (λ (x : Answered). map (is_over x.notes) (pending before)) (sym answer_is)))
+    record { answer_is = plan.answer_is; done_is = plan.done_is ∙ ap (λ (a : Answered). map (is_over a.notes) (pending before)) plan.answer_is }
+
+pub work_for : (p : Parts) (events : List Event) (work : TickWork) → StandsFor p events → IsWorkOf p work → IsWorkFor p events work
+work_for p events work stands is =
+    let lawful = made_lawful p events stands in
+    record { done_is = is.done_is ∙ lawful.done_is; steps_do = subst (AreStepsOf work.steps.items) lawful.answer_is is.steps_do }
+
+pub plan_for : (p : Parts) (events : List Event) (plan : TickPlan) → StandsFor p events → IsPlanOf p plan → IsPlanFor p events plan
+plan_for p events plan stands is = record { answer_is = is.0 ∙ (made_lawful p events stands).answer_is; work_is = work_for p events plan.work stands is.1 }
 
 -- ---- what was served is what the repairs begin with
 some_same : {X : Type 0} (x y : X) → Some x ≡ Some y → x ≡ y
@@ -77,25 +92,41 @@ pub begun_allowances : (s : Settings) (held : List Held) (t : Clients) (allowed 
 begun_allowances s held t allowed rising are = all_are s held t allowed are.each t.known (each_found t.known (rise_sorted (keys_of t.known) rising)) are.all
 
 -- ---- the plan of any parts, as its calls make it
-pub record IsMade (p : Parts) (left : ℕ) (b : Amounts) (d0 d1 d2 d3 : Drafted) (allowed : List Allowance) (r0 r1 : Repaired) (done : List Bool) (a : Answered) : Type 0 where
-  pub budget_is : b ≡ record p.budget { left = begun_left p }
-  pub left_is : left ≡ b.left
-  pub begun_is : d0 ≡ new_draft left
+pub record IsMade (p : Parts) (d0 d1 d2 : Drafted) (allowed : List Allowance) (r0 r1 : Repaired) (done : List Bool) : Type 0 where
   pub allowed_is : allowed ≡ allowances_of p.config p.cache.held p.table.known
-  pub runs_are : d1 ≡ with_all_served p.config p.cache.held p.table.known d0
-  pub unrepaired : r0 ≡ record { draft = d1; allowances = allowed; done = [] }
+  pub unrepaired : r0 ≡ record { draft = d0; allowances = allowed; done = [] }
   pub repairs_are : r1 ≡ with_all_wanted p.cache.held p.queue r0
-  pub draft_is : d2 ≡ r1.draft
+  pub draft_is : d1 ≡ r1.draft
   pub done_is : done ≡ r1.done
-  pub end_is : d3 ≡ with_all_forgotten p.config p.queue p.table.known d2
-  pub answer_is : a ≡ answered d3.notes d3.orders
+  pub end_is : d2 ≡ with_all_forgotten p.config p.queue p.table.known d1
 
-pub by_calls : (p : Parts) (left : ℕ) (b : Amounts) (d0 d1 d2 d3 : Drafted) (allowed : List Allowance) (r0 r1 : Repaired) (done : List Bool) (a : Answered) → IsMade p left b d0 d1 d2 d3 allowed r0 r1 done a
-    → (a ≡ planned_answer p) × (done ≡ planned_flags p)
-by_calls p left b d0 d1 d2 d3 allowed r0 r1 done a made =
-    let first : Drafted → List Allowance → Repaired = λ d l. record { draft = d; allowances = l; done = [] } in
-    let d1_is : d1 ≡ drafted_runs p = made.runs_are ∙ ap (with_all_served p.config p.cache.held p.table.known) (made.begun_is ∙ ap new_draft (made.left_is ∙ ap (λ (x : Amounts). x.left) made.budget_is)) in
-    let r1_is : r1 ≡ drafted_repairs p =
-    made.repairs_are ∙ ap (with_all_wanted p.cache.held p.queue) (made.unrepaired ∙ (ap (λ (d : Drafted). first d allowed) d1_is ∙ ap (first (drafted_runs p)) made.allowed_is)) in
-    let d3_is : d3 ≡ drafted_tick p = made.end_is ∙ ap (with_all_forgotten p.config p.queue p.table.known) (made.draft_is ∙ ap (λ (r : Repaired). r.draft) r1_is) in
-    (made.answer_is ∙ ap (λ (d : Drafted). answered d.notes d.orders) d3_is, made.done_is ∙ ap (λ (r : Repaired). r.done) r1_is)
+pub by_calls : (p : Parts) (d0 d1 d2 : Drafted) (allowed : List Allowance) (r0 r1 : Repaired) (done : List Bool) → IsMade p d0 d1 d2 allowed r0 r1 done → IsPlanBehind p d0 d2 done
+by_calls p d0 d1 d2 allowed r0 r1 done made =
+    let r1_is : r1 ≡ repairs_behind p d0 =
+    made.repairs_are ∙ ap (with_all_wanted p.cache.held p.queue) (made.unrepaired ∙ ap (λ (l : List Allowance). record { draft = d0; allowances = l; done = [] }) made.allowed_is) in
+    record {
+      draft_is = made.end_is ∙ ap (with_all_forgotten p.config p.queue p.table.known) (made.draft_is ∙ ap (λ (r : Repaired). r.draft) r1_is);
+      done_is = made.done_is ∙ ap (λ (r : Repaired). r.done) r1_is;
+    }
+
+-- behind the runs themselves
+pub plan_is : (p : Parts) (d0 d2 : Drafted) (done : List Bool) (a : Answered) (steps : List Step) → d0 ≡ drafted_runs p → IsPlanBehind p d0 d2 done → a ≡ answered d2.notes d2.orders → AreStepsOf steps a
+    → (a ≡ planned_answer p) × (done ≡ planned_flags p) × AreStepsOf steps (planned_answer p)
+plan_is p d0 d2 done a steps runs behind_them answer_is steps_do =
+    let d2_is : d2 ≡ drafted_tick p = behind_them.draft_is ∙ ap (tick_behind p) runs in
+    let whole : a ≡ planned_answer p = answer_is ∙ ap (λ (d : Drafted). answered d.notes d.orders) d2_is in
+    (whole, behind_them.done_is ∙ ap (λ (d : Drafted). (repairs_behind p d).done) runs, subst (AreStepsOf steps) whole steps_do)
+
+-- behind a draft with no notes, where those of the runs were only counted
+pub work_is : (p : Parts) (count : Counted) (d2 : Drafted) (done : List Bool) (a : Answered) (rest steps : List Step) → IsCountOf count (drafted_runs p) → IsPlanBehind p (new_draft count.left) d2 done → a ≡ answered d2.notes d2.orders
+    → AreStepsOf rest a → steps ≡ count.steps ++ rest → (done ≡ planned_flags p) × AreStepsOf steps (planned_answer p)
+work_is p count d2 done a rest steps counts behind_them answer_is rest_do steps_are =
+    let runs = drafted_runs p in
+    let split = rest_of p runs in
+    let d2_is : d2 ≡ tick_behind p (new_draft runs.left) = behind_them.draft_is ∙ ap (λ (n : ℕ). tick_behind p (new_draft n)) counts.left_is in
+    let whole : planned_answer p ≡ answered (runs.notes ++ d2.notes) (runs.orders ++ d2.orders) =
+    ap (λ (d : Drafted). answered d.notes d.orders) (split.draft_is ∙ ap (behind runs) (sym d2_is)) in
+    let do_all = steps_behind count.steps rest runs.notes d2.notes runs.orders d2.orders counts.in_step (subst (AreStepsOf rest) answer_is rest_do) in (
+      behind_them.done_is ∙ (ap (λ (n : ℕ). (repairs_behind p (new_draft n)).done) counts.left_is ∙ sym split.done_is),
+      subst (λ (l : List Step). AreStepsOf l (planned_answer p)) (sym steps_are) (subst (AreStepsOf (count.steps ++ rest)) (sym whole) do_all),
+    )

@@ -24,7 +24,7 @@ use Rattle.channel_parts.specs.declared.Parts.{Parts}
 use Rattle.channel_parts.specs.{burst_kept, IsEntry, StandsFor}
 use Rattle.channel_parts.proofs.Given.{held_is as held_are}
 use Rattle.tick_draft.specs.{new_draft}
-use Rattle.tick_core.specs.{allowances_of, Repaired, Rise, clients_of, idle_after, begun_left, drafted_runs, drafted_repairs, drafted_tick, planned_answer, planned_flags, is_over}
+use Rattle.tick_core.specs.{allowances_of, Repaired, Rise, clients_of, idle_after, begun_left, drafted_runs, repairs_behind, drafted_tick, planned_answer, planned_flags, is_over}
 use Rattle.tick_core.proofs.Sparing.{GoesOn, then, kept as kept_by, spares, serves, known_kept, arrivals_kept}
 use Rattle.tick_core.proofs.Walking.{whose_all}
 use Rattle.tick_core.proofs.Shown.{Shows}
@@ -197,21 +197,21 @@ planned p events stands rise opened_is limits =
     let whose : clients_of (allowances_of s held es) ≡ ks = whose_all s held es in
     let among : Each (λ w. is_among w.client (clients_of (allowances_of s held es)) ≡ true) ws =
     subst (λ (l : List ℕ). Each (λ w. is_among w.client l ≡ true) ws) (sym (whose ∙ known_is)) (each_from_all (λ (w : Wanted). is_among w.client (known before) ≡ true) ws stands.queue.known_is) in
-    let mended : IsMended s held (all_repaired s held ws run_history) (drafted_repairs p) =
+    let mended : IsMended s held (all_repaired s held ws run_history) (repairs_behind p (drafted_runs p)) =
     mend_all s held ws run_history first among (record { shows = ran.shows; allowed = ran.allowed; rise = subst Rise (sym whose) rising }) in
     let of_tick = tick_is s before held ks rising known_is held_is opened_is in
     let rep_history = all_repaired s held (pending before) run_history in
     let same_reps : all_repaired s held ws run_history ≡ rep_history = ap (λ (l : List Wanted). all_repaired s held l run_history) queue_is in
-    let shown : Shows s rep_history (drafted_repairs p).draft = subst (λ (h : History). Shows s h (drafted_repairs p).draft) same_reps mended.shows in
+    let shown : Shows s rep_history (repairs_behind p (drafted_runs p)).draft = subst (λ (h : History). Shows s h (repairs_behind p (drafted_runs p)).draft) same_reps mended.shows in
     let idle_all : Each (λ e. idle_after ws e.0 e.1 ≡ idle s e.0 rep_history) es =
     each_weaker (λ e. IsEntry s e.0 before e.1) (λ e. idle_after ws e.0 e.1 ≡ idle s e.0 rep_history)
     (λ e is. idle_is s e.0 e.1 ws before rep_history of_tick.served queue_is (some_kept s e.1.burst (open_burst s e.0 before) is.burst_is) is.idle_is) es entries in
-    let last : Shows s (all_forgotten s ks rep_history) (drafted_tick p) = forget_all s ws es rep_history (drafted_repairs p).draft idle_all shown in
+    let last : Shows s (all_forgotten s ks rep_history) (drafted_tick p) = forget_all s ws es rep_history (repairs_behind p (drafted_runs p)).draft idle_all shown in
     let whole : Shows s (after_tick s start) (drafted_tick p) = subst (λ (h : History). Shows s h (drafted_tick p)) (sym of_tick.end_is) last in
     let differ = limits_differ ws (subst IsWithinLimits (sym queue_is) limits) in
     let none : Each (λ v. is_over (drafted_runs p).notes v ≡ false) ws = each_any (λ v. is_over (drafted_runs p).notes v ≡ false) (λ v. all_served_end_none s held v es (new_draft (begun_left p))) ws in
     record {
       answer_is = sym (ap (λ (l : List Note). answered l (newest_orders s (after_tick s start) [])) whole.notes ∙ ap (answered (drafted_tick p).notes) whole.orders);
       done_is = flags_say held ws first differ none
-          ∙ (same_map (is_over (drafted_repairs p).draft.notes) (is_over (drafted_tick p).notes) (λ v. sym (forgotten_end_none s ws v es (drafted_repairs p).draft)) ws ∙ ap (map (is_over (drafted_tick p).notes)) queue_is);
+          ∙ (same_map (is_over (repairs_behind p (drafted_runs p)).draft.notes) (is_over (drafted_tick p).notes) (λ v. sym (forgotten_end_none s ws v es (repairs_behind p (drafted_runs p)).draft)) ws ∙ ap (map (is_over (drafted_tick p).notes)) queue_is);
     }

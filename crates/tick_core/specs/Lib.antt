@@ -9,5 +9,5 @@ unfoldable pub use Rattle.tick_core.specs.Repairs.{after_repair, allowance_for, 
 pub use Rattle.tick_core.specs.Repairs.{Repaired}
 unfoldable pub use Rattle.tick_core.specs.Allowances.{in_place, told_by, AreOfKnown}
 unfoldable pub use Rattle.tick_core.specs.Forgetting.{idle_after, with_forgotten, with_forgotten_if, with_due_forgotten, with_all_forgotten}
-unfoldable pub use Rattle.tick_core.specs.Plans.{begun_left, drafted_runs, drafted_repairs, drafted_tick, planned_answer, planned_flags, ends_wait, is_over}
-pub use Rattle.tick_core.specs.Plans.{IsPlanOf, IsPlanFor}
+unfoldable pub use Rattle.tick_core.specs.Plans.{begun_left, drafted_runs, repairs_behind, tick_behind, drafted_tick, planned_answer, planned_flags, IsPlanOf, ends_wait, is_over}
+pub use Rattle.tick_core.specs.Plans.{IsPlanBehind, IsWorkOf, IsWorkFor, IsPlanFor}

@@ -12,7 +12,7 @@ mod runs;
 
 pub use channel_parts::Parts;
 pub use commit::commit_tick;
-pub use plan::{TickPlan, plan_tick};
+pub use plan::{TickPlan, TickWork, plan_tick, plan_work};
 pub use ram_io::NoMemory;
 pub use rams_model::{Answer, Note, Order};
-pub use tick_draft::{Sendings, Step};
+pub use tick_draft::{Sendings, Step, Sums, sums_of};

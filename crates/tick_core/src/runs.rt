@@ -2,6 +2,7 @@
 ghost use Rattle.std.specs.Prelude.{◌≡◌, ℕ, ◌+◌, ◌<◌, ◌≤◌, ◌^◌, ◌&&◌, nat_le, [], ◌∷◌, Some, IfOk, MatchOption, filter};
 ghost use Rattle.rams_model.specs.Service.{is_before, is_lost, is_stop};
 ghost use Rattle.rams_model.specs.Packets.{hi};
+ghost use Rattle.tick_draft.specs.{Drafted};
 ghost use Rattle.tick_core.specs.{AreInOrder, AreInTime, IsInTime, IsNext, run_from, run_of, after_run, with_run, end_of, kept_back, allowance_of, idle_allowance, AreOfBursts, told_by, with_served, with_all_served};
 
 use crate::allowance::Allowance;
@@ -13,7 +14,7 @@ use client_table::{Burst, Entry, Table};
 use ram_io::NoMemory;
 use rams_model::{Cause, Held, Note};
 use std::alloc::Global;
-use tick_draft::Draft;
+use tick_draft::Drafting;
 
 /// How far a burst has come in a tick.
 #[derive(Clone, Copy, PartialEq, Eq)]
@@ -47,17 +48,18 @@ fn next_packet<'a>(cache: &'a Cache, stop: Option<u64>, at: &Sent) -> Option<&'a
 }
 
 /// Sends a burst's run.
-fn send_run(
+fn send_run<D: Drafting>(
     cache: &Cache,
     client: u64,
     burst: &Burst,
     seq: u16,
-    draft: &mut Draft,
+    draft: &mut D,
 ) -> Result<Sent, NoMemory>
     requires held { AreInOrder cache.now.held }
     requires budget { burst.now.rate + burst.now.kept < 2 ^ 64 }
     ensures sent { IfOk result (λ at. at ≡ after_run cache.now.held seq burst.now) }
-    ensures draft { IfOk result (λ _. draft.new ≡ with_run client seq (run_of cache.now.held burst.now) draft.old) }
+    ensures draft { (d : Drafted) → D.shows draft.old d →
+        IfOk result (λ _. D.shows draft.new (with_run client seq (run_of cache.now.held burst.now) d)) }
 {
     let mut at = Sent {
         next: burst.next,
@@ -65,7 +67,7 @@ fn send_run(
         seq,
     };
     while let Some(held) = next_packet(cache, burst.stop, &at) {
-        draft.send(
+        draft.send_packet(
             Note::Burst {
                 client,
                 n: held.n,
@@ -121,23 +123,24 @@ fn kept_back(depth: u64, cache: &Cache, end: Option<Cause>, at: &Sent) -> u64
 
 /// Sends the run of a client's burst and notes its end, where it ends. What it leaves is for the
 /// client's repairs.
-fn serve_burst(
+fn serve_burst<D: Drafting>(
     config: &Config,
     cache: &Cache,
     client: u64,
     entry: &Entry,
     burst: &Burst,
-    draft: &mut Draft,
+    draft: &mut D,
 ) -> Result<Allowance, NoMemory>
     requires held { AreInOrder cache.now.held }
     requires budget { burst.now.rate + burst.now.kept < 2 ^ 64 }
     requires ticks { burst.now.ticks < config.now.channel.limit }
     ensures allowance { IfOk result (λ a. a ≡ allowance_of config.now cache.now.held client entry.now (Some burst.now)) }
     ensures client { IfOk result (λ a. a.client ≡ client) }
-    ensures draft { IfOk result (λ _. draft.new ≡ with_served config.now cache.now.held client entry.now (Some burst.now) draft.old) }
+    ensures draft { (d : Drafted) → D.shows draft.old d →
+        IfOk result (λ _. D.shows draft.new (with_served config.now cache.now.held client entry.now (Some burst.now) d)) }
 {
     if is_lost(cache, burst.next) {
-        draft.end(client, &burst.last, Some(Cause::Lost))?;
+        draft.end_burst(client, &burst.last, Some(Cause::Lost))?;
         return Ok(Allowance {
             client,
             may_take: burst.rate + burst.kept,
@@ -146,7 +149,7 @@ fn serve_burst(
     }
     let sent = send_run(cache, client, burst, entry.seq, draft)?;
     let end = end_of(config.channel().limit, burst, sent.next);
-    draft.end(client, &burst.last, end)?;
+    draft.end_burst(client, &burst.last, end)?;
     let kept = kept_back(config.channel().depth, cache, end, &sent);
     Ok(Allowance {
         client,
@@ -167,18 +170,19 @@ pub fn idle_allowance(most: u64, client: u64, entry: &Entry) -> Allowance
 }
 
 /// Serves a known client: its burst, where one is open.
-fn serve_client(
+fn serve_client<D: Drafting>(
     config: &Config,
     cache: &Cache,
     client: u64,
     entry: &Entry,
-    draft: &mut Draft,
+    draft: &mut D,
 ) -> Result<Allowance, NoMemory>
     requires held { AreInOrder cache.now.held }
     requires small { IsInTime config.now entry.now.burst }
     ensures allowance { IfOk result (λ a. a ≡ allowance_of config.now cache.now.held client entry.now entry.now.burst) }
     ensures client { IfOk result (λ a. a.client ≡ client) }
-    ensures draft { IfOk result (λ _. draft.new ≡ with_served config.now cache.now.held client entry.now entry.now.burst draft.old) }
+    ensures draft { (d : Drafted) → D.shows draft.old d →
+        IfOk result (λ _. D.shows draft.new (with_served config.now cache.now.held client entry.now entry.now.burst d)) }
 {
     match &entry.burst {
         Some(burst) => serve_burst(config, cache, client, entry, burst, draft),
@@ -187,17 +191,18 @@ fn serve_client(
 }
 
 /// Serves the clients with an open burst, by rising number: what the repairs of each may take after that.
-pub fn serve_clients(
+pub fn serve_clients<D: Drafting>(
     alloc: Global,
     config: &Config,
     cache: &Cache,
     table: &Table,
-    draft: &mut Draft,
+    draft: &mut D,
 ) -> Result<Allowances, NoMemory>
     requires held { AreInOrder cache.now.held }
     requires small { AreInTime config.now table.now }
     ensures allowances { IfOk result (λ allowances. AreOfBursts config.now cache.now.held table.now (told_by allowances)) }
-    ensures draft { IfOk result (λ _. draft.new ≡ with_all_served config.now cache.now.held table.now.known draft.old) }
+    ensures draft { (d : Drafted) → D.shows draft.old d →
+        IfOk result (λ _. D.shows draft.new (with_all_served config.now cache.now.held table.now.known d)) }
 {
     let mut allowances = Allowances::new(alloc);
     for (client, entry) in table.open_bursts() {

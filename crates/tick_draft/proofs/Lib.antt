@@ -3,3 +3,5 @@ pub mod Doing
 pub mod Kept
 pub mod Sending
 pub mod Stepping
+pub mod Summing
+pub mod Tallied

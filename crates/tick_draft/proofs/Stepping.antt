@@ -1,17 +1,18 @@
 -- The steps of a tick do what its notes do.
 use Rattle.std.proofs.Common.{◌≡◌, ℕ, ◌+◌, cond, false, List, [], ◌∷◌, ◌++◌, length, length-append, Option, Some, None, refl, ap, sym, ◌∙◌, subst, add_assoc, arith}
-use Rattle.std.specs.Prelude.{option_map, option_to_list}
+use Rattle.std.specs.Prelude.{option_map, option_to_list, sum_by}
 use Rattle.std.proofs.lemmas.Option.{same_Some}
 use Rattle.rams_model.specs.declared.{Note.Note, Order.Order, Info.Info, Cause.Cause, Order.TheVariants.Rtx}
 use Rattle.rams_model.specs.declared.Note.TheVariants.{Burst as BurstNote, Repair, Gone as GoneNote, End as EndNote, Forgot as ForgotNote}
 use Rattle.rams_model.specs.Formats.{wire_size}
-use Rattle.rams_model.specs.Service.{Settings, info_order, end_info, wire_sizes}
+use Rattle.rams_model.specs.Service.{Settings, answered, info_order, end_info, wire_sizes}
 use Rattle.rams_model.proofs.WireSizes.{sizes_append}
-use Rattle.tick_draft.specs.declared.{sendings.Sendings.Sendings, step.Step.Step}
+use Rattle.tick_draft.specs.declared.{sendings.Sendings.Sendings, step.Step.Step, sums.Sums.Sums}
 use Rattle.tick_draft.specs.declared.step.Step.TheVariants.{Sent, End}
-use Rattle.tick_draft.specs.{told_end, one_sending, both_sendings, with_sendings, MaySend, sending_of, first_size, sizes_behind, with_sized, with_all_sized, MayCommitSized, with_step, with_all_steps, MayDoAll, other_step, sends, packets_sent, AreInStep, AreBoth}
+use Rattle.tick_draft.specs.{told_end, one_sending, both_sendings, with_sendings, MaySend, sending_of, first_size, sizes_behind, with_sized, with_all_sized, MayCommitSized, with_step, with_all_steps, MayDoAll, other_step, sends, packets_sent, sums_in, both_sums, sums_of, AreStepsOf, AreInStep, AreBoth}
 use Rattle.tick_draft.specs.Committed.{Committed}
 use Rattle.tick_draft.proofs.Sending.{sent_both, may_both}
+use Rattle.tick_draft.proofs.Summing.{none_last, sums_one, steps_joined, sums_grown, answers_joined}
 
 -- ---- steps behind others
 steps_append : (depth : ℕ) (first more : List Step) (c : Committed) → with_all_steps depth (first ++ more) c ≡ with_all_steps depth more (with_all_steps depth first c)
@@ -30,11 +31,15 @@ may_first depth [] more c may = tt
 may_first depth (step ∷ first) more c may = (may.0, may_first depth first more (with_step depth step c) may.1)
 
 pub behind : (old more : List Step) → AreBoth old more (old ++ more)
-behind old more = record { does = λ depth c. steps_append depth old more c; may = λ depth c first later. may_append depth old more c first later }
+behind old more = record {
+  does = λ depth c. steps_append depth old more c;
+  may = λ depth c first later. may_append depth old more c first later;
+  sums = steps_joined old more;
+}
 
 pub none_behind : (old : List Step) → AreBoth old [] old
-unfolding with_all_steps
-none_behind old = record { does = λ depth c. refl; may = λ depth c first later. first }
+unfolding with_all_steps sums_of
+none_behind old = record { does = λ depth c. refl; may = λ depth c first later. first; sums = sym (none_last (sums_of old)) }
 
 -- ---- packets to the client that was sent the last ones
 pub grown : (steps : List Step) (x y : Sendings) → y.client ≡ x.client → AreBoth (steps ++ Sent x ∷ []) (Sent y ∷ []) (steps ++ Sent (both_sendings x y) ∷ [])
@@ -47,6 +52,7 @@ grown steps x y same = record {
       let before = with_all_steps depth steps c in
       may_append depth steps (Sent (both_sendings x y) ∷ []) c (may_first depth steps (Sent x ∷ []) c first)
       (may_both x y before same (subst (MaySend y) (steps_append depth steps (Sent x ∷ []) c) later.0), tt);
+  sums = sums_grown steps x y;
 }
 
 -- ---- notes behind others
@@ -91,19 +97,32 @@ may_split s a b (note ∷ notes) later c are may =
     ((may.0, parts.0), parts.1)
 
 -- ---- what is done for notes, and for those behind them
+steps_both : (old more new : List Step) (notes later : List Note) (orders others : List Order) → AreBoth old more new → AreInStep old notes orders → AreStepsOf more (answered later others)
+    → AreStepsOf new (answered (notes ++ later) (orders ++ others))
+steps_both old more new notes later orders others both first second = record {
+  does = λ s c.
+      both.does s.channel.depth c
+      ∙ (ap (with_all_steps s.channel.depth more) (first.steps_do.does s c)
+      ∙ (second.does s (with_all_sized s (wire_sizes orders) notes c)
+      ∙ (sym (sized_append s (wire_sizes orders) (wire_sizes others) notes later c first.sizes_are) ∙ ap (λ (l : List ℕ). with_all_sized s l (notes ++ later) c) (sym (sizes_append orders others)))));
+  may = λ s c may.
+      let parts = may_split s (wire_sizes orders) (wire_sizes others) notes later c first.sizes_are (subst (λ (l : List ℕ). MayCommitSized s l (notes ++ later) c) (sizes_append orders others) may) in
+      both.may s.channel.depth c (first.steps_do.may s c parts.0)
+      (subst (MayDoAll s.channel.depth more) (sym (first.steps_do.does s c)) (second.may s (with_all_sized s (wire_sizes orders) notes c) parts.1));
+  sums =
+      both.sums
+      ∙ (ap (λ (x : Sums). both_sums x (sums_of more)) first.steps_do.sums
+      ∙ (ap (both_sums (sums_in (answered notes orders))) second.sums ∙ sym (answers_joined notes later orders others)));
+}
+
+-- steps behind others
+pub steps_behind : (first rest : List Step) (notes later : List Note) (orders others : List Order) → AreInStep first notes orders → AreStepsOf rest (answered later others)
+    → AreStepsOf (first ++ rest) (answered (notes ++ later) (orders ++ others))
+steps_behind first rest notes later orders others are = steps_both first rest (first ++ rest) notes later orders others (behind first rest) are
+
 pub joined : (old more new : List Step) (notes later : List Note) (orders others : List Order) → AreBoth old more new → AreInStep old notes orders → AreInStep more later others → AreInStep new (notes ++ later) (orders ++ others)
 joined old more new notes later orders others both first second = record {
-  steps_do = record {
-    does = λ s c.
-        both.does s.channel.depth c
-        ∙ (ap (with_all_steps s.channel.depth more) (first.steps_do.does s c)
-        ∙ (second.steps_do.does s (with_all_sized s (wire_sizes orders) notes c)
-        ∙ (sym (sized_append s (wire_sizes orders) (wire_sizes others) notes later c first.sizes_are) ∙ ap (λ (l : List ℕ). with_all_sized s l (notes ++ later) c) (sym (sizes_append orders others)))));
-    may = λ s c may.
-        let parts = may_split s (wire_sizes orders) (wire_sizes others) notes later c first.sizes_are (subst (λ (l : List ℕ). MayCommitSized s l (notes ++ later) c) (sizes_append orders others) may) in
-        both.may s.channel.depth c (first.steps_do.may s c parts.0)
-        (subst (MayDoAll s.channel.depth more) (sym (first.steps_do.does s c)) (second.steps_do.may s (with_all_sized s (wire_sizes orders) notes c) parts.1));
-  };
+  steps_do = steps_both old more new notes later orders others both first second.steps_do;
   sizes_are = sent_append notes later
       ∙ (ap (λ (k : ℕ). k + packets_sent later) first.sizes_are
       ∙ (ap (λ (k : ℕ). length (wire_sizes orders) + k) second.sizes_are ∙ (sym (length-append (wire_sizes orders) (wire_sizes others)) ∙ ap length (sym (sizes_append orders others)))));
@@ -111,27 +130,34 @@ joined old more new notes later orders others both first second = record {
 
 -- ---- what is done for one note
 pub none_yet : AreInStep [] [] []
-unfolding with_all_steps MayDoAll with_all_sized MayCommitSized
-none_yet = record { steps_do = record { does = λ s c. refl; may = λ s c may. tt }; sizes_are = refl }
+unfolding with_all_steps MayDoAll with_all_sized MayCommitSized sums_of
+none_yet = record { steps_do = record { does = λ s c. refl; may = λ s c may. tt; sums = refl }; sizes_are = refl }
 
 pub one_sent : (note : Note) (client n seq : ℕ) (packet : List ℕ) (x : Sendings) → sending_of (wire_size packet) note ≡ Some x → AreInStep (Sent x ∷ []) (note ∷ []) (Rtx client n seq packet ∷ [])
-unfolding with_all_steps MayDoAll with_all_sized MayCommitSized
+unfolding with_all_steps MayDoAll with_all_sized MayCommitSized sums_of
 one_sent (BurstNote k m at) client n seq packet x is =
     subst (λ (y : Sendings). AreInStep (Sent y ∷ []) (BurstNote k m at ∷ []) (Rtx client n seq packet ∷ [])) (same_Some (one_sending k 1 (wire_size packet)) x is)
-    (record { steps_do = record { does = λ s c. refl; may = λ s c may. may }; sizes_are = refl })
+    (record { steps_do = record { does = λ s c. refl; may = λ s c may. may; sums = sums_one 1 (wire_size packet) }; sizes_are = refl })
 one_sent (Repair k m at) client n seq packet x is =
     subst (λ (y : Sendings). AreInStep (Sent y ∷ []) (Repair k m at ∷ []) (Rtx client n seq packet ∷ [])) (same_Some (one_sending k 0 (wire_size packet)) x is)
-    (record { steps_do = record { does = λ s c. refl; may = λ s c may. may }; sizes_are = refl })
+    (record { steps_do = record { does = λ s c. refl; may = λ s c may. may; sums = sums_one 0 (wire_size packet) }; sizes_are = refl })
 one_sent note client n seq packet x is = absurd cc
 
+-- the sums of one note that sends no packet, and of these sizes
+abbrev unsent : List ℕ → Sums
+unsent sizes = record { packets = 0; of_bursts = 0; ends = 0; bytes = sum_by (λ size. size) sizes }
+
+abbrev ended_with : List ℕ → Sums
+ended_with sizes = record { packets = 0; of_bursts = 0; ends = 1; bytes = sum_by (λ size. size) sizes }
+
 pub one_other : (note : Note) (orders : List Order) → sends note ≡ false → wire_sizes orders ≡ [] → AreInStep (option_to_list (other_step note)) (note ∷ []) orders
-unfolding with_all_steps MayDoAll with_all_sized MayCommitSized
+unfolding with_all_steps MayDoAll with_all_sized MayCommitSized sums_of
 one_other (BurstNote k n seq) orders none empty = absurd cc
 one_other (Repair k n seq) orders none empty = absurd cc
-one_other (EndNote k cause) orders none empty = record { steps_do = record { does = λ s c. refl; may = λ s c may. may }; sizes_are = sym (ap length empty) }
-one_other (GoneNote k n) orders none empty = record { steps_do = record { does = λ s c. refl; may = λ s c may. may }; sizes_are = sym (ap length empty) }
-one_other (ForgotNote k) orders none empty = record { steps_do = record { does = λ s c. refl; may = λ s c may. may }; sizes_are = sym (ap length empty) }
-one_other note orders none empty = record { steps_do = record { does = λ s c. refl; may = λ s c may. tt }; sizes_are = sym (ap length empty) }
+one_other (EndNote k cause) orders none empty = record { steps_do = record { does = λ s c. refl; may = λ s c may. may; sums = ap ended_with (sym empty) }; sizes_are = sym (ap length empty) }
+one_other (GoneNote k n) orders none empty = record { steps_do = record { does = λ s c. refl; may = λ s c may. may; sums = ap unsent (sym empty) }; sizes_are = sym (ap length empty) }
+one_other (ForgotNote k) orders none empty = record { steps_do = record { does = λ s c. refl; may = λ s c may. may; sums = ap unsent (sym empty) }; sizes_are = sym (ap length empty) }
+one_other note orders none empty = record { steps_do = record { does = λ s c. refl; may = λ s c may. tt; sums = ap unsent (sym empty) }; sizes_are = sym (ap length empty) }
 
 told_unsized : (client : ℕ) (o : Option Info) → wire_sizes (option_to_list (option_map (info_order client) o)) ≡ []
 told_unsized client None = refl

@@ -7,6 +7,7 @@ use Rattle.tick_draft.specs.declared.{sendings.Sendings.Sendings, step.Step.Step
 use Rattle.tick_draft.specs.declared.step.Step.TheVariants.{Sent, End, Gone, Forgot}
 use Rattle.tick_draft.specs.Committed.{Committed, with_closed, MayEnd}
 use Rattle.tick_draft.specs.Sendings.{with_sendings, MaySend}
+use Rattle.tick_draft.specs.Sums.{both_sums, sums_of}
 
 -- after a step
 abbrev pub with_step : ℕ → Step → Committed → Committed
@@ -46,6 +47,7 @@ with_step_if depth (Some step) c = with_step depth step c
 pub record AreBoth (old more new : List Step) : Type 0 where
   pub does : (depth : ℕ) (c : Committed) → with_all_steps depth new c ≡ with_all_steps depth more (with_all_steps depth old c)
   pub may : (depth : ℕ) (c : Committed) → MayDoAll depth old c → MayDoAll depth more (with_all_steps depth old c) → MayDoAll depth new c
+  pub sums : sums_of new ≡ both_sums (sums_of old) (sums_of more)
 
 -- some steps, and behind them the packets that were sent last
 abbrev pub with_last : List Step → Option Sendings → List Step

@@ -3,6 +3,7 @@ ghost use Rattle.std.specs.Prelude.{◌≡◌, ◌<◌, ◌++◌, true, false, I
 ghost use Rattle.rams_model.specs.Service.{answered};
 ghost use Rattle.tick_draft.specs.{new_draft, with_note, with_packet, with_end, told_end, sends, AreStepsOf};
 
+use crate::drafting::Drafting;
 use crate::step::{Step, other_step, sending_of};
 use crate::steps::Steps;
 use channel_parts::response::end_info;
@@ -112,6 +113,30 @@ impl Draft {
     {
         let steps = self.steps.finish()?;
         Ok((Answer::new(self.notes, self.orders), steps))
+    }
+}
+
+impl Drafting for Draft {
+    ghost shows = { λ drafted d. drafted ≡ d };
+
+    #[inline(always)]
+    fn send_packet(
+        &mut self,
+        note: Note,
+        client: u64,
+        seq: u16,
+        held: &Held,
+    ) -> Result<(), NoMemory> {
+        self.send(note, client, seq, held)
+    }
+
+    fn end_burst(
+        &mut self,
+        client: u64,
+        last: &Info,
+        cause: Option<Cause>,
+    ) -> Result<(), NoMemory> {
+        self.end(client, last, cause)
     }
 }
 

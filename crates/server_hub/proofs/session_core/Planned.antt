@@ -5,7 +5,7 @@ use Rattle.rams_model.specs.declared.{Event.Event, Event.TheVariants.Tick}
 use Rattle.channel_parts.specs.declared.Parts.{Parts}
 use Rattle.channel_parts.specs.Standing as parts
 use Rattle.tick_core.specs.{IsPlanFor}
-use Rattle.server_hub.specs.session_core.{SendsShort, IsCountable, IsCore, Planned, IsPlanOf}
+use Rattle.server_hub.specs.session_core.{SendsShort, IsCountable, IsCore, StandsFor, Planned, IsPlanOf}
 use Rattle.server_hub.specs.session_core.Seen.{Seen}
 use Rattle.server_hub.proofs.session_core.Short.{sends_short}
 use Rattle.server_hub.proofs.session_core.Counting.{tick_countable}
@@ -22,6 +22,9 @@ plan_bounded p events st plan is = record {
 
 abbrev seen : Parts → Seen
 seen p = record { settings = p.config; parts = p }
+
+pub of_seen : (p : Parts) (v : Seen) (core : IsCore p) → seen p ≡ v → (events : List Event) → StandsFor v events → parts.StandsFor p events
+of_seen p v core is events stands = (subst (λ (w : Seen). StandsFor w events) (sym is) stands).parts_stand
 
 -- the plan of a core is for the events that stand behind it
 pub of_core : (p : Parts) (v : Seen) (core : IsCore p) → seen p ≡ v → (plan : Planned) → IsPlanOf v plan → IsPlanFor p core.events plan

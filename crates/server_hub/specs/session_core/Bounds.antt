@@ -1,7 +1,8 @@
 -- How much an answer has at most.
-use Rattle.std.specs.Prelude.{ℕ, ◌^◌, ◌<◌, ◌≤◌, length, All}
-use Rattle.rams_model.specs.declared.{Order.Order, Order.TheVariants.Rtx, Order.TheVariants.Info, wire.TheConstants.MOST_PACKET}
+use Rattle.std.specs.Prelude.{ℕ, ◌*◌, ◌^◌, ◌<◌, ◌≤◌, length, All}
+use Rattle.rams_model.specs.declared.{Order.Order, Order.TheVariants.Rtx, Order.TheVariants.Info, wire.TheConstants.MOST_PACKET, wire.TheConstants.MOST_ON_WIRE}
 use Rattle.rams_model.specs.Service.{Answered}
+use Rattle.tick_draft.specs.declared.Sums.{Sums}
 
 -- the packet that it sends again has at most 1,470 bytes
 abbrev pub IsShort : Order → Type 0
@@ -19,3 +20,10 @@ HasAtMost notes orders a = (length a.notes ≤ notes) × (length a.orders ≤ or
 -- fewer than 2^32 notes, and fewer than as many orders
 abbrev pub IsCountable : Answered → Type 0
 IsCountable a = (length a.notes < 2 ^ 32) × (length a.orders < 2 ^ 32)
+
+-- a tick sends fewer than 2^32 packets, none of more than 1,500 bytes on the wire, and ends fewer than as many bursts
+pub record AreFew (x : Sums) : Type 0 where
+  pub packets : x.packets < 2 ^ 32
+  pub of_bursts : x.of_bursts ≤ x.packets
+  pub ends : x.ends < 2 ^ 32
+  pub bytes : x.bytes ≤ 2 ^ 32 * MOST_ON_WIRE

@@ -8,7 +8,7 @@ use ram_io::NoMemory;
 use rams_model::{Answer, Held, LiveNote};
 use std::alloc::Global;
 use std::marker::Model;
-use tick_core::TickPlan;
+use tick_core::{Sums, TickPlan, sums_of};
 
 /// What a channel keeps between events.
 pub struct Core {
@@ -42,7 +42,7 @@ impl Core {
     ghost use Rattle.rams_model.specs.Service.{hold, history_of, answer, answered, heard_live, live};
     ghost use Rattle.channel_cache.specs.{arrival_of, IsBare};
     ghost use Rattle.channel_cache.specs.packet_ring.{packet_of};
-    ghost use Rattle.server_hub.specs.session_core.{StandsFor, StandsForFewer, IsPlanOf, SendsShort, HasAtMost, IsCountable, JoinTimesAreKept, TellsAlone, most_notes_for, most_notes_in, most_orders_in};
+    ghost use Rattle.server_hub.specs.session_core.{StandsFor, StandsForFewer, IsPlanOf, SendsShort, HasAtMost, IsCountable, AreFew, sums_in, JoinTimesAreKept, TellsAlone, most_notes_for, most_notes_in, most_orders_in};
 
     /// The core of a channel to which nothing came yet. It takes the room for the channel's live
     /// packets, for 4,096 repairs and for as many clients as it may have.
@@ -156,7 +156,23 @@ impl Core {
         ensures short { SendsShort result }
         ensures settings { self.new.settings ≡ self.old.settings }
     {
-        tick_core::commit_tick(&mut self.parts, &plan);
+        tick_core::commit_tick(&mut self.parts, &plan.work);
         plan.answer
+    }
+
+    /// `tick`, of whose answer its caller asks only the sums: no note and no order is made of a burst. After
+    /// want of memory all is as before.
+    pub fn count_tick(&mut self, alloc: Global) -> Result<Sums, NoMemory>
+        ensures stands { (events : List Event) → StandsFor self.old events →
+            IfOk result (λ sums. (sums ≡ sums_in (answer self.old.settings events Tick))
+            × StandsFor self.new (Tick ∷ events)) }
+        ensures few { IfOk result AreFew }
+        ensures settings { self.new.settings ≡ self.old.settings }
+        ensures same { OnErr result (self.new ≡ self.old) }
+    {
+        let work = tick_core::plan_work(alloc, &self.parts)?;
+        let sums = sums_of(&work.steps);
+        tick_core::commit_tick(&mut self.parts, &work);
+        Ok(sums)
     }
 }

@@ -5,7 +5,7 @@ use Rattle.std.proofs.lemmas.Result.{IfOk-weaker}
 use Rattle.rams_model.specs.Service.{history_of}
 use Rattle.channel_parts.proofs.Facts.{known_clients_rise}
 use Rattle.tick_core.proofs.Safe.{in_order, in_time}
-use Rattle.tick_core.proofs.Made.{made_plan}
+use Rattle.tick_core.proofs.Made.{plan_for}
 use Rattle.tick_core.proofs.plan.plan_tick.Goals as goal
 
 pub plan_of-requires-clause-held : goal.plan_of-requires-clause-held
@@ -19,9 +19,4 @@ plan_of-requires-clause-rising c =
     subst (IsStrictlySortedBy nat_cmp) (sym c.requires.stands.1.table.clients) (known_clients_rise (history_of c.args.parts.now.config c.requires.stands.0))
 
 pub returns : goal.returns
-returns c = record {
-  stands = λ events stands.
-      IfOk-weaker c.plan_of.result _ _
-      (λ made is. let plan = made_plan c.args.parts.now events made.answer made.done.items stands is.answer_is is.done_is in record { answer_is = plan.0; done_is = plan.1; steps_do = is.steps_do })
-      c.plan_of.ensures;
-}
+returns c = record { stands = λ events stands. IfOk-weaker c.plan_of.result _ _ (λ plan is. plan_for c.args.parts.now events plan stands is) c.plan_of.ensures }
