@@ -2,6 +2,7 @@
 ghost use Rattle.std.specs.Prelude.{List, [], ◌∷◌, IfOk, OnOk};
 ghost use Rattle.rams_model.specs.declared.{Event.Event, Event.TheVariants.Tick};
 ghost use Rattle.channel_parts.specs.{StandsFor};
+ghost use Rattle.tick_core.specs.{IsPlanFor};
 
 use crate::fixtures::same;
 use channel_config::{Channel, Config};
@@ -10,7 +11,7 @@ use std::process::Abort;
 use std::test::Fail;
 use test_fixtures::test_calls::let_go;
 use test_fixtures::test_channel::CHANNEL;
-use tick_core::{Parts, commit_tick, plan_tick};
+use tick_core::{Parts, TickPlan, commit_tick, plan_tick};
 
 const SWELLING: Channel = Channel {
     swell: 1400,
@@ -30,6 +31,14 @@ fn parts(alloc: Global) -> Result<Parts, Fail>
     Ok(parts)
 }
 
+/// Does what a plan says.
+fn commit(parts: &mut Parts, plan: &TickPlan)
+    requires { (events : List Event) × StandsFor parts.old events × IsPlanFor parts.old events plan.now }
+    ensures { (events : List Event) → StandsFor parts.old events → IsPlanFor parts.old events plan.now → StandsFor parts.new (Tick ∷ events) }
+{
+    commit_tick(parts, &plan.work);
+}
+
 /// How much a tick's plan notes and settles, and what is left behind it.
 fn tick(alloc: Global, parts: &mut Parts) -> Result<(usize, usize, u64), Fail>
     requires { (events : List Event) × StandsFor parts.old events }
@@ -38,7 +47,7 @@ fn tick(alloc: Global, parts: &mut Parts) -> Result<(usize, usize, u64), Fail>
     let Ok(plan) = plan_tick(alloc, parts) else {
         return Err(Fail::new("no memory"));
     };
-    commit_tick(parts, &plan.work);
+    commit(parts, &plan);
     let noted = plan.answer.notes.as_slice().len();
     Ok((noted, plan.work.done.len(), parts.budget.left()))
 }

@@ -1,6 +1,7 @@
 -- How counts go up.
-use Rattle.std.specs.Prelude.{ℕ, ◌+◌, ◌*◌, ◌^◌, ◌≤◌, Bool, if◌then◌else◌}
+use Rattle.std.specs.Prelude.{ℕ, ◌+◌, ◌-◌, ◌*◌, ◌^◌, ◌≤◌, Bool, if◌then◌else◌}
 use Rattle.rams_model.specs.declared.{Order.Order, Note.Note, wire.TheConstants.MOST_ON_WIRE}
+use Rattle.tick_draft.specs.declared.Sums.{Sums}
 use Rattle.generated.specs.declared.summary.counts.Counts.{Counts}
 use Rattle.generated.specs.summary.Counts.{took, accept, again, refuse, burst, repair, end, size_of, Tallied}
 
@@ -31,6 +32,13 @@ sum_of c d = record {
   repair = c.repair + d.repair;
   end = c.end + d.end;
 }
+
+-- a tick more, of whose notes only the sums are known
+abbrev pub with_sums : Counts → Sums → Counts
+with_sums c x = record c { burst = c.burst + x.of_bursts; repair = c.repair + (x.packets - x.of_bursts); end = c.end + x.ends }
+
+abbrev pub with_tick : Tallied → Sums → Tallied
+with_tick t x = record { answers = t.answers + 1; notes = with_sums t.notes x; bytes = t.bytes + x.bytes }
 
 -- each is at most this
 pub record AreAtMost (most : ℕ) (c : Counts) : Type 0 where

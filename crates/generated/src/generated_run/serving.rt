@@ -1,16 +1,15 @@
 //! What a core answers to one generated event.
-ghost use Rattle.std.specs.Prelude.{◌≡◌, ◌^◌, ◌<◌, All, List, [], ◌∷◌, IfOk, OnOk, length};
+ghost use Rattle.std.specs.Prelude.{◌≡◌, ◌^◌, ◌<◌, List, [], ◌∷◌, OnOk};
 ghost use Rattle.rams_model.specs.declared.{Event.Event, Event.TheVariants.Live, Note.TheVariants.Live as LiveNoted};
 ghost use Rattle.rams_model.specs.Service.{Answered, answer, answered};
 ghost use Rattle.server_hub.specs.session_core.{StandsFor, StandsForFewer};
-ghost use Rattle.generated.specs.summary.{IsShort, tally_of};
+ghost use Rattle.generated.specs.summary.{tally_of};
 ghost use Rattle.generated.specs.trace_gen.{config, event_on, next_on, IsRead, IsReadNext};
 ghost use Rattle.generated.specs.generated_run.{IsBrief};
 
 use crate::summary::Tally;
 use crate::trace_gen::{Kind, Next, Packet};
 use ram_io::NoMemory;
-use rams_model::Answer;
 use server_hub::session_core::{Core, Incoming, LiveNote};
 use std::alloc::Global;
 
@@ -33,10 +32,12 @@ pub(crate) fn count_answer(
     ensures settings { core.new.settings ≡ core.old.settings }
 {
     match next {
-        Next::Packet(packet) => tally.add_live(note_of(core, packet)),
-        Next::OnPage(kind) => tally.add(&answer_to(alloc, core, kind, page)?),
+        Next::Packet(packet) => {
+            tally.add_live(note_of(core, packet));
+            Ok(())
+        }
+        Next::OnPage(kind) => count_on_page(alloc, core, tally, kind, page),
     }
-    Ok(())
 }
 
 /// The note of a packet, which is the whole answer of the core.
@@ -57,22 +58,27 @@ fn note_of(core: &mut Core, packet: Packet) -> LiveNote
     })
 }
 
-/// What the core answers to the event of this kind with these bytes.
+/// What the core answers to the event of this kind with these bytes is counted. Of a tick the sums are enough.
 #[tactic(auto, using(crate::proofs::generated_run::Short::short_are))]
-fn answer_to(alloc: Global, core: &mut Core, kind: Kind, bytes: &[u8]) -> Result<Answer, NoMemory>
+fn count_on_page(
+    alloc: Global,
+    core: &mut Core,
+    tally: &mut Tally,
+    kind: Kind,
+    page: &[u8],
+) -> Result<(), NoMemory>
     requires few { StandsForFewer core.old (2 ^ 40) }
-    requires brief { IsBrief (event_on kind bytes.now) }
-    ensures stands { (events : List Event) → StandsFor core.old events →
-        IfOk result (λ a. (a ≡ answer core.old.settings events (event_on kind bytes.now))
-        × StandsFor core.new (event_on kind bytes.now ∷ events)) }
-    ensures notes { IfOk result (λ a. length a.notes < 2 ^ 32) }
-    ensures orders { IfOk result (λ a. length a.orders < 2 ^ 32) }
-    ensures short { IfOk result (λ a. All IsShort a.orders) }
+    requires brief { IsBrief (event_on kind page.now) }
+    requires answers { tally.old.answers < 1000000 }
+    ensures counted { (events : List Event) (answers : List Answered) → StandsFor core.old events → tally.old ≡ tally_of answers →
+        OnOk result (StandsFor core.new (event_on kind page.now ∷ events)
+        × (tally.new ≡ tally_of (answer core.old.settings events (event_on kind page.now) ∷ answers))) }
     ensures settings { core.new.settings ≡ core.old.settings }
 {
     match kind {
-        Kind::Live => core.live(alloc, bytes),
-        Kind::Feedback { client } => core.feedback(alloc, client, bytes),
-        Kind::Tick => core.tick(alloc),
+        Kind::Live => tally.add(&core.live(alloc, page)?),
+        Kind::Feedback { client } => tally.add(&core.feedback(alloc, client, page)?),
+        Kind::Tick => tally.add_tick(&core.count_tick(alloc)?),
     }
+    Ok(())
 }

@@ -1,13 +1,15 @@
 //! The answers of a channel, counted, and the summary that tells them.
 ghost use Rattle.std.specs.Prelude.{◌≡◌, ◌+◌, ◌*◌, ◌≤◌, ◌<◌, ◌^◌, ◌++◌, All, IfOk, OnOk, length};
 ghost use Rattle.generated.specs.summary.Counts.{bytes_of, size_of};
-ghost use Rattle.generated.specs.summary.Steps.{IsShort};
+ghost use Rattle.generated.specs.summary.Steps.{IsShort, with_tick};
+ghost use Rattle.server_hub.specs.session_core.{AreFew};
 ghost use Rattle.generated.specs.summary.Text.{count_lines};
 
 use crate::summary::counts::Counts;
 use book_text::append_count;
 use ram_io::NoMemory;
 use rams_model::{Answer, LiveNote, MOST_ON_WIRE, Note, Order, RTX_OVERHEAD};
+use server_hub::session_core::Sums;
 use std::alloc::Global;
 use std::marker::Model;
 
@@ -75,6 +77,19 @@ impl Tally {
         ensures answers { self.new.answers ≡ self.old.answers + 1 }
     {
         self.notes.count(&Note::Live(note));
+        self.answers += 1;
+    }
+
+    /// The answer to a tick more, of which these are the sums.
+    pub fn add_tick(&mut self, sums: &Sums)
+        requires answers { self.old.answers < 1000000 }
+        requires few { AreFew sums.now }
+        ensures { self.new ≡ with_tick self.old sums.now }
+    {
+        self.notes.burst += sums.of_bursts;
+        self.notes.repair += sums.packets - sums.of_bursts;
+        self.notes.end += sums.ends;
+        self.bytes += sums.bytes;
         self.answers += 1;
     }
 
